@@ -1,0 +1,16 @@
+-- Counts of faults: a count never falls, and stays at the greatest 64-bit number once it is there.
+use Rattle.std.specs.Prelude.{◌≡◌, ℕ, ◌+◌, ◌-◌, ◌^◌, ◌≤◌, min, Result, OnOk, OnErr}
+
+-- the count after one more
+abbrev pub counted : ℕ → ℕ
+counted count = min (count + 1) (2 ^ 64 - 1)
+
+-- the count rose at least once, or stands at its greatest value
+abbrev pub Rose : ℕ → ℕ → Type 0
+Rose before now = counted before ≤ now
+
+-- the count never falls, is as before after Ok, and rose where the call failed
+pub record CountsFaults {T E : Type 0} (before now : ℕ) (result : Result T E) : Type 0 where
+  pub later : before ≤ now
+  pub kept : OnOk result (now ≡ before)
+  pub failed : OnErr result (Rose before now)

@@ -1,0 +1,8 @@
+//! What every crate of Memoir stands on: bytes, their sources and sinks, lines, decimals and faults.
+#![tactic(auto)]
+
+mod bytes;
+mod fault;
+
+pub use bytes::Bytes;
+pub use fault::{Failed, Memory, WriteFault};
