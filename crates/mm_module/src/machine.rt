@@ -1,0 +1,46 @@
+//! What a module is.
+
+ghost use Rattle.std.specs.Prelude.{◌≡◌, IfOk, IsTrue};
+ghost use Rattle.mm_module.specs.Meaning.{Meaning, IsLine, IsLawful};
+
+use mm_base::{Bytes, Memory};
+use std::alloc::Global;
+
+/// What one request gave: the state after it, and what the module says.
+#[derive(Debug, Drop)]
+pub struct Stepped {
+    /// The state after the request.
+    pub state: Bytes,
+    /// What the module says, at most 4,096 bytes and no LF.
+    pub output: Bytes,
+}
+
+/// A small state machine whose states, requests and outputs are byte lists.
+///
+/// A state has at most 65,536 bytes, or 1,048,576 where the id is 128 or more.
+pub trait Module {
+    /// The machine as functions of byte lists: what each call below gives.
+    ghost meaning: { Self → Meaning };
+
+    /// The number under which cells and snapshots name the module.
+    fn id(&self) -> u8
+        ensures { result ≡ (meaning self.now).id };
+
+    /// The state before every request.
+    fn first_state(&self, alloc: Global) -> Result<Bytes, Memory>
+        ensures { IfOk result (λ state. state ≡ (meaning self.now).first) };
+
+    /// Whether these bytes are a state of the module. Takes no memory.
+    fn state_is_spelled(&self, state: &[u8]) -> bool
+        ensures { result ≡ (meaning self.now).is_spelled state.now };
+
+    /// The state after a request of at most 4,096 bytes with no LF, and what the module says.
+    fn step(&self, alloc: Global, state: &[u8], request: &[u8]) -> Result<Stepped, Memory>
+        requires spelled { IsTrue ((meaning self.now).is_spelled state.now) }
+        requires line { IsLine request.now }
+        ensures state { IfOk result (λ stepped. stepped.state ≡ (meaning self.now).next state.now request.now) }
+        ensures output { IfOk result (λ stepped. stepped.output ≡ (meaning self.now).says state.now request.now) };
+
+    /// The laws hold at every module.
+    ghost is_lawful: { (it : Self) → IsLawful (meaning it) };
+}
