@@ -1,0 +1,73 @@
+-- How the lines and the tail of an input grow with bytes in front of it.
+use Rattle.std.proofs.Common.{◌≡◌, ◌∙◌, ℕ, List, [], ◌∷◌, ◌++◌, refl, sym, ap, append_assoc, append-nil, cond}
+use Rattle.std.specs.List.{AllByRecursion}
+use Rattle.std.proofs.lemmas.Bool.{ne_eqb}
+use Rattle.mm_base.specs.Input.{IsUnbroken, onto_first, onto_tail, lines_of, tail_of, joined}
+
+onto_first-cons : (byte : ℕ) (bytes : List ℕ) (lines : List (List ℕ)) → onto_first (byte ∷ []) (onto_first bytes lines) ≡ onto_first (byte ∷ bytes) lines
+onto_first-cons byte bytes [] = refl
+onto_first-cons byte bytes (line ∷ lines) = refl
+
+onto_first-nil : (lines : List (List ℕ)) → onto_first [] lines ≡ lines
+onto_first-nil [] = refl
+onto_first-nil (line ∷ lines) = refl
+
+onto_tail-cons : (byte : ℕ) (bytes : List ℕ) (lines : List (List ℕ)) (tail : List ℕ)
+    → onto_tail (byte ∷ []) (onto_first bytes lines) (onto_tail bytes lines tail) ≡ onto_tail (byte ∷ bytes) lines tail
+onto_tail-cons byte bytes [] tail = refl
+onto_tail-cons byte bytes (line ∷ lines) tail = refl
+
+onto_tail-nil : (lines : List (List ℕ)) (tail : List ℕ) → onto_tail [] lines tail ≡ tail
+onto_tail-nil [] tail = refl
+onto_tail-nil (line ∷ lines) tail = refl
+
+-- unbroken bytes stand before the first line
+pub lines_of-append : (bytes rest : List ℕ) → IsUnbroken bytes → lines_of (bytes ++ rest) ≡ onto_first bytes (lines_of rest)
+lines_of-append [] rest h = sym (onto_first-nil (lines_of rest))
+lines_of-append (byte ∷ bytes) rest h =
+    ap (λ b. cond b ([] ∷ lines_of (bytes ++ rest)) (onto_first (byte ∷ []) (lines_of (bytes ++ rest)))) (ne_eqb byte 10 h.0)
+    ∙ ap (onto_first (byte ∷ [])) (lines_of-append bytes rest h.1)
+    ∙ onto_first-cons byte bytes (lines_of rest)
+
+pub tail_of-append : (bytes rest : List ℕ) → IsUnbroken bytes → tail_of (bytes ++ rest) ≡ onto_tail bytes (lines_of rest) (tail_of rest)
+tail_of-append [] rest h = sym (onto_tail-nil (lines_of rest) (tail_of rest))
+tail_of-append (byte ∷ bytes) rest h =
+    ap (λ b. cond b (tail_of (bytes ++ rest)) (onto_tail (byte ∷ []) (lines_of (bytes ++ rest)) (tail_of (bytes ++ rest)))) (ne_eqb byte 10 h.0)
+    ∙ ap (λ lines. onto_tail (byte ∷ []) lines (tail_of (bytes ++ rest))) (lines_of-append bytes rest h.1)
+    ∙ ap (onto_tail (byte ∷ []) (onto_first bytes (lines_of rest))) (tail_of-append bytes rest h.1)
+    ∙ onto_tail-cons byte bytes (lines_of rest) (tail_of rest)
+
+-- a line goes first
+pub lines_of-line : (line rest : List ℕ) → IsUnbroken line → lines_of (line ++ 10 ∷ rest) ≡ line ∷ lines_of rest
+lines_of-line line rest h = lines_of-append line (10 ∷ rest) h ∙ ap (λ first. first ∷ lines_of rest) (append-nil line)
+
+pub tail_of-line : (line rest : List ℕ) → IsUnbroken line → tail_of (line ++ 10 ∷ rest) ≡ tail_of rest
+tail_of-line line rest h = tail_of-append line (10 ∷ rest) h
+
+-- whole lines go first
+pub lines_of-joined : (lines : List (List ℕ)) (rest : List ℕ) → AllByRecursion IsUnbroken lines → lines_of (joined lines ++ rest) ≡ lines ++ lines_of rest
+lines_of-joined [] rest h = refl
+lines_of-joined (line ∷ lines) rest h =
+    ap lines_of (append_assoc line (10 ∷ joined lines) rest)
+    ∙ lines_of-line line (joined lines ++ rest) h.0
+    ∙ ap (λ more. line ∷ more) (lines_of-joined lines rest h.1)
+
+pub tail_of-joined : (lines : List (List ℕ)) (rest : List ℕ) → AllByRecursion IsUnbroken lines → tail_of (joined lines ++ rest) ≡ tail_of rest
+tail_of-joined [] rest h = refl
+tail_of-joined (line ∷ lines) rest h =
+    ap tail_of (append_assoc line (10 ∷ joined lines) rest)
+    ∙ tail_of-line line (joined lines ++ rest) h.0
+    ∙ tail_of-joined lines rest h.1
+
+-- bytes with no LF are all tail
+pub lines_of-unbroken : (bytes : List ℕ) → IsUnbroken bytes → lines_of bytes ≡ []
+lines_of-unbroken bytes h = ap lines_of (sym (append-nil bytes)) ∙ lines_of-append bytes [] h
+
+pub tail_of-unbroken : (bytes : List ℕ) → IsUnbroken bytes → tail_of bytes ≡ bytes
+tail_of-unbroken bytes h = ap tail_of (sym (append-nil bytes)) ∙ tail_of-append bytes [] h ∙ append-nil bytes
+
+-- lines join one after another
+pub joined-append : (before after : List (List ℕ)) → joined (before ++ after) ≡ joined before ++ joined after
+joined-append [] after = refl
+joined-append (line ∷ lines) after =
+    ap (λ bytes. line ++ 10 ∷ bytes) (joined-append lines after) ∙ sym (append_assoc line (10 ∷ joined lines) (joined after))

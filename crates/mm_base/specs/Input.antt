@@ -1,0 +1,32 @@
+-- The lines of an input: each ends with LF (byte 10), and what stands after the last LF is the tail.
+use Rattle.std.specs.Prelude.{◌≢◌, ℕ, ◌==◌, List, [], ◌∷◌, ◌++◌, if◌then◌else◌}
+use Rattle.std.specs.List.{AllByRecursion}
+
+-- no byte is an LF
+abbrev pub IsUnbroken : List ℕ → Type 0
+IsUnbroken bytes = AllByRecursion (λ byte. byte ≢ 10) bytes
+
+-- the bytes stand before the first line, where there is one
+abbrev pub onto_first : List ℕ → List (List ℕ) → List (List ℕ)
+onto_first bytes [] = []
+onto_first bytes (line ∷ lines) = (bytes ++ line) ∷ lines
+
+-- the bytes stand before the tail, where no line comes before it
+abbrev pub onto_tail : List ℕ → List (List ℕ) → List ℕ → List ℕ
+onto_tail bytes [] tail = bytes ++ tail
+onto_tail bytes (line ∷ lines) tail = tail
+
+-- the whole lines, each without its LF
+abbrev pub lines_of : List ℕ → List (List ℕ)
+lines_of [] = []
+lines_of (byte ∷ rest) = if byte == 10 then [] ∷ lines_of rest else onto_first (byte ∷ []) (lines_of rest)
+
+-- what stands after the last LF
+abbrev pub tail_of : List ℕ → List ℕ
+tail_of [] = []
+tail_of (byte ∷ rest) = if byte == 10 then tail_of rest else onto_tail (byte ∷ []) (lines_of rest) (tail_of rest)
+
+-- the bytes of these lines, each with its LF
+abbrev pub joined : List (List ℕ) → List ℕ
+joined [] = []
+joined (line ∷ lines) = line ++ 10 ∷ joined lines
