@@ -3,6 +3,8 @@
 
 mod bytes;
 mod fault;
+mod replay_fault;
 
 pub use bytes::Bytes;
 pub use fault::{Failed, Memory, WriteFault};
+pub use replay_fault::ReplayFault;
