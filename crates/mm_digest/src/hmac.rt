@@ -1,0 +1,67 @@
+//! HMAC-SHA-256 (RFC 2104).
+
+ghost use Rattle.std.specs.Prelude.{◌≡◌, ◌≤◌, ◌++◌, length};
+ghost use Rattle.sha2.specs.Sha256.{sha256};
+ghost use Rattle.mm_digest.specs.Hmac.{zero_padded, key_block, masked, hmac_of};
+
+use crate::digest::Digest;
+use sha2::{Digest as _, Sha256};
+
+/// The tag of a text under a key, of any lengths: HMAC of RFC 2104 over SHA-256, with blocks of
+/// 64 bytes. A key of more than 64 bytes is replaced by its SHA-256.
+#[tactic(auto, unfolding(crate::specs::Hmac::hmac_of))]
+pub fn hmac_sha256(key: &[u8], text: &[u8]) -> Digest
+    ensures { result.bytes ≡ hmac_of key.now text.now }
+{
+    let block = block_of(key);
+    let inner = digest_after(&masked_by(0x36, &block), text);
+    Digest {
+        bytes: digest_after(&masked_by(0x5c, &block), &inner),
+    }
+}
+
+// SHA-256 of the block and the text.
+fn digest_after(block: &[u8; 64], text: &[u8]) -> [u8; 32]
+    ensures { result ≡ sha256 (block.now ++ text.now) }
+{
+    let mut hasher = Sha256::new();
+    hasher.update(block);
+    hasher.update(text);
+    hasher.finalize()
+}
+
+// The block that a key makes.
+#[tactic(auto, unfolding(crate::specs::Hmac::key_block))]
+fn block_of(key: &[u8]) -> [u8; 64]
+    ensures { result ≡ key_block key.now }
+{
+    if key.len() > 64 {
+        let hashed = Sha256::digest(key);
+        return padded_with_zeros(&hashed);
+    }
+    padded_with_zeros(key)
+}
+
+// The bytes, filled up with zero bytes.
+#[tactic(auto, unfolding(crate::specs::Hmac::zero_padded))]
+fn padded_with_zeros(bytes: &[u8]) -> [u8; 64]
+    requires { length bytes.now ≤ 64 }
+    ensures { result ≡ zero_padded bytes.now }
+{
+    let mut block = [0; 64];
+    let (front, _) = block.split_at_mut(bytes.len());
+    front.copy_from_slice(bytes);
+    block
+}
+
+// The block with each byte xored with the pad.
+#[tactic(auto, unfolding(crate::specs::Hmac::masked))]
+fn masked_by(pad: u8, block: &[u8; 64]) -> [u8; 64]
+    ensures { result ≡ masked pad block.now }
+{
+    let mut out = [0; 64];
+    'bytes: for (i, byte) in block.iter().enumerate() {
+        out[i] = *byte ^ pad;
+    }
+    out
+}
