@@ -3,6 +3,10 @@
 
 mod batch;
 mod machine;
+mod outputs;
+mod words;
 
 pub use batch::Batch;
 pub use machine::{Module, Stepped};
+pub use outputs::Outputs;
+pub use words::Words;

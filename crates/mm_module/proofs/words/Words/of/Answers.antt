@@ -1,0 +1,10 @@
+use Rattle.mm_module.proofs.WordLaws.{length-words_of}
+use Rattle.mm_module.proofs.words.Words.of.Goals as goal
+
+pub returns-in-Some-rest-2 : goal.returns-in-Some-rest-2
+returns-in-Some-rest-2 c =
+    length-words_of c.args.request.now c.in-Some.rest.now c.in-Some-rest.rest.now c.in-Some-rest-2.field-0.now
+    c.first_word.result.0.now c.first_word-2.result.0.now c.first_word-3.result.0.now
+    (rw c.in-Some.is at c.first_word.ensures)
+    (rw c.in-Some-rest.is at c.first_word-2.ensures)
+    (rw c.in-Some-rest-2.is at c.first_word-3.ensures)
