@@ -1,0 +1,11 @@
+use Rattle.std.proofs.Common.{◌≡◌, ◌+◌, ◌≤◌, ◌++◌, take, drop, map, vec_len, vec_capacity}
+use Rattle.mm_platform.specs.Standing.{foreign_item, due}
+use Rattle.mm_platform.specs.Entries.{items_of}
+use Rattle.mm_platform.specs.Memory.{ahead}
+use Rattle.mm_platform.proofs.LettingIn.{LetsIn}
+use Rattle.mm_platform.proofs.memory.let_in_due.Given as goal
+
+abbrev pub invariant-loop-meddle : goal.invariant-loop-meddle
+invariant-loop-meddle l = LetsIn (items_of l.initial.register.entries.items) (vec_len l.initial.register.entries)
+    (vec_capacity l.initial.register.entries) l.before l.step l.meddles l.meddle-index
+    (items_of l.register.entries.items) (vec_len l.register.entries) (vec_capacity l.register.entries)

@@ -1,0 +1,5 @@
+pub mod Standing
+pub mod Steps
+pub mod Raw
+pub mod Entries
+pub mod Memory

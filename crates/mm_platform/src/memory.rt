@@ -1,0 +1,187 @@
+//! A platform in memory, which fails as its plan says and not otherwise.
+
+ghost use Rattle.std.specs.Prelude.{◌≡◌, ◌+◌, ◌≤◌, Some, None, [], ◌∷◌, ◌++◌, map, OnOk, OnErr, IfOk, Ok, count_by, vec_len, vec_capacity};
+ghost use Rattle.std.specs.Result.{result_err};
+ghost use Rattle.std.specs.Option.{option_map};
+ghost use Rattle.mm_base.specs.Faults.{counted};
+ghost use Rattle.mm_platform.specs.Steps.{beside, will_bring};
+ghost use Rattle.mm_platform.specs.Standing.{Standing, Plan, foreign_item, due, next_step, plan_after};
+ghost use Rattle.mm_platform.specs.Entries.{items_of, is_own};
+ghost use Rattle.mm_platform.specs.Memory.{quiet_plan, fresh, ahead, plan_of, begun, stepped, makes, answer_of, cycled};
+
+use crate::device::{Device, Nv, Platform, Register};
+use crate::extensions::{Entry, Extensions};
+use crate::fate::Fate;
+use crate::fault::StepFault;
+use crate::plan::{Meddle, Stop};
+use mm_base::Memory;
+use mm_digest::Digest;
+use std::alloc::Global;
+use std::marker::Model;
+
+/// A platform in memory, which contracts see as what stands on it. It tells all of it, and its plan.
+#[derive(Drop)]
+pub struct MemPlatform {
+    cell: [u8; 104],
+    register: Extensions,
+    spare: usize,
+    is_on: bool,
+    steps: u64,
+    writes: u64,
+    faults: u64,
+    stop: Stop,
+    meddles: Vec<Meddle>,
+    at: u64,
+}
+
+impl Model for MemPlatform {
+    ghost Value = { Standing };
+
+    ghost view = { λ p. record {
+      cell = Some p.cell;
+      items = Some (items_of p.register.entries.items);
+      is_on = p.is_on;
+      steps = p.steps;
+      writes = p.writes;
+      spare = p.spare;
+      faults = p.faults;
+      plan = Some (record { stop = p.stop; meddles = p.meddles.items; at = p.at });
+    } };
+
+    ghost invariant = { λ p. vec_len p.register.entries + p.spare + ahead p.at p.meddles.items
+        ≤ vec_capacity p.register.entries };
+}
+
+impl MemPlatform {
+    /// A platform with this cell of 104 bytes: on, with an empty register, no faults and a quiet plan.
+    pub fn new(alloc: Global, cell: &[u8; 104]) -> MemPlatform
+        ensures { result ≡ fresh cell.now }
+    {
+        MemPlatform {
+            cell: *cell,
+            register: Extensions::new(alloc),
+            spare: 0,
+            is_on: true,
+            steps: 0,
+            writes: 0,
+            faults: 0,
+            stop: Stop::Quiet,
+            meddles: Vec::new(alloc),
+            at: 0,
+        }
+    }
+
+    /// Plans what the coming steps will meet, counted from 1 from now on. After want of memory nothing
+    /// has changed.
+    pub fn plan(&mut self, stop: Stop, meddles: &[Meddle]) -> Result<(), Memory>
+        ensures ok { OnOk result (self.new ≡ record self.old {
+          plan = Some (record { stop = stop; meddles = meddles.now; at = 0 });
+        }) }
+        ensures err { OnErr result (self.new ≡ self.old) }
+    {
+        let kept = Vec::from_slice(*self.meddles.allocator(), meddles)?;
+        self.register.reserve(self.spare + kept.len())?;
+        self.stop = stop;
+        self.meddles = kept;
+        self.at = 0;
+        Ok(())
+    }
+
+    /// Ends the plan: what of it was not reached lapses.
+    pub fn end_plan(&mut self)
+        ensures { self.new ≡ record self.old { plan = Some quiet_plan } }
+    {
+        self.stop = Stop::Quiet;
+        self.meddles.clear();
+        self.at = 0;
+    }
+
+    /// Others extend the register by this value, now. After want of memory nothing has changed.
+    pub fn foreign(&mut self, value: &Digest) -> Result<(), Memory>
+        ensures ok { OnOk result (self.new ≡ record self.old { items = beside (value.now.bytes ∷ []) self.old.items }) }
+        ensures err { OnErr result (self.new ≡ self.old) }
+    {
+        self.register.reserve(self.spare + self.meddles.len() + 1)?;
+        self.register.push(Entry {
+            own: false,
+            value: *value,
+        });
+        Ok(())
+    }
+
+    /// The cell's 104 bytes.
+    pub fn cell(&self) -> &[u8; 104]
+        ensures { self.now.cell ≡ Some result.now }
+    {
+        &self.cell
+    }
+
+    /// The number of own items in the register.
+    pub fn own_items(&self) -> usize
+        ensures { option_map (count_by is_own) self.now.items ≡ Some result }
+    {
+        self.register.count_own()
+    }
+
+    /// How many steps have failed.
+    pub fn faults(&self) -> u64
+        ensures { result ≡ self.now.faults }
+    {
+        self.faults
+    }
+
+    /// How many writes of the cell were called.
+    pub fn nv_writes(&self) -> u64
+        ensures { result ≡ self.now.writes }
+    {
+        self.writes
+    }
+
+    // Calls a step: counts it, and lets in what is due before it.
+    fn begin_step(&mut self) -> Fate
+        ensures after { self.new ≡ begun self.old }
+        ensures made { result.is_made ≡ makes self.old }
+        ensures fault { result.fault ≡ answer_of self.old }
+    {
+        let step = self.at.saturating_add(1);
+        let fate = Fate::of(self.is_on, self.stop, step);
+        self.let_in(step);
+        self.steps = self.steps.saturating_add(1);
+        self.faults = fate.count(self.faults);
+        self.is_on = fate.is_on;
+        fate
+    }
+
+    // Goes on to this step, and lets in what is due before it.
+    fn let_in(&mut self, step: u64)
+        requires { option_map next_step self.old.plan ≡ Some step }
+        ensures { self.new ≡ record self.old {
+          items = beside (will_bring self.old.is_on (plan_of self.old)) self.old.items;
+          plan = option_map plan_after self.old.plan;
+        } }
+    {
+        let before = self.at;
+        self.at = step;
+        if self.is_on {
+            let_in_due(&mut self.register, self.meddles.as_slice(), before, step);
+        }
+    }
+}
+
+// Lets in those of the meddles that are due at this step, where `before` steps are over.
+fn let_in_due(register: &mut Extensions, meddles: &[Meddle], before: u64, step: u64)
+    requires next { step ≡ counted before }
+    requires room { vec_len register.old.entries + ahead before meddles.now ≤ vec_capacity register.old.entries }
+    ensures items { items_of register.new.entries.items ≡ items_of register.old.entries.items ++ map foreign_item (due step meddles.now) }
+    ensures room { vec_len register.new.entries + ahead step meddles.now ≤ vec_len register.old.entries + ahead before meddles.now }
+    ensures kept { vec_capacity register.new.entries ≡ vec_capacity register.old.entries }
+{
+    for meddle in meddles {
+        if u64::from(meddle.step) == step {
+            register.push(Entry {
+                own: false,
+                value: meddle.value,
+            });
+        }
+    }
+}
