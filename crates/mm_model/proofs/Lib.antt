@@ -1,0 +1,5 @@
+pub mod Lists
+pub mod Chains
+pub mod Digests
+pub mod Batches
+pub mod Basic

@@ -1,0 +1,5 @@
+use Rattle.mm_model.proofs.Digests.{same_registers}
+use Rattle.mm_model.proofs.laws.registers_are_told_apart.Goals as goal
+
+pub returns : goal.returns
+returns c = same_registers

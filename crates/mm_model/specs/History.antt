@@ -1,0 +1,83 @@
+-- The history of one instance as lists, with no digest in it, and the moves that change it.
+use Rattle.std.specs.Prelude.{ℕ, Bool, true, false, List, [], ◌∷◌, ◌++◌, length, map}
+use Rattle.std.specs.List.{flat_map}
+use Rattle.mm_digest.specs.declared.variant.Variant.{Variant}
+use Rattle.mm_digest.specs.declared.variant.Variant.TheVariants.{Basic, Opt}
+use Rattle.mm_module.specs.Batch.{Batch, members_of}
+use Rattle.mm_model.specs.Chains.{guard, summary_of, register_of, anchor_of}
+use Rattle.mm_model.specs.Instance.{Instance}
+
+-- what a register took in: the value of a committed batch, or a value that stands for none
+pub data Entry : Type 0 where
+  Own : Batch → Entry
+  Value : List ℕ → Entry
+
+-- the committed batches; the closed segments; the batches of the open segment; whether one is open; and
+-- what the register took in since it was zero
+pub record History : Type 0 where
+  pub batches : List Batch
+  pub closed : List (List Entry)
+  pub current : List Batch
+  pub is_open : Bool
+  pub items : List Entry
+
+abbrev pub first_history : History
+first_history = record { batches = []; closed = []; current = []; is_open = false; items = [] }
+
+-- the committed requests, one by one
+abbrev pub requests_of : List Batch → List (List ℕ)
+requests_of batches = flat_map members_of batches
+
+-- how many requests these batches hold
+abbrev pub total_of : List Batch → ℕ
+total_of batches = length (requests_of batches)
+
+-- the value with which an entry extended the register
+abbrev pub value_of : List ℕ → Entry → List ℕ
+value_of barrier (Own b) = guard barrier b
+value_of barrier (Value d) = d
+
+abbrev pub values_of : List ℕ → List Entry → List (List ℕ)
+values_of barrier entries = map (value_of barrier) entries
+
+-- what changes a history: a batch is committed; others extend the register; the core extends it by the
+-- guard of a batch that isn't committed yet; the core empties it; the open segment is closed; power is lost
+pub data Move : Type 0 where
+  Commit : Batch → Move
+  Foreign : List ℕ → Move
+  Placed : Batch → Move
+  Reset : Move
+  Close : Move
+  Power : Move
+
+-- the list, with b in place of its last item
+abbrev pub renamed : List Entry → Batch → List Entry
+renamed [] b = Own b ∷ []
+renamed (x ∷ []) b = Own b ∷ []
+renamed (x ∷ y ∷ xs) b = x ∷ renamed (y ∷ xs) b
+
+-- in Opt a batch enters the register's items too. Where no segment is open it opens one, and the entry
+-- that was placed for it, the last, becomes its own
+abbrev pub committed : Variant → Bool → History → Batch → History
+committed Basic is_open y b = record y { batches = y.batches ++ b ∷ [] }
+committed Opt true y b =
+    record y { batches = y.batches ++ b ∷ []; current = y.current ++ b ∷ []; items = y.items ++ Own b ∷ [] }
+committed Opt false y b =
+    record y { batches = y.batches ++ b ∷ []; current = b ∷ []; is_open = true; items = renamed y.items b }
+
+abbrev pub moved : Instance → History → Move → History
+moved i y (Commit b) = committed i.variant y.is_open y b
+moved i y (Foreign d) = record y { items = y.items ++ Value d ∷ [] }
+moved i y (Placed b) = record y { items = y.items ++ Value (guard i.barrier b) ∷ [] }
+moved i y Reset = record y { items = [] }
+moved i y Close = record y { closed = y.closed ++ y.items ∷ []; current = []; is_open = false }
+moved i y Power = record y { items = [] }
+
+-- the digest that a cell holds for a history: its summary or its anchor
+abbrev pub cell_digest_of : Instance → Variant → History → List ℕ
+cell_digest_of i Basic y = summary_of i.meaning.id y.batches
+cell_digest_of i Opt y = anchor_of i.meaning.id (map (values_of i.barrier) y.closed)
+
+-- the register's value for a history
+abbrev pub register_value_of : Instance → History → List ℕ
+register_value_of i y = register_of (values_of i.barrier y.items)

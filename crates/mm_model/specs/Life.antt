@@ -1,0 +1,57 @@
+-- Whether a history goes on.
+use Rattle.std.specs.Prelude.{Bool, true, false, ◌&&◌, ◌||◌, List, [], ◌∷◌}
+use Rattle.std.specs.Str.{bytes_eq}
+use Rattle.mm_digest.specs.declared.variant.Variant.{Variant}
+use Rattle.mm_digest.specs.declared.variant.Variant.TheVariants.{Basic, Opt}
+use Rattle.mm_module.specs.Batch.{Batch, One, Many}
+use Rattle.mm_model.specs.History.{Entry, Own, Value, History}
+
+abbrev pub same_batch : Batch → Batch → Bool
+same_batch (One r) (One s) = bytes_eq r s
+same_batch (One r) (Many t) = false
+same_batch (Many t) (One r) = false
+same_batch (Many t) (Many u) = bytes_eq t u
+
+abbrev pub is_empty : {A : Type 0} → List A → Bool
+is_empty [] = true
+is_empty (x ∷ xs) = false
+
+-- some entry is a value that stands for no batch
+abbrev pub has_value : List Entry → Bool
+has_value [] = false
+has_value (Own b ∷ entries) = has_value entries
+has_value (Value d ∷ entries) = true
+
+abbrev pub any_has_value : List (List Entry) → Bool
+any_has_value [] = false
+any_has_value (segment ∷ segments) = has_value segment || any_has_value segments
+
+-- the entries are those of the batches, one by one
+abbrev pub are_own : List Entry → List Batch → Bool
+are_own [] [] = true
+are_own [] (b ∷ batches) = false
+are_own (Own b ∷ entries) [] = false
+are_own (Own b ∷ entries) (c ∷ batches) = same_batch b c && are_own entries batches
+are_own (Value d ∷ entries) batches = false
+
+-- Live goes on. Spoiled accepts no offer any more, as a value that no batch put there counts. Lost: power
+-- was lost inside an open segment
+pub data Life : Type 0 where
+  Live : Life
+  Spoiled : Life
+  Lost : Life
+
+-- by: a segment is open; the register's items are empty; they are those of the open segment; a closed
+-- segment holds a value that stands for no batch
+abbrev pub life_by : Bool → Bool → Bool → Bool → Life
+life_by true true is_own is_marred = Lost
+life_by true false true false = Live
+life_by true false true true = Spoiled
+life_by true false false is_marred = Spoiled
+life_by false is_bare is_own false = Live
+life_by false is_bare is_own true = Spoiled
+
+-- Basic always goes on
+abbrev pub life_of : Variant → History → Life
+life_of Basic y = Live
+life_of Opt y = life_by y.is_open (is_empty y.items) (are_own y.items y.current) (any_has_value y.closed)

@@ -1,0 +1,107 @@
+-- The messages that are hashed, as far as a proof looks at them, and what is asked of their digests.
+use Rattle.std.specs.Prelude.{ℕ, ◌-◌, ◌≡◌, ◌≢◌, Bool, true, false, List, [], ◌∷◌, ◌++◌, length, map, take, drop, if◌then◌else◌}
+use Rattle.std.specs.List.{flat_map, AllByRecursion, Contains}
+use Rattle.std.specs.Str.{bytes_eq}
+use Rattle.sha2.specs.Sha256.{sha256}
+use Rattle.mm_digest.specs.declared.variant.Variant.{Variant}
+use Rattle.mm_digest.specs.declared.variant.Variant.TheVariants.{Basic, Opt}
+use Rattle.mm_digest.specs.Messages.{zero_bytes, start_message, start_of, extended_message, extended_of, anchored_message, anchored_of}
+use Rattle.mm_module.specs.Batch.{Batch}
+use Rattle.mm_model.specs.Chains.{trail, link_message, guard_message, closing_message, guard, own_values}
+use Rattle.mm_model.specs.Instance.{Instance}
+use Rattle.mm_model.specs.History.{Entry, Own, Value, History, Move, Commit, Foreign, Placed, Reset, Close, Power, values_of, register_value_of, cell_digest_of}
+use Rattle.mm_model.specs.Place.{Place, InBasic, InOpt}
+
+-- the batches of each closed segment: a segment runs to the next start, the last one to the end of these
+abbrev pub closed_runs : List (List Entry) → List Batch → List (List Batch)
+closed_runs [] batches = []
+closed_runs (segment ∷ []) batches = batches ∷ []
+closed_runs (segment ∷ next ∷ later) batches =
+    take (length segment) batches ∷ closed_runs (next ∷ later) (drop (length segment) batches)
+
+-- the batches of each segment, of the open one too
+abbrev pub runs_of : History → List (List Batch)
+runs_of y = closed_runs y.closed (take (length y.batches - length y.current) y.batches) ++ y.current ∷ []
+
+-- the messages by which these values went into a register that was zero
+abbrev pub register_trail : List (List ℕ) → List (List ℕ)
+register_trail values = trail extended_message zero_bytes values
+
+-- The messages of a history. In Basic the start message and the batches' link messages. In Opt the start
+-- message; the guard message of each batch; the extended messages of each segment's batches, of the entries
+-- of each closed segment and of the register's items; and the anchored message of each closing.
+abbrev pub messages_of : Variant → Instance → History → List (List ℕ)
+messages_of Basic i y =
+    start_message Basic i.meaning.id ∷ trail link_message (start_of Basic i.meaning.id) y.batches
+messages_of Opt i y =
+    start_message Opt i.meaning.id ∷
+    (map (guard_message i.barrier) y.batches
+    ++ flat_map (λ run. register_trail (own_values i.barrier run)) (runs_of y)
+    ++ flat_map (λ segment. register_trail (values_of i.barrier segment)) y.closed
+    ++ register_trail (values_of i.barrier y.items)
+    ++ trail closing_message (start_of Opt i.meaning.id) (map (values_of i.barrier) y.closed))
+
+abbrev pub history_messages : Instance → History → List (List ℕ)
+history_messages i y = messages_of i.variant i y
+
+-- the messages of one form of an offered place, at which the guard v may come next
+abbrev pub form_messages : List ℕ → List ℕ → List ℕ → List (List ℕ)
+form_messages anchor extension v =
+    extended_message extension v ∷ anchored_message anchor (extended_of extension v) ∷ []
+
+-- the messages of a call that offers the place and asks for the batch
+abbrev pub offer_messages : Instance → Place → Batch → List (List ℕ)
+offer_messages i (InBasic s) b = link_message s b ∷ []
+offer_messages i (InOpt a e) b =
+    guard_message i.barrier b ∷
+    (form_messages a e (guard i.barrier b)
+    ++ (if bytes_eq e zero_bytes then []
+    else anchored_message a e ∷ form_messages (anchored_of a e) zero_bytes (guard i.barrier b)))
+
+-- the messages of one move, made from a history: what the register takes in, and what closes a segment
+abbrev pub moving_messages : Variant → Bool → Instance → History → Move → List (List ℕ)
+moving_messages Basic is_open i y m = []
+moving_messages Opt true i y (Commit b) = extended_message (register_value_of i y) (guard i.barrier b) ∷ []
+moving_messages Opt false i y (Commit b) = []
+moving_messages Opt is_open i y (Foreign d) = extended_message (register_value_of i y) d ∷ []
+moving_messages Opt is_open i y (Placed b) = extended_message (register_value_of i y) (guard i.barrier b) ∷ []
+moving_messages Opt is_open i y Reset = []
+moving_messages Opt is_open i y Close =
+    anchored_message (cell_digest_of i Opt y) (register_value_of i y) ∷ []
+moving_messages Opt is_open i y Power = []
+
+abbrev pub move_messages : Instance → History → Move → List (List ℕ)
+move_messages i y m = moving_messages i.variant y.is_open i y m
+
+-- each of the messages is in the list
+abbrev pub Within : List (List ℕ) → List (List ℕ) → Type 0
+Within messages all = AllByRecursion (Contains all) messages
+
+-- two messages of the list that have one digest are the same bytes, and no digest is zero
+pub record IsClear (all : List (List ℕ)) : Type 0 where
+  pub apart : (m n : List ℕ) → Contains all m → Contains all n → sha256 m ≡ sha256 n → m ≡ n
+  pub nonzero : (m : List ℕ) → Contains all m → sha256 m ≢ zero_bytes
+
+-- the values of these entries that stand for no batch
+abbrev pub values_in : List Entry → List (List ℕ)
+values_in [] = []
+values_in (Own b ∷ entries) = values_in entries
+values_in (Value d ∷ entries) = d ∷ values_in entries
+
+-- the values of a history that stand for no batch and count: those in closed segments, and those among the
+-- register's items while a segment is open
+abbrev pub counting_values : History → List (List ℕ)
+counting_values y = flat_map values_in y.closed ++ (if y.is_open then values_in y.items else [])
+
+-- none of the values is the guard of one of the batches
+abbrev pub AreNoGuards : List ℕ → List (List ℕ) → List Batch → Type 0
+AreNoGuards barrier values batches =
+    (d : List ℕ) (b : Batch) → Contains values d → Contains batches b → d ≢ guard barrier b
+
+-- What is asked of the digests for a history and a call from it that offers the place and asks for the batch:
+-- the list `all` holds their messages and is clear, and no value that counts is the guard of one of their batches.
+pub record IsClearFor (all : List (List ℕ)) (i : Instance) (y : History) (offered : Place) (b : Batch) : Type 0 where
+  pub clear : IsClear all
+  pub history : Within (history_messages i y) all
+  pub call : Within (offer_messages i offered b) all
+  pub foreign : AreNoGuards i.barrier (counting_values y) (b ∷ y.batches)

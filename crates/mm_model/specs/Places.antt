@@ -1,0 +1,96 @@
+-- Which places the positions of a history have, and what a snapshot names.
+use Rattle.std.specs.Prelude.{ℕ, ◌≤◌, ◌≡◌, Bool, true, false, List, [], ◌∷◌, ◌++◌, length, map, ◌⊎◌}
+use Rattle.std.specs.List.{sum_by}
+use Rattle.mm_digest.specs.declared.variant.Variant.{Variant}
+use Rattle.mm_digest.specs.declared.variant.Variant.TheVariants.{Basic, Opt}
+use Rattle.mm_digest.specs.Messages.{zero_bytes}
+use Rattle.mm_module.specs.Batch.{Batch}
+use Rattle.mm_module.specs.Meaning.{state_after}
+use Rattle.mm_model.specs.Chains.{summary_of, register_of, anchor_of, own_values}
+use Rattle.mm_model.specs.Instance.{Instance}
+use Rattle.mm_model.specs.History.{Entry, History, requests_of, total_of, values_of}
+use Rattle.mm_model.specs.Life.{is_empty, any_has_value}
+use Rattle.mm_model.specs.Place.{Place, InBasic, InOpt, Snapshot}
+
+-- how many entries these segments have
+abbrev pub entries_in : List (List Entry) → ℕ
+entries_in segments = sum_by length segments
+
+-- the anchor after these segments
+abbrev pub anchor_after : Instance → List (List Entry) → List ℕ
+anchor_after i segments = anchor_of i.meaning.id (map (values_of i.barrier) segments)
+
+-- At an anchor: after some first closed segments, of which none holds a value that stands for no batch.
+-- The batches up to there are as many as their entries.
+pub record AtAnchor (i : Instance) (y : History) (named : List Batch) (anchor extension : List ℕ) : Type 0 where
+  pub before : List (List Entry)
+  pub later : List (List Entry)
+  pub split : y.closed ≡ before ++ later
+  pub clean : any_has_value before ≡ false
+  pub counted : length named ≡ entries_in before
+  pub anchor_is : anchor ≡ anchor_after i before
+  pub extension_is : extension ≡ zero_bytes
+
+-- Inside a closed segment: after its first batches, at least one. A segment starts at as many batches as
+-- the segments before it have entries, and it runs to the next start, the last one to the end.
+pub record InClosed (i : Instance) (y : History) (named : List Batch) (anchor extension : List ℕ) : Type 0 where
+  pub before : List (List Entry)
+  pub segment : List Entry
+  pub later : List (List Entry)
+  pub done : List Batch
+  pub taken : List Batch
+  pub split : y.closed ≡ before ++ segment ∷ later
+  pub named_is : named ≡ done ++ taken
+  pub counted : length done ≡ entries_in before
+  pub begun : is_empty taken ≡ false
+  pub within : (length taken ≤ length segment) ⊎ ((later ≡ []) × (y.current ≡ []))
+  pub anchor_is : anchor ≡ anchor_after i before
+  pub extension_is : extension ≡ register_of (own_values i.barrier taken)
+
+-- Inside the open segment: after its first batches, at least one.
+pub record InCurrent (i : Instance) (y : History) (named : List Batch) (anchor extension : List ℕ) : Type 0 where
+  pub done : List Batch
+  pub taken : List Batch
+  pub more : List Batch
+  pub split : y.current ≡ taken ++ more
+  pub start : y.batches ≡ done ++ y.current
+  pub named_is : named ≡ done ++ taken
+  pub begun : is_empty taken ≡ false
+  pub anchor_is : anchor ≡ anchor_after i y.closed
+  pub extension_is : extension ≡ register_of (own_values i.barrier taken)
+
+-- a place of Opt
+pub data IsPoint (i : Instance) (y : History) (named : List Batch) (anchor extension : List ℕ) : Type 0 where
+  at_anchor : AtAnchor i y named anchor extension → IsPoint i y named anchor extension
+  in_closed : InClosed i y named anchor extension → IsPoint i y named anchor extension
+  in_current : InCurrent i y named anchor extension → IsPoint i y named anchor extension
+
+-- a place of the position after the first batches `named`. A position inside a batch has none.
+abbrev pub IsPlace : Variant → Instance → History → List Batch → Place → Type 0
+IsPlace Basic i y named (InBasic s) = s ≡ summary_of i.meaning.id named
+IsPlace Basic i y named (InOpt a e) = ⊥
+IsPlace Opt i y named (InBasic s) = ⊥
+IsPlace Opt i y named (InOpt a e) = IsPoint i y named a e
+
+-- a snapshot names a position of the history: the position, the state there, and one of its places
+pub record Names (i : Instance) (y : History) (offered : Snapshot) : Type 0 where
+  pub named : List Batch
+  pub rest : List Batch
+  pub first : y.batches ≡ named ++ rest
+  pub position : offered.position ≡ total_of named
+  pub state : offered.state ≡ state_after i.meaning (requests_of named)
+  pub place : IsPlace i.variant i y named offered.place
+
+-- where the snapshot of an answer stands
+abbrev pub issued_place : Variant → Bool → Instance → History → Place
+issued_place Basic is_open i y = InBasic (summary_of i.meaning.id y.batches)
+issued_place Opt true i y = InOpt (anchor_after i y.closed) (register_of (own_values i.barrier y.current))
+issued_place Opt false i y = InOpt (anchor_after i y.closed) zero_bytes
+
+-- the snapshot that an answer hands out
+abbrev pub issued : Instance → History → Snapshot
+issued i y = record {
+  place = issued_place i.variant y.is_open i y;
+  position = total_of y.batches;
+  state = state_after i.meaning (requests_of y.batches);
+}

@@ -1,0 +1,42 @@
+-- The device steps of a call, each with the move that it makes.
+use Rattle.std.specs.Prelude.{ℕ, ◌+◌, Bool, true, false, List, [], ◌∷◌, Option, Some, None}
+use Rattle.mm_digest.specs.declared.variant.Variant.{Variant}
+use Rattle.mm_digest.specs.declared.variant.Variant.TheVariants.{Basic, Opt}
+use Rattle.mm_module.specs.Batch.{Batch}
+use Rattle.mm_model.specs.History.{Move, Commit, Placed, Reset, Close}
+
+-- a step reads; or changes the register, after what others put there before it; or writes the cell, and
+-- then its move stands before what others put into the register in the meantime
+pub data Step : Type 0 where
+  Reads : Step
+  Changes : Move → Step
+  Writes : Move → Step
+
+-- the steps of a call that asks for the batch, where it isn't refused before its last reading step: by
+-- whether a segment is open and the verdict was Fresh
+abbrev pub ask_steps : Variant → Bool → Bool → Batch → List Step
+ask_steps Basic is_open false b = Reads ∷ []
+ask_steps Basic is_open true b = Reads ∷ Writes (Commit b) ∷ []
+ask_steps Opt is_open false b = Reads ∷ Reads ∷ []
+ask_steps Opt true true b = Reads ∷ Reads ∷ Changes (Commit b) ∷ []
+ask_steps Opt false true b = Reads ∷ Reads ∷ Changes Reset ∷ Changes (Placed b) ∷ Writes (Commit b) ∷ []
+
+-- the steps of a checkpoint: by whether a segment is open and the register reads zero
+abbrev pub checkpoint_steps : Variant → Bool → Bool → List Step
+checkpoint_steps Basic is_open is_zero = Reads ∷ []
+checkpoint_steps Opt false is_zero = Reads ∷ []
+checkpoint_steps Opt true true = Reads ∷ Reads ∷ []
+checkpoint_steps Opt true false = Reads ∷ Reads ∷ Writes Close ∷ []
+
+-- the number, from n on, of the step that commits a batch
+abbrev pub commits_at : ℕ → List Step → Option ℕ
+commits_at n [] = None
+commits_at n (Reads ∷ steps) = commits_at (n + 1) steps
+commits_at n (Changes (Commit b) ∷ steps) = Some n
+commits_at n (Changes m ∷ steps) = commits_at (n + 1) steps
+commits_at n (Writes (Commit b) ∷ steps) = Some n
+commits_at n (Writes m ∷ steps) = commits_at (n + 1) steps
+
+-- the step at which a call commits its batch, counted from 1: by this step's effect, and by nothing else
+abbrev pub commit_step : List Step → Option ℕ
+commit_step steps = commits_at 1 steps

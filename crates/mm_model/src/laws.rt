@@ -1,0 +1,84 @@
+//! Laws of the definitions in specs/, each the contract of a function that does nothing.
+//!
+//! `all` is a list of messages in which no two share a digest and none has the digest zero (`IsClear`).
+
+ghost use Rattle.std.specs.Prelude.{◌≡◌, ℕ, false, List, [], ◌∷◌, ◌++◌, length, map};
+ghost use Rattle.std.specs.List.{Contains, AllByRecursion};
+ghost use Rattle.mm_digest.specs.declared.variant.Variant.TheVariants.{Basic, Opt};
+ghost use Rattle.mm_digest.specs.Messages.{zero_bytes, start_message, start_of, successor_message, secured_message, successor_of, secured_of, successor_batch_of, secured_batch_of, extended_of, anchored_of};
+ghost use Rattle.mm_module.specs.Batch.{Batch, One, Many};
+ghost use Rattle.mm_module.specs.Meaning.{Meaning};
+ghost use Rattle.mm_model.specs.Chains.{trail, link_message, guard_message, closing_message, link, guard, summary_of, register_of, anchor_of};
+ghost use Rattle.mm_model.specs.Instance.{basic};
+ghost use Rattle.mm_model.specs.History.{History, cell_digest_of};
+ghost use Rattle.mm_model.specs.Place.{Snapshot};
+ghost use Rattle.mm_model.specs.Places.{Names};
+ghost use Rattle.mm_model.specs.Judge.{judge, verdict_by_digests};
+ghost use Rattle.mm_model.specs.Messages.{Within, IsClear, IsClearFor, register_trail};
+
+/// A batch of one request has the messages and digests of that request, and a batch of several those of
+/// its text.
+pub fn batches_are_hashed()
+    ensures link { (s request : List ℕ) → link s (One request) ≡ successor_of s request }
+    ensures guard { (barrier request : List ℕ) → guard barrier (One request) ≡ secured_of barrier request }
+    ensures link_many { (s text : List ℕ) → link s (Many text) ≡ successor_batch_of s text }
+    ensures guard_many { (barrier text : List ℕ) → guard barrier (Many text) ≡ secured_batch_of barrier text }
+{}
+
+/// The summary, the register's value and the anchor go on by one digest.
+pub fn chains_go_on()
+    ensures summary { (id : ℕ) (batches : List Batch) (b : Batch) →
+        summary_of id (batches ++ b ∷ []) ≡ link (summary_of id batches) b }
+    ensures register { (values : List (List ℕ)) (value : List ℕ) →
+        register_of (values ++ value ∷ []) ≡ extended_of (register_of values) value }
+    ensures anchor { (id : ℕ) (segments : List (List (List ℕ))) (values : List (List ℕ)) →
+        anchor_of id (segments ++ values ∷ []) ≡ anchored_of (anchor_of id segments) (register_of values) }
+    ensures no_batches { (id : ℕ) → summary_of id [] ≡ start_of Basic id }
+    ensures no_values { register_of [] ≡ zero_bytes }
+    ensures no_segments { (id : ℕ) → anchor_of id [] ≡ start_of Opt id }
+{}
+
+/// Equal links or guards of two listed batches are those of one batch.
+pub fn batches_are_told_apart()
+    ensures link { (all : List (List ℕ)) → IsClear all → (s t : List ℕ) (b c : Batch) → length s ≡ 32 → length t ≡ 32 →
+        Contains all (link_message s b) → Contains all (link_message t c) → link s b ≡ link t c → b ≡ c }
+    ensures guard { (all : List (List ℕ)) → IsClear all → (barrier : List ℕ) (b c : Batch) →
+        Contains all (guard_message barrier b) → Contains all (guard_message barrier c) →
+        guard barrier b ≡ guard barrier c → b ≡ c }
+{}
+
+/// Equal values of two registers come from equal lists of values.
+pub fn registers_are_told_apart()
+    ensures { (all : List (List ℕ)) → IsClear all → (values others : List (List ℕ)) →
+        Within (register_trail values) all → Within (register_trail others) all →
+        register_of values ≡ register_of others → values ≡ others }
+{}
+
+/// Equal anchors come from equal lists of segments.
+pub fn anchors_are_told_apart()
+    ensures { (id : ℕ) (all : List (List ℕ)) → IsClear all → Contains all (start_message Opt id) →
+        (segments others : List (List (List ℕ))) →
+        AllByRecursion (λ values. Within (register_trail values) all) segments →
+        AllByRecursion (λ values. Within (register_trail values) all) others →
+        Within (trail closing_message (start_of Opt id) segments) all →
+        Within (trail closing_message (start_of Opt id) others) all →
+        anchor_of id segments ≡ anchor_of id others → segments ≡ others }
+{}
+
+/// Equal summaries come from equal lists of batches.
+pub fn summaries_are_told_apart()
+    ensures { (id : ℕ) (all : List (List ℕ)) → IsClear all → Contains all (start_message Basic id) →
+        (batches others : List Batch) →
+        Within (trail link_message (start_of Basic id) batches) all →
+        Within (trail link_message (start_of Basic id) others) all →
+        summary_of id batches ≡ summary_of id others → batches ≡ others }
+{}
+
+/// Basic: on an offer that names a position, the verdict by digests is the verdict on the history.
+pub fn basic_verdict_is_judged()
+    ensures { (meaning : Meaning) (key register : List ℕ) (y : History) (offered : Snapshot) (b : Batch)
+        (all : List (List ℕ)) → IsClearFor all (basic meaning key) y offered.place b →
+        Names (basic meaning key) y offered →
+        verdict_by_digests zero_bytes false (cell_digest_of (basic meaning key) Basic y) register offered.place b
+        ≡ judge Basic y offered.position b }
+{}
