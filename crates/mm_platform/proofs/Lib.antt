@@ -1,1 +1,2 @@
 pub mod LettingIn
+pub mod Stepping

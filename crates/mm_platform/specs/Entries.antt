@@ -1,5 +1,5 @@
 -- The register's items, as a platform in memory keeps them.
-use Rattle.std.specs.Prelude.{ℕ, Bool, List, map}
+use Rattle.std.specs.Prelude.{Bool, List, map}
 use Rattle.mm_platform.specs.declared.extensions.Entry.{Entry}
 use Rattle.mm_platform.specs.Standing.{Item}
 

@@ -1,12 +1,10 @@
 -- A platform in memory: what stands on it, exactly, after each call.
-use Rattle.std.specs.Prelude.{◌≡◌, ℕ, ◌+◌, ◌-◌, ◌≤◌, Bool, true, false, List, [], ◌∷◌, ◌++◌, Option, None, Some, map, count_by, nat_lt}
+use Rattle.std.specs.Prelude.{ℕ, ◌-◌, Bool, true, false, List, [], Option, Some, count_by, nat_lt}
 use Rattle.std.specs.Option.{option_map, option_map_or}
 use Rattle.mm_platform.specs.declared.fault.StepFault.{StepFault}
-use Rattle.mm_platform.specs.declared.fault.StepFault.TheVariants.{Off}
 use Rattle.mm_platform.specs.declared.plan.Meddle.{Meddle}
-use Rattle.mm_platform.specs.declared.plan.Stop.{Stop}
 use Rattle.mm_platform.specs.declared.plan.Stop.TheVariants.{Quiet}
-use Rattle.mm_platform.specs.Standing.{Item, Plan, Standing, plan_after}
+use Rattle.mm_platform.specs.Standing.{Plan, Standing, plan_after}
 use Rattle.mm_platform.specs.Steps.{Act, ReadCell, WriteCell, ReadRegister, ResetRegister, ExtendRegister, beside, cell_after, items_after, writes_after, will_answer, will_be_made, will_be_on, will_bring, faults_after}
 use Rattle.mm_base.specs.Faults.{counted}
 

@@ -1,7 +1,6 @@
 -- What a read and a write of a part of non-volatile memory do, where a write may tear.
-use Rattle.std.specs.Prelude.{◌≡◌, ℕ, ◌+◌, ◌≤◌, Bool, true, false, List, ◌++◌, length, take, drop, Option, None, Some}
+use Rattle.std.specs.Prelude.{◌≡◌, ℕ, ◌+◌, ◌≤◌, Bool, false, List, ◌++◌, length, take, drop, Option, None}
 use Rattle.std.specs.Option.{option_map}
-use Rattle.mm_base.specs.Faults.{Rose}
 use Rattle.mm_platform.specs.declared.fault.StepFault.{StepFault}
 use Rattle.mm_platform.specs.Standing.{Standing}
 use Rattle.mm_platform.specs.Steps.{beside, EndsBy}

@@ -1,5 +1,5 @@
 -- What each device step does to what stands on a platform.
-use Rattle.std.specs.Prelude.{◌≡◌, ℕ, ◌+◌, ◌≤◌, ◌==◌, Bool, true, false, not, List, [], ◌∷◌, ◌++◌, Option, None, Some, IsSome, OnOk, OnErr, Result, map, if◌then◌else◌}
+use Rattle.std.specs.Prelude.{◌≡◌, ℕ, ◌+◌, ◌≤◌, ◌==◌, Bool, true, false, not, List, [], ◌∷◌, ◌++◌, Option, None, Some, IsSome, map, if◌then◌else◌}
 use Rattle.std.specs.Option.{option_map}
 use Rattle.mm_base.specs.Faults.{counted, Rose}
 use Rattle.mm_platform.specs.declared.fault.StepFault.{StepFault}

@@ -4,7 +4,7 @@ ghost use Rattle.std.specs.Prelude.{◌≡◌, ◌+◌, ◌≤◌, Some, None, [
 ghost use Rattle.std.specs.Result.{result_err};
 ghost use Rattle.std.specs.Option.{option_map};
 ghost use Rattle.mm_base.specs.Faults.{counted};
-ghost use Rattle.mm_platform.specs.Steps.{beside, will_bring};
+ghost use Rattle.mm_platform.specs.Steps.{beside, will_bring, Cycles};
 ghost use Rattle.mm_platform.specs.Standing.{Standing, Plan, foreign_item, due, next_step, plan_after};
 ghost use Rattle.mm_platform.specs.Entries.{items_of, is_own};
 ghost use Rattle.mm_platform.specs.Memory.{quiet_plan, fresh, ahead, plan_of, begun, stepped, makes, answer_of, cycled};
@@ -183,5 +183,79 @@ fn let_in_due(register: &mut Extensions, meddles: &[Meddle], before: u64, step: 
                 value: meddle.value,
             });
         }
+    }
+}
+
+impl Device for MemPlatform {
+    ghost standing = { λ p. p };
+}
+
+impl Nv for MemPlatform {
+    fn nv_read(&mut self, into: &mut [u8; 104]) -> Result<(), StepFault> {
+        let fate = self.begin_step();
+        if let Some(fault) = fate.fault {
+            return Err(fault);
+        }
+        *into = self.cell;
+        Ok(())
+    }
+
+    fn nv_write(&mut self, bytes: &[u8; 104]) -> Result<(), StepFault> {
+        let fate = self.begin_step();
+        self.writes = self.writes.saturating_add(1);
+        if !fate.is_made {
+            return fate.answer();
+        }
+        self.cell = *bytes;
+        fate.answer()
+    }
+}
+
+impl Register for MemPlatform {
+    fn reg_ready(&mut self) -> Result<(), Memory> {
+        if self.spare > 0 {
+            return Ok(());
+        }
+        self.register.reserve(self.meddles.len() + 1)?;
+        self.spare = 1;
+        Ok(())
+    }
+
+    fn reg_read(&mut self) -> Result<Digest, StepFault> {
+        let fate = self.begin_step();
+        if let Some(fault) = fate.fault {
+            return Err(fault);
+        }
+        Ok(self.register.value)
+    }
+
+    fn reg_reset(&mut self) -> Result<(), StepFault> {
+        let fate = self.begin_step();
+        if !fate.is_made {
+            return fate.answer();
+        }
+        self.register.clear();
+        fate.answer()
+    }
+
+    fn reg_extend(&mut self, value: &Digest) -> Result<(), StepFault> {
+        let fate = self.begin_step();
+        if !fate.is_made {
+            return fate.answer();
+        }
+        self.spare -= 1;
+        self.register.push(Entry {
+            own: true,
+            value: *value,
+        });
+        fate.answer()
+    }
+}
+
+impl Platform for MemPlatform {
+    fn cycle(&mut self) -> Result<(), StepFault> {
+        self.register.clear();
+        self.is_on = true;
+        Ok(())
     }
 }

@@ -1,7 +1,5 @@
-use Rattle.std.proofs.Common.{◌≡◌, ◌+◌, ◌≤◌, ◌++◌, take, drop, map, vec_len, vec_capacity}
-use Rattle.mm_platform.specs.Standing.{foreign_item, due}
+use Rattle.std.proofs.Common.{vec_len, vec_capacity}
 use Rattle.mm_platform.specs.Entries.{items_of}
-use Rattle.mm_platform.specs.Memory.{ahead}
 use Rattle.mm_platform.proofs.LettingIn.{LetsIn}
 use Rattle.mm_platform.proofs.memory.let_in_due.Given as goal
 
