@@ -3,3 +3,4 @@ pub mod Chains
 pub mod Digests
 pub mod Batches
 pub mod Basic
+pub mod Runs

@@ -8,3 +8,6 @@ pub mod Judge
 pub mod Sound
 pub mod Steps
 pub mod Messages
+pub mod Codes
+pub mod Run
+pub mod Examples

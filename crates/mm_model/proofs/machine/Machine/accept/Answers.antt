@@ -1,0 +1,19 @@
+use Rattle.std.proofs.Common.{◌∙◌}
+use Rattle.mm_model.proofs.Runs.{spelled_at, IsRun-push}
+use Rattle.mm_model.proofs.machine.Machine.accept.Goals as goal
+
+pub step-requires-clause-spelled : goal.step-requires-clause-spelled
+step-requires-clause-spelled g c =
+    spelled_at (g.M.Module.meaning c.self.inside.runner) (g.met.M.Module.is_lawful c.self.inside.runner)
+    c.self.inside.requests.items c.self.inside.state c.as_slice.result.now c.self.invariant.state_is c.as_slice.ensures.value
+
+pub invariant_of-self-2 : goal.invariant_of-self-2
+invariant_of-self-2 g c =
+    IsRun-push (g.M.Module.meaning c.self.inside.runner) c.self.inside.requests.items c.push.new.self.items
+    c.args.request.now c.in_ok-asked.asked c.self.inside.state c.as_slice.result.now c.self.inside.output
+    c.in_ok-stepped.stepped.state c.in_ok-stepped.stepped.output c.self.invariant c.as_slice.ensures.value
+    c.in_ok-stepped.ensures.state c.in_ok-stepped.ensures.output c.in_ok-asked.ensures c.in_ok-push.ensures.items
+
+pub returns-clause-output : goal.returns-clause-output
+returns-clause-output g c =
+    (c.in_ok-said.ensures ∙ c.as_slice-2.ensures.value) ∙ (invariant_of-self-2 g c).output_is
