@@ -1,12 +1,14 @@
 //! The history that a protected module's digests stand for, and what is said of an offered snapshot.
 #![tactic(auto)]
 
+mod answer;
 mod examples;
 mod laws;
 mod machine;
 mod refusal;
 mod verdict;
 
+pub use answer::{Answer, BatchAnswer};
 pub use examples::{after_one_request, after_two_requests};
 pub use laws::{
     anchors_are_told_apart, basic_verdict_is_judged, batches_are_hashed, batches_are_told_apart,
