@@ -4,7 +4,11 @@
 mod bytes;
 mod fault;
 mod replay_fault;
+mod sink;
+mod source;
 
 pub use bytes::Bytes;
 pub use fault::{Failed, Memory, WriteFault};
 pub use replay_fault::ReplayFault;
+pub use sink::{MemSink, Sink, write_all};
+pub use source::{MemSource, Source};

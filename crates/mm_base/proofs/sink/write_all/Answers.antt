@@ -1,0 +1,9 @@
+use Rattle.std.proofs.Common.{◌∙◌}
+use Rattle.mm_base.proofs.StreamLemmas.{GoesOut-more}
+use Rattle.mm_base.proofs.sink.write_all.Goals as goal
+
+pub pieces-preserved : goal.pieces-preserved
+pieces-preserved g c = record {
+  gone = rw c.split_at.ensures.back (GoesOut-more _ _ _ _ _ _ c.pieces.invariant.gone c.in-Ok.ensures.given);
+  kept = c.in-Ok.ensures.counted.kept ∙ c.pieces.invariant.kept;
+}
