@@ -1,8 +1,13 @@
 -- How the lines and the tail of an input grow with bytes in front of it.
-use Rattle.std.proofs.Common.{◌≡◌, ◌∙◌, ℕ, List, [], ◌∷◌, ◌++◌, refl, sym, ap, append_assoc, append-nil, cond}
+use Rattle.std.proofs.Common.{◌≡◌, ◌≢◌, ◌∙◌, ℕ, List, [], ◌∷◌, ◌++◌, refl, sym, ap, append_assoc, append-nil, cond}
 use Rattle.std.specs.List.{AllByRecursion}
 use Rattle.std.proofs.lemmas.Bool.{ne_eqb}
+use Rattle.std.proofs.lemmas.List.Elements.{All-head, All-tail}
 use Rattle.mm_base.specs.Input.{IsUnbroken, onto_first, onto_tail, lines_of, tail_of, joined}
+
+-- no LF
+abbrev IsNoBreak : ℕ → Type 0
+IsNoBreak byte = byte ≢ 10
 
 onto_first-cons : (byte : ℕ) (bytes : List ℕ) (lines : List (List ℕ)) → onto_first (byte ∷ []) (onto_first bytes lines) ≡ onto_first (byte ∷ bytes) lines
 onto_first-cons byte bytes [] = refl
@@ -25,16 +30,16 @@ onto_tail-nil (line ∷ lines) tail = refl
 pub lines_of-append : (bytes rest : List ℕ) → IsUnbroken bytes → lines_of (bytes ++ rest) ≡ onto_first bytes (lines_of rest)
 lines_of-append [] rest h = sym (onto_first-nil (lines_of rest))
 lines_of-append (byte ∷ bytes) rest h =
-    ap (λ b. cond b ([] ∷ lines_of (bytes ++ rest)) (onto_first (byte ∷ []) (lines_of (bytes ++ rest)))) (ne_eqb byte 10 h.0)
-    ∙ ap (onto_first (byte ∷ [])) (lines_of-append bytes rest h.1)
+    ap (λ b. cond b ([] ∷ lines_of (bytes ++ rest)) (onto_first (byte ∷ []) (lines_of (bytes ++ rest)))) (ne_eqb byte 10 (All-head IsNoBreak byte bytes h))
+    ∙ ap (onto_first (byte ∷ [])) (lines_of-append bytes rest (All-tail IsNoBreak byte bytes h))
     ∙ onto_first-cons byte bytes (lines_of rest)
 
 pub tail_of-append : (bytes rest : List ℕ) → IsUnbroken bytes → tail_of (bytes ++ rest) ≡ onto_tail bytes (lines_of rest) (tail_of rest)
 tail_of-append [] rest h = sym (onto_tail-nil (lines_of rest) (tail_of rest))
 tail_of-append (byte ∷ bytes) rest h =
-    ap (λ b. cond b (tail_of (bytes ++ rest)) (onto_tail (byte ∷ []) (lines_of (bytes ++ rest)) (tail_of (bytes ++ rest)))) (ne_eqb byte 10 h.0)
-    ∙ ap (λ lines. onto_tail (byte ∷ []) lines (tail_of (bytes ++ rest))) (lines_of-append bytes rest h.1)
-    ∙ ap (onto_tail (byte ∷ []) (onto_first bytes (lines_of rest))) (tail_of-append bytes rest h.1)
+    ap (λ b. cond b (tail_of (bytes ++ rest)) (onto_tail (byte ∷ []) (lines_of (bytes ++ rest)) (tail_of (bytes ++ rest)))) (ne_eqb byte 10 (All-head IsNoBreak byte bytes h))
+    ∙ ap (λ lines. onto_tail (byte ∷ []) lines (tail_of (bytes ++ rest))) (lines_of-append bytes rest (All-tail IsNoBreak byte bytes h))
+    ∙ ap (onto_tail (byte ∷ []) (onto_first bytes (lines_of rest))) (tail_of-append bytes rest (All-tail IsNoBreak byte bytes h))
     ∙ onto_tail-cons byte bytes (lines_of rest) (tail_of rest)
 
 -- a line goes first

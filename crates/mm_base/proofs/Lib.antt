@@ -1,2 +1,4 @@
+pub mod DecimalLemmas
 pub mod Input
+pub mod LineLemmas
 pub mod StreamLemmas

@@ -1,10 +1,9 @@
 -- The lines of an input: each ends with LF (byte 10), and what stands after the last LF is the tail.
-use Rattle.std.specs.Prelude.{◌≢◌, ℕ, ◌==◌, List, [], ◌∷◌, ◌++◌, if◌then◌else◌}
-use Rattle.std.specs.List.{AllByRecursion}
+use Rattle.std.specs.Prelude.{◌≢◌, ℕ, ◌==◌, List, [], ◌∷◌, ◌++◌, All, if◌then◌else◌}
 
 -- no byte is an LF
 abbrev pub IsUnbroken : List ℕ → Type 0
-IsUnbroken bytes = AllByRecursion (λ byte. byte ≢ 10) bytes
+IsUnbroken bytes = All (λ byte. byte ≢ 10) bytes
 
 -- the bytes stand before the first line, where there is one
 abbrev pub onto_first : List ℕ → List (List ℕ) → List (List ℕ)

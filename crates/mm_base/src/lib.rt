@@ -2,13 +2,17 @@
 #![tactic(auto)]
 
 mod bytes;
+mod decimal;
 mod fault;
+mod lines;
 mod replay_fault;
 mod sink;
 mod source;
 
 pub use bytes::Bytes;
+pub use decimal::{put_decimal, read_decimal};
 pub use fault::{Failed, Memory, WriteFault};
+pub use lines::{LONGEST_LINE, LineFault, LineReader, Read};
 pub use replay_fault::ReplayFault;
 pub use sink::{MemSink, Sink, write_all};
 pub use source::{MemSource, Source};

@@ -107,8 +107,8 @@ impl Source for MemSource {
     }
 }
 
-/// Copies the first `count` bytes.
-fn copy_front(from: &[u8], into: &mut [u8], count: usize)
+/// Copies the first `count` bytes of `from` to the front of `into`.
+pub fn copy_front(from: &[u8], into: &mut [u8], count: usize)
     requires from_has { count ≤ length from.now }
     requires into_has { count ≤ length into.old }
     ensures { take count into.new ≡ take count from.now }

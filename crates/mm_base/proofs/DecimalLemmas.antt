@@ -1,0 +1,95 @@
+-- A decimal is what std's `decimal` spells, and no other text.
+use Rattle.std.proofs.Common.{◌≡◌, ◌≢◌, ◌<◌, ◌^◌, ℕ, Bool, true, false, List, [], ◌∷◌, length, get_or, refl, sym, ap, ◌∙◌, arith, rules, ◌⊎◌, inl, inr, cond, ◌&&◌, nat_lt, lit<, zero, suc}
+use Rattle.std.proofs.lemmas.Grind.{common_steps}
+use Rattle.std.proofs.lemmas.Bool.Decides.{nat_tests}
+use Rattle.std.proofs.lemmas.Fmt.{decimal-digits_value, digits_decimal, digits_value-decimal, first_decimal, decimal_digit, decimal_nonempty, IsAscii-from_digits}
+use Rattle.std.proofs.lemmas.Str.{IsUtf8-from_ascii}
+use Rattle.std.proofs.lemmas.Str.Parse.{IsNumeralModel, numerals_by_value, parse_digits}
+use Rattle.std.specs.Prelude.{Some, None, Result, Ok, Err}
+use Rattle.std.specs.Char.{is_ascii_digit}
+use Rattle.std.specs.Fmt.{decimal}
+use Rattle.std.specs.List.{list_all}
+use Rattle.std.specs.Result.{result_ok}
+use Rattle.std.specs.Str.{IsUtf8}
+use Rattle.std.specs.Str.Parse.{digits_value, ParsesUnsigned}
+use Rattle.mm_base.specs.Decimals.{is_decimal, number_of}
+
+-- a text of digits, and its value
+abbrev AreDigits : List ℕ → Type 0
+AreDigits ds = list_all is_ascii_digit ds ≡ true
+
+digits : IsNumeralModel AreDigits (digits_value 10)
+digits = numerals_by_value AreDigits (search rules)
+
+-- the two forms of a decimal
+decimal_forms : (d : ℕ) (ds : List ℕ) → is_decimal (d ∷ ds) ≡ true → ((d ≡ 48) × (ds ≡ [])) ⊎ ((d ≢ 48) × AreDigits (d ∷ ds))
+decimal_forms d ds is = grind (arith, common_steps, nat_tests)
+
+pub digits_of_decimal : (ds : List ℕ) → is_decimal ds ≡ true → AreDigits ds
+digits_of_decimal [] is = refl
+digits_of_decimal (d ∷ ds) is = elim (decimal_forms d ds is) [ inl w ↦ rw (w.0, w.1) refl | inr w ↦ w.1 ]
+
+pub alone_of_decimal : (ds : List ℕ) → is_decimal ds ≡ true → get_or ds 0 0 ≡ 48 → length ds ≡ 1
+alone_of_decimal [] is leads = cc
+alone_of_decimal (d ∷ ds) is leads = elim (decimal_forms d ds is) [ inl w ↦ rw w.1 refl | inr w ↦ absurd (w.0 leads) ]
+
+pub some_of_decimal : (ds : List ℕ) → is_decimal ds ≡ true → 0 < length ds
+some_of_decimal [] is = cc
+some_of_decimal (d ∷ ds) is = omega arith
+
+pub decimal_from_digits : (ds : List ℕ) → AreDigits ds → 0 < length ds → (get_or ds 0 0 ≡ 48 → length ds ≡ 1) → is_decimal ds ≡ true
+decimal_from_digits [] are some alone = absurd (omega arith)
+decimal_from_digits (d ∷ ds) are some alone = grind (arith, common_steps, nat_tests)
+
+-- a number that is given where a test holds
+given_where : (test : Bool) (value number : ℕ) → cond test (Some value) None ≡ Some number → (test ≡ true) × (value ≡ number)
+given_where true value number is = (refl, cc)
+given_where false value number is = cc
+
+-- what is read is spelled
+pub spelled_by_reading : (ds : List ℕ) (number : ℕ) → number_of ds ≡ Some number → ds ≡ decimal number
+unfolding number_of
+spelled_by_reading ds number is =
+    let given : (is_decimal ds && nat_lt (digits_value 10 ds) (2 ^ 64) ≡ true) × (digits_value 10 ds ≡ number) = given_where _ _ number is in
+    let form : is_decimal ds ≡ true = grind (arith, common_steps, nat_tests, given.0) in
+    let small : digits_value 10 ds < 2 ^ 64 = grind (arith, common_steps, nat_tests, given.0) in
+    sym (decimal-digits_value digits ds (digits_of_decimal ds form) (some_of_decimal ds form) (alone_of_decimal ds form) small) ∙ ap decimal given.1
+
+alone_of_spelling : (number : ℕ) (ds : List ℕ) → number < 2 ^ 64 → ds ≡ decimal number → get_or ds 0 0 ≡ 48 → length ds ≡ 1
+alone_of_spelling zero ds small is leads = rw (is, decimal_digit 0 (lit< tt)) refl
+alone_of_spelling (suc number) ds small is leads =
+    let more : 48 < get_or ds 0 0 = rw is (first_decimal (suc number) (omega arith) small) in absurd (omega arith)
+
+-- what is spelled is read
+pub read_by_spelling : (ds : List ℕ) (number : ℕ) → number < 2 ^ 64 → ds ≡ decimal number → number_of ds ≡ Some number
+unfolding number_of
+read_by_spelling ds number small is =
+    let are : AreDigits ds = rw is (digits_decimal digits number small) in
+    let some : 0 < length ds = rw is (decimal_nonempty number small) in
+    let value : digits_value 10 ds ≡ number = rw is (digits_value-decimal digits number small) in
+    let form : is_decimal ds ≡ true = decimal_from_digits ds are some (alone_of_spelling number ds small is) in
+    grind (arith, common_steps, nat_tests)
+
+-- what has not the form of a decimal is not read
+pub none_without_form : (ds : List ℕ) → is_decimal ds ≡ false → number_of ds ≡ None
+unfolding number_of
+none_without_form ds form = rw form refl
+
+-- `parse` gives the number
+pub parsed_number : {E : Type 0} (ds : List ℕ) (r : Result ℕ E) → is_decimal ds ≡ true → ParsesUnsigned 64 10 ds r → result_ok r ≡ number_of ds
+unfolding number_of
+parsed_number {E} ds (Ok number) form parses =
+    let parts : ((0 < length ds) × (digits_value 10 ds < 2 ^ 64)) × (number ≡ digits_value 10 ds) =
+    parse_digits digits {E = E} 64 ds (Ok number) parses (digits_of_decimal ds form) in
+    let small : digits_value 10 ds < 2 ^ 64 = parts.0.1 in
+    let value : number ≡ digits_value 10 ds = parts.1 in
+    grind (arith, common_steps, nat_tests)
+parsed_number {E} ds (Err e) form parses =
+    let large : ((0 < length ds) × (digits_value 10 ds < 2 ^ 64)) → ⊥ =
+    parse_digits digits {E = E} 64 ds (Err e) parses (digits_of_decimal ds form) in
+    let over : digits_value 10 ds < 2 ^ 64 → ⊥ = λ small. large (some_of_decimal ds form, small) in
+    grind (arith, common_steps, nat_tests)
+
+-- a decimal is text
+pub text_of_decimal : (ds : List ℕ) → is_decimal ds ≡ true → IsUtf8 ds
+text_of_decimal ds form = IsUtf8-from_ascii ds (IsAscii-from_digits ds (digits.to ds (digits_of_decimal ds form)))

@@ -1,0 +1,6 @@
+-- The bytes that a line reader holds.
+use Rattle.std.specs.Prelude.{ℕ, List, slice_range}
+use Rattle.mm_base.specs.declared.lines.Held.{Held}
+
+abbrev pub held_in : Held → List ℕ
+held_in held = slice_range held.buffer.items held.start held.end
