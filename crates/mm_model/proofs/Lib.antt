@@ -4,3 +4,4 @@ pub mod Digests
 pub mod Batches
 pub mod Basic
 pub mod Runs
+pub mod LongLaws

@@ -11,3 +11,4 @@ pub mod Messages
 pub mod Codes
 pub mod Run
 pub mod Examples
+pub mod Long

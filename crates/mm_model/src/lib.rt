@@ -4,6 +4,7 @@
 mod answer;
 mod examples;
 mod laws;
+mod long;
 mod machine;
 mod refusal;
 mod verdict;
@@ -14,6 +15,7 @@ pub use laws::{
     anchors_are_told_apart, basic_verdict_is_judged, batches_are_hashed, batches_are_told_apart,
     chains_go_on, registers_are_told_apart, summaries_are_told_apart,
 };
+pub use long::is_long;
 pub use machine::Machine;
 pub use refusal::Refusal;
 pub use verdict::Verdict;

@@ -1,0 +1,84 @@
+-- A batch that isn't too long has at most 64 requests, each of them a line.
+use Rattle.std.proofs.Common.{ℕ, ◌≡◌, ◌≢◌, ◌+◌, ◌≤◌, Bool, true, false, ◌||◌, List, [], ◌∷◌, ◌++◌, length, length-append, refl, sym, ap, ◌∙◌, subst, arith, Some, zero, suc}
+use Rattle.std.specs.Prelude.{nat_lt, All}
+use Rattle.std.specs.List.{list_any, slice_get, join_with_byte, AllByRecursion}
+use Rattle.std.proofs.lemmas.List.Elements.{All-from_recursion}
+use Rattle.std.proofs.lemmas.List.Folds.{list_any-append}
+use Rattle.std.proofs.lemmas.Bool.Decides.{nat_tests}
+use Rattle.mm_module.specs.Meaning.{IsLine}
+use Rattle.mm_module.specs.Batch.{Batch, members_of, text_of, size_of}
+use Rattle.mm_module.proofs.BatchLaws.{text_of-members_of}
+use Rattle.mm_model.specs.Long.{is_lf, is_long}
+
+neither_left : (a b : Bool) → (a || b) ≡ false → a ≡ false
+neither_left true b e = e
+neither_left false b e = refl
+
+neither_right : (a b : Bool) → (a || b) ≡ false → b ≡ false
+neither_right true b e = cc
+neither_right false b e = e
+
+not_lf : (byte : ℕ) → is_lf byte ≡ false → byte ≢ 10
+not_lf byte e = grind (arith, nat_tests)
+
+unbroken : (text : List ℕ) → list_any is_lf text ≡ false → AllByRecursion (λ byte. byte ≢ 10) text
+unbroken [] e = tt
+unbroken (x ∷ xs) e =
+    (not_lf x (neither_left (is_lf x) (list_any is_lf xs) e), unbroken xs (neither_right (is_lf x) (list_any is_lf xs) e))
+
+short : (n : ℕ) → nat_lt 4096 n ≡ false → n ≤ 4096
+short n e = grind (arith, nat_tests)
+
+few : (n : ℕ) → nat_lt 64 n ≡ false → n ≤ 64
+few n e = grind (arith, nat_tests)
+
+-- a piece of a text is no longer, and has no LF where the text has none
+record IsPiece (m text : List ℕ) : Type 0 where
+  size : length m ≤ length text
+  clean : list_any is_lf text ≡ false → list_any is_lf m ≡ false
+
+first_piece : (x m rest : List ℕ) → x ≡ m → IsPiece m (x ++ rest)
+first_piece x m rest e = record {
+  size = omega (arith, length-append x rest, ap length e);
+  clean = λ (h : list_any is_lf (x ++ rest) ≡ false).
+      subst (λ (v : List ℕ). list_any is_lf v ≡ false) e
+      (neither_left (list_any is_lf x) (list_any is_lf rest) (sym (list_any-append is_lf x rest) ∙ h));
+}
+
+later_piece : (x m rest : List ℕ) → IsPiece m rest → IsPiece m (x ++ (9 ∷ rest))
+later_piece x m rest p = record {
+  size = omega (arith, length-append x (9 ∷ rest), p.size);
+  clean = λ (h : list_any is_lf (x ++ (9 ∷ rest)) ≡ false).
+      p.clean (neither_right (list_any is_lf x) (list_any is_lf (9 ∷ rest)) (sym (list_any-append is_lf x (9 ∷ rest)) ∙ h));
+}
+
+only_piece : (x m : List ℕ) → x ≡ m → IsPiece m x
+only_piece x m e = record {
+  size = omega (arith, ap length e);
+  clean = λ (h : list_any is_lf x ≡ false). subst (λ (v : List ℕ). list_any is_lf v ≡ false) e h;
+}
+
+piece : (pieces : List (List ℕ)) (i : ℕ) (m : List ℕ) → slice_get pieces i ≡ Some m → IsPiece m (join_with_byte 9 pieces)
+piece [] i m e = cc
+piece (x ∷ []) zero m e = let s : x ≡ m = cc in only_piece x m s
+piece (x ∷ []) (suc i) m e = cc
+piece (x ∷ y ∷ xs) zero m e = let s : x ≡ m = cc in first_piece x m (9 ∷ join_with_byte 9 (y ∷ xs)) s
+piece (x ∷ y ∷ xs) (suc i) m e = later_piece x m (join_with_byte 9 (y ∷ xs)) (piece (y ∷ xs) i m e)
+
+pub few_members : (b : Batch) → is_long b ≡ false → size_of b ≤ 64
+few_members b e =
+    few (size_of b)
+    (neither_right (nat_lt 4096 (length (text_of b)) || list_any is_lf (text_of b)) (nat_lt 64 (size_of b)) e)
+
+pub members_are_lines : (b : Batch) → is_long b ≡ false → (i : ℕ) (m : List ℕ) → slice_get (members_of b) i ≡ Some m → IsLine m
+members_are_lines b e i m at =
+    let p : IsPiece m (text_of b) =
+    subst (λ (v : List ℕ). IsPiece m v) (text_of-members_of b) (piece (members_of b) i m at) in
+    let f = neither_left (nat_lt 4096 (length (text_of b)) || list_any is_lf (text_of b)) (nat_lt 64 (size_of b)) e in
+    let s : length (text_of b) ≤ 4096 =
+    short (length (text_of b)) (neither_left (nat_lt 4096 (length (text_of b))) (list_any is_lf (text_of b)) f) in
+    record {
+      short = omega (arith, p.size, s);
+      unbroken = All-from_recursion (λ byte. byte ≢ 10) m
+          (unbroken m (p.clean (neither_right (nat_lt 4096 (length (text_of b))) (list_any is_lf (text_of b)) f)));
+    }
