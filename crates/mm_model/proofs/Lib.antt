@@ -5,3 +5,5 @@ pub mod Batches
 pub mod Basic
 pub mod Runs
 pub mod LongLaws
+pub mod Segments
+pub mod Forms

@@ -24,6 +24,11 @@ pub record History : Type 0 where
 abbrev pub first_history : History
 first_history = record { batches = []; closed = []; current = []; is_open = false; items = [] }
 
+-- the lists, one after another
+abbrev pub joined : {A : Type 0} → List (List A) → List A
+joined [] = []
+joined (xs ∷ xss) = xs ++ joined xss
+
 -- the committed requests, one by one
 abbrev pub requests_of : List Batch → List (List ℕ)
 requests_of batches = flat_map members_of batches

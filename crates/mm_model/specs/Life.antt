@@ -4,7 +4,7 @@ use Rattle.std.specs.Str.{bytes_eq}
 use Rattle.mm_digest.specs.declared.variant.Variant.{Variant}
 use Rattle.mm_digest.specs.declared.variant.Variant.TheVariants.{Basic, Opt}
 use Rattle.mm_module.specs.Batch.{Batch, One, Many}
-use Rattle.mm_model.specs.History.{Entry, Own, Value, History}
+use Rattle.mm_model.specs.History.{Entry, Own, Value, History, joined}
 
 abbrev pub same_batch : Batch → Batch → Bool
 same_batch (One r) (One s) = bytes_eq r s
@@ -21,10 +21,6 @@ abbrev pub has_value : List Entry → Bool
 has_value [] = false
 has_value (Own b ∷ entries) = has_value entries
 has_value (Value d ∷ entries) = true
-
-abbrev pub any_has_value : List (List Entry) → Bool
-any_has_value [] = false
-any_has_value (segment ∷ segments) = has_value segment || any_has_value segments
 
 -- the entries are those of the batches, one by one
 abbrev pub are_own : List Entry → List Batch → Bool
@@ -54,4 +50,4 @@ life_by false is_bare is_own true = Spoiled
 -- Basic always goes on
 abbrev pub life_of : Variant → History → Life
 life_of Basic y = Live
-life_of Opt y = life_by y.is_open (is_empty y.items) (are_own y.items y.current) (any_has_value y.closed)
+life_of Opt y = life_by y.is_open (is_empty y.items) (are_own y.items y.current) (has_value (joined y.closed))

@@ -9,7 +9,7 @@ use Rattle.mm_digest.specs.Messages.{zero_bytes, start_message, start_of, extend
 use Rattle.mm_module.specs.Batch.{Batch}
 use Rattle.mm_model.specs.Chains.{trail, link_message, guard_message, closing_message, guard, own_values}
 use Rattle.mm_model.specs.Instance.{Instance}
-use Rattle.mm_model.specs.History.{Entry, Own, Value, History, Move, Commit, Foreign, Placed, Reset, Close, Power, values_of, register_value_of, cell_digest_of}
+use Rattle.mm_model.specs.History.{Entry, Own, Value, History, Move, Commit, Foreign, Placed, Reset, Close, Power, values_of, register_value_of, cell_digest_of, joined}
 use Rattle.mm_model.specs.Place.{Place, InBasic, InOpt}
 
 -- the batches of each closed segment: a segment runs to the next start, the last one to the end of these
@@ -88,10 +88,9 @@ values_in [] = []
 values_in (Own b ∷ entries) = values_in entries
 values_in (Value d ∷ entries) = d ∷ values_in entries
 
--- the values of a history that stand for no batch and count: those in closed segments, and those among the
--- register's items while a segment is open
-abbrev pub counting_values : History → List (List ℕ)
-counting_values y = flat_map values_in y.closed ++ (if y.is_open then values_in y.items else [])
+-- the entries of a history that count: those of closed segments, and the register's items while a segment is open
+abbrev pub counting : History → List Entry
+counting y = joined y.closed ++ (if y.is_open then y.items else [])
 
 -- none of the values is the guard of one of the batches
 abbrev pub AreNoGuards : List ℕ → List (List ℕ) → List Batch → Type 0
@@ -104,4 +103,4 @@ pub record IsClearFor (all : List (List ℕ)) (i : Instance) (y : History) (offe
   pub clear : IsClear all
   pub history : Within (history_messages i y) all
   pub call : Within (offer_messages i offered b) all
-  pub foreign : AreNoGuards i.barrier (counting_values y) (b ∷ y.batches)
+  pub foreign : AreNoGuards i.barrier (values_in (counting y)) (b ∷ y.batches)

@@ -1,6 +1,5 @@
 -- Which places the positions of a history have, and what a snapshot names.
 use Rattle.std.specs.Prelude.{ℕ, ◌≤◌, ◌≡◌, Bool, true, false, List, [], ◌∷◌, ◌++◌, length, map, ◌⊎◌}
-use Rattle.std.specs.List.{sum_by}
 use Rattle.mm_digest.specs.declared.variant.Variant.{Variant}
 use Rattle.mm_digest.specs.declared.variant.Variant.TheVariants.{Basic, Opt}
 use Rattle.mm_digest.specs.Messages.{zero_bytes}
@@ -8,13 +7,9 @@ use Rattle.mm_module.specs.Batch.{Batch}
 use Rattle.mm_module.specs.Meaning.{state_after}
 use Rattle.mm_model.specs.Chains.{summary_of, register_of, anchor_of, own_values}
 use Rattle.mm_model.specs.Instance.{Instance}
-use Rattle.mm_model.specs.History.{Entry, History, requests_of, total_of, values_of}
-use Rattle.mm_model.specs.Life.{is_empty, any_has_value}
+use Rattle.mm_model.specs.History.{Entry, History, requests_of, total_of, values_of, joined}
+use Rattle.mm_model.specs.Life.{is_empty, has_value}
 use Rattle.mm_model.specs.Place.{Place, InBasic, InOpt, Snapshot}
-
--- how many entries these segments have
-abbrev pub entries_in : List (List Entry) → ℕ
-entries_in segments = sum_by length segments
 
 -- the anchor after these segments
 abbrev pub anchor_after : Instance → List (List Entry) → List ℕ
@@ -26,8 +21,8 @@ pub record AtAnchor (i : Instance) (y : History) (named : List Batch) (anchor ex
   pub before : List (List Entry)
   pub later : List (List Entry)
   pub split : y.closed ≡ before ++ later
-  pub clean : any_has_value before ≡ false
-  pub counted : length named ≡ entries_in before
+  pub clean : has_value (joined before) ≡ false
+  pub counted : length named ≡ length (joined before)
   pub anchor_is : anchor ≡ anchor_after i before
   pub extension_is : extension ≡ zero_bytes
 
@@ -41,7 +36,7 @@ pub record InClosed (i : Instance) (y : History) (named : List Batch) (anchor ex
   pub taken : List Batch
   pub split : y.closed ≡ before ++ segment ∷ later
   pub named_is : named ≡ done ++ taken
-  pub counted : length done ≡ entries_in before
+  pub counted : length done ≡ length (joined before)
   pub begun : is_empty taken ≡ false
   pub within : (length taken ≤ length segment) ⊎ ((later ≡ []) × (y.current ≡ []))
   pub anchor_is : anchor ≡ anchor_after i before

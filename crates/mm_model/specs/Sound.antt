@@ -1,9 +1,9 @@
 -- What holds of each history of Opt that calls, others and losses of power lead to.
 use Rattle.std.specs.Prelude.{◌≡◌, true, false, List, [], ◌∷◌, ◌++◌, ◌⊎◌}
-use Rattle.std.specs.List.{flat_map, AllByRecursion}
+use Rattle.std.specs.List.{AllByRecursion}
 use Rattle.mm_module.specs.Batch.{Batch}
-use Rattle.mm_model.specs.History.{Entry, Own, Value, History}
-use Rattle.mm_model.specs.Life.{is_empty, has_value, any_has_value, are_own}
+use Rattle.mm_model.specs.History.{Entry, Own, Value, History, joined}
+use Rattle.mm_model.specs.Life.{is_empty, has_value, are_own}
 
 -- the batches whose entries these are
 abbrev pub batches_in : List Entry → List Batch
@@ -14,8 +14,8 @@ batches_in (Value d ∷ entries) = batches_in entries
 -- No closed segment holds a value that stands for no batch, and the batches are those of the closed segments
 -- and then those of the open one.
 pub record IsClean (y : History) : Type 0 where
-  pub clean : any_has_value y.closed ≡ false
-  pub batches : y.batches ≡ flat_map batches_in y.closed ++ y.current
+  pub clean : has_value (joined y.closed) ≡ false
+  pub batches : y.batches ≡ batches_in (joined y.closed) ++ y.current
 
 -- The last closed segment alone holds such a value, nothing is open, and the batches begin with those of the
 -- segments before it.
@@ -24,10 +24,10 @@ pub record IsMarred (y : History) : Type 0 where
   pub last : List Entry
   pub rest : List Batch
   pub split : y.closed ≡ before ++ last ∷ []
-  pub clean : any_has_value before ≡ false
+  pub clean : has_value (joined before) ≡ false
   pub marred : has_value last ≡ true
   pub shut : y.is_open ≡ false
-  pub batches : y.batches ≡ flat_map batches_in before ++ rest
+  pub batches : y.batches ≡ batches_in (joined before) ++ rest
 
 -- what the register's items are while a segment is open: its batches' entries; nothing, after a loss of
 -- power; or they hold a value that stands for no batch

@@ -1,0 +1,96 @@
+-- Opt: what the tests of the verdict by digests say of lists of values.
+use Rattle.std.proofs.Common.{ℕ, ◌≡◌, ◌≢◌, Bool, true, false, ◌&&◌, ◌||◌, List, [], ◌∷◌, ◌++◌, cond, refl, sym, ap, ◌∙◌, subst, ◌⊎◌, inl, inr}
+use Rattle.std.specs.Bool.{Decides}
+use Rattle.std.specs.Str.{bytes_eq}
+use Rattle.std.specs.List.{AllByRecursion, Contains, list_any}
+use Rattle.std.proofs.lemmas.Bool.{or_cases}
+use Rattle.std.proofs.lemmas.Bool.Decides.{Decides-and}
+use Rattle.std.proofs.lemmas.Slice.Eq.{bytes_eq-Decides}
+use Rattle.mm_digest.specs.declared.variant.Variant.TheVariants.{Basic, Opt}
+use Rattle.mm_digest.specs.Messages.{zero_bytes, start_message, start_of, extended_message, extended_of, anchored_message, anchored_of}
+use Rattle.mm_model.specs.Chains.{after, trail, closing_message, register_of, anchor_of}
+use Rattle.mm_model.specs.Life.{is_empty}
+use Rattle.mm_model.specs.Judge.{Point, forms_of, fits_fresh, fits_again}
+use Rattle.mm_model.specs.Messages.{Within, IsClear, register_trail, form_messages}
+use Rattle.mm_model.proofs.Lists.{each_append}
+use Rattle.mm_model.proofs.Chains.{trail_push}
+use Rattle.mm_model.proofs.Digests.{same_registers, same_anchors, register_nonzero, register-push, anchor-push}
+use Rattle.mm_model.proofs.Segments.{Fresh, Again, taken_in}
+
+-- all messages of these segments and of these values after them are listed
+pub record Listed (id : ℕ) (all : List (List ℕ)) (segments : List (List (List ℕ))) (values : List (List ℕ)) : Type 0 where
+  pub inner : AllByRecursion (λ vs. Within (register_trail vs) all) segments
+  pub outer : Within (trail closing_message (start_of Opt id) segments) all
+  pub last : Within (register_trail values) all
+
+-- a list of messages that is clear and holds the start message
+pub record Clears (id : ℕ) (all : List (List ℕ)) : Type 0 where
+  pub clear : IsClear all
+  pub starts : Contains all (start_message Opt id)
+
+abbrev point_of : ℕ → List (List (List ℕ)) → List (List ℕ) → Point
+point_of id segments values = record { anchor = anchor_of id segments; extension = register_of values }
+
+pub same_anchor : (id : ℕ) (all : List (List ℕ)) → Clears id all → (ls ks : List (List (List ℕ))) (vs ws : List (List ℕ)) → Listed id all ls vs → Listed id all ks ws → Decides (bytes_eq (anchor_of id ls) (anchor_of id ks)) (ls ≡ ks)
+same_anchor id all clears ls ks vs ws l k = (
+  λ t. same_anchors id all clears.clear clears.starts ls ks l.inner k.inner l.outer k.outer
+      ((bytes_eq-Decides (anchor_of id ls) (anchor_of id ks)).0 t),
+  λ e. (bytes_eq-Decides (anchor_of id ls) (anchor_of id ks)).1 (ap (anchor_of id) e),
+)
+
+pub same_register : (all : List (List ℕ)) → IsClear all → (vs ws : List (List ℕ)) → Within (register_trail vs) all → Within (register_trail ws) all → Decides (bytes_eq (register_of vs) (register_of ws)) (vs ≡ ws)
+same_register all clear vs ws l k = (
+  λ t. same_registers all clear vs ws l k ((bytes_eq-Decides (register_of vs) (register_of ws)).0 t),
+  λ e. (bytes_eq-Decides (register_of vs) (register_of ws)).1 (ap register_of e),
+)
+
+-- what a register reads before every value is zero
+pub reads_zero : register_of [] ≡ zero_bytes
+unfolding register_of
+reads_zero = refl
+
+pub zero_register : (all : List (List ℕ)) → IsClear all → (vs : List (List ℕ)) → Within (register_trail vs) all → Decides (bytes_eq (register_of vs) zero_bytes) (vs ≡ [])
+zero_register all clear vs l = (
+  λ t. register_nonzero all clear vs l ((bytes_eq-Decides (register_of vs) zero_bytes).0 t),
+  λ e. (bytes_eq-Decides (register_of vs) zero_bytes).1 (ap register_of e ∙ reads_zero),
+)
+
+pub fresh_tells : (id : ℕ) (all : List (List ℕ)) → Clears id all → (flag : Bool) (closed : List (List (List ℕ))) (items : List (List ℕ)) (before : List (List (List ℕ))) (rest : List (List ℕ)) → Listed id all closed items → Listed id all before rest → Decides (fits_fresh flag (anchor_of id closed) (register_of items) (point_of id before rest)) (Fresh flag closed items before rest)
+fresh_tells id all clears true closed items before rest k l =
+    Decides-and (bytes_eq (anchor_of id before) (anchor_of id closed)) (bytes_eq (register_of rest) (register_of items))
+    (same_anchor id all clears before closed rest items l k) (same_register all clears.clear rest items l.last k.last)
+fresh_tells id all clears false closed items before rest k l =
+    Decides-and (bytes_eq (anchor_of id before) (anchor_of id closed)) (bytes_eq (register_of rest) zero_bytes)
+    (same_anchor id all clears before closed rest items l k) (zero_register all clears.clear rest l.last)
+
+-- the register's messages with one more value
+listed_value : (all : List (List ℕ)) (rest : List (List ℕ)) (v : List ℕ) → Within (register_trail rest) all → Contains all (extended_message (register_of rest) v) → Within (register_trail (rest ++ v ∷ [])) all
+unfolding register_of
+listed_value all rest v l c = trail_push extended_message zero_bytes rest v all l c
+
+-- the messages with the values closed into one more segment
+pub listed_segment : (id : ℕ) (all : List (List ℕ)) (before : List (List (List ℕ))) (values : List (List ℕ)) → AllByRecursion (λ vs. Within (register_trail vs) all) before → Within (trail closing_message (start_of Opt id) before) all → Within (register_trail values) all → Contains all (anchored_message (anchor_of id before) (register_of values)) → Listed id all (before ++ values ∷ []) []
+unfolding register_of anchor_of
+listed_segment id all before values inner outer last c =
+    record {
+      inner = each_append (λ vs. Within (register_trail vs) all) before (values ∷ []) inner (last, tt);
+      outer = trail_push closing_message (start_of Opt id) before values all outer c;
+      last = tt;
+    }
+
+pub again_tells : (id : ℕ) (all : List (List ℕ)) → Clears id all → (flag : Bool) (closed : List (List (List ℕ))) (items : List (List ℕ)) (v : List ℕ) (before : List (List (List ℕ))) (rest : List (List ℕ)) → Listed id all closed items → Listed id all before rest → Within (form_messages (anchor_of id before) (register_of rest) v) all → Decides (fits_again flag (anchor_of id closed) (register_of items) v (point_of id before rest)) (Again flag closed items v before rest)
+again_tells id all clears true closed items v before rest k l m =
+    let longer = listed_value all rest v l.last m.0 in
+    Decides-and (bytes_eq (anchor_of id before) (anchor_of id closed)) (bytes_eq (extended_of (register_of rest) v) (register_of items))
+    (same_anchor id all clears before closed rest items l k)
+    (subst (λ (d : List ℕ). Decides (bytes_eq d (register_of items)) (rest ++ v ∷ [] ≡ items)) (register-push rest v)
+    (same_register all clears.clear (rest ++ v ∷ []) items longer k.last))
+again_tells id all clears false closed items v before rest k l m =
+    let longer = listed_value all rest v l.last m.0 in
+    let called : Contains all (anchored_message (anchor_of id before) (register_of (rest ++ v ∷ []))) =
+    subst (λ (d : List ℕ). Contains all (anchored_message (anchor_of id before) d)) (sym (register-push rest v)) m.1.0 in
+    let closes = listed_segment id all before (rest ++ v ∷ []) l.inner l.outer longer called in
+    let is : anchor_of id (before ++ (rest ++ v ∷ []) ∷ []) ≡ anchored_of (anchor_of id before) (extended_of (register_of rest) v) =
+    anchor-push id before (rest ++ v ∷ []) ∙ ap (anchored_of (anchor_of id before)) (register-push rest v) in
+    subst (λ (d : List ℕ). Decides (bytes_eq d (anchor_of id closed)) (before ++ (rest ++ v ∷ []) ∷ [] ≡ closed)) is
+    (same_anchor id all clears (before ++ (rest ++ v ∷ []) ∷ []) closed [] items closes k)

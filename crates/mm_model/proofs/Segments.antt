@@ -1,0 +1,189 @@
+-- Lists of segments, one after another: when two ways to cut one list are the same.
+use Rattle.std.proofs.Common.{ℕ, ◌≡◌, ◌≢◌, ◌+◌, ◌≤◌, zero, suc, Bool, true, false, List, [], ◌∷◌, ◌++◌, length, map, refl, sym, ap, ◌∙◌, subst, ◌⊎◌, inl, inr, arith, append_assoc, length-append}
+use Rattle.std.proofs.lemmas.List.{append-nil, append_cancel_left}
+use Rattle.std.specs.List.{AllByRecursion}
+use Rattle.mm_model.specs.History.{joined}
+use Rattle.mm_model.specs.Life.{is_empty}
+
+pub true_not_false : true ≡ false → ⊥
+true_not_false e = cc
+
+-- two joined lists with first parts of one length have the same parts
+pub same_halves : {A : Type 0} (s t x y : List A) → length s ≡ length t → s ++ x ≡ t ++ y → (s ≡ t) × (x ≡ y)
+same_halves [] [] x y l e = (refl, e)
+same_halves [] (b ∷ t) x y l e = absurd (omega (arith, l))
+same_halves (a ∷ s) [] x y l e = absurd (omega (arith, l))
+same_halves (a ∷ s) (b ∷ t) x y l e =
+    let heads : a ≡ b = cc in
+    let tails : s ++ x ≡ t ++ y = cc in
+    let shorter : length s ≡ length t = omega (arith, l) in
+    let both = same_halves s t x y shorter tails in
+    (let p : s ≡ t = both.0 in cc, both.1)
+
+pub joined-append : {A : Type 0} (xs ys : List (List A)) → joined (xs ++ ys) ≡ joined xs ++ joined ys
+joined-append [] ys = refl
+joined-append (x ∷ xs) ys = ap (λ v. x ++ v) (joined-append xs ys) ∙ sym (append_assoc x (joined xs) (joined ys))
+
+pub joined-push : {A : Type 0} (xs : List (List A)) (x : List A) → joined (xs ++ x ∷ []) ≡ joined xs ++ x
+joined-push xs x = joined-append xs (x ∷ []) ∙ ap (λ v. joined xs ++ v) (append-nil x)
+
+pub not_empty : {A : Type 0} (xs : List A) → is_empty xs ≡ false → 1 ≤ length xs
+not_empty [] e = absurd (cc)
+not_empty (x ∷ xs) e = omega arith
+
+pub nothing_left : {A : Type 0} (xs : List A) → length xs ≡ 0 → xs ≡ []
+nothing_left [] e = refl
+nothing_left (x ∷ xs) e = absurd (omega (arith, e))
+
+-- segments that are not empty hold nothing only where there is none
+pub no_segments : {A : Type 0} (xs : List (List A)) → AllByRecursion (λ x. is_empty x ≡ false) xs → length (joined xs) ≡ 0 → xs ≡ []
+no_segments [] filled e = refl
+no_segments (x ∷ xs) filled e =
+    absurd (let l = not_empty x filled.0 in let m = length-append x (joined xs) in omega (arith, l, m, e))
+
+-- what a platform has taken in after its closed segments: the register's items while a segment is open
+abbrev pub taken_in : {A : Type 0} → Bool → List A → List A
+taken_in true items = items
+taken_in false items = []
+
+-- a path to where the platform stands: after all closed segments, and all that was taken in
+abbrev pub Fresh : {A : Type 0} → Bool → List (List A) → List A → List (List A) → List A → Type 0
+Fresh flag closed items before rest = (before ≡ closed) × (rest ≡ taken_in flag items)
+
+-- a path that one more value leads to where the platform stands
+abbrev pub Again : {A : Type 0} → Bool → List (List A) → List A → A → List (List A) → List A → Type 0
+Again true closed items v before rest = (before ≡ closed) × (rest ++ v ∷ [] ≡ items)
+Again false closed items v before rest = before ++ (rest ++ v ∷ []) ∷ [] ≡ closed
+
+pub fresh_joins : {A : Type 0} (flag : Bool) (closed : List (List A)) (items : List A) (before : List (List A)) (rest : List A) → Fresh flag closed items before rest → joined before ++ rest ≡ joined closed ++ taken_in flag items
+fresh_joins flag closed items before rest f =
+    ap (λ v. joined v ++ rest) f.0 ∙ ap (λ v. joined closed ++ v) f.1
+
+pub again_joins : {A : Type 0} (flag : Bool) (closed : List (List A)) (items : List A) (v : A) (before : List (List A)) (rest : List A) → Again flag closed items v before rest → (joined before ++ rest) ++ v ∷ [] ≡ joined closed ++ taken_in flag items
+again_joins true closed items v before rest f =
+    append_assoc (joined before) rest (v ∷ []) ∙ ap (λ w. joined w ++ (rest ++ v ∷ [])) f.0 ∙ ap (λ w. joined closed ++ w) f.1
+again_joins false closed items v before rest f =
+    append_assoc (joined before) rest (v ∷ []) ∙ sym (joined-push before (rest ++ v ∷ [])) ∙ ap joined f ∙ sym (append-nil (joined closed))
+
+-- how far a path goes into the segments after it: within the next one, or to its end where it is the last and
+-- nothing is open
+abbrev pub Reaches : {A : Type 0} → Bool → List (List A) → ℕ → Type 0
+Reaches flag [] n = Unit {0}
+Reaches flag (segment ∷ later) n = (n ≤ length segment) ⊎ ((later ≡ []) × (flag ≡ false))
+
+abbrev pub IsHeld : {A : Type 0} → Bool → List A → Type 0
+IsHeld true items = is_empty items ≡ false
+IsHeld false items = Unit {0}
+
+-- a path that reaches the end of the next segment and all after it: then that segment is the last
+only_one : {A : Type 0} (segment : List A) (later : List (List A)) (n : ℕ) → AllByRecursion (λ x. is_empty x ≡ false) later → (n ≤ length segment) ⊎ ((later ≡ []) × (false ≡ false)) → n ≡ length segment + length (joined later) → later ≡ []
+only_one segment later n filled reach e =
+    elim reach [
+      | inl within ↦ no_segments later filled (omega (arith, within, e))
+      | inr last ↦ last.0
+    ]
+
+-- a path ends within the next segment where a segment is open, or another one follows
+at_most : {A : Type 0} (flag : Bool) (segment : List A) (later : List (List A)) (n : ℕ) → (n ≤ length segment) ⊎ ((later ≡ []) × (flag ≡ false)) → (is_empty later ≡ false) ⊎ (flag ≡ true) → n ≤ length segment
+at_most flag segment later n reach goes =
+    elim reach [
+      | inl within ↦ within
+      | inr last ↦
+          elim goes [
+            | inl some ↦ absurd (true_not_false (ap is_empty (sym last.0) ∙ some))
+            | inr is_open ↦ absurd (true_not_false (sym is_open ∙ last.1))
+          ]
+    ]
+
+-- Where the values up to the end of the path are all that counts, it is fresh, or it is once its segment is closed.
+-- By the segments after the path.
+fresh_after : {A : Type 0} (flag : Bool) (before : List (List A)) (items rest : List A) (later : List (List A)) → AllByRecursion (λ x. is_empty x ≡ false) later → IsHeld flag items → Reaches flag later (length rest) → rest ≡ joined later ++ taken_in flag items → Fresh flag (before ++ later) items before rest ⊎ (is_empty rest ≡ false) × Fresh flag (before ++ later) items (before ++ rest ∷ []) []
+fresh_after flag before items rest [] filled held reach e = inl (sym (append-nil before), e)
+fresh_after true before items rest (segment ∷ later) filled held reach e =
+    absurd (
+    let l = ap length e in
+    let m = length-append (segment ++ joined later) items in
+    let k = length-append segment (joined later) in
+    let h = not_empty items held in
+    elim reach [
+      | inl within ↦ omega (arith, l, m, k, h, within)
+      | inr last ↦ absurd (true_not_false last.1)
+    ])
+fresh_after false before items rest (segment ∷ later) filled held reach e =
+    let whole : rest ≡ segment ++ joined later = e ∙ append-nil (segment ++ joined later) in
+    let none = only_one segment later (length rest) filled.1 reach (ap length whole ∙ length-append segment (joined later)) in
+    let same : rest ≡ segment = whole ∙ ap (λ v. segment ++ joined v) none ∙ append-nil segment in
+    inr (
+      ap is_empty same ∙ filled.0,
+      (ap (λ (v : List _). before ++ v ∷ []) same ∙ ap (λ (v : List (List _)). before ++ segment ∷ v) (sym none), refl),
+    )
+
+-- Where one more value makes the values up to the end of the path all that counts, it leads there from the path, or
+-- from the path once its segment is closed.
+again_after : {A : Type 0} (flag : Bool) (before : List (List A)) (items : List A) (v : A) (rest : List A) (later : List (List A)) → AllByRecursion (λ x. is_empty x ≡ false) later → IsHeld flag items → Reaches flag later (length rest) → rest ++ v ∷ [] ≡ joined later ++ taken_in flag items → Again flag (before ++ later) items v before rest ⊎ (is_empty rest ≡ false) × Again flag (before ++ later) items v (before ++ rest ∷ []) []
+again_after true before items v rest [] filled held reach e = inl (sym (append-nil before), e)
+again_after false before items v rest [] filled held reach e =
+    absurd (let l = ap length e in let m = length-append rest (v ∷ []) in omega (arith, l, m))
+again_after true before items v rest (segment ∷ []) filled held reach e =
+    let all : rest ++ v ∷ [] ≡ segment ++ items = e ∙ ap (λ w. w ++ items) (append-nil segment) in
+    let l = ap length all in
+    let m = length-append rest (v ∷ []) in
+    let k = length-append segment items in
+    let h = not_empty items held in
+    let within = at_most true segment [] (length rest) reach (inr refl) in
+    let size : length rest ≡ length segment = omega (arith, l, m, k, h, within) in
+    let parts = same_halves rest segment (v ∷ []) items size all in
+    inr (ap is_empty parts.0 ∙ filled.0, (ap (λ (w : List _). before ++ w ∷ []) parts.0, parts.1))
+again_after true before items v rest (segment ∷ next ∷ later) filled held reach e =
+    absurd (
+    let l = ap length e in
+    let m = length-append rest (v ∷ []) in
+    let k = length-append (segment ++ (next ++ joined later)) items in
+    let j = length-append segment (next ++ joined later) in
+    let i = length-append next (joined later) in
+    let h = not_empty items held in
+    let g = not_empty next filled.1.0 in
+    let within = at_most true segment (next ∷ later) (length rest) reach (inr refl) in
+    omega (arith, l, m, k, j, i, h, g, within))
+again_after false before items v rest (segment ∷ []) filled held reach e =
+    let all : rest ++ v ∷ [] ≡ segment = e ∙ append-nil (segment ++ []) ∙ append-nil segment in
+    inl (ap (λ (w : List _). before ++ w ∷ []) all)
+again_after false before items v rest (segment ∷ next ∷ later) filled held reach e =
+    let all : rest ++ v ∷ [] ≡ segment ++ (next ++ joined later) = e ∙ append-nil (segment ++ (next ++ joined later)) in
+    let l = ap length all in
+    let m = length-append rest (v ∷ []) in
+    let j = length-append segment (next ++ joined later) in
+    let i = length-append next (joined later) in
+    let g = not_empty next filled.1.0 in
+    let within = at_most false segment (next ∷ later) (length rest) reach (inl refl) in
+    let size : length rest ≡ length segment = omega (arith, l, m, j, i, g, within) in
+    let parts = same_halves rest segment (v ∷ []) (next ++ joined later) size all in
+    let ends : length (joined later) ≡ 0 = omega (arith, l, m, j, i, g, within, size) in
+    let none = no_segments later filled.1.1 ends in
+    let last : v ∷ [] ≡ next = parts.1 ∙ ap (λ w. next ++ joined w) none ∙ append-nil next in
+    inr (
+      ap is_empty parts.0 ∙ filled.0,
+      append_assoc before (rest ∷ []) ((v ∷ []) ∷ [])
+          ∙ ap (λ (w : List _). before ++ w ∷ (v ∷ []) ∷ []) parts.0
+          ∙ ap (λ (w : List _). before ++ segment ∷ w ∷ []) last
+          ∙ ap (λ (w : List (List _)). before ++ segment ∷ next ∷ w) (sym none),
+    )
+
+pub fresh_from : {A : Type 0} (flag : Bool) (closed before later : List (List A)) (items rest : List A) → closed ≡ before ++ later → AllByRecursion (λ x. is_empty x ≡ false) later → IsHeld flag items → Reaches flag later (length rest) → joined before ++ rest ≡ joined closed ++ taken_in flag items → Fresh flag closed items before rest ⊎ (is_empty rest ≡ false) × Fresh flag closed items (before ++ rest ∷ []) []
+fresh_from {A} flag closed before later items rest split filled held reach e =
+    let tails : rest ≡ joined later ++ taken_in flag items =
+    append_cancel_left (joined before) rest (joined later ++ taken_in flag items)
+    (e ∙ ap (λ (v : List (List A)). joined v ++ taken_in flag items) split ∙ ap (λ (v : List A). v ++ taken_in flag items) (joined-append before later)
+    ∙ append_assoc (joined before) (joined later) (taken_in flag items)) in
+    subst (λ (c : List (List A)). Fresh flag c items before rest ⊎ (is_empty rest ≡ false) × Fresh flag c items (before ++ rest ∷ []) [])
+    (sym split) (fresh_after flag before items rest later filled held reach tails)
+
+pub again_from : {A : Type 0} (flag : Bool) (closed before later : List (List A)) (items : List A) (v : A) (rest : List A) → closed ≡ before ++ later → AllByRecursion (λ x. is_empty x ≡ false) later → IsHeld flag items → Reaches flag later (length rest) → (joined before ++ rest) ++ v ∷ [] ≡ joined closed ++ taken_in flag items → Again flag closed items v before rest ⊎ (is_empty rest ≡ false) × Again flag closed items v (before ++ rest ∷ []) []
+again_from {A} flag closed before later items v rest split filled held reach e =
+    let tails : rest ++ v ∷ [] ≡ joined later ++ taken_in flag items =
+    append_cancel_left (joined before) (rest ++ v ∷ []) (joined later ++ taken_in flag items)
+    (sym (append_assoc (joined before) rest (v ∷ [])) ∙ e ∙ ap (λ (w : List (List A)). joined w ++ taken_in flag items) split
+    ∙ ap (λ (w : List A). w ++ taken_in flag items) (joined-append before later)
+    ∙ append_assoc (joined before) (joined later) (taken_in flag items)) in
+    subst (λ (c : List (List A)). Again flag c items v before rest ⊎ (is_empty rest ≡ false) × Again flag c items v (before ++ rest ∷ []) [])
+    (sym split) (again_after flag before items v rest later filled held reach tails)
