@@ -28,6 +28,14 @@ impl Bytes {
         }
     }
 
+    /// No bytes, with memory for this many.
+    pub fn with_capacity(alloc: Global, capacity: usize) -> Result<Bytes, Memory>
+        ensures { IfOk result (λ bytes. bytes ≡ []) }
+    {
+        let items = Vec::with_capacity(alloc, capacity)?;
+        Ok(Bytes { items })
+    }
+
     /// A copy of these bytes.
     pub fn copy_of(alloc: Global, bytes: &[u8]) -> Result<Bytes, Memory>
         ensures { IfOk result (λ copy. copy ≡ bytes.now) }

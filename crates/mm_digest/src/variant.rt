@@ -1,4 +1,4 @@
-ghost use Rattle.std.specs.Prelude.{◌≡◌};
+ghost use Rattle.std.specs.Prelude.{◌≡◌, ◌≢◌, MatchOption};
 
 /// How a platform keeps its place: in the cell alone, or in a register too.
 #[derive(Clone, Copy, PartialEq, Eq, Debug)]
@@ -19,6 +19,17 @@ impl Variant {
         match self {
             Variant::Basic => 1,
             Variant::Opt => 2,
+        }
+    }
+
+    /// The variant of this byte. None exactly where the byte is neither 1 nor 2.
+    pub fn of_byte(byte: u8) -> Option<Variant>
+        ensures { MatchOption result ((v : Variant) → variant_byte v ≢ byte) (λ v. variant_byte v ≡ byte) }
+    {
+        match byte {
+            1 => Some(Variant::Basic),
+            2 => Some(Variant::Opt),
+            _ => None,
         }
     }
 }

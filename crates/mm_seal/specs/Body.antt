@@ -1,0 +1,44 @@
+-- What a body in code says, as plain data, and what reading one gives.
+use Rattle.std.specs.Prelude.{◌≡◌, ◌≢◌, ◌+◌, ◌≤◌, ◌^◌, ℕ, List, ◌++◌, length, slice_index}
+use Rattle.mm_base.specs.Limits.{limit_of}
+use Rattle.mm_digest.specs.declared.variant.Variant.{Variant}
+use Rattle.mm_digest.specs.declared.variant.Variant.TheVariants.{Basic, Opt}
+use Rattle.mm_digest.specs.Messages.{variant_byte}
+use Rattle.mm_seal.specs.declared.snapshot.Body.{Body}
+use Rattle.mm_seal.specs.declared.snapshot.Place.{Place}
+use Rattle.mm_seal.specs.Snapshot.{Content, IsContent, IsPlace, variant_of, place_spelling, front_head, snapshot_front}
+
+abbrev pub content_of : Body → Content
+content_of body = record {
+  id = body.module;
+  place = body.place;
+  position = body.position;
+  state = body.state.now;
+}
+
+-- the bytes are this content's, without a tag
+abbrev pub IsFrontOf : List ℕ → Content → Type 0
+IsFrontOf front content = IsContent content × (front ≡ snapshot_front content)
+
+-- the bytes are no content's
+abbrev pub IsNoFront : List ℕ → Type 0
+IsNoFront front = (content : Content) → IsContent content → front ≢ snapshot_front content
+
+abbrev pub place_length : Variant → ℕ
+place_length Basic = 32
+place_length Opt = 64
+
+-- the bytes name the variant, and are long enough for its fields
+abbrev pub HasFieldsOf : List ℕ → Variant → Type 0
+HasFieldsOf front variant = (variant_byte variant ≡ slice_index front 4) × (18 + place_length variant ≤ length front)
+
+-- the place of this variant in front of the bytes, and the rest
+abbrev pub PlacedIn : List ℕ → Variant → Place → List ℕ → Type 0
+PlacedIn bytes variant place rest =
+    (bytes ≡ place_spelling place ++ rest) × (variant_of place ≡ variant) × IsPlace place
+
+-- the head is the content's, and the content is within its bounds and has this length
+abbrev pub HasHead : Content → List ℕ → ℕ → Type 0
+HasHead content head size =
+    (head ≡ front_head content) × (content.position ≤ 2 ^ 48) × (length content.state ≡ size)
+    × (length content.state ≤ limit_of content.id)

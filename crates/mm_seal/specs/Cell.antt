@@ -1,0 +1,49 @@
+-- The bytes of the non-volatile cell.
+use Rattle.std.specs.Prelude.{◌≡◌, ◌≢◌, ℕ, Bool, true, false, List, ◌∷◌, ◌++◌, length, replicate, Result, Ok, Err}
+use Rattle.mm_digest.specs.declared.variant.Variant.{Variant}
+use Rattle.mm_digest.specs.declared.variant.Variant.TheVariants.{Basic, Opt}
+use Rattle.mm_digest.specs.Messages.{variant_byte, zero_bytes}
+use Rattle.mm_seal.specs.declared.cell.Cell.{Cell}
+use Rattle.mm_seal.specs.declared.cell.CellFault.{CellFault}
+use Rattle.mm_seal.specs.declared.cell.CellFault.TheVariants.{Blank, Cell as Unspelled}
+use Rattle.mm_seal.specs.Fields.{version_of}
+
+-- a Basic cell has a clear flag and a zero barrier
+abbrev pub FitsVariant : Variant → Bool → List ℕ → Type 0
+FitsVariant Basic flag barrier = (flag ≡ false) × (barrier ≡ zero_bytes)
+FitsVariant Opt flag barrier = Unit {0}
+
+pub record IsCell (cell : Cell) : Type 0 where
+  pub summary : length cell.summary.bytes ≡ 32
+  pub key : length cell.key ≡ 32
+  pub barrier : length cell.barrier ≡ 32
+  pub variant : FitsVariant cell.variant cell.flag cell.barrier
+
+abbrev pub flag_byte : Bool → ℕ
+flag_byte true = 1
+flag_byte false = 0
+
+-- `MMN`, the version, the variant, the module's id, the flag, a zero byte, then the summary or anchor,
+-- the key and the barrier: 104 bytes
+unfoldable pub cell_spelling : Cell → List ℕ
+cell_spelling cell =
+    0x4d ∷ 0x4d ∷ 0x4e ∷ version_of cell.module ∷ variant_byte cell.variant ∷ cell.module
+    ∷ flag_byte cell.flag ∷ 0 ∷ (cell.summary.bytes ++ (cell.key ++ cell.barrier))
+
+-- what a device holds before it is provisioned
+unfoldable pub blank_cell : List ℕ
+blank_cell = replicate 104 0
+
+-- the bytes are this cell's
+abbrev pub SpellsCell : List ℕ → Cell → Type 0
+SpellsCell bytes cell = IsCell cell × (bytes ≡ cell_spelling cell)
+
+-- no cell is spelled so
+abbrev pub IsNoCell : List ℕ → Type 0
+IsNoCell bytes = (cell : Cell) → IsCell cell → bytes ≢ cell_spelling cell
+
+-- what reading these bytes gives: there is one answer for each list of bytes
+abbrev pub ReadsCell : List ℕ → Result Cell CellFault → Type 0
+ReadsCell bytes (Ok cell) = SpellsCell bytes cell
+ReadsCell bytes (Err Blank) = bytes ≡ blank_cell
+ReadsCell bytes (Err Unspelled) = (bytes ≢ blank_cell) × IsNoCell bytes

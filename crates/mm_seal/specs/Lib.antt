@@ -1,0 +1,4 @@
+pub mod Fields
+pub mod Cell
+pub mod Snapshot
+pub mod Body

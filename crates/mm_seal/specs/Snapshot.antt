@@ -1,0 +1,110 @@
+-- The bytes of a snapshot, and its seal.
+use Rattle.std.specs.Prelude.{◌≡◌, ◌≢◌, ◌≤◌, ◌^◌, ℕ, List, [], ◌∷◌, ◌++◌, length, Result, Ok, Err}
+use Rattle.mm_base.specs.Limits.{limit_of}
+use Rattle.mm_digest.specs.declared.variant.Variant.{Variant}
+use Rattle.mm_digest.specs.declared.variant.Variant.TheVariants as variants
+use Rattle.mm_digest.specs.Messages.{variant_byte}
+use Rattle.mm_digest.specs.Hmac.{hmac_of}
+use Rattle.mm_seal.specs.declared.snapshot.Place.{Place}
+use Rattle.mm_seal.specs.declared.snapshot.Place.TheVariants.{Basic, Opt}
+use Rattle.mm_seal.specs.declared.snapshot.PartsFault.{PartsFault}
+use Rattle.mm_seal.specs.declared.snapshot.PartsFault.TheVariants.{Form, Kind}
+use Rattle.mm_seal.specs.declared.snapshot.OpenFault.{OpenFault}
+use Rattle.mm_seal.specs.declared.snapshot.OpenFault.TheVariants as opening
+use Rattle.mm_seal.specs.Fields.{version_of, eight_bytes, four_bytes}
+
+abbrev pub variant_of : Place → Variant
+variant_of (Basic summary) = variants.Basic
+variant_of (Opt anchor extension) = variants.Opt
+
+-- the summary, or the anchor and the extension
+abbrev pub place_spelling : Place → List ℕ
+place_spelling (Basic summary) = summary.bytes
+place_spelling (Opt anchor extension) = anchor.bytes ++ extension.bytes
+
+-- each digest has 32 bytes
+abbrev pub IsPlace : Place → Type 0
+IsPlace (Basic summary) = length summary.bytes ≡ 32
+IsPlace (Opt anchor extension) = (length anchor.bytes ≡ 32) × (length extension.bytes ≡ 32)
+
+-- what a snapshot says
+pub record Content : Type 0 where
+  pub id : ℕ
+  pub place : Place
+  pub position : ℕ
+  pub state : List ℕ
+
+pub record IsContent (content : Content) : Type 0 where
+  pub place : IsPlace content.place
+  pub position : content.position ≤ 2 ^ 48
+  pub state : length content.state ≤ limit_of content.id
+
+-- what comes before the place: `MMS`, the version, the variant and the module's id
+abbrev pub front_head : Content → List ℕ
+front_head content =
+    0x4d ∷ 0x4d ∷ 0x53 ∷ version_of content.id ∷ variant_byte (variant_of content.place) ∷ content.id ∷ []
+
+-- what is signed: the head, the place, the position in 8 bytes, the length of the state in 4 bytes, and
+-- the state
+unfoldable pub snapshot_front : Content → List ℕ
+snapshot_front content =
+    front_head content ++ (place_spelling content.place ++ (eight_bytes content.position
+    ++ (four_bytes (length content.state) ++ content.state)))
+
+-- a snapshot: its content and its tag
+pub record Snapshot : Type 0 where
+  pub content : Content
+  pub tag : List ℕ
+
+pub record IsSnapshot (snapshot : Snapshot) : Type 0 where
+  pub content : IsContent snapshot.content
+  pub tag : length snapshot.tag ≡ 32
+
+abbrev pub snapshot_spelling : Snapshot → List ℕ
+snapshot_spelling snapshot = snapshot_front snapshot.content ++ snapshot.tag
+
+-- the tag of this content under the key
+abbrev pub tag_of : List ℕ → Content → List ℕ
+tag_of key content = hmac_of key (snapshot_front content)
+
+-- the content's snapshot under the key
+unfoldable pub sealed_of : List ℕ → Content → List ℕ
+sealed_of key content = snapshot_front content ++ tag_of key content
+
+-- the snapshot is of this variant and module
+abbrev pub IsOfKind : Variant → ℕ → Snapshot → Type 0
+IsOfKind variant id snapshot = (variant_of snapshot.content.place ≡ variant) × (snapshot.content.id ≡ id)
+
+-- the bytes are this snapshot's
+abbrev pub Spells : List ℕ → Snapshot → Type 0
+Spells bytes snapshot = IsSnapshot snapshot × (bytes ≡ snapshot_spelling snapshot)
+
+-- no snapshot is spelled so
+abbrev pub IsNoSnapshot : List ℕ → Type 0
+IsNoSnapshot bytes = (snapshot : Snapshot) → IsSnapshot snapshot → bytes ≢ snapshot_spelling snapshot
+
+-- the bytes are a snapshot's of another variant or module
+abbrev pub IsOtherKind : List ℕ → Variant → ℕ → Type 0
+IsOtherKind bytes variant id =
+    (snapshot : Snapshot) × Spells bytes snapshot × (¬ IsOfKind variant id snapshot)
+
+-- what taking an offer apart gives: there is one answer for each list of bytes
+abbrev pub ReadsParts : List ℕ → Variant → ℕ → Result Snapshot PartsFault → Type 0
+ReadsParts bytes variant id (Ok snapshot) = Spells bytes snapshot × IsOfKind variant id snapshot
+ReadsParts bytes variant id (Err Form) = IsNoSnapshot bytes
+ReadsParts bytes variant id (Err Kind) = IsOtherKind bytes variant id
+
+-- what opening an offer under the key gives
+abbrev pub Opens : List ℕ → List ℕ → Variant → ℕ → Result Snapshot OpenFault → Type 0
+Opens bytes key variant id (Ok snapshot) =
+    Spells bytes snapshot × IsOfKind variant id snapshot × (snapshot.tag ≡ tag_of key snapshot.content)
+Opens bytes key variant id (Err opening.Form) = IsNoSnapshot bytes
+Opens bytes key variant id (Err opening.Kind) = IsOtherKind bytes variant id
+Opens bytes key variant id (Err opening.Tag) =
+    (snapshot : Snapshot) × Spells bytes snapshot × IsOfKind variant id snapshot
+    × (snapshot.tag ≢ tag_of key snapshot.content)
+
+-- the law of the grammar: each spelling has one content and tag, and none is a proper prefix of another
+abbrev pub OneSpelling : Type 0
+OneSpelling = (s t : Snapshot) (rest : List ℕ) → IsSnapshot s → IsSnapshot t →
+    snapshot_spelling s ++ rest ≡ snapshot_spelling t → (s ≡ t) × (rest ≡ [])

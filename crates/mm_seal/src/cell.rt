@@ -1,0 +1,119 @@
+//! The non-volatile cell: what a platform keeps without power.
+
+ghost use Rattle.std.specs.Prelude.{◌≡◌, ◌↔◌, IsTrue, MatchOption};
+ghost use Rattle.mm_seal.specs.Cell.{FitsVariant, cell_spelling, IsNoCell, SpellsCell, ReadsCell};
+
+use crate::field::{split_digest, split_key, version};
+use mm_digest::{Digest, Variant};
+use thiserror::Error;
+
+/// What the cell holds once the platform is provisioned.
+#[derive(Clone, Copy, Debug, PartialEq, Eq)]
+pub struct Cell {
+    pub variant: Variant,
+    /// The module's id.
+    pub module: u8,
+    /// Whether a segment is open. Clear in Basic.
+    pub flag: bool,
+    /// The summary in Basic, the anchor in Opt.
+    pub summary: Digest,
+    /// The key that snapshots are sealed under.
+    pub key: [u8; 32],
+    /// What guards the register's values in Opt. Zero in Basic.
+    pub barrier: [u8; 32],
+}
+
+/// Why the cell's bytes are no cell.
+#[derive(Clone, Copy, Debug, PartialEq, Eq, Error)]
+pub enum CellFault {
+    /// All bytes are zero: the platform was never provisioned.
+    #[error("the cell is blank")]
+    Blank,
+    /// The bytes are neither blank nor a cell's.
+    #[error("the cell is not spelled")]
+    Cell,
+}
+
+/// The cell's 104 bytes. A Basic cell has a clear flag and a zero barrier.
+#[tactic(auto, unfolding(crate::specs::Cell::cell_spelling))]
+pub fn cell_bytes(cell: &Cell) -> [u8; 104]
+    requires { FitsVariant cell.now.variant cell.now.flag cell.now.barrier }
+    ensures { result ≡ cell_spelling cell.now }
+{
+    let mut bytes = [0; 104];
+    let head = [
+        b'M',
+        b'M',
+        b'N',
+        version(cell.module),
+        cell.variant.byte(),
+        cell.module,
+        u8::from(cell.flag),
+        0,
+    ];
+    let (front, rest) = bytes.split_at_mut(8);
+    front.copy_from_slice(&head);
+    let (summary, rest) = rest.split_at_mut(32);
+    summary.copy_from_slice(&cell.summary.bytes);
+    let (key, barrier) = rest.split_at_mut(32);
+    key.copy_from_slice(&cell.key);
+    barrier.copy_from_slice(&cell.barrier);
+    bytes
+}
+
+/// The cell that these bytes are. Blank exactly on 104 zero bytes, Cell exactly on bytes that are
+/// neither blank nor a cell's.
+#[tactic(auto, unfolding(crate::specs::Cell::blank_cell))]
+pub fn read_cell(bytes: &[u8; 104]) -> Result<Cell, CellFault>
+    ensures { ReadsCell bytes.now result }
+{
+    if *bytes == [0; 104] {
+        return Err(CellFault::Blank);
+    }
+    match cell_of(bytes) {
+        Some(cell) => Ok(cell),
+        None => Err(CellFault::Cell),
+    }
+}
+
+// The cell that these bytes spell: the fields at their offsets, where their cell is spelled so.
+fn cell_of(bytes: &[u8; 104]) -> Option<Cell>
+    ensures { MatchOption result (IsNoCell bytes.now) (SpellsCell bytes.now) }
+{
+    let (head, rest) = bytes.split_at(8);
+    let (summary, rest) = split_digest(rest)?;
+    let (key, rest) = split_key(rest)?;
+    let (barrier, _) = split_key(rest)?;
+    let variant = Variant::of_byte(head[4])?;
+    let cell = Cell {
+        variant,
+        module: head[5],
+        flag: head[6] == 1,
+        summary,
+        key,
+        barrier,
+    };
+    if fits_variant(&cell) && is_spelled(&cell, bytes) {
+        Some(cell)
+    } else {
+        None
+    }
+}
+
+// Whether the cell has a clear flag and a zero barrier, or is of Opt.
+fn fits_variant(cell: &Cell) -> bool
+    ensures { IsTrue result ↔ FitsVariant cell.now.variant cell.now.flag cell.now.barrier }
+{
+    match cell.variant {
+        Variant::Basic => !cell.flag && cell.barrier == mm_digest::zero().bytes,
+        Variant::Opt => true,
+    }
+}
+
+// Whether these bytes are the cell's.
+fn is_spelled(cell: &Cell, bytes: &[u8; 104]) -> bool
+    requires { FitsVariant cell.now.variant cell.now.flag cell.now.barrier }
+    ensures { IsTrue result ↔ (bytes.now ≡ cell_spelling cell.now) }
+{
+    cell_bytes(cell) == *bytes
+}

@@ -1,0 +1,9 @@
+//! The codecs of Memoir: the non-volatile cell, and snapshots, which are sealed under the cell's key.
+#![tactic(auto)]
+
+mod cell;
+mod field;
+mod snapshot;
+
+pub use cell::{Cell, CellFault, cell_bytes, read_cell};
+pub use snapshot::{Body, Offered, OpenFault, PartsFault, Place, open, parts, seal};

@@ -1,0 +1,324 @@
+//! Snapshots: a place, a position and a state, sealed under the cell's key.
+
+ghost use Rattle.std.specs.Prelude.{◌≡◌, ◌≤◌, ◌<◌, ◌^◌, ◌++◌, ◌↔◌, IsTrue, IfOk, MatchOption, OnOk, OnErr, length};
+ghost use Rattle.mm_base.specs.Limits.{limit_of};
+ghost use Rattle.mm_digest.specs.Hmac.{hmac_of};
+ghost use Rattle.mm_seal.specs.Snapshot.{variant_of, place_spelling, IsPlace, front_head, snapshot_front, sealed_of, IsOfKind, IsNoSnapshot, Spells, ReadsParts, Opens, OneSpelling};
+ghost use Rattle.mm_seal.specs.Body.{content_of, IsNoFront, IsFrontOf, HasFieldsOf, HasHead, PlacedIn, place_length};
+
+use crate::field::{bytes_of_u32, bytes_of_u64, split_digest, split_u32, split_u64, version};
+use mm_base::{Bytes, Memory};
+use mm_digest::{Digest, Variant, hmac_sha256};
+use std::alloc::Global;
+use std::marker::Model;
+use thiserror::Error;
+
+// The greatest position: 2^48.
+const MAX_POSITION: u64 = 0x1_0000_0000_0000;
+
+/// Where in a platform's history a snapshot was made.
+#[derive(Clone, Copy, Debug, PartialEq, Eq)]
+pub enum Place {
+    /// The summary.
+    Basic(Digest),
+    /// The anchor, and the register's value since; zero means "at the anchor".
+    Opt { anchor: Digest, extension: Digest },
+}
+
+impl Place {
+    /// The variant that the place is of.
+    pub fn variant(&self) -> Variant
+        ensures { result ≡ variant_of self.now }
+    {
+        match self {
+            Place::Basic(_) => Variant::Basic,
+            Place::Opt { .. } => Variant::Opt,
+        }
+    }
+}
+
+/// What a snapshot says, with the state borrowed.
+#[derive(Clone, Copy, Debug)]
+pub struct Body<'a> {
+    /// The module's id.
+    pub module: u8,
+    pub place: Place,
+    /// How many requests were run: at most 2^48.
+    pub position: u64,
+    pub state: &'a [u8],
+}
+
+/// Why an offer can't be taken apart.
+#[derive(Clone, Copy, Debug, PartialEq, Eq, Error)]
+pub enum PartsFault {
+    /// The bytes are no snapshot's.
+    #[error("the offer is not spelled")]
+    Form,
+    /// The bytes are a snapshot's of another variant or module.
+    #[error("the offer is of another variant or module")]
+    Kind,
+}
+
+/// Why an offer can't be opened.
+#[derive(Clone, Copy, Debug, PartialEq, Eq, Error)]
+pub enum OpenFault {
+    /// The bytes are no snapshot's.
+    #[error("the offer is not spelled")]
+    Form,
+    /// The bytes are a snapshot's of another variant or module.
+    #[error("the offer is of another variant or module")]
+    Kind,
+    /// The tag is not the content's under the key.
+    #[error("the offer's tag is wrong")]
+    Tag,
+}
+
+/// An offered snapshot, taken apart: its content, the bytes that were signed, and its tag.
+#[derive(Debug, Drop)]
+pub struct Offered<'a> {
+    body: Body<'a>,
+    signed: &'a [u8],
+    tag: [u8; 32],
+}
+
+impl<'a> Model for Offered<'a> {
+    ghost use Rattle.std.specs.Prelude.{◌≡◌};
+    ghost use Rattle.mm_seal.specs.Snapshot.{Snapshot, snapshot_front};
+    ghost use Rattle.mm_seal.specs.Body.{content_of};
+
+    ghost Value = { Snapshot };
+
+    ghost view = { λ o. record { content = content_of o.body; tag = o.tag } };
+
+    ghost invariant = { λ o. o.signed.now ≡ snapshot_front (content_of o.body) };
+}
+
+impl<'a> Offered<'a> {
+    ghost use Rattle.std.specs.Prelude.{◌≡◌, ◌↔◌, IsTrue};
+    ghost use Rattle.mm_seal.specs.Snapshot.{tag_of};
+    ghost use Rattle.mm_seal.specs.Body.{content_of};
+
+    /// What the snapshot says.
+    pub fn body(&self) -> Body<'a>
+        ensures { content_of result ≡ self.now.content }
+    {
+        self.body
+    }
+
+    /// Whether the tag is the content's under this key: HMAC-SHA-256 of all bytes before the tag.
+    pub fn tag_right(&self, key: &[u8; 32]) -> bool
+        ensures { IsTrue result ↔ (self.now.tag ≡ tag_of key.now self.now.content) }
+    {
+        let tag = hmac_sha256(key, self.signed);
+        self.tag == tag.bytes
+    }
+}
+
+/// The snapshot of this content, sealed under the key. The position is at most 2^48, and the state
+/// has at most as many bytes as its module's id allows.
+#[tactic(auto, unfolding(crate::specs::Snapshot::sealed_of))]
+pub fn seal(alloc: Global, key: &[u8; 32], body: &Body<'_>) -> Result<Bytes, Memory>
+    requires position { body.now.position ≤ 2 ^ 48 }
+    requires state { length body.now.state.now ≤ limit_of body.now.module }
+    ensures { IfOk result (λ bytes. bytes ≡ sealed_of key.now (content_of body.now)) }
+{
+    let mut bytes = Bytes::with_capacity(alloc, sealed_len(body))?;
+    put_front(&mut bytes, body)?;
+    let tag = hmac_sha256(key, bytes.as_slice());
+    bytes.append(&tag.bytes)?;
+    Ok(bytes)
+}
+
+// How many bytes the body's snapshot has.
+fn sealed_len(body: &Body<'_>) -> usize
+    requires { length body.now.state.now ≤ limit_of body.now.module }
+{
+    let place = match body.place {
+        Place::Basic(_) => 32,
+        Place::Opt { .. } => 64,
+    };
+    50 + place + body.state.len()
+}
+
+// Puts what is signed at the end.
+fn put_front(bytes: &mut Bytes, body: &Body<'_>) -> Result<(), Memory>
+    requires { length body.now.state.now ≤ limit_of body.now.module }
+    ensures { OnOk result (bytes.new ≡ bytes.old ++ snapshot_front (content_of body.now)) }
+{
+    bytes.append(&head_of(body))?;
+    put_place(bytes, &body.place)?;
+    bytes.append(&bytes_of_u64(body.position))?;
+    bytes.append(&bytes_of_u32(body.state.len() as u32))?;
+    bytes.append(body.state)?;
+    Ok(())
+}
+
+// Puts the place at the end.
+fn put_place(bytes: &mut Bytes, place: &Place) -> Result<(), Memory>
+    ensures { OnOk result (bytes.new ≡ bytes.old ++ place_spelling place.now) }
+{
+    match place {
+        Place::Basic(summary) => bytes.append(&summary.bytes),
+        Place::Opt { anchor, extension } => {
+            bytes.append(&anchor.bytes)?;
+            bytes.append(&extension.bytes)
+        }
+    }
+}
+
+// The bytes before the place.
+fn head_of(body: &Body<'_>) -> [u8; 6]
+    ensures { result ≡ front_head (content_of body.now) }
+{
+    let id = body.module;
+    [
+        b'M',
+        b'M',
+        b'S',
+        version(id),
+        body.place.variant().byte(),
+        id,
+    ]
+}
+
+/// Takes an offer apart, and borrows its state. Form exactly where the bytes are no snapshot's, Kind
+/// exactly where they are one of another variant or module. Takes no memory.
+#[tactic(auto, using(crate::proofs::SnapshotLaws::one_spelling))]
+pub fn parts(bytes: &[u8], variant: Variant, id: u8) -> Result<Offered<'_>, PartsFault>
+    ensures reads { ReadsParts bytes.now variant id result }
+    ensures one_spelling { OneSpelling }
+{
+    match offered_in(bytes) {
+        None => Err(PartsFault::Form),
+        Some(offered) => {
+            if is_of_kind(&offered, variant, id) {
+                Ok(offered)
+            } else {
+                Err(PartsFault::Kind)
+            }
+        }
+    }
+}
+
+/// Takes an offer apart whose key is known. Form exactly where the bytes are no snapshot's, Kind
+/// exactly where they are one of another variant or module, Tag exactly where neither holds and the
+/// tag is not HMAC-SHA-256 of all bytes before it. Takes no memory.
+pub fn open<'a>(
+    bytes: &'a [u8],
+    key: &[u8; 32],
+    variant: Variant,
+    id: u8,
+) -> Result<Offered<'a>, OpenFault>
+    ensures { Opens bytes.now key.now variant id result }
+{
+    match parts(bytes, variant, id) {
+        Err(PartsFault::Form) => Err(OpenFault::Form),
+        Err(PartsFault::Kind) => Err(OpenFault::Kind),
+        Ok(offered) => {
+            if offered.tag_right(key) {
+                Ok(offered)
+            } else {
+                Err(OpenFault::Tag)
+            }
+        }
+    }
+}
+
+// Whether the snapshot is of this variant and module.
+fn is_of_kind(offered: &Offered<'_>, variant: Variant, id: u8) -> bool
+    ensures { IsTrue result ↔ IsOfKind variant id offered.now }
+{
+    let body = offered.body();
+    body.place.variant() == variant && body.module == id
+}
+
+// The snapshot that these bytes spell.
+fn offered_in(bytes: &[u8]) -> Option<Offered<'_>>
+    ensures { MatchOption result (IsNoSnapshot bytes.now) (Spells bytes.now) }
+{
+    let (signed, tag) = bytes.split_last_chunk::<32>()?;
+    let body = body_of(signed)?;
+    Some(Offered {
+        body,
+        signed,
+        tag: *tag,
+    })
+}
+
+// The content that these bytes are the front of.
+fn body_of(front: &[u8]) -> Option<Body<'_>>
+    ensures { MatchOption result (IsNoFront front.now) (λ body. IsFrontOf front.now (content_of body)) }
+{
+    let variant = variant_at(front)?;
+    let (head, rest) = front.split_at(6);
+    let (place, rest) = split_place(variant, rest)?;
+    let (position, rest) = split_u64(rest)?;
+    let (length, state) = split_u32(rest)?;
+    let body = Body {
+        module: head[5],
+        place,
+        position,
+        state,
+    };
+    if is_body(&body, head, length) {
+        Some(body)
+    } else {
+        None
+    }
+}
+
+// The variant that the bytes name, where they are long enough for its fields.
+fn variant_at(front: &[u8]) -> Option<Variant>
+    ensures { MatchOption result (IsNoFront front.now) (HasFieldsOf front.now) }
+{
+    if front.len() < 50 {
+        return None;
+    }
+    let variant = Variant::of_byte(front[4])?;
+    if front.len() < 18 + place_len(variant) {
+        return None;
+    }
+    Some(variant)
+}
+
+// How many bytes a place has.
+fn place_len(variant: Variant) -> usize
+    ensures { result ≡ place_length variant }
+{
+    match variant {
+        Variant::Basic => 32,
+        Variant::Opt => 64,
+    }
+}
+
+// The place in front, and the rest.
+fn split_place(variant: Variant, bytes: &[u8]) -> Option<(Place, &[u8])>
+    ensures { MatchOption result (length bytes.now < place_length variant) (λ p. PlacedIn bytes.now variant p.0 p.1.now) }
+{
+    let (digest, rest) = split_digest(bytes)?;
+    match variant {
+        Variant::Basic => Some((Place::Basic(digest), rest)),
+        Variant::Opt => {
+            let (extension, rest) = split_digest(rest)?;
+            let anchor = digest;
+            Some((Place::Opt { anchor, extension }, rest))
+        }
+    }
+}
+
+// Whether the head is the body's, and the body is within its bounds and has this length.
+fn is_body(body: &Body<'_>, head: &[u8], length: u32) -> bool
+    ensures { IsTrue result ↔ HasHead (content_of body.now) head.now length }
+{
+    head == head_of(body).as_slice()
+        && body.position <= MAX_POSITION
+        && body.state.len() == length as usize
+        && body.state.len() <= limit(body.module)
+}
+
+// The most bytes that a state has.
+fn limit(id: u8) -> usize
+    ensures { result ≡ limit_of id }
+{
+    if id < 128 { 65536 } else { 1048576 }
+}
