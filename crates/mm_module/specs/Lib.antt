@@ -3,3 +3,7 @@ pub mod Batch
 pub mod Batches
 pub mod Words
 pub mod WordForms
+pub mod Bytes
+pub mod CounterTable
+pub mod CounterLaws
+pub mod LineLaws

@@ -24,6 +24,11 @@ pub record IsLawful (meaning : Meaning) : Type 0 where
   pub has_bytes : (state : List ℕ) → IsTrue (meaning.is_spelled state) → All (λ byte. byte < 256) state
   pub says_lines : (state request : List ℕ) → IsTrue (meaning.is_spelled state) → IsLine (meaning.says state request)
 
+-- a module with short states and outputs
+pub record IsShort (meaning : Meaning) : Type 0 where
+  pub state : (state : List ℕ) → IsTrue (meaning.is_spelled state) → length state ≤ 65000
+  pub output : (state request : List ℕ) → IsTrue (meaning.is_spelled state) → length (meaning.says state request) ≤ 256
+
 -- the state after these requests, from a state
 abbrev pub state_from : Meaning → List ℕ → List (List ℕ) → List ℕ
 state_from meaning state [] = state

@@ -2,11 +2,16 @@
 #![tactic(auto)]
 
 mod batch;
+mod counter;
 mod machine;
 mod outputs;
 mod words;
 
 pub use batch::Batch;
-pub use machine::{Module, Stepped};
+pub use counter::Counter;
+pub use machine::{Module, Short, Stepped, is_line};
 pub use outputs::Outputs;
 pub use words::Words;
+
+#[cfg(test)]
+mod tests;

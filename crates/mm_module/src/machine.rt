@@ -1,7 +1,7 @@
 //! What a module is.
 
-ghost use Rattle.std.specs.Prelude.{◌≡◌, IfOk, IsTrue};
-ghost use Rattle.mm_module.specs.Meaning.{Meaning, IsLine, IsLawful};
+ghost use Rattle.std.specs.Prelude.{◌≡◌, ◌↔◌, IfOk, IsTrue};
+ghost use Rattle.mm_module.specs.Meaning.{Meaning, IsLine, IsLawful, IsShort};
 
 use mm_base::{Bytes, Memory};
 use std::alloc::Global;
@@ -43,4 +43,17 @@ pub trait Module {
 
     /// The laws hold at every module.
     ghost is_lawful: { (it : Self) → IsLawful (meaning it) };
+}
+
+/// A module with short states and outputs.
+pub trait Short: Module {
+    /// A state has at most 65,000 bytes, and an output at most 256.
+    ghost is_short: { (it : Self) → IsShort (Self.meaning it) };
+}
+
+/// Whether a module takes these bytes as a request: at most 4,096 bytes and no LF.
+pub fn is_line(text: &[u8]) -> bool
+    ensures { IsTrue result ↔ IsLine text.now }
+{
+    text.len() <= 4096 && !text.contains(&b'\n')
 }

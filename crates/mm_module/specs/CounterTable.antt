@@ -1,0 +1,57 @@
+-- The counter: a value of 64 bits.
+use Rattle.std.specs.Prelude.{ℕ, ◌+◌, ◌^◌, ◌==◌, ◌&&◌, Bool, nat_lt, List, [], ◌∷◌, length, replicate, codes, Option, Some, None, option_map, if◌then◌else◌}
+use Rattle.std.specs.Fmt.{decimal}
+use Rattle.std.specs.Int.{w64, to_be_bytes, from_be_bytes}
+use Rattle.std.specs.Str.{bytes_eq}
+use Rattle.mm_base.specs.Decimals.{number_of}
+use Rattle.mm_module.specs.Bytes.{are_bytes}
+use Rattle.mm_module.specs.Words.{words_of}
+use Rattle.mm_module.specs.Meaning.{Meaning}
+use Rattle.mm_module.specs.declared.counter.Request.{Request}
+use Rattle.mm_module.specs.declared.counter.Request.TheVariants.{Read, Add}
+use Rattle.mm_module.specs.declared.counter.Says.{Says}
+use Rattle.mm_module.specs.declared.counter.Says.TheVariants.{Value, Full, Bad}
+
+-- the request that these words are: `read`, or `add N`
+abbrev pub request_of : List (List ℕ) → Option Request
+request_of (word ∷ []) = if bytes_eq word (codes "read") then Some Read else None
+request_of (word ∷ number ∷ []) = if bytes_eq word (codes "add") then option_map (λ n. Add n) (number_of number) else None
+request_of _ = None
+
+-- the value after a request, and what the counter says
+abbrev pub outcome_of : ℕ → Option Request → ℕ × Says
+outcome_of value (Some Read) = (value, Value value)
+outcome_of value (Some (Add number)) = if nat_lt (value + number) (2 ^ 64) then (value + number, Value (value + number)) else (value, Full)
+outcome_of value None = (value, Bad)
+
+-- the text of what is said
+abbrev pub text_of : Says → List ℕ
+text_of (Value value) = decimal value
+text_of Full = codes "full"
+text_of Bad = codes "bad"
+
+-- the value of a state of 8 bytes, the greatest first
+unfoldable pub value_of : List ℕ → ℕ
+value_of state = from_be_bytes w64 state
+
+-- the state of a value
+unfoldable pub state_of : ℕ → List ℕ
+state_of value = to_be_bytes w64 value
+
+-- what a request does to a state
+unfoldable pub stepped : List ℕ → List ℕ → ℕ × Says
+stepped state request = outcome_of (value_of state) (request_of (words_of request))
+
+-- a state: 8 bytes
+unfoldable pub is_state : List ℕ → Bool
+is_state state = are_bytes state && (length state == 8)
+
+-- the counter as a module
+abbrev pub counter : Meaning
+counter = record {
+  id = 1;
+  first = replicate 8 0;
+  next = λ state request. state_of (stepped state request).0;
+  says = λ state request. text_of (stepped state request).1;
+  is_spelled = is_state
+}

@@ -1,0 +1,123 @@
+//! The counter: a value of 64 bits that requests read and add to.
+
+ghost use Rattle.std.specs.Prelude.{◌≡◌, length, IfOk, IsTrue};
+ghost use Rattle.mm_module.specs.Words.{words_of};
+ghost use Rattle.mm_module.specs.CounterTable.{request_of, outcome_of, text_of, value_of, state_of, counter};
+ghost use Rattle.mm_module.specs.CounterLaws.{counter_is_lawful, counter_is_short};
+
+use crate::machine::{Module, Short, Stepped};
+use crate::words::Words;
+use mm_base::{Bytes, Memory, put_decimal, read_decimal};
+use std::alloc::Global;
+
+/// A value of 64 bits, 0 at first. Its state is the value in 8 bytes, the greatest first.
+///
+/// `read` says the value. `add N` adds N and says the new value, or says `full` where that is over
+/// 18446744073709551615 and leaves the value. Anything else says `bad` and leaves the value.
+#[derive(Clone, Copy, Debug, PartialEq, Eq)]
+pub struct Counter;
+
+/// A request to a counter.
+#[derive(Clone, Copy, Debug, PartialEq, Eq)]
+enum Request {
+    Read,
+    Add(u64),
+}
+
+/// What a counter says.
+#[derive(Clone, Copy, Debug, PartialEq, Eq)]
+enum Says {
+    Value(u64),
+    Full,
+    Bad,
+}
+
+/// The request that these bytes are, where they are one.
+fn read_request(bytes: &[u8]) -> Option<Request>
+    ensures { result ≡ request_of (words_of bytes.now) }
+{
+    match Words::of(bytes) {
+        Words::One(word) if word == b"read".as_slice() => Some(Request::Read),
+        Words::Two(word, number) if word == b"add".as_slice() => read_decimal(number).map(Request::Add),
+        _ => None,
+    }
+}
+
+/// The value after a request, and what the counter says.
+fn outcome(value: u64, request: Option<Request>) -> (u64, Says)
+    ensures { result ≡ outcome_of value request }
+{
+    match request {
+        Some(Request::Read) => (value, Says::Value(value)),
+        Some(Request::Add(number)) => match value.checked_add(number) {
+            Some(sum) => (sum, Says::Value(sum)),
+            None => (value, Says::Full),
+        },
+        None => (value, Says::Bad),
+    }
+}
+
+/// The text of what is said.
+fn text(alloc: Global, says: Says) -> Result<Bytes, Memory>
+    ensures { IfOk result (λ text. text ≡ text_of says) }
+{
+    match says {
+        Says::Value(value) => {
+            let mut text = Bytes::new(alloc);
+            put_decimal(&mut text, value)?;
+            Ok(text)
+        }
+        Says::Full => Bytes::copy_of(alloc, b"full"),
+        Says::Bad => Bytes::copy_of(alloc, b"bad"),
+    }
+}
+
+/// The value of a state.
+#[tactic(auto, unfolding(crate::specs::CounterTable::value_of))]
+fn value_in(state: &[u8]) -> u64
+    requires { length state.now ≡ 8 }
+    ensures { result ≡ value_of state.now }
+{
+    let mut bytes = [0; 8];
+    bytes.copy_from_slice(state);
+    u64::from_be_bytes(bytes)
+}
+
+/// The state of a value.
+#[tactic(auto, unfolding(crate::specs::CounterTable::state_of))]
+fn spelled(alloc: Global, value: u64) -> Result<Bytes, Memory>
+    ensures { IfOk result (λ state. state ≡ state_of value) }
+{
+    Bytes::copy_of(alloc, &value.to_be_bytes())
+}
+
+#[tactic(auto, unfolding(crate::specs::CounterTable::stepped, crate::specs::CounterTable::is_state))]
+impl Module for Counter {
+    ghost meaning = { λ _. counter };
+
+    ghost is_lawful = { λ _. counter_is_lawful };
+
+    fn id(&self) -> u8 {
+        1
+    }
+
+    fn first_state(&self, alloc: Global) -> Result<Bytes, Memory> {
+        Bytes::copy_of(alloc, &[0; 8])
+    }
+
+    fn state_is_spelled(&self, state: &[u8]) -> bool {
+        state.len() == 8
+    }
+
+    fn step(&self, alloc: Global, state: &[u8], request: &[u8]) -> Result<Stepped, Memory> {
+        let (value, says) = outcome(value_in(state), read_request(request));
+        Ok(Stepped {
+            state: spelled(alloc, value)?,
+            output: text(alloc, says)?,
+        })
+    }
+}
+
+impl Short for Counter {
+    ghost is_short = { λ _. counter_is_short };
+}
