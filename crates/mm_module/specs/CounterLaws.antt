@@ -1,15 +1,15 @@
 -- The laws of the counter.
-use Rattle.std.specs.Prelude.{◌≡◌, ◌≢◌, ◌==◌, ◌&&◌, ℕ, ◌+◌, ◌^◌, ◌<◌, ◌≤◌, List, [], ◌∷◌, ◌++◌, length, Bool, true, false, nat_lt, IsTrue, All, Option, Some, None, if◌then◌else◌}
-use Rattle.std.proofs.Common.{refl, sym, ◌∙◌, ap, arith, rules, lit<, lit≤, get_or}
-use Rattle.mm_module.specs.LineLaws.{is_unbroken, and-true, and-both, is_byte-rem, All-are_bytes, IsLine-from, is_unbroken-decimal, length-decimal}
+use Rattle.std.specs.Prelude.{◌≡◌, ◌==◌, ℕ, ◌+◌, ◌^◌, ◌<◌, ◌≤◌, List, length, Bool, true, false, nat_lt, All, Option, Some, None, if◌then◌else◌}
+use Rattle.std.proofs.Common.{refl, arith, rules}
+use Rattle.mm_module.specs.LineLaws.{is_unbroken, and-true, is_byte-rem, All-are_bytes, IsLine-from, is_unbroken-decimal, length-decimal}
 use Rattle.std.proofs.lemmas.Bool.Decides.{nat_tests}
-use Rattle.mm_module.specs.Bytes.{is_byte, are_bytes}
+use Rattle.mm_module.specs.Bytes.{are_bytes}
 use Rattle.mm_module.specs.declared.counter.Request.{Request}
 use Rattle.mm_module.specs.declared.counter.Request.TheVariants.{Read, Add}
 use Rattle.mm_module.specs.declared.counter.Says.{Says}
 use Rattle.mm_module.specs.declared.counter.Says.TheVariants.{Value, Full, Bad}
 use Rattle.mm_module.specs.Meaning.{IsLawful, IsShort}
-use Rattle.mm_module.specs.CounterTable.{counter, value_of, state_of, stepped, is_state, outcome_of, text_of, request_of}
+use Rattle.mm_module.specs.CounterTable.{counter, value_of, state_of, stepped, is_state, outcome_of, text_of}
 
 -- a state has 8 bytes
 length-state : (state : List ℕ) → is_state state ≡ true → length state ≡ 8
@@ -74,12 +74,12 @@ counter_is_lawful = record {
   goes_on = λ state request is. search (rules, is_state-state_of (stepped state request).0);
   fits = λ state is. omega (arith, length-state state (search (rules, is)));
   has_bytes = λ state is. bytes-state state (search (rules, is));
-  says_lines = λ state request is. let text = counter_says state request (search (rules, is)) in IsLine-from _ (omega (arith, text.short)) text.unbroken
+  says_lines = λ state request is. let text = counter_says state request (search (rules, is)) in IsLine-from _ (omega (arith, text.short)) text.unbroken;
 }
 
 -- a counter is short
 pub counter_is_short : IsShort counter
 counter_is_short = record {
   state = λ state is. omega (arith, length-state state (search (rules, is)));
-  output = λ state request is. let text = counter_says state request (search (rules, is)) in omega (arith, text.short)
+  output = λ state request is. let text = counter_says state request (search (rules, is)) in omega (arith, text.short);
 }

@@ -53,5 +53,5 @@ counter = record {
   first = replicate 8 0;
   next = λ state request. state_of (stepped state request).0;
   says = λ state request. text_of (stepped state request).1;
-  is_spelled = is_state
+  is_spelled = is_state;
 }

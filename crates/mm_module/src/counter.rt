@@ -38,7 +38,9 @@ fn read_request(bytes: &[u8]) -> Option<Request>
 {
     match Words::of(bytes) {
         Words::One(word) if word == b"read".as_slice() => Some(Request::Read),
-        Words::Two(word, number) if word == b"add".as_slice() => read_decimal(number).map(Request::Add),
+        Words::Two(word, number) if word == b"add".as_slice() => read_decimal(number).map(
+            Request::Add,
+        ),
         _ => None,
     }
 }

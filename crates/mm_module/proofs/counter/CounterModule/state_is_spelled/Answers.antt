@@ -1,5 +1,4 @@
-use Rattle.std.proofs.Common.{◌≡◌, ◌==◌, ◌&&◌, length, Bool, true, refl}
-use Rattle.mm_module.specs.Bytes.{are_bytes}
+use Rattle.std.proofs.Common.{refl}
 use Rattle.mm_module.specs.CounterTable.{is_state}
 use Rattle.mm_module.specs.LineLaws.{are_bytes-Fits}
 use Rattle.mm_module.proofs.counter.CounterModule.state_is_spelled.Goals as goal
