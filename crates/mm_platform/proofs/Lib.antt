@@ -1,2 +1,4 @@
 pub mod LettingIn
 pub mod Stepping
+pub mod Telling
+pub mod Calling

@@ -8,7 +8,7 @@ use Rattle.mm_platform.specs.declared.plan.Stop.{Stop}
 use Rattle.mm_platform.specs.declared.plan.Stop.TheVariants.{Quiet, Cut, Drop, Fail}
 use Rattle.mm_platform.specs.Standing.{Item, own_item, Plan, Standing, next_step}
 use Rattle.mm_platform.specs.Steps.{Act, ReadCell, WriteCell, ReadRegister, ResetRegister, ExtendRegister, room_taken, EndsBy, IsDone, IsOff, fault_at, is_made_at, is_on_at, will_answer, will_be_made, will_be_on, will_bring, faults_after, GoesByPlan, Goes}
-use Rattle.mm_platform.specs.Memory.{plan_of, answer_of, makes, begun, spare_after, stepped}
+use Rattle.mm_platform.specs.Told.{plan_of, answer_of, makes, begun, spare_after, stepped}
 
 -- a step that answers Off on a platform that was on
 off_ends : (old new : Standing) (is_made : Bool) → old.is_on ≡ true → new.faults ≡ counted old.faults → IsOff old new is_made
@@ -70,7 +70,7 @@ by_plan act old plan e = record {
   counts = refl;
 }
 
-known_plan : (old : Standing) (plan : Plan) → old.plan ≡ Some plan → plan_of old ≡ plan
+pub known_plan : (old : Standing) (plan : Plan) → old.plan ≡ Some plan → plan_of old ≡ plan
 known_plan old plan known = rw known refl
 
 steps_go : (act : Act) (old : Standing) → Goes act old (stepped act old) (answer_of old)

@@ -1,16 +1,8 @@
--- A platform in memory: what stands on it, exactly, after each call.
-use Rattle.std.specs.Prelude.{ℕ, ◌-◌, Bool, true, false, List, [], Option, Some, count_by, nat_lt}
-use Rattle.std.specs.Option.{option_map, option_map_or}
-use Rattle.mm_platform.specs.declared.fault.StepFault.{StepFault}
+-- A platform in memory.
+use Rattle.std.specs.Prelude.{ℕ, true, List, [], Some, count_by, nat_lt}
 use Rattle.mm_platform.specs.declared.plan.Meddle.{Meddle}
-use Rattle.mm_platform.specs.declared.plan.Stop.TheVariants.{Quiet}
-use Rattle.mm_platform.specs.Standing.{Plan, Standing, plan_after}
-use Rattle.mm_platform.specs.Steps.{Act, ReadCell, WriteCell, ReadRegister, ResetRegister, ExtendRegister, beside, cell_after, items_after, writes_after, will_answer, will_be_made, will_be_on, will_bring, faults_after}
-use Rattle.mm_base.specs.Faults.{counted}
-
--- nothing goes wrong, and nobody else extends the register
-abbrev pub quiet_plan : Plan
-quiet_plan = record { stop = Quiet; meddles = []; at = 0 }
+use Rattle.mm_platform.specs.Standing.{Standing}
+use Rattle.mm_platform.specs.Told.{quiet_plan}
 
 -- a new platform with this cell
 abbrev pub fresh : List ℕ → Standing
@@ -24,48 +16,6 @@ fresh cell = record {
   faults = 0;
   plan = Some quiet_plan;
 }
-
--- What the next step of a platform that tells its plan will do. The plan of one that tells none is taken as quiet.
-abbrev pub plan_of : Standing → Plan
-plan_of old = option_map_or (λ plan. plan) old.plan quiet_plan
-
-abbrev pub answer_of : Standing → Option StepFault
-answer_of old = will_answer old.is_on (plan_of old)
-
-abbrev pub makes : Standing → Bool
-makes old = will_be_made old.is_on (plan_of old)
-
--- what stands once a step was called, before its effect
-abbrev pub begun : Standing → Standing
-begun old = record old {
-  items = beside (will_bring old.is_on (plan_of old)) old.items;
-  is_on = will_be_on old.is_on (plan_of old);
-  steps = counted old.steps;
-  faults = faults_after (answer_of old) old.faults;
-  plan = option_map plan_after old.plan;
-}
-
--- the room after a step whose effect is made, or isn't
-abbrev pub spare_after : Act → Bool → ℕ → ℕ
-spare_after (ExtendRegister value) true spare = spare - 1
-spare_after (ExtendRegister value) false spare = spare
-spare_after ReadCell made spare = spare
-spare_after (WriteCell bytes) made spare = spare
-spare_after ReadRegister made spare = spare
-spare_after ResetRegister made spare = spare
-
--- what stands after a step
-abbrev pub stepped : Act → Standing → Standing
-stepped act old = let now : Standing = begun old in record now {
-  cell = cell_after act (makes old) now.cell;
-  items = items_after act (makes old) now.items;
-  writes = writes_after act now.writes;
-  spare = spare_after act (makes old) now.spare;
-}
-
--- what stands after power was lost and came back
-abbrev pub cycled : Standing → Standing
-cycled old = record old { items = option_map (λ _. []) old.items; is_on = true }
 
 -- the meddles whose step is still to come
 abbrev pub ahead : ℕ → List Meddle → ℕ

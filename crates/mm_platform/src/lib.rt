@@ -15,3 +15,6 @@ pub use fault::StepFault;
 pub use memory::MemPlatform;
 pub use plan::{Meddle, Stop};
 pub use raw::RawNv;
+
+#[cfg(test)]
+mod tests;

@@ -1,13 +1,13 @@
 //! A platform in memory, which fails as its plan says and not otherwise.
 
 ghost use Rattle.std.specs.Prelude.{◌≡◌, ◌+◌, ◌≤◌, Some, None, [], ◌∷◌, ◌++◌, map, OnOk, OnErr, IfOk, Ok, count_by, vec_len, vec_capacity};
-ghost use Rattle.std.specs.Result.{result_err};
 ghost use Rattle.std.specs.Option.{option_map};
 ghost use Rattle.mm_base.specs.Faults.{counted};
-ghost use Rattle.mm_platform.specs.Steps.{beside, will_bring, Cycles};
+ghost use Rattle.mm_platform.specs.Steps.{beside, will_bring};
 ghost use Rattle.mm_platform.specs.Standing.{Standing, Plan, foreign_item, due, next_step, plan_after};
 ghost use Rattle.mm_platform.specs.Entries.{items_of, is_own};
-ghost use Rattle.mm_platform.specs.Memory.{quiet_plan, fresh, ahead, plan_of, begun, stepped, makes, answer_of, cycled};
+ghost use Rattle.mm_platform.specs.Told.{quiet_plan, plan_of, begun, makes, answer_of};
+ghost use Rattle.mm_platform.specs.Memory.{fresh, ahead};
 
 use crate::device::{Device, Nv, Platform, Register};
 use crate::extensions::{Entry, Extensions};

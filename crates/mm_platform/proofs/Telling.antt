@@ -1,0 +1,147 @@
+-- A device step leaves what it is told to leave.
+use Rattle.std.proofs.Common.{◌≡◌, Bool, true, false, Option, None, Some, List, [], ◌∷◌, refl, sym, ◌∙◌, ap}
+use Rattle.std.specs.Prelude.{is_none, if◌then◌else◌}
+use Rattle.std.specs.Option.{option_map}
+use Rattle.mm_platform.specs.declared.fault.StepFault.{StepFault}
+use Rattle.mm_platform.specs.Standing.{Plan, Standing, plan_after}
+use Rattle.mm_platform.specs.Steps.{Act, beside, cell_after, items_after, will_answer, will_be_made, will_be_on, will_bring, faults_after, Goes}
+use Rattle.mm_platform.specs.Told.{answer_of, makes, stepped, acted, answered, AreAlike}
+use Rattle.mm_platform.specs.Calls.{ActsAsTold}
+use Rattle.mm_platform.proofs.Stepping.{known_plan}
+
+-- what a step does, by the plan that it was told
+pub record IsAsTold (act : Act) (old new : Standing) (fault : Option StepFault) : Type 0 where
+  pub answer : fault ≡ answer_of old
+  pub stands : AreAlike new (stepped act old)
+
+pub as_told : (act : Act) (old new : Standing) (fault : Option StepFault) → Goes act old new fault
+    → (plan : Plan) → old.plan ≡ Some plan → IsAsTold act old new fault
+as_told act old new fault step plan known =
+    let same = sym (known_plan old plan known) in
+    let told = step.told plan known in
+    let made = told.makes ∙ ap (will_be_made old.is_on) same in
+    let brings = told.brings ∙ ap (will_bring old.is_on) same in
+    let answers = told.answers ∙ ap (will_answer old.is_on) same in
+    record {
+      answer = answers;
+      stands = record {
+        cell = step.cell ∙ ap (λ m. cell_after act m old.cell) made;
+        items = step.items ∙ ap (λ m. items_after act m (beside step.others old.items)) made
+            ∙ ap (λ o. items_after act (makes old) (beside o old.items)) brings;
+        is_on = told.power ∙ ap (will_be_on old.is_on) same;
+        steps = step.steps;
+        writes = step.writes;
+        faults = told.counts ∙ ap (λ f. faults_after f old.faults) answers;
+        plan = step.plan;
+      };
+    }
+
+-- Alike standings meet the same next step.
+pub answer-alike : (one other : Standing) → AreAlike one other → answer_of one ≡ answer_of other
+answer-alike one other a = rw (a.is_on, a.plan) refl
+
+pub stepped-alike : (act : Act) (one other : Standing) → AreAlike one other → AreAlike (stepped act one) (stepped act other)
+stepped-alike act one other a =
+    let made : makes one ≡ makes other = rw (a.is_on, a.plan) refl in
+    let answers = answer-alike one other a in
+    record {
+      cell = rw (a.cell, made) refl;
+      items = rw (a.items, a.is_on, a.plan) refl;
+      is_on = rw (a.is_on, a.plan) refl;
+      steps = rw a.steps refl;
+      writes = rw a.writes refl;
+      faults = rw (answers, a.faults) refl;
+      plan = rw a.plan refl;
+    }
+
+pub alike-then : (one other last : Standing) → AreAlike one other → AreAlike other last → AreAlike one last
+alike-then one other last a b = record {
+  cell = a.cell ∙ b.cell;
+  items = a.items ∙ b.items;
+  is_on = a.is_on ∙ b.is_on;
+  steps = a.steps ∙ b.steps;
+  writes = a.writes ∙ b.writes;
+  faults = a.faults ∙ b.faults;
+  plan = a.plan ∙ b.plan;
+}
+
+pub alike-self : (one : Standing) → AreAlike one one
+alike-self one = record { cell = refl; items = refl; is_on = refl; steps = refl; writes = refl; faults = refl; plan = refl }
+
+-- Several steps, of which none comes after one that fails.
+if-alike : (b c : Bool) (x y z w : Standing) → b ≡ c → AreAlike x z → AreAlike y w
+    → AreAlike (if b then x else y) (if c then z else w)
+if-alike true true x y z w e p q = p
+if-alike false false x y z w e p q = q
+if-alike true false x y z w e p q = cc
+if-alike false true x y z w e p q = cc
+
+pub acted-alike : (acts : List Act) (one other : Standing) → AreAlike one other → AreAlike (acted acts one) (acted acts other)
+acted-alike [] one other a = a
+acted-alike (act ∷ acts) one other a =
+    if-alike (is_none (answer_of one)) (is_none (answer_of other)) _ _ _ _ (ap is_none (answer-alike one other a))
+    (acted-alike acts (stepped act one) (stepped act other) (stepped-alike act one other a)) (stepped-alike act one other a)
+
+if-same : (b c : Bool) (x y z w : Option StepFault) → b ≡ c → x ≡ z → y ≡ w → (if b then x else y) ≡ (if c then z else w)
+if-same true true x y z w e p q = p
+if-same false false x y z w e p q = q
+if-same true false x y z w e p q = cc
+if-same false true x y z w e p q = cc
+
+pub answered-alike : (acts : List Act) (one other : Standing) → AreAlike one other → answered acts one ≡ answered acts other
+answered-alike [] one other a = refl
+answered-alike (act ∷ acts) one other a =
+    if-same (is_none (answer_of one)) (is_none (answer_of other)) _ _ _ _ (ap is_none (answer-alike one other a))
+    (answered-alike acts (stepped act one) (stepped act other) (stepped-alike act one other a)) (answer-alike one other a)
+
+-- a step that fails is the last
+failed-acted : (fault : StepFault) (answer : Option StepFault) (x y new : Standing) → Some fault ≡ answer → AreAlike new y
+    → AreAlike new (if is_none answer then x else y)
+failed-acted fault (Some f) x y new e a = a
+failed-acted fault None x y new e a = cc
+
+failed-answered : (fault : StepFault) (answer later : Option StepFault) → Some fault ≡ answer
+    → Some fault ≡ (if is_none answer then later else answer)
+failed-answered fault (Some f) later e = e
+failed-answered fault None later e = cc
+
+pub told_failed : (act : Act) (acts : List Act) (old new : Standing) (fault : StepFault) → Goes act old new (Some fault)
+    → (plan : Plan) → old.plan ≡ Some plan → ActsAsTold (act ∷ acts) old new (Some fault)
+told_failed act acts old new fault step plan known =
+    let told = as_told act old new (Some fault) step plan known in record {
+      answer = failed-answered fault (answer_of old) _ told.answer;
+      stands = failed-acted fault (answer_of old) _ (stepped act old) new told.answer told.stands;
+    }
+
+-- a step that doesn't fail is followed by the next
+done-acted : (answer : Option StepFault) (x y new : Standing) → None ≡ answer → AreAlike new x
+    → AreAlike new (if is_none answer then x else y)
+done-acted (Some f) x y new e a = cc
+done-acted None x y new e a = a
+
+done-answered : (fault answer later : Option StepFault) → None ≡ answer → fault ≡ later
+    → fault ≡ (if is_none answer then later else answer)
+done-answered fault (Some f) later e a = cc
+done-answered fault None later e a = a
+
+pub told_then : (act : Act) (acts : List Act) (old mid new : Standing) (fault : Option StepFault) → Goes act old mid None
+    → (plan : Plan) → old.plan ≡ Some plan → ActsAsTold acts mid new fault → ActsAsTold (act ∷ acts) old new fault
+told_then act acts old mid new fault step plan known rest =
+    let told = as_told act old mid None step plan known in record {
+      answer = done-answered fault (answer_of old) _ told.answer
+          (rest.answer ∙ answered-alike acts mid (stepped act old) told.stands);
+      stands = done-acted (answer_of old) _ (stepped act old) new told.answer
+          (alike-then new (acted acts mid) (acted acts (stepped act old)) rest.stands
+          (acted-alike acts mid (stepped act old) told.stands));
+    }
+
+-- the last step, whatever it answers
+pub told_last : (act : Act) (old new : Standing) (fault : Option StepFault) → Goes act old new fault
+    → (plan : Plan) → old.plan ≡ Some plan → ActsAsTold (act ∷ []) old new fault
+told_last act old new (Some fault) step plan known = told_failed act [] old new fault step plan known
+told_last act old new None step plan known =
+    told_then act [] old new new None step plan known (record { answer = refl; stands = alike-self new })
+
+pub plan_then : (act : Act) (old new : Standing) (fault : Option StepFault) → Goes act old new fault
+    → (plan : Plan) → old.plan ≡ Some plan → new.plan ≡ Some (plan_after plan)
+plan_then act old new fault step plan known = step.plan ∙ ap (option_map plan_after) known

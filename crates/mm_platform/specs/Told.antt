@@ -1,0 +1,69 @@
+-- What stands after each step, exactly, where a platform tells its plan.
+use Rattle.std.specs.Prelude.{ℕ, ◌-◌, Bool, true, false, List, [], ◌∷◌, Option, None, is_none, if◌then◌else◌, ◌≡◌}
+use Rattle.std.specs.Option.{option_map, option_map_or}
+use Rattle.mm_platform.specs.declared.fault.StepFault.{StepFault}
+use Rattle.mm_platform.specs.declared.plan.Stop.TheVariants.{Quiet}
+use Rattle.mm_platform.specs.Standing.{Plan, Standing, plan_after}
+use Rattle.mm_platform.specs.Steps.{Act, ReadCell, WriteCell, ReadRegister, ResetRegister, ExtendRegister, beside, cell_after, items_after, writes_after, will_answer, will_be_made, will_be_on, will_bring, faults_after}
+use Rattle.mm_base.specs.Faults.{counted}
+
+-- nothing goes wrong, and nobody else extends the register
+abbrev pub quiet_plan : Plan
+quiet_plan = record { stop = Quiet; meddles = []; at = 0 }
+
+-- What the next step of a platform that tells its plan will do. The plan of one that tells none is taken as quiet.
+abbrev pub plan_of : Standing → Plan
+plan_of old = option_map_or (λ plan. plan) old.plan quiet_plan
+
+abbrev pub answer_of : Standing → Option StepFault
+answer_of old = will_answer old.is_on (plan_of old)
+
+abbrev pub makes : Standing → Bool
+makes old = will_be_made old.is_on (plan_of old)
+
+-- what stands once a step was called, before its effect
+abbrev pub begun : Standing → Standing
+begun old = record old {
+  items = beside (will_bring old.is_on (plan_of old)) old.items;
+  is_on = will_be_on old.is_on (plan_of old);
+  steps = counted old.steps;
+  faults = faults_after (answer_of old) old.faults;
+  plan = option_map plan_after old.plan;
+}
+
+-- the room after a step whose effect is made, or isn't
+abbrev pub spare_after : Act → Bool → ℕ → ℕ
+spare_after (ExtendRegister value) true spare = spare - 1
+spare_after (ExtendRegister value) false spare = spare
+spare_after ReadCell made spare = spare
+spare_after (WriteCell bytes) made spare = spare
+spare_after ReadRegister made spare = spare
+spare_after ResetRegister made spare = spare
+
+-- what stands after a step
+abbrev pub stepped : Act → Standing → Standing
+stepped act old = let now : Standing = begun old in record now {
+  cell = cell_after act (makes old) now.cell;
+  items = items_after act (makes old) now.items;
+  writes = writes_after act now.writes;
+  spare = spare_after act (makes old) now.spare;
+}
+
+-- What stands after these steps, of which none comes after one that fails; and what the last of them answers.
+abbrev pub acted : List Act → Standing → Standing
+acted [] old = old
+acted (act ∷ acts) old = if is_none (answer_of old) then acted acts (stepped act old) else stepped act old
+
+abbrev pub answered : List Act → Standing → Option StepFault
+answered [] old = None
+answered (act ∷ acts) old = if is_none (answer_of old) then answered acts (stepped act old) else answer_of old
+
+-- two standings that differ in their room at most
+pub record AreAlike (one other : Standing) : Type 0 where
+  pub cell : one.cell ≡ other.cell
+  pub items : one.items ≡ other.items
+  pub is_on : one.is_on ≡ other.is_on
+  pub steps : one.steps ≡ other.steps
+  pub writes : one.writes ≡ other.writes
+  pub faults : one.faults ≡ other.faults
+  pub plan : one.plan ≡ other.plan
