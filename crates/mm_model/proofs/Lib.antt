@@ -7,3 +7,5 @@ pub mod Runs
 pub mod LongLaws
 pub mod Segments
 pub mod Forms
+pub mod Histories
+pub mod Paths

@@ -1,0 +1,115 @@
+-- Histories as lists: batches, entries and values, and what soundness tells of them.
+use Rattle.std.proofs.Common.{ℕ, ◌≡◌, ◌≢◌, ◌+◌, ◌≤◌, Bool, true, false, ◌&&◌, ◌||◌, List, [], ◌∷◌, ◌++◌, length, map, refl, sym, ap, ◌∙◌, subst, ◌⊎◌, inl, inr, arith, append_assoc, length-append}
+use Rattle.std.proofs.lemmas.List.{append-nil, map-append, length-map, same_from_push}
+use Rattle.std.proofs.lemmas.Bool.{and_parts, or_cases, or_parts}
+use Rattle.std.proofs.lemmas.List.Elements.{Contains-append_left, Contains-append_right}
+use Rattle.std.specs.List.{Contains, AllByRecursion}
+use Rattle.mm_module.specs.Batch.{Batch}
+use Rattle.mm_model.specs.Chains.{guard, own_values}
+use Rattle.mm_model.specs.History.{Entry, Own, Value, History, joined, value_of, values_of}
+use Rattle.mm_model.specs.Life.{is_empty, has_value, are_own, same_batch}
+use Rattle.mm_model.specs.Messages.{values_in}
+use Rattle.mm_model.specs.Sound.{batches_in}
+use Rattle.mm_model.proofs.Lists.{HasLast, ends}
+use Rattle.mm_model.proofs.Batches.{same_batch-Decides}
+use Rattle.mm_model.proofs.Segments.{joined-append, true_not_false}
+
+pub own_values-append : (barrier : List ℕ) (bs cs : List Batch) → own_values barrier (bs ++ cs) ≡ own_values barrier bs ++ own_values barrier cs
+own_values-append barrier bs cs = map-append (guard barrier) bs cs
+
+pub values_of-append : (barrier : List ℕ) (es fs : List Entry) → values_of barrier (es ++ fs) ≡ values_of barrier es ++ values_of barrier fs
+values_of-append barrier es fs = map-append (value_of barrier) es fs
+
+-- the values of segments, one after another
+pub joined-values : (barrier : List ℕ) (segments : List (List Entry)) → joined (map (values_of barrier) segments) ≡ values_of barrier (joined segments)
+joined-values barrier [] = refl
+joined-values barrier (s ∷ ss) =
+    ap (λ v. values_of barrier s ++ v) (joined-values barrier ss) ∙ sym (values_of-append barrier s (joined ss))
+
+pub has_value-append : (es fs : List Entry) → has_value (es ++ fs) ≡ (has_value es || has_value fs)
+has_value-append [] fs = refl
+has_value-append (Own b ∷ es) fs = has_value-append es fs
+has_value-append (Value d ∷ es) fs = refl
+
+pub batches_in-append : (es fs : List Entry) → batches_in (es ++ fs) ≡ batches_in es ++ batches_in fs
+batches_in-append [] fs = refl
+batches_in-append (Own b ∷ es) fs = ap (λ v. b ∷ v) (batches_in-append es fs)
+batches_in-append (Value d ∷ es) fs = batches_in-append es fs
+
+-- entries of batches alone are as many as these, and have their guards as values
+pub length-batches_in : (es : List Entry) → has_value es ≡ false → length (batches_in es) ≡ length es
+length-batches_in [] c = refl
+length-batches_in (Own b ∷ es) c = let h = length-batches_in es c in omega (arith, h)
+length-batches_in (Value d ∷ es) c = absurd (true_not_false c)
+
+pub values_of-clean : (barrier : List ℕ) (es : List Entry) → has_value es ≡ false → values_of barrier es ≡ own_values barrier (batches_in es)
+values_of-clean barrier [] c = refl
+values_of-clean barrier (Own b ∷ es) c = ap (λ v. guard barrier b ∷ v) (values_of-clean barrier es c)
+values_of-clean barrier (Value d ∷ es) c = absurd (true_not_false c)
+
+pub values_of-own : (barrier : List ℕ) (es : List Entry) (bs : List Batch) → are_own es bs ≡ true → values_of barrier es ≡ own_values barrier bs
+values_of-own barrier [] [] o = refl
+values_of-own barrier [] (b ∷ bs) o = absurd (true_not_false (sym o))
+values_of-own barrier (Own b ∷ es) [] o = absurd (true_not_false (sym o))
+values_of-own barrier (Own b ∷ es) (c ∷ bs) o =
+    let both = and_parts (same_batch b c) (are_own es bs) o in
+    ap (λ x. guard barrier x ∷ values_of barrier es) ((same_batch-Decides b c).0 both.0)
+    ∙ ap (λ v. guard barrier c ∷ v) (values_of-own barrier es bs both.1)
+values_of-own barrier (Value d ∷ es) bs o = absurd (true_not_false (sym o))
+
+pub are_own-nil : (bs : List Batch) → are_own [] bs ≡ true → bs ≡ []
+are_own-nil [] o = refl
+are_own-nil (b ∷ bs) o = absurd (true_not_false (sym o))
+
+-- a value that stands for no batch, and a batch with that guard
+pub record Meets (barrier : List ℕ) (values : List (List ℕ)) (batches : List Batch) : Type 0 where
+  pub value : List ℕ
+  pub batch : Batch
+  pub among : Contains values value
+  pub asked : Contains batches batch
+  pub same : value ≡ guard barrier batch
+
+meets_more : (barrier : List ℕ) (values : List (List ℕ)) (bs : List Batch) (b : Batch) → Meets barrier values bs → Meets barrier values (b ∷ bs)
+meets_more barrier values bs b m =
+    record {
+      value = m.value;
+      batch = m.batch;
+      among = m.among;
+      asked = Contains-append_right (b ∷ []) bs m.batch m.asked;
+      same = m.same;
+    }
+
+-- entries whose values are guards of batches, though one stands for none: it is the guard of one of them
+pub meets : (barrier : List ℕ) (es : List Entry) (bs : List Batch) → has_value es ≡ true → values_of barrier es ≡ own_values barrier bs → Meets barrier (values_in es) bs
+meets barrier [] bs h e = absurd (true_not_false (sym h))
+meets barrier (Own b ∷ es) [] h e = absurd (cc)
+meets barrier (Own b ∷ es) (c ∷ bs) h e =
+    let tails : values_of barrier es ≡ own_values barrier bs = cc in
+    meets_more barrier (values_in es) bs c (meets barrier es bs h tails)
+meets barrier (Value d ∷ es) [] h e = absurd (cc)
+meets barrier (Value d ∷ es) (c ∷ bs) h e =
+    let heads : d ≡ guard barrier c = cc in
+    record {
+      value = d;
+      batch = c;
+      among = (0, omega arith, refl);
+      asked = (0, omega arith, refl);
+      same = heads;
+    }
+
+-- the segments before one that isn't the last are among those before the last
+pub record Sooner {A : Type 0} (before front : List A) : Type 0 where
+  pub between : List A
+  pub is : front ≡ before ++ between
+
+pub sooner : {A : Type 0} (before later front : List A) (last : A) → before ++ later ≡ front ++ last ∷ [] → is_empty later ≡ false → Sooner before front
+sooner before later front last e some =
+    elim (ends later) [
+      | inl none ↦ absurd (true_not_false (ap is_empty (sym none) ∙ some))
+      | inr h ↦
+          record {
+            between = h.front;
+            is = sym ((same_from_push (before ++ h.front) front h.last last
+                (append_assoc before h.front (h.last ∷ []) ∙ ap (λ v. before ++ v) (sym h.is) ∙ e)).0);
+          }
+    ]
