@@ -13,8 +13,10 @@ use Rattle.mm_model.specs.Instance.{basic}
 use Rattle.mm_model.specs.History.{History, total_of, cell_digest_of}
 use Rattle.mm_model.specs.Life.{Live}
 use Rattle.mm_model.specs.Judge.{is_last, judged, judge, verdict_by, basic_verdict, verdict_by_digests}
-use Rattle.mm_model.specs.Place.{Place, InBasic, InOpt, Snapshot}
-use Rattle.mm_model.specs.Places.{IsPlace, Names}
+use Rattle.mm_seal.specs.declared.snapshot.Place.{Place}
+use Rattle.mm_seal.specs.declared.snapshot.Place.TheVariants.{Basic as InBasic, Opt as InOpt}
+use Rattle.mm_seal.specs.Snapshot.{Content}
+use Rattle.mm_model.specs.Places.{IsPlaceOf, Names}
 use Rattle.mm_model.specs.Messages.{Within, IsClear, IsClearFor}
 use Rattle.mm_model.proofs.Chains.{trail_front, trail_push}
 use Rattle.mm_model.proofs.Digests.{same_summaries, summary-push}
@@ -53,15 +55,15 @@ basic_at id batches named rest b all clear starts listed called e =
     ∙ ap (λ (x : Bool). verdict_by false (nat_eq (total_of named) (total_of batches)) x) again
     ∙ verdicts (nat_eq (total_of named) (total_of batches)) (nat_eq (total_of named + size_of b) (total_of batches) && is_last batches b)
 
-basic_on : (meaning : Meaning) (key register : List ℕ) (y : History) (named rest : List Batch) (place : Place) (b : Batch) (all : List (List ℕ)) → IsClearFor all (basic meaning key) y place b → y.batches ≡ named ++ rest → IsPlace Basic (basic meaning key) y named place → verdict_by_digests zero_bytes false (summary_of meaning.id y.batches) register place b ≡ judge Basic y (total_of named) b
+basic_on : (meaning : Meaning) (key register : List ℕ) (y : History) (named rest : List Batch) (place : Place) (b : Batch) (all : List (List ℕ)) → IsClearFor all (basic meaning key) y place b → y.batches ≡ named ++ rest → IsPlaceOf Basic (basic meaning key) y named place → verdict_by_digests zero_bytes false (summary_of meaning.id y.batches) register place b ≡ judge Basic y (total_of named) b
 basic_on meaning key register y named rest (InBasic s) b all clear e is =
-    let call : Contains all (link_message s b) = clear.call.0 in
+    let call : Contains all (link_message s.bytes b) = clear.call.0 in
     let call' = subst (λ (v : List ℕ). Contains all (link_message v b)) is call in
     ap (λ (v : List ℕ). basic_verdict (summary_of meaning.id y.batches) v b) is
     ∙ basic_at meaning.id y.batches named rest b all clear.clear clear.history.0 clear.history.1 call' e
 basic_on meaning key register y named rest (InOpt a x) b all clear e is = absurd is
 
-pub basic_is_judged : (meaning : Meaning) (key register : List ℕ) (y : History) (offered : Snapshot) (b : Batch) (all : List (List ℕ)) → IsClearFor all (basic meaning key) y offered.place b → Names (basic meaning key) y offered → verdict_by_digests zero_bytes false (cell_digest_of (basic meaning key) Basic y) register offered.place b ≡ judge Basic y offered.position b
+pub basic_is_judged : (meaning : Meaning) (key register : List ℕ) (y : History) (offered : Content) (b : Batch) (all : List (List ℕ)) → IsClearFor all (basic meaning key) y offered.place b → Names (basic meaning key) y offered → verdict_by_digests zero_bytes false (cell_digest_of (basic meaning key) Basic y) register offered.place b ≡ judge Basic y offered.position b
 basic_is_judged meaning key register y offered b all clear names =
     basic_on meaning key register y names.named names.rest offered.place b all clear names.first names.place
     ∙ ap (λ (p : ℕ). judge Basic y p b) (sym names.position)

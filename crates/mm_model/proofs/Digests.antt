@@ -1,10 +1,13 @@
 -- What equal digests tell of lists, where no two listed messages share a digest and none is zero.
+use Rattle.sha2.specs.Sha256.{sha256}
 use Rattle.std.proofs.Common.{ℕ, ◌≡◌, ◌≢◌, List, [], ◌∷◌, ◌++◌, length, map, refl, sym, ap, ◌∙◌, arith}
 use Rattle.std.proofs.lemmas.List.{append_cancel_left}
 use Rattle.std.specs.List.{AllByRecursion, Contains}
 use Rattle.mm_digest.specs.declared.variant.Variant.TheVariants.{Basic, Opt}
 use Rattle.mm_digest.specs.Messages.{zero_bytes, start_message, start_of, extended_message, extended_of, anchored_of}
 use Rattle.mm_digest.proofs.Lengths.{length-zero_bytes, length-start_of}
+use Rattle.std.specs.List.{fold}
+use Rattle.mm_platform.specs.Standing as platform
 use Rattle.mm_module.specs.Batch.{Batch, One, Many}
 use Rattle.mm_model.specs.Chains.{after, trail, link_message, guard_message, closing_message, link, guard, summary_of, register_of, anchor_of, own_values}
 use Rattle.mm_model.specs.Messages.{Within, IsClear, register_trail}
@@ -145,3 +148,13 @@ register-push vs v = after-push extended_message zero_bytes vs v
 pub anchor-push : (id : ℕ) (ls : List (List (List ℕ))) (vs : List (List ℕ)) → anchor_of id (ls ++ vs ∷ []) ≡ anchored_of (anchor_of id ls) (register_of vs)
 unfolding anchor_of register_of anchored_of
 anchor-push id ls vs = after-push closing_message (start_of Opt id) ls vs
+
+folded : (s : List ℕ) (values : List (List ℕ)) → fold extended_of s values ≡ after extended_message s values
+unfolding extended_of
+folded s [] = refl
+folded s (v ∷ values) = folded (sha256 (extended_message s v)) values
+
+-- what a platform's register reads is the value of its items
+pub register_folds : (values : List (List ℕ)) → platform.register_of values ≡ register_of values
+unfolding register_of
+register_folds values = folded zero_bytes values

@@ -6,7 +6,8 @@ use Rattle.mm_digest.specs.declared.variant.Variant.{Variant}
 use Rattle.mm_digest.specs.Messages.{zero_bytes, anchored_of, extended_of}
 use Rattle.mm_module.specs.Batch.{Batch, size_of}
 use Rattle.mm_model.specs.Chains.{link, guard}
-use Rattle.mm_model.specs.Place.{Place, InBasic, InOpt}
+use Rattle.mm_seal.specs.declared.snapshot.Place.{Place}
+use Rattle.mm_seal.specs.declared.snapshot.Place.TheVariants.{Basic as InBasic, Opt as InOpt}
 use Rattle.mm_model.specs.History.{History, total_of}
 use Rattle.mm_model.specs.Life.{Life, Live, Spoiled, Lost as LostLife, life_of, same_batch}
 use Rattle.mm_model.specs.declared.verdict.Verdict.{Verdict}
@@ -77,6 +78,6 @@ opt_verdict flag anchor register forms v =
 -- the verdict from digests: by the barrier, the cell's flag and its summary or anchor, the register's value, the
 -- offered place and the batch. A place of the other variant is never offered.
 abbrev pub verdict_by_digests : List ℕ → Bool → List ℕ → List ℕ → Place → Batch → Verdict
-verdict_by_digests barrier flag digest register (InBasic s) b = basic_verdict digest s b
+verdict_by_digests barrier flag digest register (InBasic s) b = basic_verdict digest s.bytes b
 verdict_by_digests barrier flag digest register (InOpt a e) b =
-    opt_verdict flag digest register (forms_of a e) (guard barrier b)
+    opt_verdict flag digest register (forms_of a.bytes e.bytes) (guard barrier b)

@@ -2,12 +2,12 @@ pub mod Chains
 pub mod Instance
 pub mod History
 pub mod Life
-pub mod Place
 pub mod Places
 pub mod Judge
 pub mod Sound
 pub mod Steps
 pub mod Messages
+pub mod Standing
 pub mod Codes
 pub mod Run
 pub mod Examples

@@ -10,7 +10,8 @@ use Rattle.mm_module.specs.Batch.{Batch}
 use Rattle.mm_model.specs.Chains.{trail, link_message, guard_message, closing_message, guard, own_values}
 use Rattle.mm_model.specs.Instance.{Instance}
 use Rattle.mm_model.specs.History.{Entry, Own, Value, History, Move, Commit, Foreign, Placed, Reset, Close, Power, values_of, register_value_of, cell_digest_of, joined}
-use Rattle.mm_model.specs.Place.{Place, InBasic, InOpt}
+use Rattle.mm_seal.specs.declared.snapshot.Place.{Place}
+use Rattle.mm_seal.specs.declared.snapshot.Place.TheVariants.{Basic as InBasic, Opt as InOpt}
 
 -- the batches of each closed segment: a segment runs to the next start, the last one to the end of these
 abbrev pub closed_runs : List (List Entry) → List Batch → List (List Batch)
@@ -49,14 +50,16 @@ abbrev pub form_messages : List ℕ → List ℕ → List ℕ → List (List ℕ
 form_messages anchor extension v =
     extended_message extension v ∷ anchored_message anchor (extended_of extension v) ∷ []
 
+-- the messages of both forms of an offered place of Opt
+abbrev pub point_messages : List ℕ → List ℕ → List ℕ → List (List ℕ)
+point_messages a e v =
+    form_messages a e v
+    ++ (if bytes_eq e zero_bytes then [] else anchored_message a e ∷ form_messages (anchored_of a e) zero_bytes v)
+
 -- the messages of a call that offers the place and asks for the batch
 abbrev pub offer_messages : Instance → Place → Batch → List (List ℕ)
-offer_messages i (InBasic s) b = link_message s b ∷ []
-offer_messages i (InOpt a e) b =
-    guard_message i.barrier b ∷
-    (form_messages a e (guard i.barrier b)
-    ++ (if bytes_eq e zero_bytes then []
-    else anchored_message a e ∷ form_messages (anchored_of a e) zero_bytes (guard i.barrier b)))
+offer_messages i (InBasic s) b = link_message s.bytes b ∷ []
+offer_messages i (InOpt a e) b = guard_message i.barrier b ∷ point_messages a.bytes e.bytes (guard i.barrier b)
 
 -- the messages of one move, made from a history: what the register takes in, and what closes a segment
 abbrev pub moving_messages : Variant → Bool → Instance → History → Move → List (List ℕ)

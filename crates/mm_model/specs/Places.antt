@@ -9,7 +9,10 @@ use Rattle.mm_model.specs.Chains.{summary_of, register_of, anchor_of, own_values
 use Rattle.mm_model.specs.Instance.{Instance}
 use Rattle.mm_model.specs.History.{Entry, History, requests_of, total_of, values_of, joined}
 use Rattle.mm_model.specs.Life.{is_empty, has_value}
-use Rattle.mm_model.specs.Place.{Place, InBasic, InOpt, Snapshot}
+use Rattle.mm_seal.specs.declared.snapshot.Place.{Place}
+use Rattle.mm_seal.specs.declared.snapshot.Place.TheVariants.{Basic as InBasic, Opt as InOpt}
+use Rattle.mm_seal.specs.Snapshot.{Content}
+use Rattle.mm_digest.specs.declared.digest.Digest.{Digest}
 
 -- the anchor after these segments
 abbrev pub anchor_after : Instance → List (List Entry) → List ℕ
@@ -61,30 +64,35 @@ pub data IsPoint (i : Instance) (y : History) (named : List Batch) (anchor exten
   in_current : InCurrent i y named anchor extension → IsPoint i y named anchor extension
 
 -- a place of the position after the first batches `named`. A position inside a batch has none.
-abbrev pub IsPlace : Variant → Instance → History → List Batch → Place → Type 0
-IsPlace Basic i y named (InBasic s) = s ≡ summary_of i.meaning.id named
-IsPlace Basic i y named (InOpt a e) = ⊥
-IsPlace Opt i y named (InBasic s) = ⊥
-IsPlace Opt i y named (InOpt a e) = IsPoint i y named a e
+abbrev pub IsPlaceOf : Variant → Instance → History → List Batch → Place → Type 0
+IsPlaceOf Basic i y named (InBasic s) = s.bytes ≡ summary_of i.meaning.id named
+IsPlaceOf Basic i y named (InOpt a e) = ⊥
+IsPlaceOf Opt i y named (InBasic s) = ⊥
+IsPlaceOf Opt i y named (InOpt a e) = IsPoint i y named a.bytes e.bytes
 
 -- a snapshot names a position of the history: the position, the state there, and one of its places
-pub record Names (i : Instance) (y : History) (offered : Snapshot) : Type 0 where
+pub record Names (i : Instance) (y : History) (offered : Content) : Type 0 where
   pub named : List Batch
   pub rest : List Batch
   pub first : y.batches ≡ named ++ rest
   pub position : offered.position ≡ total_of named
   pub state : offered.state ≡ state_after i.meaning (requests_of named)
-  pub place : IsPlace i.variant i y named offered.place
+  pub place : IsPlaceOf i.variant i y named offered.place
+
+abbrev pub digest_of : List ℕ → Digest
+digest_of bytes = record { bytes = bytes }
 
 -- where the snapshot of an answer stands
 abbrev pub issued_place : Variant → Bool → Instance → History → Place
-issued_place Basic is_open i y = InBasic (summary_of i.meaning.id y.batches)
-issued_place Opt true i y = InOpt (anchor_after i y.closed) (register_of (own_values i.barrier y.current))
-issued_place Opt false i y = InOpt (anchor_after i y.closed) zero_bytes
+issued_place Basic is_open i y = InBasic (digest_of (summary_of i.meaning.id y.batches))
+issued_place Opt true i y =
+    InOpt (digest_of (anchor_after i y.closed)) (digest_of (register_of (own_values i.barrier y.current)))
+issued_place Opt false i y = InOpt (digest_of (anchor_after i y.closed)) (digest_of zero_bytes)
 
--- the snapshot that an answer hands out
-abbrev pub issued : Instance → History → Snapshot
+-- what the snapshot of an answer says
+abbrev pub issued : Instance → History → Content
 issued i y = record {
+  id = i.meaning.id;
   place = issued_place i.variant y.is_open i y;
   position = total_of y.batches;
   state = state_after i.meaning (requests_of y.batches);

@@ -11,7 +11,8 @@ ghost use Rattle.mm_module.specs.Meaning.{Meaning};
 ghost use Rattle.mm_model.specs.Chains.{trail, link_message, guard_message, closing_message, link, guard, summary_of, register_of, anchor_of};
 ghost use Rattle.mm_model.specs.Instance.{basic};
 ghost use Rattle.mm_model.specs.History.{History, cell_digest_of};
-ghost use Rattle.mm_model.specs.Place.{Snapshot};
+ghost use Rattle.mm_platform.specs.Standing.{register_of as folded_of};
+ghost use Rattle.mm_seal.specs.Snapshot.{Content};
 ghost use Rattle.mm_model.specs.Places.{Names};
 ghost use Rattle.mm_model.specs.Judge.{judge, verdict_by_digests};
 ghost use Rattle.mm_model.specs.Messages.{Within, IsClear, IsClearFor, register_trail};
@@ -25,7 +26,7 @@ pub fn batches_are_hashed()
     ensures guard_many { (barrier text : List ℕ) → guard barrier (Many text) ≡ secured_batch_of barrier text }
 {}
 
-/// The summary, the register's value and the anchor go on by one digest.
+/// The summary, the register's value and the anchor go on by one digest, and a register reads its value.
 pub fn chains_go_on()
     ensures summary { (id : ℕ) (batches : List Batch) (b : Batch) →
         summary_of id (batches ++ b ∷ []) ≡ link (summary_of id batches) b }
@@ -33,6 +34,7 @@ pub fn chains_go_on()
         register_of (values ++ value ∷ []) ≡ extended_of (register_of values) value }
     ensures anchor { (id : ℕ) (segments : List (List (List ℕ))) (values : List (List ℕ)) →
         anchor_of id (segments ++ values ∷ []) ≡ anchored_of (anchor_of id segments) (register_of values) }
+    ensures reads { (values : List (List ℕ)) → folded_of values ≡ register_of values }
     ensures no_batches { (id : ℕ) → summary_of id [] ≡ start_of Basic id }
     ensures no_values { register_of [] ≡ zero_bytes }
     ensures no_segments { (id : ℕ) → anchor_of id [] ≡ start_of Opt id }
@@ -76,7 +78,7 @@ pub fn summaries_are_told_apart()
 
 /// Basic: on an offer that names a position, the verdict by digests is the verdict on the history.
 pub fn basic_verdict_is_judged()
-    ensures { (meaning : Meaning) (key register : List ℕ) (y : History) (offered : Snapshot) (b : Batch)
+    ensures { (meaning : Meaning) (key register : List ℕ) (y : History) (offered : Content) (b : Batch)
         (all : List (List ℕ)) → IsClearFor all (basic meaning key) y offered.place b →
         Names (basic meaning key) y offered →
         verdict_by_digests zero_bytes false (cell_digest_of (basic meaning key) Basic y) register offered.place b

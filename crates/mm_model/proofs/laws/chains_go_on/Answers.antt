@@ -1,6 +1,6 @@
 use Rattle.std.proofs.Common.{refl}
 use Rattle.mm_model.specs.Chains.{summary_of, register_of, anchor_of}
-use Rattle.mm_model.proofs.Digests.{summary-push, register-push, anchor-push}
+use Rattle.mm_model.proofs.Digests.{summary-push, register-push, anchor-push, register_folds}
 use Rattle.mm_model.proofs.laws.chains_go_on.Goals as goal
 
 pub returns-clause-summary : goal.returns-clause-summary
@@ -23,3 +23,6 @@ returns-clause-no_values c = refl
 pub returns-clause-no_segments : goal.returns-clause-no_segments
 unfolding anchor_of
 returns-clause-no_segments c = λ id. refl
+
+pub returns-clause-reads : goal.returns-clause-reads
+returns-clause-reads c = register_folds

@@ -1,0 +1,61 @@
+-- What a platform stands for, and what is asked of an offer.
+use Rattle.std.specs.Prelude.{◌≡◌, ℕ, Bool, false, List, Option, Some, IsTrue}
+use Rattle.std.specs.Option.{option_map}
+use Rattle.mm_digest.specs.declared.variant.Variant.{Variant}
+use Rattle.mm_digest.specs.declared.variant.Variant.TheVariants.{Basic, Opt}
+use Rattle.mm_seal.specs.declared.cell.Cell.{Cell}
+use Rattle.mm_seal.specs.Cell.{IsCell, cell_spelling}
+use Rattle.mm_seal.specs.Snapshot.{Content, IsContent, variant_of, sealed_of}
+use Rattle.mm_platform.specs.Standing.{Standing, Item, values_of, register_of}
+use Rattle.mm_model.specs.Instance.{Instance}
+use Rattle.mm_model.specs.History.{History, cell_digest_of, register_value_of}
+use Rattle.mm_model.specs.Places.{Names, digest_of, issued}
+
+-- the flag of a cell: in Opt, whether a segment is open
+abbrev pub flag_of : Variant → History → Bool
+flag_of Basic y = false
+flag_of Opt y = y.is_open
+
+-- the cell of an instance that stands at a history
+abbrev pub cell_of : Instance → History → Cell
+cell_of i y = record {
+  variant = i.variant;
+  «module» = i.meaning.id;
+  flag = flag_of i.variant y;
+  summary = digest_of (cell_digest_of i i.variant y);
+  key = i.key;
+  barrier = i.barrier;
+}
+
+-- what a read of the register gives, where the platform tells its items
+abbrev pub register_reads : Standing → Option (List ℕ)
+register_reads standing = option_map (λ items. register_of (values_of items)) standing.items
+
+-- in Opt the register has the history's value
+abbrev pub RegisterStands : Variant → Instance → Standing → History → Type 0
+RegisterStands Basic i standing y = Unit {0}
+RegisterStands Opt i standing y = register_reads standing ≡ Some (register_value_of i y)
+
+-- The platform stands for the history: its cell spells the history's summary or anchor, the flag, and the
+-- instance's variant, module, key and barrier; and in Opt its register has the history's value.
+pub record StandsFor (i : Instance) (standing : Standing) (y : History) : Type 0 where
+  pub spells : IsCell (cell_of i y)
+  pub cell : standing.cell ≡ Some (cell_spelling (cell_of i y))
+  pub register : RegisterStands i.variant i standing y
+
+-- An offer is right: it is sealed under the instance's key, is of its variant and module, and has a state of the
+-- module.
+pub record IsRight (i : Instance) (offer : List ℕ) (content : Content) : Type 0 where
+  pub formed : IsContent content
+  pub sealed : offer ≡ sealed_of i.key content
+  pub variant : variant_of content.place ≡ i.variant
+  pub id : content.id ≡ i.meaning.id
+  pub state : IsTrue (i.meaning.is_spelled content.state)
+
+-- a right offer names a position of the history: nobody else sealed it
+abbrev pub IsGenuine : Instance → History → List ℕ → Type 0
+IsGenuine i y offer = (content : Content) → IsRight i offer content → Names i y content
+
+-- the bytes that an answer hands out
+abbrev pub issued_bytes : Instance → History → List ℕ
+issued_bytes i y = sealed_of i.key (issued i y)
