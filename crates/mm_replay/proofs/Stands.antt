@@ -1,0 +1,204 @@
+-- Where a run stands between two lines, and how it goes on from there.
+use Rattle.std.proofs.Common.{◌≡◌, ◌∙◌, ◌+◌, ℕ, Bool, true, false, List, [], ◌∷◌, ◌++◌, length, Result, Ok, Err, Option, None, Some, refl, sym, ap, subst, append_assoc, append-nil, arith, inl, inr, length-append}
+use Rattle.std.specs.Io.KnownBytes.{Appends, Consumes, IsAtEnd, Keeps}
+use Rattle.std.specs.List.{AllByRecursion}
+use Rattle.std.proofs.KnownBytes.{Appends-nil, Appends-trans, Consumes-nil, Consumes-trans}
+use Rattle.mm_base.specs.Input.{IsUnbroken, lines_of, joined}
+use Rattle.mm_base.proofs.Input.{lines_of-joined, lines_of-unbroken, joined-append}
+use Rattle.mm_base.specs.declared.replay_fault.ReplayFault.{ReplayFault}
+use Rattle.mm_base.specs.declared.replay_fault.ReplayFault.TheVariants.{Memory, ReadFault, WriteFault, BadLine, LineLong, TooMuch}
+use Rattle.mm_replay.specs.declared.player.Refused.{Refused}
+use Rattle.mm_replay.specs.Play.{Told, told, stopped, after_writing, run, run_from, run_of}
+use Rattle.mm_replay.specs.Takes.{IsFrontOf}
+use Rattle.mm_replay.specs.Plays.{ForWhole, Settles, Plays}
+use Rattle.mm_replay.specs.Turns.{AnswersLine, Went, Turns}
+use Rattle.mm_replay.proofs.Runs.{run-more, run_from-joined}
+
+-- These lines were answered, and some bytes are held.
+pub record Stands {P : Type 0} (answer : P → List ℕ → Result (List ℕ × P) Refused) (first player : P) (number : ℕ)
+    (left left' received received' : Option (List ℕ)) (held : List ℕ) : Type 0 where
+  pub taken : List ℕ
+  pub sent : List ℕ
+  pub lines : List (List ℕ)
+  pub consumed : Consumes left left' taken
+  pub appended : Appends received received' sent
+  pub cut : taken ≡ joined lines ++ held
+  pub unbroken : AllByRecursion IsUnbroken lines
+  pub counted : number ≡ 1 + length lines
+  pub ran : run answer 1 first lines ≡ told sent (Ok player)
+
+pub stands_first : {P : Type 0} (answer : P → List ℕ → Result (List ℕ × P) Refused) (first : P) (left received : Option (List ℕ))
+    → Stands answer first first 1 left left received received []
+stands_first answer first left received = record {
+  taken = [];
+  sent = [];
+  lines = [];
+  consumed = Consumes-nil left;
+  appended = Appends-nil received;
+  cut = refl;
+  unbroken = tt;
+  counted = refl;
+  ran = refl;
+}
+
+AllByRecursion-snoc : (lines : List (List ℕ)) (line : List ℕ) → AllByRecursion IsUnbroken lines → IsUnbroken line → AllByRecursion IsUnbroken (lines ++ line ∷ [])
+AllByRecursion-snoc [] line each last = (last, tt)
+AllByRecursion-snoc (first ∷ lines) line each last = (each.0, AllByRecursion-snoc lines line each.1 last)
+
+-- a turn took this of the input behind what was taken before
+taken_on : (lines : List (List ℕ)) (before held taken : List ℕ) → before ≡ joined lines ++ held → before ++ taken ≡ joined lines ++ (held ++ taken)
+taken_on lines before held taken cut = ap (λ b. b ++ taken) cut ∙ append_assoc (joined lines) held taken
+
+-- one more line was answered
+pub stands_on : {P : Type 0} (answer : P → List ℕ → Result (List ℕ × P) Refused) (closing : P → Option (List ℕ)) (first player next : P) (number : ℕ)
+    (left left' left'' received received' received'' : Option (List ℕ)) (held held' : List ℕ) (result : Result Bool ReplayFault)
+    → Stands answer first player number left left' received received' held
+    → Turns answer closing number player next left' left'' held held' received' received'' result
+    → result ≡ Ok true
+    → Stands answer first next (number + 1) left left'' received received'' held'
+stands_on {P} answer closing first player next number left left' left'' received received' received'' held held' result s t went =
+    let a = subst (λ r. Went answer (run_from answer closing number player) number player next left'' (held ++ t.taken) held' t.sent r) went t.went in
+    record {
+      taken = s.taken ++ t.taken;
+      sent = s.sent ++ t.sent;
+      lines = s.lines ++ a.line ∷ [];
+      consumed = Consumes-trans left left' left'' s.taken t.taken s.consumed t.consumed;
+      appended = Appends-trans received received' received'' s.sent t.sent s.appended t.appended;
+      cut = taken_on s.lines s.taken held t.taken s.cut ∙ ap (λ b. joined s.lines ++ b) a.cut ∙ regrouped s.lines a.line held';
+      unbroken = AllByRecursion-snoc s.lines a.line s.unbroken a.unbroken;
+      counted = counts s.lines a.line number s.counted;
+      ran = run-more answer first s.lines a.line s.sent t.sent player next s.ran a.short a.answered;
+    }
+  where
+    regrouped : (lines : List (List ℕ)) (line rest : List ℕ) → joined lines ++ (line ++ 10 ∷ rest) ≡ joined (lines ++ line ∷ []) ++ rest
+    regrouped lines line rest =
+        ap (λ b. joined lines ++ b) (sym (append_assoc line (10 ∷ []) rest))
+        ∙ sym (append_assoc (joined lines) (line ++ 10 ∷ []) rest)
+        ∙ ap (λ b. b ++ rest) (sym (joined-append lines (line ∷ [])))
+
+    counts : (lines : List (List ℕ)) (line : List ℕ) (n : ℕ) → n ≡ 1 + length lines → n + 1 ≡ 1 + length (lines ++ line ∷ [])
+    counts lines line n h = omega (arith, length-append lines (line ∷ []))
+
+-- The rest of the input goes after what was taken so far.
+for_whole : {P : Type 0} (answer : P → List ℕ → Result (List ℕ × P) Refused) (closing : P → Option (List ℕ)) (first player : P) (number : ℕ)
+    (lines : List (List ℕ)) (left : Option (List ℕ)) (before held taken sent : List ℕ) (holds whole : Told P → Type 0)
+    → before ≡ joined lines ++ held → AllByRecursion IsUnbroken lines → number ≡ 1 + length lines → run answer 1 first lines ≡ told sent (Ok player)
+    → ((t : Told P) → holds t → whole (after_writing sent t))
+    → ForWhole left (held ++ taken) (λ input. holds (run_from answer closing number player input))
+    → ForWhole left (before ++ taken) (λ input. whole (run_of answer closing first input))
+for_whole {P} answer closing first player number lines left before held taken sent holds whole cut unbroken counted ran lift w =
+    elim w [
+      | inl h ↦ inl (λ rest. at_input (held ++ taken ++ rest) (before ++ taken ++ rest) (with_rest rest) (h rest))
+      | inr h ↦ inr (h.0, at_input (held ++ taken) (before ++ taken) (taken_on lines before held taken cut) h.1)
+    ]
+  where
+    with_rest : (rest : List ℕ) → before ++ taken ++ rest ≡ joined lines ++ (held ++ taken ++ rest)
+    with_rest rest = ap (λ b. b ++ rest) (taken_on lines before held taken cut) ∙ append_assoc (joined lines) (held ++ taken) rest
+
+    at_input : (from input : List ℕ) → input ≡ joined lines ++ from → holds (run_from answer closing number player from) → whole (run_of answer closing first input)
+    at_input from input is h =
+        subst (λ b. whole (run_of answer closing first b)) (sym is)
+        (subst whole (sym (run_from-joined answer closing first lines from sent player unbroken ran))
+        (lift _ (subst (λ n. holds (run_from answer closing n player from)) counted h)))
+
+after_writing-stopped : {P : Type 0} (sent : List ℕ) (why : ReplayFault) → after_writing sent (stopped {P = P} why) ≡ told sent (Err why)
+after_writing-stopped {P} sent why = ap (λ b. told {P = P} b (Err why)) (append-nil sent)
+
+front_after : (sent more all : List ℕ) → IsFrontOf more all → IsFrontOf (sent ++ more) (sent ++ all)
+front_after sent more all h = (h.0, append_assoc sent more h.0 ∙ ap (λ b. sent ++ b) h.1)
+
+-- What was told where the turn ends the run.
+settled_by : {P : Type 0} (answer : P → List ℕ → Result (List ℕ × P) Refused) (closing : P → Option (List ℕ)) (first player next : P) (number : ℕ)
+    (lines : List (List ℕ)) (left : Option (List ℕ)) (before held taken held' sent more : List ℕ) (fault : ReplayFault)
+    → before ≡ joined lines ++ held → AllByRecursion IsUnbroken lines → number ≡ 1 + length lines → run answer 1 first lines ≡ told sent (Ok player)
+    → Went answer (run_from answer closing number player) number player next left (held ++ taken) held' more (Err fault)
+    → Settles {T = Unit {0}} (run answer 1 first) (run_of answer closing first) next left (before ++ taken) (sent ++ more) (Err fault)
+settled_by {P} answer closing first player next number lines left before held taken held' sent more ReadFault cut unbroken counted ran w = (
+  player,
+  ap (run answer 1 first) (ap lines_of (taken_on lines before held taken cut) ∙ lines_of-joined lines (held ++ taken) unbroken
+      ∙ ap (λ ls. lines ++ ls) (lines_of-unbroken (held ++ taken) w.1) ∙ append-nil lines)
+      ∙ ran ∙ ap (λ b. told b (Ok player)) (sym (ap (λ b. sent ++ b) w.0 ∙ append-nil sent)),
+)
+settled_by {P} answer closing first player next number lines left before held taken held' sent more WriteFault cut unbroken counted ran w =
+    for_whole answer closing first player number lines left before held taken sent (λ t. IsFrontOf more t.written) (λ t. IsFrontOf (sent ++ more) t.written)
+    cut unbroken counted ran (λ t h. front_after sent more t.written h) w
+settled_by {P} answer closing first player next number lines left before held taken held' sent more Memory cut unbroken counted ran w = (
+  joined lines,
+  (held ++ taken, sym (taken_on lines before held taken cut)),
+  player,
+  ap (run answer 1 first) (ap lines_of (sym (append-nil (joined lines))) ∙ lines_of-joined lines [] unbroken ∙ append-nil lines)
+      ∙ ran ∙ ap (λ b. told b (Ok player)) (sym (ap (λ b. sent ++ b) w ∙ append-nil sent)),
+)
+settled_by {P} answer closing first player next number lines left before held taken held' sent more (BadLine n) cut unbroken counted ran w =
+    for_whole answer closing first player number lines left before held taken sent (λ t. t ≡ stopped (BadLine n)) (λ t. t ≡ told (sent ++ more) (Err (BadLine n)))
+    cut unbroken counted ran
+    (λ t h. ap (after_writing sent) h ∙ after_writing-stopped sent (BadLine n) ∙ ap (λ b. told b (Err (BadLine n))) (sym (ap (λ b. sent ++ b) w.0 ∙ append-nil sent))) w.1
+settled_by {P} answer closing first player next number lines left before held taken held' sent more (LineLong n) cut unbroken counted ran w =
+    for_whole answer closing first player number lines left before held taken sent (λ t. t ≡ stopped (LineLong n)) (λ t. t ≡ told (sent ++ more) (Err (LineLong n)))
+    cut unbroken counted ran
+    (λ t h. ap (after_writing sent) h ∙ after_writing-stopped sent (LineLong n) ∙ ap (λ b. told b (Err (LineLong n))) (sym (ap (λ b. sent ++ b) w.0 ∙ append-nil sent))) w.1
+settled_by {P} answer closing first player next number lines left before held taken held' sent more TooMuch cut unbroken counted ran w =
+    for_whole answer closing first player number lines left before held taken sent (λ t. t ≡ stopped TooMuch) (λ t. t ≡ told (sent ++ more) (Err TooMuch))
+    cut unbroken counted ran
+    (λ t h. ap (after_writing sent) h ∙ after_writing-stopped sent TooMuch ∙ ap (λ b. told b (Err TooMuch)) (sym (ap (λ b. sent ++ b) w.0 ∙ append-nil sent))) w.1
+
+-- The turn stopped the run.
+pub plays_stopped : {P : Type 0} (answer : P → List ℕ → Result (List ℕ × P) Refused) (closing : P → Option (List ℕ)) (first player next : P) (number : ℕ)
+    (left left' left'' received received' received'' : Option (List ℕ)) (held held' : List ℕ) (result : Result Bool ReplayFault) (fault : ReplayFault)
+    → Stands answer first player number left left' received received' held
+    → Turns answer closing number player next left' left'' held held' received' received'' result
+    → result ≡ Err fault
+    → Plays {T = Unit {0}} answer closing first next left left'' received received'' (Err fault)
+plays_stopped answer closing first player next number left left' left'' received received' received'' held held' result fault s t is =
+    let w = subst (λ r. Went answer (run_from answer closing number player) number player next left'' (held ++ t.taken) held' t.sent r) is t.went in
+    record {
+      taken = s.taken ++ t.taken;
+      sent = s.sent ++ t.sent;
+      consumed = Consumes-trans left left' left'' s.taken t.taken s.consumed t.consumed;
+      appended = Appends-trans received received' received'' s.sent t.sent s.appended t.appended;
+      settled = settled_by answer closing first player next number s.lines left'' s.taken held t.taken held' s.sent t.sent fault s.cut s.unbroken s.counted s.ran w;
+    }
+
+-- The input ended.
+pub plays_ended : {P : Type 0} (answer : P → List ℕ → Result (List ℕ × P) Refused) (closing : P → Option (List ℕ)) (first player next : P) (number : ℕ)
+    (left left' left'' received received' received'' : Option (List ℕ)) (held held' : List ℕ) (result : Result Bool ReplayFault)
+    → Stands answer first player number left left' received received' held
+    → Turns answer closing number player next left' left'' held held' received' received'' result
+    → result ≡ Ok false
+    → Plays {T = Unit {0}} answer closing first next left left'' received received'' (Ok tt)
+plays_ended {P} answer closing first player next number left left' left'' received received' received'' held held' result s t is =
+    let w = subst (λ r. Went answer (run_from answer closing number player) number player next left'' (held ++ t.taken) held' t.sent r) is t.went in
+    record {
+      taken = s.taken ++ t.taken;
+      sent = s.sent ++ t.sent;
+      consumed = Consumes-trans left left' left'' s.taken t.taken s.consumed t.consumed;
+      appended = Appends-trans received received' received'' s.sent t.sent s.appended t.appended;
+      settled = (
+        w.0,
+        ap (run_of answer closing first) (taken_on s.lines s.taken held t.taken s.cut)
+            ∙ run_from-joined answer closing first s.lines (held ++ t.taken) s.sent player s.unbroken s.ran
+            ∙ ap (λ n. after_writing s.sent (run_from answer closing n player (held ++ t.taken))) (sym s.counted)
+            ∙ ap (after_writing s.sent) w.1,
+      );
+    }
+
+-- Nothing was taken, for want of memory.
+pub plays_nothing : {P : Type 0} (answer : P → List ℕ → Result (List ℕ × P) Refused) (closing : P → Option (List ℕ)) (first : P) (left received : Option (List ℕ))
+    → Plays {T = Unit {0}} answer closing first first left left received received (Err Memory)
+plays_nothing answer closing first left received = record {
+  taken = [];
+  sent = [];
+  consumed = Consumes-nil left;
+  appended = Appends-nil received;
+  settled = ([], ([], refl), first, refl);
+}
+
+-- The turn answered a line.
+pub answered_line : {P : Type 0} (answer : P → List ℕ → Result (List ℕ × P) Refused) (closing : P → Option (List ℕ)) (player next : P) (number : ℕ)
+    (left left' received received' : Option (List ℕ)) (held held' : List ℕ) (result : Result Bool ReplayFault)
+    → Turns answer closing number player next left left' held held' received received' result
+    → result ≡ Ok true
+    → (line : List ℕ) × (reply : List ℕ) × (answer player line ≡ Ok (reply, next))
+answered_line answer closing player next number left left' received received' held held' result t went =
+    let a = subst (λ r. Went answer (run_from answer closing number player) number player next left' (held ++ t.taken) held' t.sent r) went t.went in
+    (a.line, t.sent, a.answered)

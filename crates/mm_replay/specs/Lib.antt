@@ -1,0 +1,4 @@
+pub mod Play
+pub mod Takes
+pub mod Plays
+pub mod Turns

@@ -1,0 +1,64 @@
+-- What a call that answers the lines of an input took, wrote and answers.
+use Rattle.std.specs.Prelude.{◌≡◌, ℕ, List, [], ◌++◌, Option, Result, Ok, Err, Bool, true, false, ◌⊎◌}
+use Rattle.std.specs.Io.KnownBytes.{Appends, Consumes, IsAtEnd}
+use Rattle.mm_base.specs.Faults.{Rose}
+use Rattle.mm_base.specs.Input.{lines_of}
+use Rattle.mm_base.specs.declared.replay_fault.ReplayFault.{ReplayFault}
+use Rattle.mm_base.specs.declared.replay_fault.ReplayFault.TheVariants.{Memory, ReadFault, WriteFault, BadLine, LineLong, TooMuch}
+use Rattle.mm_replay.specs.declared.player.Refused.{Refused}
+use Rattle.mm_replay.specs.Play.{Told, told, run, run_of}
+use Rattle.mm_replay.specs.Takes.{IsFrontOf}
+
+-- It holds of the whole input, of which these bytes were taken: whatever follows them, or nothing, where the source
+-- is at its end.
+abbrev pub ForWhole : Option (List ℕ) → List ℕ → (List ℕ → Type 0) → Type 0
+ForWhole left taken holds = ((rest : List ℕ) → holds (taken ++ rest)) ⊎ (IsAtEnd left × holds taken)
+
+-- How the answer fits what was taken of the input and written. `lines` is the run over whole lines, `whole` that
+-- over a whole input.
+abbrev pub Settles : {P T : Type 0} → (List (List ℕ) → Told P) → (List ℕ → Told P) → P → Option (List ℕ) → List ℕ → List ℕ → Result T ReplayFault → Type 0
+-- Ok: the input was taken to its end, and the run over it was written whole.
+Settles lines whole next left taken sent (Ok _) = IsAtEnd left × (whole taken ≡ told sent (Ok next))
+-- The source failed: each whole line that was taken is answered, and nothing else.
+Settles {P} lines whole next left taken sent (Err ReadFault) = (after : P) × (lines (lines_of taken) ≡ told sent (Ok after))
+-- The sink failed: what went out is a front of what the run writes.
+Settles lines whole next left taken sent (Err WriteFault) = ForWhole left taken (λ input. IsFrontOf sent (whole input).written)
+-- Want of memory: some first lines are answered.
+Settles {P} lines whole next left taken sent (Err Memory) =
+    (front : List ℕ) × IsFrontOf front taken × (after : P) × (lines (lines_of front) ≡ told sent (Ok after))
+-- Else the run stops so.
+Settles lines whole next left taken sent (Err (BadLine number)) = ForWhole left taken (λ input. whole input ≡ told sent (Err (BadLine number)))
+Settles lines whole next left taken sent (Err (LineLong number)) = ForWhole left taken (λ input. whole input ≡ told sent (Err (LineLong number)))
+Settles lines whole next left taken sent (Err TooMuch) = ForWhole left taken (λ input. whole input ≡ told sent (Err TooMuch))
+
+-- A count of faults rose exactly where it is to blame for the answer.
+abbrev pub IsBlamed : Bool → ℕ → ℕ → Type 0
+IsBlamed true before now = Rose before now
+IsBlamed false before now = now ≡ before
+
+abbrev pub is_read_fault : {T : Type 0} → Result T ReplayFault → Bool
+is_read_fault (Err ReadFault) = true
+is_read_fault (Err WriteFault) = false
+is_read_fault (Err Memory) = false
+is_read_fault (Err (BadLine number)) = false
+is_read_fault (Err (LineLong number)) = false
+is_read_fault (Err TooMuch) = false
+is_read_fault (Ok _) = false
+
+abbrev pub is_write_fault : {T : Type 0} → Result T ReplayFault → Bool
+is_write_fault (Err WriteFault) = true
+is_write_fault (Err ReadFault) = false
+is_write_fault (Err Memory) = false
+is_write_fault (Err (BadLine number)) = false
+is_write_fault (Err (LineLong number)) = false
+is_write_fault (Err TooMuch) = false
+is_write_fault (Ok _) = false
+
+-- A call took these bytes of the input and wrote those, and its answer fits.
+pub record Plays {P T : Type 0} (answer : P → List ℕ → Result (List ℕ × P) Refused) (closing : P → Option (List ℕ)) (player next : P)
+    (left left' received received' : Option (List ℕ)) (result : Result T ReplayFault) : Type 0 where
+  pub taken : List ℕ
+  pub sent : List ℕ
+  pub consumed : Consumes left left' taken
+  pub appended : Appends received received' sent
+  pub settled : Settles (run answer 1 player) (run_of answer closing player) next left' taken sent result

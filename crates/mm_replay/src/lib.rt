@@ -1,0 +1,8 @@
+//! Schedules, from bytes to bytes: each line is answered before the next is read.
+#![tactic(auto)]
+
+mod lines;
+mod player;
+
+pub use lines::play;
+pub use player::{Player, Refused, TakeFault};

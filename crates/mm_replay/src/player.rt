@@ -1,0 +1,58 @@
+//! Who answers the lines of an input.
+
+ghost use Rattle.std.specs.Prelude.{◌≡◌, ◌≤◌, ◌<◌, ◌^◌, ℕ, List, Option, Result, Ok, length};
+ghost use Rattle.mm_replay.specs.declared.player.Refused.{Refused};
+ghost use Rattle.mm_replay.specs.Takes.{Takes, Closes, CountsWrites};
+ghost use Rattle.mm_base.specs.Faults.{CountsFaults};
+
+use mm_base::{Memory, Sink, WriteFault};
+use std::alloc::Global;
+
+/// Why a player refuses a line.
+#[derive(Clone, Copy, Debug, PartialEq, Eq)]
+pub enum Refused {
+    /// The line is outside the grammar.
+    Bad,
+    /// The line is one too many, or too many bytes are kept.
+    Much,
+}
+
+/// Why a player did not answer a line.
+#[derive(Clone, Copy, Debug, PartialEq, Eq)]
+pub enum TakeFault {
+    /// Want of memory.
+    Memory,
+    /// The output failed within the reply.
+    WriteFault,
+    /// The line is refused.
+    Refused(Refused),
+}
+
+/// Answers the lines of an input, one after another.
+pub trait Player {
+    /// The reply to a line, with the player after it, or why the line is refused.
+    ghost answer: { Self → List ℕ → Result (List ℕ × Self) Refused };
+
+    /// What is written last, where the input may end here.
+    ghost closing: { Self → Option (List ℕ) };
+
+    /// How many more lines it answers, at most.
+    ghost lines_left: { Self → ℕ };
+
+    /// Answers a line of at most 8,400 bytes, and writes the reply.
+    fn take<K: Sink>(&mut self, alloc: Global, line: &[u8], out: &mut K) -> Result<(), TakeFault>
+        requires { length line.now ≤ 8400 }
+        ensures takes { Takes (answer self.old line.now) self.new (K.received out.old) (K.received out.new) result }
+        ensures counted { CountsWrites (K.faults out.old) (K.faults out.new) result };
+
+    /// Writes the last lines, where the input may end here; else answers false.
+    fn close<K: Sink>(&self, out: &mut K) -> Result<bool, WriteFault>
+        ensures closes { Closes (closing self.now) (K.received out.old) (K.received out.new) result }
+        ensures counted { CountsFaults (K.faults out.old) (K.faults out.new) result };
+
+    /// Each answered line is one fewer.
+    ghost counts_down: { (it next : Self) (line reply : List ℕ) → answer it line ≡ Ok (reply, next) → lines_left next < lines_left it };
+
+    /// It ends.
+    ghost few: { (it : Self) → lines_left it < 2 ^ 31 };
+}
