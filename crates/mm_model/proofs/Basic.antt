@@ -22,7 +22,7 @@ use Rattle.mm_model.proofs.Chains.{trail_front, trail_push}
 use Rattle.mm_model.proofs.Digests.{same_summaries, summary-push}
 use Rattle.mm_model.proofs.Batches.{same_tests, at_the_end, before_the_last}
 
-verdicts : (x y : Bool) → verdict_by false x y ≡ judged Live x y
+pub verdicts : (x y : Bool) → verdict_by false x y ≡ judged Live x y
 verdicts true y = refl
 verdicts false true = refl
 verdicts false false = refl

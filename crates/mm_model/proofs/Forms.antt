@@ -28,7 +28,7 @@ pub record Clears (id : ℕ) (all : List (List ℕ)) : Type 0 where
   pub clear : IsClear all
   pub starts : Contains all (start_message Opt id)
 
-abbrev point_of : ℕ → List (List (List ℕ)) → List (List ℕ) → Point
+abbrev pub point_of : ℕ → List (List (List ℕ)) → List (List ℕ) → Point
 point_of id segments values = record { anchor = anchor_of id segments; extension = register_of values }
 
 pub same_anchor : (id : ℕ) (all : List (List ℕ)) → Clears id all → (ls ks : List (List (List ℕ))) (vs ws : List (List ℕ)) → Listed id all ls vs → Listed id all ks ws → Decides (bytes_eq (anchor_of id ls) (anchor_of id ks)) (ls ≡ ks)

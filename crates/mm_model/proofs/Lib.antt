@@ -9,3 +9,5 @@ pub mod Segments
 pub mod Forms
 pub mod Histories
 pub mod Paths
+pub mod Opt
+pub mod OptJudge

@@ -51,3 +51,9 @@ life_by false is_bare is_own true = Spoiled
 abbrev pub life_of : Variant → History → Life
 life_of Basic y = Live
 life_of Opt y = life_by y.is_open (is_empty y.items) (are_own y.items y.current) (has_value (joined y.closed))
+
+-- power was lost inside an open segment
+abbrev pub is_lost : Life → Bool
+is_lost Live = false
+is_lost Spoiled = false
+is_lost Lost = true

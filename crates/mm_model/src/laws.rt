@@ -2,20 +2,23 @@
 //!
 //! `all` is a list of messages in which no two share a digest and none has the digest zero (`IsClear`).
 
-ghost use Rattle.std.specs.Prelude.{◌≡◌, ℕ, false, List, [], ◌∷◌, ◌++◌, length, map};
+ghost use Rattle.std.specs.Prelude.{◌≡◌, ◌&&◌, ℕ, false, List, [], ◌∷◌, ◌++◌, length, map};
+ghost use Rattle.std.specs.Str.{bytes_eq};
 ghost use Rattle.std.specs.List.{Contains, AllByRecursion};
 ghost use Rattle.mm_digest.specs.declared.variant.Variant.TheVariants.{Basic, Opt};
 ghost use Rattle.mm_digest.specs.Messages.{zero_bytes, start_message, start_of, successor_message, secured_message, successor_of, secured_of, successor_batch_of, secured_batch_of, extended_of, anchored_of};
 ghost use Rattle.mm_module.specs.Batch.{Batch, One, Many};
 ghost use Rattle.mm_module.specs.Meaning.{Meaning};
 ghost use Rattle.mm_model.specs.Chains.{trail, link_message, guard_message, closing_message, link, guard, summary_of, register_of, anchor_of};
-ghost use Rattle.mm_model.specs.Instance.{basic};
-ghost use Rattle.mm_model.specs.History.{History, cell_digest_of};
+ghost use Rattle.mm_model.specs.Instance.{basic, opt};
+ghost use Rattle.mm_model.specs.History.{History, cell_digest_of, register_value_of};
 ghost use Rattle.mm_platform.specs.Standing.{register_of as folded_of};
 ghost use Rattle.mm_seal.specs.Snapshot.{Content};
 ghost use Rattle.mm_model.specs.Places.{Names};
 ghost use Rattle.mm_model.specs.Judge.{judge, verdict_by_digests};
-ghost use Rattle.mm_model.specs.Messages.{Within, IsClear, IsClearFor, register_trail};
+ghost use Rattle.mm_model.specs.Messages.{Within, IsClear, IsClearFor, history_messages, register_trail};
+ghost use Rattle.mm_model.specs.Life.{is_lost, life_of};
+ghost use Rattle.mm_model.specs.Sound.{IsSound};
 
 /// A batch of one request has the messages and digests of that request, and a batch of several those of
 /// its text.
@@ -83,4 +86,24 @@ pub fn basic_verdict_is_judged()
         Names (basic meaning key) y offered →
         verdict_by_digests zero_bytes false (cell_digest_of (basic meaning key) Basic y) register offered.place b
         ≡ judge Basic y offered.position b }
+{}
+
+/// Opt: from a sound history, on an offer that names a position, the verdict by digests is the verdict
+/// on the history. The flag is whether a segment is open, and the digests are the anchor and the
+/// register's value that the platform has.
+pub fn opt_verdict_is_judged()
+    ensures { (meaning : Meaning) (key barrier : List ℕ) (y : History) (offered : Content) (b : Batch)
+        (all : List (List ℕ)) → IsSound y → IsClearFor all (opt meaning key barrier) y offered.place b →
+        Names (opt meaning key barrier) y offered →
+        verdict_by_digests barrier y.is_open (cell_digest_of (opt meaning key barrier) Opt y)
+        (register_value_of (opt meaning key barrier) y) offered.place b
+        ≡ judge Opt y offered.position b }
+{}
+
+/// Opt: under a set flag the register reads zero exactly where power was lost inside an open segment.
+pub fn zero_is_lost()
+    ensures { (meaning : Meaning) (key barrier : List ℕ) (y : History) (all : List (List ℕ)) → IsClear all →
+        Within (history_messages (opt meaning key barrier) y) all →
+        (y.is_open && bytes_eq (register_value_of (opt meaning key barrier) y) zero_bytes)
+        ≡ is_lost (life_of Opt y) }
 {}

@@ -1,0 +1,111 @@
+-- Opt: the verdict by digests is the verdict on the history.
+use Rattle.std.proofs.Common.{ℕ, ◌≡◌, ◌≢◌, ◌+◌, Bool, true, false, ◌&&◌, ◌||◌, List, [], ◌∷◌, ◌++◌, length, map, refl, sym, ap, ◌∙◌, subst, ◌⊎◌, inl, inr}
+use Rattle.std.specs.Prelude.{nat_eq, if◌then◌else◌}
+use Rattle.std.specs.Bool.{Decides}
+use Rattle.std.specs.Str.{bytes_eq}
+use Rattle.std.specs.List.{AllByRecursion, Contains, list_any, flat_map}
+use Rattle.std.proofs.lemmas.List.{append-nil}
+use Rattle.std.proofs.lemmas.List.Elements.{Contains-append_left, Contains-append_right}
+use Rattle.std.proofs.lemmas.Slice.Eq.{bytes_eq-Decides}
+use Rattle.mm_digest.specs.declared.variant.Variant.TheVariants.{Basic, Opt}
+use Rattle.mm_digest.specs.Messages.{zero_bytes, start_message, start_of, extended_of, anchored_message, anchored_of}
+use Rattle.mm_module.specs.Batch.{Batch, size_of}
+use Rattle.mm_module.specs.Meaning.{Meaning}
+use Rattle.mm_model.specs.declared.verdict.Verdict.TheVariants.{Fresh as IsFresh, Again as IsAgain, Lost as IsLost, Stale as IsStale}
+use Rattle.mm_model.specs.Chains.{trail, guard_message, closing_message, guard, register_of, anchor_of, own_values}
+use Rattle.mm_model.specs.History.{Entry, History, joined, total_of, value_of, values_of}
+use Rattle.mm_model.specs.Life.{is_empty, has_value, are_own}
+use Rattle.mm_model.specs.Judge.{Point, forms_of, fits_fresh, fits_again, is_last, verdict_by, opt_verdict, judge, judged}
+use Rattle.mm_model.specs.Messages.{Within, IsClear, register_trail, form_messages, point_messages}
+use Rattle.mm_model.proofs.Lists.{each_left, each_right}
+use Rattle.mm_model.proofs.Chains.{trail_push}
+use Rattle.mm_model.proofs.Digests.{register-push, anchor-push}
+use Rattle.mm_model.proofs.Batches.{same_tests}
+use Rattle.mm_model.proofs.Segments.{Fresh, Again, taken_in, true_not_false}
+use Rattle.mm_model.proofs.Forms.{Listed, Clears, point_of, fresh_tells, again_tells, zero_register, listed_segment, reads_zero}
+
+either : {A B : Type 0} (x y : Bool) → Decides x A → Decides y B → Decides (x || (y || false)) (A ⊎ B)
+either true y a b = (λ _. inl (a.0 refl), λ _. refl)
+either false true a b = (λ _. inr (b.0 refl), λ _. refl)
+either false false a b = (
+  λ e. absurd (true_not_false (sym e)),
+  λ h. elim h [ inl p ↦ absurd (true_not_false (sym (a.1 p))) | inr q ↦ absurd (true_not_false (sym (b.1 q))) ],
+)
+
+alone : {A B : Type 0} (x : Bool) → Decides x A → (B → ⊥) → Decides (x || false) (A ⊎ B)
+alone true a b = (λ _. inl (a.0 refl), λ _. refl)
+alone false a b = (
+  λ e. absurd (true_not_false (sym e)),
+  λ h. elim h [ inl p ↦ absurd (true_not_false (sym (a.1 p))) | inr q ↦ absurd (b q) ],
+)
+
+-- a test on some form of a place: on the first, or where its extension isn't zero on the second
+on_forms : (A B : Type 0) (test : Point → Bool) (a e : List ℕ) (rest : List (List ℕ)) (is_zero : Bool) → is_zero ≡ is_empty rest → Decides (test (record { anchor = a; extension = e })) A → (is_empty rest ≡ false → Decides (test (record { anchor = anchored_of a e; extension = zero_bytes })) B) → Decides (list_any test (record { anchor = a; extension = e } ∷ (if is_zero then [] else record { anchor = anchored_of a e; extension = zero_bytes } ∷ []))) (A ⊎ (is_empty rest ≡ false) × B)
+on_forms A B test a e rest true r da db =
+    alone (test (record { anchor = a; extension = e })) da (λ q. true_not_false (r ∙ q.0))
+on_forms A B test a e rest false r da db =
+    let there = db (sym r) in
+    let second : Decides (test (record { anchor = anchored_of a e; extension = zero_bytes })) ((is_empty rest ≡ false) × B) =
+    (λ t. (sym r, there.0 t), λ q. there.1 q.1) in
+    either (test (record { anchor = a; extension = e })) (test (record { anchor = anchored_of a e; extension = zero_bytes })) da second
+
+pub zero_tells : (all : List (List ℕ)) → IsClear all → (rest : List (List ℕ)) → Within (register_trail rest) all → bytes_eq (register_of rest) zero_bytes ≡ is_empty rest
+zero_tells all clear [] l = (zero_register all clear [] l).1 refl
+zero_tells all clear (v ∷ rest) l =
+    same_tests _ _ (λ t. ap is_empty ((zero_register all clear (v ∷ rest) l).0 t)) (λ e. absurd (true_not_false (sym e)))
+
+-- some form of the place of a path fits as fresh
+abbrev pub FreshSomehow : Bool → List (List (List ℕ)) → List (List ℕ) → List (List (List ℕ)) → List (List ℕ) → Type 0
+FreshSomehow flag closed items before rest =
+    Fresh flag closed items before rest ⊎ (is_empty rest ≡ false) × Fresh flag closed items (before ++ rest ∷ []) []
+
+abbrev pub AgainSomehow : Bool → List (List (List ℕ)) → List (List ℕ) → List ℕ → List (List (List ℕ)) → List (List ℕ) → Type 0
+AgainSomehow flag closed items v before rest =
+    Again flag closed items v before rest ⊎ (is_empty rest ≡ false) × Again flag closed items v (before ++ rest ∷ []) []
+
+-- the messages of the second form's place, where there is one
+record SecondListed (id : ℕ) (all : List (List ℕ)) (before : List (List (List ℕ))) (rest : List (List ℕ)) (v : List ℕ) : Type 0 where
+  closes : Contains all (anchored_message (anchor_of id before) (register_of rest))
+  forms : Within (form_messages (anchored_of (anchor_of id before) (register_of rest)) zero_bytes v) all
+
+second_listed : (id : ℕ) (all : List (List ℕ)) → IsClear all → (before : List (List (List ℕ))) (rest : List (List ℕ)) (v : List ℕ) → Listed id all before rest → Within (point_messages (anchor_of id before) (register_of rest) v) all → is_empty rest ≡ false → SecondListed id all before rest v
+second_listed id all clear before rest v l m some =
+    let a = anchor_of id before in
+    let e = register_of rest in
+    let second = each_right (Contains all) (form_messages a e v)
+    (if bytes_eq e zero_bytes then [] else anchored_message a e ∷ form_messages (anchored_of a e) zero_bytes v) m in
+    let there = subst (λ (b : Bool). Within (if b then [] else anchored_message a e ∷ form_messages (anchored_of a e) zero_bytes v) all)
+    (zero_tells all clear rest l.last ∙ some) second in
+    record { closes = there.0; forms = there.1 }
+
+-- the second form is the point at the anchor after one more segment
+second_is : (id : ℕ) (before : List (List (List ℕ))) (rest : List (List ℕ)) → point_of id (before ++ rest ∷ []) [] ≡ record { anchor = anchored_of (anchor_of id before) (register_of rest); extension = zero_bytes }
+second_is id before rest = λ j. record { anchor = anchor-push id before rest j; extension = reads_zero j }
+
+pub fresh_somehow : (id : ℕ) (all : List (List ℕ)) → Clears id all → (flag : Bool) (closed : List (List (List ℕ))) (items : List (List ℕ)) (before : List (List (List ℕ))) (rest : List (List ℕ)) (v : List ℕ) → Listed id all closed items → Listed id all before rest → Within (point_messages (anchor_of id before) (register_of rest) v) all → Decides (list_any (fits_fresh flag (anchor_of id closed) (register_of items)) (forms_of (anchor_of id before) (register_of rest))) (FreshSomehow flag closed items before rest)
+fresh_somehow id all clears flag closed items before rest v k l m =
+    on_forms (Fresh flag closed items before rest) (Fresh flag closed items (before ++ rest ∷ []) [])
+    (fits_fresh flag (anchor_of id closed) (register_of items)) (anchor_of id before) (register_of rest) rest
+    (bytes_eq (register_of rest) zero_bytes) (zero_tells all clears.clear rest l.last)
+    (fresh_tells id all clears flag closed items before rest k l)
+    (λ some.
+    let second = second_listed id all clears.clear before rest v l m some in
+    let listed = listed_segment id all before rest l.inner l.outer l.last second.closes in
+    subst (λ (x : Point). Decides (fits_fresh flag (anchor_of id closed) (register_of items) x) (Fresh flag closed items (before ++ rest ∷ []) []))
+    (second_is id before rest) (fresh_tells id all clears flag closed items (before ++ rest ∷ []) [] k listed))
+
+pub again_somehow : (id : ℕ) (all : List (List ℕ)) → Clears id all → (flag : Bool) (closed : List (List (List ℕ))) (items : List (List ℕ)) (before : List (List (List ℕ))) (rest : List (List ℕ)) (v : List ℕ) → Listed id all closed items → Listed id all before rest → Within (point_messages (anchor_of id before) (register_of rest) v) all → Decides (list_any (fits_again flag (anchor_of id closed) (register_of items) v) (forms_of (anchor_of id before) (register_of rest))) (AgainSomehow flag closed items v before rest)
+again_somehow id all clears flag closed items before rest v k l m =
+    on_forms (Again flag closed items v before rest) (Again flag closed items v (before ++ rest ∷ []) [])
+    (fits_again flag (anchor_of id closed) (register_of items) v) (anchor_of id before) (register_of rest) rest
+    (bytes_eq (register_of rest) zero_bytes) (zero_tells all clears.clear rest l.last)
+    (again_tells id all clears flag closed items v before rest k l
+    (each_left (Contains all) (form_messages (anchor_of id before) (register_of rest) v)
+    (if bytes_eq (register_of rest) zero_bytes then [] else anchored_message (anchor_of id before) (register_of rest) ∷ form_messages (anchored_of (anchor_of id before) (register_of rest)) zero_bytes v) m))
+    (λ some.
+    let second = second_listed id all clears.clear before rest v l m some in
+    let listed = listed_segment id all before rest l.inner l.outer l.last second.closes in
+    let forms : Within (form_messages (anchor_of id (before ++ rest ∷ [])) (register_of []) v) all =
+    subst (λ (x : Point). Within (form_messages x.anchor x.extension v) all) (sym (second_is id before rest)) second.forms in
+    subst (λ (x : Point). Decides (fits_again flag (anchor_of id closed) (register_of items) v x) (Again flag closed items v (before ++ rest ∷ []) []))
+    (second_is id before rest) (again_tells id all clears flag closed items v (before ++ rest ∷ []) [] k listed forms))

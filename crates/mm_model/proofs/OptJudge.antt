@@ -1,0 +1,378 @@
+-- Opt: from a sound history the verdict by digests is the verdict on the history.
+use Rattle.std.proofs.Common.{ℕ, ◌≡◌, ◌≢◌, ◌+◌, Bool, true, false, ◌&&◌, ◌||◌, List, [], ◌∷◌, ◌++◌, length, map, refl, sym, ap, ◌∙◌, subst, ◌⊎◌, inl, inr, append_assoc}
+use Rattle.std.specs.Prelude.{nat_eq, if◌then◌else◌}
+use Rattle.std.specs.Bool.{Decides}
+use Rattle.std.specs.Str.{bytes_eq}
+use Rattle.std.specs.List.{AllByRecursion, Contains, list_any, flat_map}
+use Rattle.std.proofs.lemmas.List.{append-nil, map-append}
+use Rattle.std.proofs.lemmas.List.Elements.{Contains-append_left, Contains-append_right, Contains-append_cases, Contains-push, Contains-push_cases}
+use Rattle.mm_digest.specs.declared.variant.Variant.TheVariants.{Basic, Opt}
+use Rattle.mm_digest.specs.Messages.{zero_bytes, start_message, start_of}
+use Rattle.mm_module.specs.Batch.{Batch, size_of}
+use Rattle.mm_model.specs.declared.verdict.Verdict.{Verdict}
+use Rattle.mm_model.specs.declared.verdict.Verdict.TheVariants.{Fresh as IsFresh, Again as IsAgain, Lost as IsLost, Stale as IsStale}
+use Rattle.mm_model.specs.Chains.{trail, guard_message, closing_message, guard, register_of, anchor_of, own_values}
+use Rattle.mm_module.specs.Meaning.{Meaning}
+use Rattle.mm_seal.specs.declared.snapshot.Place.{Place}
+use Rattle.mm_seal.specs.declared.snapshot.Place.TheVariants.{Basic as InBasic, Opt as InOpt}
+use Rattle.mm_seal.specs.Snapshot.{Content}
+use Rattle.mm_model.specs.Instance.{Instance, opt}
+use Rattle.mm_model.specs.History.{Entry, History, joined, total_of, values_of, cell_digest_of, register_value_of}
+use Rattle.mm_model.specs.Life.{is_empty, has_value, are_own, Life, Live, Spoiled, Lost, life_by, life_of, is_lost as is_lost_life}
+use Rattle.mm_model.specs.Judge.{verdict_by_digests, forms_of, fits_fresh, fits_again, is_last, verdict_by, opt_verdict, judge, judged}
+use Rattle.mm_model.specs.Places.{IsPoint, IsPlaceOf, Names, anchor_after}
+use Rattle.mm_model.specs.Messages.{Within, IsClear, IsClearFor, register_trail, point_messages, messages_of, runs_of, counting, values_in, AreNoGuards}
+use Rattle.mm_model.specs.Sound.{IsSound, IsClean, IsMarred, batches_in}
+use Rattle.mm_model.proofs.Lists.{each_left, each_right, each_append}
+use Rattle.mm_model.proofs.Chains.{trail_front}
+use Rattle.mm_model.proofs.Digests.{same_own_values}
+use Rattle.mm_model.proofs.Batches.{same_tests, at_the_end, before_the_last}
+use Rattle.mm_model.proofs.Basic.{verdicts}
+use Rattle.mm_model.proofs.Segments.{joined-append, joined-push, true_not_false, Fresh, Again, taken_in, fresh_joins, again_joins, Reaches, IsHeld, fresh_from, again_from}
+use Rattle.mm_model.proofs.Forms.{Listed, Clears}
+use Rattle.mm_model.proofs.Histories.{own_values-append, values_of-append, joined-values, has_value-append, values_of-clean, values_of-own, Meets, meets}
+use Rattle.mm_model.proofs.Paths.{Path, path_of, RunsListed, empty_cases, marred_has}
+use Rattle.mm_model.proofs.Opt.{zero_tells, FreshSomehow, AgainSomehow, fresh_somehow, again_somehow}
+
+each_flat : {A B : Type 0} (P : B → Type 0) (f : A → List B) (xs : List A) → AllByRecursion P (flat_map f xs) → AllByRecursion (λ x. AllByRecursion P (f x)) xs
+each_flat P f [] h = tt
+each_flat P f (x ∷ xs) h = (each_left P (f x) (flat_map f xs) h, each_flat P f xs (each_right P (f x) (flat_map f xs) h))
+
+each_map : {A B : Type 0} (P : B → Type 0) (f : A → B) (xs : List A) → AllByRecursion (λ x. P (f x)) xs → AllByRecursion P (map f xs)
+each_map P f [] h = tt
+each_map P f (x ∷ xs) h = (h.0, each_map P f xs h.1)
+
+each_unmap : {A B : Type 0} (P : B → Type 0) (Q : A → Type 0) (f : A → B) → ((x : A) → Q x → P (f x)) → (xs : List A) → AllByRecursion Q xs → AllByRecursion P (map f xs)
+each_unmap P Q f g [] h = tt
+each_unmap P Q f g (x ∷ xs) h = (g x h.0, each_unmap P Q f g xs h.1)
+
+-- the messages of a history of Opt, by kind
+pub record HistoryListed (i : Instance) (y : History) (all : List (List ℕ)) : Type 0 where
+  pub starts : Contains all (start_message Opt i.meaning.id)
+  pub guards : Within (map (guard_message i.barrier) y.batches) all
+  pub runs : AllByRecursion (RunsListed i.barrier all) (runs_of y)
+  pub listed : Listed i.meaning.id all (map (values_of i.barrier) y.closed) (values_of i.barrier y.items)
+
+pub history_listed : (i : Instance) (y : History) (all : List (List ℕ)) → Within (messages_of Opt i y) all → HistoryListed i y all
+history_listed i y all h =
+    let C = Contains all in
+    let guards = map (guard_message i.barrier) y.batches in
+    let runs = flat_map (λ run. register_trail (own_values i.barrier run)) (runs_of y) in
+    let closed = flat_map (λ segment. register_trail (values_of i.barrier segment)) y.closed in
+    let items = register_trail (values_of i.barrier y.items) in
+    let closings = trail closing_message (start_of Opt i.meaning.id) (map (values_of i.barrier) y.closed) in
+    let four = each_left C (guards ++ runs ++ closed ++ items) closings h.1 in
+    let three = each_left C (guards ++ runs ++ closed) items four in
+    let two = each_left C (guards ++ runs) closed three in
+    record {
+      starts = h.0;
+      guards = each_left C guards runs two;
+      runs = each_flat C (λ run. register_trail (own_values i.barrier run)) (runs_of y) (each_right C guards runs two);
+      listed = record {
+        inner = each_map (λ vs. Within (register_trail vs) all) (values_of i.barrier) y.closed
+            (each_flat C (λ segment. register_trail (values_of i.barrier segment)) y.closed (each_right C (guards ++ runs) closed three));
+        outer = each_right C (guards ++ runs ++ closed ++ items) closings h.1;
+        last = each_right C (guards ++ runs ++ closed) items four;
+      };
+    }
+
+-- what life tells of its four tests
+record LiveParts (is_open is_bare is_own is_marred : Bool) : Type 0 where
+  clean : is_marred ≡ false
+  own : is_open ≡ true → is_own ≡ true
+  held : is_open ≡ true → is_bare ≡ false
+
+life_clash : Spoiled ≡ Live → ⊥
+life_clash e = cc
+
+lost_live : Lost ≡ Live → ⊥
+lost_live e = cc
+
+lost_spoiled : Lost ≡ Spoiled → ⊥
+lost_spoiled e = cc
+
+live_spoiled : Live ≡ Spoiled → ⊥
+live_spoiled e = cc
+
+live_parts : (f p o m : Bool) → life_by f p o m ≡ Live → LiveParts f p o m
+live_parts true true o m e = absurd (lost_live e)
+live_parts true false true false e = record { clean = refl; own = λ _. refl; held = λ _. refl }
+live_parts true false true true e = absurd (life_clash e)
+live_parts true false false m e = absurd (life_clash e)
+live_parts false p o false e =
+    record { clean = refl; own = λ t. absurd (true_not_false (sym t)); held = λ t. absurd (true_not_false (sym t)) }
+live_parts false p o true e = absurd (life_clash e)
+
+spoiled_parts : (f p o m : Bool) → life_by f p o m ≡ Spoiled → (m ≡ true) ⊎ ((f ≡ true) × (p ≡ false) × (o ≡ false))
+spoiled_parts true true o m e = absurd (lost_spoiled e)
+spoiled_parts true false true false e = absurd (live_spoiled e)
+spoiled_parts true false true true e = inl refl
+spoiled_parts true false false m e = inr (refl, refl, refl)
+spoiled_parts false p o false e = absurd (live_spoiled e)
+spoiled_parts false p o true e = inl refl
+
+lost_test : (f p o m : Bool) → (f && p) ≡ is_lost_life (life_by f p o m)
+lost_test true true o m = refl
+lost_test true false true false = refl
+lost_test true false true true = refl
+lost_test true false false m = refl
+lost_test false p o false = refl
+lost_test false p o true = refl
+
+-- the values that count, with the register's items where a segment is open
+counted_values : (barrier : List ℕ) (flag : Bool) (closed : List (List Entry)) (items : List Entry) → joined (map (values_of barrier) closed) ++ taken_in flag (values_of barrier items) ≡ values_of barrier (joined closed ++ (if flag then items else []))
+counted_values barrier true closed items =
+    ap (λ (v : List (List ℕ)). v ++ values_of barrier items) (joined-values barrier closed) ∙ sym (values_of-append barrier (joined closed) items)
+counted_values barrier false closed items =
+    append-nil (joined (map (values_of barrier) closed)) ∙ joined-values barrier closed ∙ ap (values_of barrier) (sym (append-nil (joined closed)))
+
+shut_current : (y : History) → IsSound y → y.is_open ≡ false → y.current ≡ []
+shut_current y sound shut =
+    elim (empty_cases y.current) [
+      | inl none ↦ none
+      | inr some ↦ absurd (true_not_false (sym (sound.open_is some) ∙ shut))
+    ]
+
+live_values_at : (barrier : List ℕ) (y : History) (flag : Bool) → IsSound y → y.is_open ≡ flag → IsClean y → LiveParts flag (is_empty y.items) (are_own y.items y.current) (has_value (joined y.closed)) → values_of barrier (joined y.closed ++ (if flag then y.items else [])) ≡ own_values barrier y.batches
+live_values_at barrier y true sound f h live =
+    values_of-append barrier (joined y.closed) y.items
+    ∙ ap (λ (v : List (List ℕ)). v ++ values_of barrier y.items) (values_of-clean barrier (joined y.closed) h.clean)
+    ∙ ap (λ (v : List (List ℕ)). own_values barrier (batches_in (joined y.closed)) ++ v) (values_of-own barrier y.items y.current (live.own refl))
+    ∙ sym (own_values-append barrier (batches_in (joined y.closed)) y.current) ∙ ap (own_values barrier) (sym h.batches)
+live_values_at barrier y false sound f h live =
+    ap (values_of barrier) (append-nil (joined y.closed)) ∙ values_of-clean barrier (joined y.closed) h.clean
+    ∙ ap (own_values barrier) (sym (append-nil (batches_in (joined y.closed)))
+    ∙ ap (λ (v : List Batch). batches_in (joined y.closed) ++ v) (sym (shut_current y sound f)) ∙ sym h.batches)
+
+live_clean : (y : History) → IsSound y → has_value (joined y.closed) ≡ false → IsClean y
+live_clean y sound clean =
+    elim sound.history [
+      | inl h ↦ h
+      | inr h ↦ absurd (true_not_false (sym (marred_has y h) ∙ clean))
+    ]
+
+held_at : (flag : Bool) (items : List Entry) (barrier : List ℕ) → (flag ≡ true → is_empty items ≡ false) → IsHeld flag (values_of barrier items)
+held_at true [] barrier h = absurd (true_not_false (h refl))
+held_at true (x ∷ items) barrier h = refl
+held_at false items barrier h = tt
+
+or_second : (a b : Bool) → b ≡ true → (a || b) ≡ true
+or_second true b e = refl
+or_second false b e = e
+
+or_first : (a b : Bool) → a ≡ true → (a || b) ≡ true
+or_first true b e = refl
+or_first false b e = absurd (true_not_false (sym e))
+
+spoiled_has_at : (y : History) (flag : Bool) → IsSound y → y.is_open ≡ flag → life_by flag (is_empty y.items) (are_own y.items y.current) (has_value (joined y.closed)) ≡ Spoiled → has_value (joined y.closed ++ (if flag then y.items else [])) ≡ true
+spoiled_has_at y flag sound f e =
+    elim (spoiled_parts flag (is_empty y.items) (are_own y.items y.current) (has_value (joined y.closed)) e) [
+      | inl m ↦
+          has_value-append (joined y.closed) (if flag then y.items else [])
+          ∙ or_first (has_value (joined y.closed)) (has_value (if flag then y.items else [])) m
+      | inr o ↦
+          let is : has_value y.items ≡ true =
+          elim (sound.register (f ∙ o.0)) [
+            | inl own ↦ absurd (true_not_false (sym own ∙ o.2))
+            | inr others ↦
+                elim others [
+                  | inl none ↦ absurd (true_not_false (ap is_empty (sym none) ∙ o.1))
+                  | inr has ↦ has
+                ]
+          ] in
+          has_value-append (joined y.closed) (if flag then y.items else [])
+          ∙ or_second (has_value (joined y.closed)) (has_value (if flag then y.items else []))
+          (ap (λ (b : Bool). has_value (if b then y.items else [])) o.0 ∙ is)
+    ]
+
+-- A path, with all that the verdict on it looks at.
+record Standpoint (i : Instance) (y : History) (named rest : List Batch) (b : Batch) (all : List (List ℕ)) (before : List (List (List ℕ))) (taken : List (List ℕ)) : Type 0 where
+  first : y.batches ≡ named ++ rest
+  later : List (List (List ℕ))
+  split : map (values_of i.barrier) y.closed ≡ before ++ later
+  flat : joined before ++ taken ≡ own_values i.barrier named
+  reaches : Reaches y.is_open later (length taken)
+  filled : AllByRecursion (λ vs. is_empty vs ≡ false) later
+  clears : Clears i.meaning.id all
+  history : Listed i.meaning.id all (map (values_of i.barrier) y.closed) (values_of i.barrier y.items)
+  path : Listed i.meaning.id all before taken
+  guards : Within (map (guard_message i.barrier) y.batches) all
+  call_guard : Contains all (guard_message i.barrier b)
+  call : Within (point_messages (anchor_of i.meaning.id before) (register_of taken) (guard i.barrier b)) all
+
+-- the values that count are all there is to a fresh path, and to a repeat with one more value
+fresh_counts : (i : Instance) (y : History) (named rest : List Batch) (b : Batch) (all : List (List ℕ)) (before : List (List (List ℕ))) (taken : List (List ℕ)) → Standpoint i y named rest b all before taken → FreshSomehow y.is_open (map (values_of i.barrier) y.closed) (values_of i.barrier y.items) before taken → own_values i.barrier named ≡ values_of i.barrier (counting y)
+fresh_counts i y named rest b all before taken s f =
+    let closed = map (values_of i.barrier) y.closed in
+    let items = values_of i.barrier y.items in
+    let joins : joined before ++ taken ≡ joined closed ++ taken_in y.is_open items =
+    elim f [
+      | inl here ↦ fresh_joins y.is_open closed items before taken here
+      | inr there ↦
+          sym (joined-push before taken) ∙ sym (append-nil (joined (before ++ taken ∷ [])))
+          ∙ fresh_joins y.is_open closed items (before ++ taken ∷ []) [] there.1
+    ] in
+    sym s.flat ∙ joins ∙ counted_values i.barrier y.is_open y.closed y.items
+
+again_counts : (i : Instance) (y : History) (named rest : List Batch) (b : Batch) (all : List (List ℕ)) (before : List (List (List ℕ))) (taken : List (List ℕ)) → Standpoint i y named rest b all before taken → AgainSomehow y.is_open (map (values_of i.barrier) y.closed) (values_of i.barrier y.items) (guard i.barrier b) before taken → own_values i.barrier (named ++ b ∷ []) ≡ values_of i.barrier (counting y)
+again_counts i y named rest b all before taken s f =
+    let closed = map (values_of i.barrier) y.closed in
+    let items = values_of i.barrier y.items in
+    let v = guard i.barrier b in
+    let joins : (joined before ++ taken) ++ v ∷ [] ≡ joined closed ++ taken_in y.is_open items =
+    elim f [
+      | inl here ↦ again_joins y.is_open closed items v before taken here
+      | inr there ↦
+          ap (λ (w : List (List ℕ)). w ++ v ∷ []) (sym (joined-push before taken) ∙ sym (append-nil (joined (before ++ taken ∷ []))))
+          ∙ again_joins y.is_open closed items v (before ++ taken ∷ []) [] there.1
+    ] in
+    own_values-append i.barrier named (b ∷ []) ∙ ap (λ (w : List (List ℕ)). w ++ v ∷ []) (sym s.flat) ∙ joins
+    ∙ counted_values i.barrier y.is_open y.closed y.items
+
+guards_of_named : (i : Instance) (y : History) (named rest : List Batch) (b : Batch) (all : List (List ℕ)) (before : List (List (List ℕ))) (taken : List (List ℕ)) → Standpoint i y named rest b all before taken → Within (map (guard_message i.barrier) named) all
+guards_of_named i y named rest b all before taken s =
+    each_left (Contains all) (map (guard_message i.barrier) named) (map (guard_message i.barrier) rest)
+    (subst (λ (v : List (List ℕ)). Within v all)
+    (ap (map (guard_message i.barrier)) s.first ∙ map-append (guard_message i.barrier) named rest) s.guards)
+
+live_fresh : (i : Instance) (y : History) (named rest : List Batch) (b : Batch) (all : List (List ℕ)) (before : List (List (List ℕ))) (taken : List (List ℕ)) → Standpoint i y named rest b all before taken → IsHeld y.is_open (values_of i.barrier y.items) → values_of i.barrier (counting y) ≡ own_values i.barrier y.batches → (test : Bool) → Decides test (FreshSomehow y.is_open (map (values_of i.barrier) y.closed) (values_of i.barrier y.items) before taken) → test ≡ nat_eq (total_of named) (total_of y.batches)
+live_fresh i y named rest b all before taken s held live test decides =
+    let closed = map (values_of i.barrier) y.closed in
+    let items = values_of i.barrier y.items in
+    same_tests test (nat_eq (total_of named) (total_of y.batches))
+    (λ t. (at_the_end y.batches named rest s.first).1
+    (same_own_values i.barrier all s.clears.clear named y.batches (guards_of_named i y named rest b all before taken s) s.guards
+    (fresh_counts i y named rest b all before taken s (decides.0 t) ∙ live)))
+    (λ t. decides.1 (fresh_from y.is_open closed before s.later items taken s.split s.filled held s.reaches
+    (s.flat ∙ ap (own_values i.barrier) ((at_the_end y.batches named rest s.first).0 t)
+    ∙ sym live ∙ sym (counted_values i.barrier y.is_open y.closed y.items))))
+
+live_again : (i : Instance) (y : History) (named rest : List Batch) (b : Batch) (all : List (List ℕ)) (before : List (List (List ℕ))) (taken : List (List ℕ)) → Standpoint i y named rest b all before taken → IsHeld y.is_open (values_of i.barrier y.items) → values_of i.barrier (counting y) ≡ own_values i.barrier y.batches → (test : Bool) → Decides test (AgainSomehow y.is_open (map (values_of i.barrier) y.closed) (values_of i.barrier y.items) (guard i.barrier b) before taken) → test ≡ (nat_eq (total_of named + size_of b) (total_of y.batches) && is_last y.batches b)
+live_again i y named rest b all before taken s held live test decides =
+    let closed = map (values_of i.barrier) y.closed in
+    let items = values_of i.barrier y.items in
+    let longer : Within (map (guard_message i.barrier) (named ++ b ∷ [])) all =
+    subst (λ (v : List (List ℕ)). Within v all) (sym (map-append (guard_message i.barrier) named (b ∷ [])))
+    (each_append (Contains all) (map (guard_message i.barrier) named) (guard_message i.barrier b ∷ [])
+    (guards_of_named i y named rest b all before taken s) (s.call_guard, tt)) in
+    same_tests test (nat_eq (total_of named + size_of b) (total_of y.batches) && is_last y.batches b)
+    (λ t. (before_the_last y.batches named rest b s.first).1
+    (same_own_values i.barrier all s.clears.clear (named ++ b ∷ []) y.batches longer s.guards
+    (again_counts i y named rest b all before taken s (decides.0 t) ∙ live)))
+    (λ t. decides.1 (again_from y.is_open closed before s.later items (guard i.barrier b) taken s.split s.filled held s.reaches
+    (ap (λ (w : List (List ℕ)). w ++ guard i.barrier b ∷ []) s.flat ∙ sym (own_values-append i.barrier named (b ∷ []))
+    ∙ ap (own_values i.barrier) ((before_the_last y.batches named rest b s.first).0 t)
+    ∙ sym live ∙ sym (counted_values i.barrier y.is_open y.closed y.items))))
+
+-- where a value that stands for no batch counts, the values that count are no guards of batches
+never_guards : (i : Instance) (y : History) (named rest : List Batch) (b : Batch) (bs : List Batch) → y.batches ≡ named ++ rest → AreNoGuards i.barrier (values_in (counting y)) (b ∷ y.batches) → has_value (counting y) ≡ true → ((c : Batch) → Contains bs c → Contains named c ⊎ (b ≡ c)) → own_values i.barrier bs ≢ values_of i.barrier (counting y)
+never_guards i y named rest b bs first foreign has among e =
+    let m = meets i.barrier (counting y) bs has (sym e) in
+    let asked : Contains (b ∷ y.batches) m.batch =
+    elim (among m.batch m.asked) [
+      | inl old ↦
+          Contains-append_right (b ∷ []) y.batches m.batch
+          (subst (λ (v : List Batch). Contains v m.batch) (sym first) (Contains-append_left named rest m.batch old))
+      | inr new ↦ subst (λ (c : Batch). Contains (b ∷ y.batches) c) new (Contains-append_left (b ∷ []) y.batches b (Contains-push [] b))
+    ] in
+    foreign m.value m.batch m.among asked m.same
+
+never : (test : Bool) → (test ≡ true → ⊥) → test ≡ false
+never true h = absurd (h refl)
+never false h = refl
+
+-- by the life of the history
+opt_by : (i : Instance) (y : History) (named rest : List Batch) (b : Batch) (all : List (List ℕ)) (before : List (List (List ℕ))) (taken : List (List ℕ)) → Standpoint i y named rest b all before taken → IsSound y → AreNoGuards i.barrier (values_in (counting y)) (b ∷ y.batches) → (fresh again : Bool) → Decides fresh (FreshSomehow y.is_open (map (values_of i.barrier) y.closed) (values_of i.barrier y.items) before taken) → Decides again (AgainSomehow y.is_open (map (values_of i.barrier) y.closed) (values_of i.barrier y.items) (guard i.barrier b) before taken) → (life : Life) → life_of Opt y ≡ life → verdict_by (is_lost_life life) fresh again ≡ judged life (nat_eq (total_of named) (total_of y.batches)) (nat_eq (total_of named + size_of b) (total_of y.batches) && is_last y.batches b)
+opt_by i y named rest b all before taken s sound foreign fresh again df da Live is =
+    let parts = live_parts y.is_open (is_empty y.items) (are_own y.items y.current) (has_value (joined y.closed)) is in
+    let held = held_at y.is_open y.items i.barrier parts.held in
+    let live = live_values_at i.barrier y y.is_open sound refl (live_clean y sound parts.clean) parts in
+    ap (λ (x : Bool). verdict_by false x again) (live_fresh i y named rest b all before taken s held live fresh df)
+    ∙ ap (λ (x : Bool). verdict_by false (nat_eq (total_of named) (total_of y.batches)) x)
+    (live_again i y named rest b all before taken s held live again da)
+    ∙ verdicts (nat_eq (total_of named) (total_of y.batches)) (nat_eq (total_of named + size_of b) (total_of y.batches) && is_last y.batches b)
+opt_by i y named rest b all before taken s sound foreign fresh again df da Spoiled is =
+    let has = spoiled_has_at y y.is_open sound refl is in
+    let not_fresh : fresh ≡ false = never fresh (λ t.
+    never_guards i y named rest b named s.first foreign has (λ c h. inl h)
+    (fresh_counts i y named rest b all before taken s (df.0 t))) in
+    let not_again : again ≡ false = never again (λ t.
+    never_guards i y named rest b (named ++ b ∷ []) s.first foreign has (λ c h. Contains-push_cases named b c h)
+    (again_counts i y named rest b all before taken s (da.0 t))) in
+    ap (λ (x : Bool). verdict_by false x again) not_fresh ∙ ap (verdict_by false false) not_again
+opt_by i y named rest b all before taken s sound foreign fresh again df da Lost is = refl
+
+zero_items : (barrier : List ℕ) (items : List Entry) → is_empty (values_of barrier items) ≡ is_empty items
+zero_items barrier [] = refl
+zero_items barrier (x ∷ items) = refl
+
+-- the verdict on a place, by the path that it is
+opt_on : (i : Instance) (y : History) (named rest : List Batch) (a e : List ℕ) (b : Batch) (all : List (List ℕ)) → IsSound y → IsClear all → Within (messages_of Opt i y) all → Contains all (guard_message i.barrier b) → Within (point_messages a e (guard i.barrier b)) all → AreNoGuards i.barrier (values_in (counting y)) (b ∷ y.batches) → y.batches ≡ named ++ rest → IsPoint i y named a e → opt_verdict y.is_open (anchor_after i y.closed) (register_of (values_of i.barrier y.items)) (forms_of a e) (guard i.barrier b) ≡ judge Opt y (total_of named) b
+opt_on i y named rest a e b all sound clear history called call foreign first place =
+    let h = history_listed i y all history in
+    let p = path_of i y named rest a e all sound first h.runs place in
+    let V = values_of i.barrier in
+    let before = map V p.before in
+    let taken = own_values i.barrier p.taken in
+    let id = i.meaning.id in
+    let split : map V y.closed ≡ before ++ map V p.later = ap (map V) p.split ∙ map-append V p.before p.later in
+    let clears : Clears id all = record { clear = clear; starts = h.starts } in
+    let call' : Within (point_messages (anchor_of id before) (register_of taken) (guard i.barrier b)) all =
+    subst (λ (v : List ℕ). Within (point_messages (anchor_of id before) v (guard i.barrier b)) all) p.extension_is
+    (subst (λ (v : List ℕ). Within (point_messages v e (guard i.barrier b)) all) p.anchor_is call) in
+    let path : Listed id all before taken = record {
+      inner = each_left (λ vs. Within (register_trail vs) all) before (map V p.later)
+          (subst (λ (v : List (List (List ℕ))). AllByRecursion (λ vs. Within (register_trail vs) all) v) split h.listed.inner);
+      outer = trail_front closing_message (start_of Opt id) before (map V p.later) all
+          (subst (λ (v : List (List (List ℕ))). Within (trail closing_message (start_of Opt id) v) all) split h.listed.outer);
+      last = p.listed;
+    } in
+    let filled = each_unmap (λ vs. is_empty vs ≡ false) (λ segment. is_empty segment ≡ false) V
+    (λ segment some. zero_items i.barrier segment ∙ some) p.later
+    (each_right (λ segment. is_empty segment ≡ false) p.before p.later
+    (subst (λ (v : List (List Entry)). AllByRecursion (λ segment. is_empty segment ≡ false) v) p.split sound.filled)) in
+    let s : Standpoint i y named rest b all before taken = record {
+      first = first;
+      later = map V p.later;
+      split = split;
+      flat = ap (λ (v : List (List ℕ)). v ++ taken) (joined-values i.barrier p.before) ∙ p.flat;
+      reaches = p.reaches;
+      filled = filled;
+      clears = clears;
+      history = h.listed;
+      path = path;
+      guards = h.guards;
+      call_guard = called;
+      call = call';
+    } in
+    let fresh = list_any (fits_fresh y.is_open (anchor_of id (map V y.closed)) (register_of (V y.items))) (forms_of (anchor_of id before) (register_of taken)) in
+    let again = list_any (fits_again y.is_open (anchor_of id (map V y.closed)) (register_of (V y.items)) (guard i.barrier b)) (forms_of (anchor_of id before) (register_of taken)) in
+    let lost : (y.is_open && bytes_eq (register_of (V y.items)) zero_bytes) ≡ is_lost_life (life_of Opt y) =
+    ap (λ (x : Bool). y.is_open && x) (zero_tells all clear (V y.items) h.listed.last ∙ zero_items i.barrier y.items)
+    ∙ lost_test y.is_open (is_empty y.items) (are_own y.items y.current) (has_value (joined y.closed)) in
+    ap (λ (v : List ℕ). opt_verdict y.is_open (anchor_of id (map V y.closed)) (register_of (V y.items)) (forms_of v e) (guard i.barrier b)) p.anchor_is
+    ∙ ap (λ (v : List ℕ). opt_verdict y.is_open (anchor_of id (map V y.closed)) (register_of (V y.items)) (forms_of (anchor_of id before) v) (guard i.barrier b)) p.extension_is
+    ∙ ap (λ (x : Bool). verdict_by x fresh again) lost
+    ∙ opt_by i y named rest b all before taken s sound foreign fresh again
+    (fresh_somehow id all clears y.is_open (map V y.closed) (V y.items) before taken (guard i.barrier b) h.listed path call')
+    (again_somehow id all clears y.is_open (map V y.closed) (V y.items) before taken (guard i.barrier b) h.listed path call')
+    (life_of Opt y) refl
+
+opt_at : (meaning : Meaning) (key barrier : List ℕ) (y : History) (named rest : List Batch) (place : Place) (b : Batch) (all : List (List ℕ)) → IsSound y → IsClearFor all (opt meaning key barrier) y place b → y.batches ≡ named ++ rest → IsPlaceOf Opt (opt meaning key barrier) y named place → verdict_by_digests barrier y.is_open (cell_digest_of (opt meaning key barrier) Opt y) (register_value_of (opt meaning key barrier) y) place b ≡ judge Opt y (total_of named) b
+opt_at meaning key barrier y named rest (InBasic s) b all sound clear first is = absurd is
+opt_at meaning key barrier y named rest (InOpt a e) b all sound clear first is =
+    opt_on (opt meaning key barrier) y named rest a.bytes e.bytes b all sound clear.clear clear.history
+    clear.call.0 clear.call.1 clear.foreign first is
+
+pub opt_is_judged : (meaning : Meaning) (key barrier : List ℕ) (y : History) (offered : Content) (b : Batch) (all : List (List ℕ)) → IsSound y → IsClearFor all (opt meaning key barrier) y offered.place b → Names (opt meaning key barrier) y offered → verdict_by_digests barrier y.is_open (cell_digest_of (opt meaning key barrier) Opt y) (register_value_of (opt meaning key barrier) y) offered.place b ≡ judge Opt y offered.position b
+opt_is_judged meaning key barrier y offered b all sound clear names =
+    opt_at meaning key barrier y names.named names.rest offered.place b all sound clear names.first names.place
+    ∙ ap (λ (p : ℕ). judge Opt y p b) (sym names.position)
+
+-- the register reads zero under a set flag exactly where power was lost inside an open segment
+pub lost_is_zero : (meaning : Meaning) (key barrier : List ℕ) (y : History) (all : List (List ℕ)) → IsClear all → Within (messages_of Opt (opt meaning key barrier) y) all → (y.is_open && bytes_eq (register_value_of (opt meaning key barrier) y) zero_bytes) ≡ is_lost_life (life_of Opt y)
+lost_is_zero meaning key barrier y all clear history =
+    let i = opt meaning key barrier in
+    let h = history_listed i y all history in
+    ap (λ (x : Bool). y.is_open && x) (zero_tells all clear (values_of barrier y.items) h.listed.last ∙ zero_items barrier y.items)
+    ∙ lost_test y.is_open (is_empty y.items) (are_own y.items y.current) (has_value (joined y.closed))
