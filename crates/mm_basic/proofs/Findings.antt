@@ -1,0 +1,78 @@
+-- What is found, by what the offer is examined to.
+use Rattle.std.proofs.Common.{◌≡◌, ℕ, Bool, true, false, List, Result, Ok, Err, None, refl, sym, ap, ◌∙◌, subst, inl, inr}
+use Rattle.mm_digest.specs.declared.digest.Digest.{Digest}
+use Rattle.mm_module.specs.Meaning.{Meaning}
+use Rattle.mm_module.specs.Batch.{Batch}
+use Rattle.mm_seal.specs.declared.cell.Cell.{Cell}
+use Rattle.mm_seal.specs.declared.cell.CellFault.TheVariants.{Blank, Cell as Unspelled}
+use Rattle.mm_seal.specs.declared.snapshot.PartsFault.TheVariants.{Form, Kind}
+use Rattle.mm_seal.specs.Snapshot.{Snapshot}
+use Rattle.mm_model.specs.declared.answer.BatchAnswer.{BatchAnswer}
+use Rattle.mm_model.specs.declared.refusal.Refusal.{Refusal}
+use Rattle.mm_model.specs.declared.refusal.Refusal.TheVariants.{Memory}
+use Rattle.mm_model.specs.declared.verdict.Verdict.{Verdict}
+use Rattle.mm_model.specs.declared.verdict.Verdict.TheVariants.{Fresh, Again, Lost, Stale}
+use Rattle.mm_basic.specs.declared.found.Found.{Found}
+use Rattle.mm_basic.specs.declared.found.Found.TheVariants.{Repeat, Change}
+use Rattle.mm_basic.specs.Seen.{Seen, NoCell, OtherCell, NoOffer, Both}
+use Rattle.mm_basic.specs.Order.{admitted, weighed, examined}
+use Rattle.mm_basic.specs.Answers.{found_from, found_in}
+use Rattle.mm_basic.specs.Steps.{fault_in, OrMemory, FindsIn}
+
+pub found_refused : (e : Result Bool Refusal) (next : List ℕ) (answer : Bool → BatchAnswer) (why : Refusal) → e ≡ Err why → OrMemory (found_from e next answer) (Err why)
+found_refused e next answer why is =
+    subst (λ (r : Result Bool Refusal). OrMemory (found_from r next answer) (Err why)) (sym is) refl
+
+memory : (again : Bool) (next : List ℕ) (answer : Bool → BatchAnswer) → OrMemory (found_from (Ok again) next answer) (Err Memory)
+memory true next answer = inr refl
+memory false next answer = inr refl
+
+pub found_memory : (e : Result Bool Refusal) (next : List ℕ) (answer : Bool → BatchAnswer) (again : Bool) → e ≡ Ok again → OrMemory (found_from e next answer) (Err Memory)
+found_memory e next answer again is =
+    subst (λ (r : Result Bool Refusal). OrMemory (found_from r next answer) (Err Memory)) (sym is) (memory again next answer)
+
+pub found_repeat : (e : Result Bool Refusal) (next : List ℕ) (answer : Bool → BatchAnswer) (it : BatchAnswer) → e ≡ Ok true → it ≡ answer true → OrMemory (found_from e next answer) (Ok (Repeat it))
+found_repeat e next answer it is it_is =
+    subst (λ (r : Result Bool Refusal). OrMemory (found_from r next answer) (Ok (Repeat it))) (sym is)
+    (inl (ap (λ (a : BatchAnswer). Ok (Repeat a)) it_is))
+
+pub found_change : (e : Result Bool Refusal) (next bytes : List ℕ) (answer : Bool → BatchAnswer) (it : BatchAnswer) → e ≡ Ok false → bytes ≡ next → it ≡ answer false → OrMemory (found_from e next answer) (Ok (Change (record { next = bytes; answer = it })))
+found_change e next bytes answer it is bytes_is it_is =
+    subst (λ (r : Result Bool Refusal). OrMemory (found_from r next answer) (Ok (Change (record { next = bytes; answer = it })))) (sym is)
+    (inl (ap (λ (a : BatchAnswer). Ok (Change (record { next = bytes; answer = a }))) it_is
+    ∙ ap (λ (n : List ℕ). Ok (Change (record { next = n; answer = answer false }))) bytes_is))
+
+-- no fault comes without a device step
+no_fault_admitted : (v : Verdict) (fits : Bool) → fault_in (admitted v fits) ≡ None
+no_fault_admitted Fresh true = refl
+no_fault_admitted Fresh false = refl
+no_fault_admitted Again true = refl
+no_fault_admitted Again false = refl
+no_fault_admitted Lost fits = refl
+no_fault_admitted Stale fits = refl
+
+no_fault_weighed : (a b : Bool) (v : Verdict) (fits : Bool) → fault_in (weighed a b v fits) ≡ None
+no_fault_weighed false b v fits = refl
+no_fault_weighed true false v fits = refl
+no_fault_weighed true true v fits = no_fault_admitted v fits
+
+no_fault_from : (e : Result Bool Refusal) (next : List ℕ) (answer : Bool → BatchAnswer) → fault_in e ≡ None → fault_in (found_from e next answer) ≡ None
+no_fault_from (Err why) next answer h = h
+no_fault_from (Ok true) next answer h = refl
+no_fault_from (Ok false) next answer h = refl
+
+no_fault_in : (meaning : Meaning) (seen : Seen) (b : Batch) → fault_in (found_in meaning seen b) ≡ None
+no_fault_in meaning (NoCell Blank) b = refl
+no_fault_in meaning (NoCell Unspelled) b = refl
+no_fault_in meaning OtherCell b = refl
+no_fault_in meaning (NoOffer Form) b = refl
+no_fault_in meaning (NoOffer Kind) b = refl
+no_fault_in meaning (Both cell offered) b = no_fault_from _ _ _ (no_fault_weighed _ _ _ _)
+
+no_fault_or : (x found : Result Found Refusal) → fault_in x ≡ None → OrMemory x found → fault_in found ≡ None
+no_fault_or (Err why) found h o = ap (λ (r : Result Found Refusal). fault_in r) o ∙ h
+no_fault_or (Ok it) found h o =
+    elim o [ inl e ↦ ap (λ (r : Result Found Refusal). fault_in r) e | inr e ↦ ap (λ (r : Result Found Refusal). fault_in r) e ]
+
+pub no_fault : (meaning : Meaning) (bytes offer : List ℕ) (b : Batch) (found : Result Found Refusal) → FindsIn meaning bytes offer b found → fault_in found ≡ None
+no_fault meaning bytes offer b found f = no_fault_or (found_in meaning f.seen b) found (no_fault_in meaning f.seen b) f.found_is

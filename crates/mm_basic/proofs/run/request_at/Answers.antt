@@ -1,0 +1,8 @@
+use Rattle.std.proofs.Common.{sym}
+use Rattle.mm_module.specs.Batches.{batch_of}
+use Rattle.mm_model.proofs.LongLaws.{members_are_lines}
+use Rattle.mm_basic.proofs.run.request_at.Goals as goal
+
+pub returns-clause-line : goal.returns-clause-line
+returns-clause-line c =
+    members_are_lines (batch_of c.args.batch) c.requires.short c.args.i c.in-Some.request.now (sym c.in-Some.ensures)

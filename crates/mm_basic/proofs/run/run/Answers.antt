@@ -1,0 +1,12 @@
+use Rattle.mm_module.specs.Batch.{members_of}
+use Rattle.mm_module.specs.Batches.{batch_of}
+use Rattle.mm_basic.proofs.Members.{ran_on}
+use Rattle.mm_basic.proofs.run.run.Goals as goal
+
+pub members-preserved : goal.members-preserved
+members-preserved g c =
+    ran_on (g.M.Module.meaning c.args.module.now) (g.met.M.Module.is_lawful c.args.module.now) c.args.state.now
+    (members_of (batch_of c.args.batch)) c.members.i c.members.ran.state c.as_slice.result.now c.in_ok-state.field-0.state
+    c.in_ok-state.field-0.output c.members.ran.outputs c.push.new.self c.request_at-request.result.now
+    c.members.invariant c.request_at-request.ensures.at c.as_slice.ensures.value c.in_ok-state.ensures.state
+    c.in_ok-state.ensures.output c.in_ok-push.ensures.ok

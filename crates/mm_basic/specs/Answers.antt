@@ -1,0 +1,71 @@
+-- What a call answers, and what it writes.
+use Rattle.std.specs.Prelude.{ℕ, ◌+◌, Bool, true, false, List, Result, Ok, Err}
+use Rattle.mm_digest.specs.declared.digest.Digest.{Digest}
+use Rattle.mm_module.specs.Meaning.{Meaning, state_from, outputs_from}
+use Rattle.mm_module.specs.Batch.{Batch, members_of, size_of, normal}
+use Rattle.mm_seal.specs.declared.cell.Cell.{Cell}
+use Rattle.mm_seal.specs.declared.cell.CellFault.{CellFault}
+use Rattle.mm_seal.specs.declared.cell.CellFault.TheVariants.{Blank, Cell as Unspelled}
+use Rattle.mm_seal.specs.declared.snapshot.PartsFault.{PartsFault}
+use Rattle.mm_seal.specs.declared.snapshot.PartsFault.TheVariants.{Form, Kind}
+use Rattle.mm_seal.specs.declared.snapshot.Place.TheVariants.{Basic}
+use Rattle.mm_seal.specs.Cell.{cell_spelling}
+use Rattle.mm_seal.specs.Snapshot.{Content, Snapshot, sealed_of}
+use Rattle.mm_model.specs.Chains.{link}
+use Rattle.mm_model.specs.declared.answer.BatchAnswer.{BatchAnswer}
+use Rattle.mm_model.specs.declared.refusal.Refusal.{Refusal}
+use Rattle.mm_model.specs.declared.refusal.Refusal.TheVariants as refusal
+use Rattle.mm_basic.specs.declared.found.Found.{Found}
+use Rattle.mm_basic.specs.declared.found.Found.TheVariants.{Repeat, Change}
+use Rattle.mm_basic.specs.declared.found.Ready.{Ready}
+use Rattle.mm_basic.specs.Seen.{Seen, NoCell, OtherCell, NoOffer, Both}
+use Rattle.mm_basic.specs.Order.{examined, summary_in, verdict_of}
+
+abbrev pub digest : List ℕ → Digest
+digest bytes = record { bytes = bytes }
+
+-- the summary after the batch
+abbrev pub linked : Content → Batch → List ℕ
+linked offered b = link (summary_in offered.place) (normal b)
+
+-- what the new snapshot says, at this summary: the batch was run from the offered state
+abbrev pub content_at : Meaning → Content → Digest → Batch → Content
+content_at meaning offered summary b = record {
+  id = meaning.id;
+  place = Basic summary;
+  position = offered.position + size_of b;
+  state = state_from meaning offered.state (members_of b);
+}
+
+-- the answer, at this summary, by whether it is a repeat
+abbrev pub answer_at : Meaning → List ℕ → Content → Digest → Batch → Bool → BatchAnswer
+answer_at meaning key offered summary b again = record {
+  again = again;
+  position = offered.position + size_of b;
+  outputs = outputs_from meaning offered.state (members_of b);
+  snapshot = sealed_of key (content_at meaning offered summary b);
+}
+
+abbrev pub answer_of : Meaning → List ℕ → Content → Batch → Bool → BatchAnswer
+answer_of meaning key offered b again = answer_at meaning key offered (digest (linked offered b)) b again
+
+-- the cell once the batch is committed
+abbrev pub cell_after : Cell → Content → Batch → List ℕ
+cell_after cell offered b = cell_spelling (record cell { summary = digest (linked offered b) })
+
+-- A repeat is answered, and a new batch is ready to be committed.
+abbrev pub found_from : Result Bool Refusal → List ℕ → (Bool → BatchAnswer) → Result Found Refusal
+found_from (Err why) next answer = Err why
+found_from (Ok true) next answer = Ok (Repeat (answer true))
+found_from (Ok false) next answer = Ok (Change (record { next = next; answer = answer false }))
+
+-- what a call finds, in the order of the refusals; but for want of memory
+abbrev pub found_in : Meaning → Seen → Batch → Result Found Refusal
+found_in meaning (NoCell Blank) b = Err refusal.Blank
+found_in meaning (NoCell Unspelled) b = Err refusal.Cell
+found_in meaning OtherCell b = Err refusal.Cell
+found_in meaning (NoOffer Form) b = Err refusal.Form
+found_in meaning (NoOffer Kind) b = Err refusal.Kind
+found_in meaning (Both cell offered) b =
+    found_from (examined meaning cell.key offered b (verdict_of cell offered b))
+    (cell_after cell offered.content b) (answer_of meaning cell.key offered.content b)

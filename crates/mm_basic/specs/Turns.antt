@@ -1,0 +1,41 @@
+-- What each turn of a call does and gives.
+use Rattle.std.specs.Prelude.{◌≡◌, ℕ, List, Option, None, Some, Result, Ok, Err}
+use Rattle.mm_platform.specs.Standing.{Standing}
+use Rattle.mm_module.specs.Meaning.{Meaning}
+use Rattle.mm_module.specs.Batch.{Batch}
+use Rattle.mm_model.specs.declared.answer.BatchAnswer.{BatchAnswer}
+use Rattle.mm_model.specs.declared.refusal.Refusal.{Refusal}
+use Rattle.mm_basic.specs.declared.found.Found.{Found}
+use Rattle.mm_basic.specs.declared.found.Found.TheVariants.{Repeat, Change}
+use Rattle.mm_basic.specs.declared.found.Ready.{Ready}
+use Rattle.mm_basic.specs.declared.call.Turn.{Turn}
+use Rattle.mm_basic.specs.declared.call.Turn.TheVariants.{Going, Done, Refused}
+use Rattle.mm_basic.specs.Steps.{Reads, Writes}
+
+-- what a turn gives, by what it finds
+abbrev pub turn_of : Result Found Refusal → Turn
+turn_of (Err why) = Refused why
+turn_of (Ok (Repeat answer)) = Done answer
+turn_of (Ok (Change ready)) = Going (Some ready)
+
+-- what the last turn gives
+abbrev pub last_turn : Result BatchAnswer Refusal → Turn
+last_turn (Err why) = Refused why
+last_turn (Ok answer) = Done answer
+
+-- the first turn of a call
+pub record TurnsFirst (meaning : Meaning) (old new : Standing) (offer : List ℕ) (b : Batch) (turn : Turn) : Type 0 where
+  pub found : Result Found Refusal
+  pub reads : Reads meaning old new offer b found
+  pub gives : turn ≡ turn_of found
+
+-- the turn of a call that is ready to commit its batch
+pub record TurnsLast (ready : Ready) (old new : Standing) (turn : Turn) : Type 0 where
+  pub result : Result BatchAnswer Refusal
+  pub writes : Writes ready old new result
+  pub gives : turn ≡ last_turn result
+
+-- one turn of a call
+abbrev pub Turns : Meaning → Option Ready → Standing → Standing → List ℕ → Batch → Turn → Type 0
+Turns meaning None old new offer b turn = TurnsFirst meaning old new offer b turn
+Turns meaning (Some ready) old new offer b turn = TurnsLast ready old new turn

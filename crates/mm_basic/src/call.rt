@@ -1,0 +1,114 @@
+//! A call that is moved one device step at a time.
+
+ghost use Rattle.std.specs.Prelude.{◌≡◌, None, true, false, IfOk, IfErr};
+ghost use Rattle.mm_module.specs.Batches.{batch_of};
+ghost use Rattle.mm_model.specs.Long.{is_long};
+
+use crate::found::{Found, Ready};
+use crate::step::{read, write};
+use mm_model::{BatchAnswer, Refusal};
+use mm_module::{Batch, Module};
+use mm_platform::Platform;
+use std::alloc::Global;
+use std::marker::Model;
+
+/// A call between two of its device steps. Contracts see what is ready to be committed, None before the cell
+/// was read.
+#[derive(Drop)]
+pub struct Call {
+    ready: Option<Ready>,
+}
+
+impl Model for Call {
+    ghost use Rattle.std.specs.Prelude.{Option};
+    ghost use Rattle.mm_basic.specs.declared.found.Ready.{Ready};
+
+    ghost Value = { Option Ready };
+
+    ghost view = { λ call. call.ready };
+}
+
+/// What one step of a call came to.
+#[derive(Drop)]
+pub enum Turn {
+    /// The call goes on, with its next step.
+    Going(Call),
+    /// The call is over: its last step was made.
+    Done(BatchAnswer),
+    /// The call is over: it was refused.
+    Refused(Refusal),
+}
+
+/// Begins a call. Long exactly where the batch is too long to be asked. Takes no memory.
+pub fn begin(batch: Batch<'_>) -> Result<Call, Refusal>
+    ensures ok { IfOk result (λ call. (call ≡ None) × (is_long (batch_of batch.entry) ≡ false)) }
+    ensures long { IfErr result (λ refusal. (refusal ≡ Refusal.Long) × (is_long (batch_of batch.entry) ≡ true)) }
+{
+    if mm_model::is_long(&batch) {
+        return Err(Refusal::Long);
+    }
+    Ok(Call { ready: None })
+}
+
+impl Call {
+    ghost use Rattle.std.specs.Prelude.{◌≡◌, false};
+    ghost use Rattle.mm_module.specs.Batches.{batch_of};
+    ghost use Rattle.mm_model.specs.Long.{is_long};
+    ghost use Rattle.mm_basic.specs.Steps.{number_of};
+    ghost use Rattle.mm_basic.specs.Turns.{Turns};
+
+    /// The number of the next device step, from 1.
+    pub fn next_step(&self) -> u8
+        ensures { result ≡ number_of self.now }
+    {
+        match &self.ready {
+            None => 1,
+            Some(_) => 2,
+        }
+    }
+
+    /// Makes the next device step.
+    pub fn advance<M: Module, P: Platform>(
+        self,
+        alloc: Global,
+        module: &M,
+        platform: &mut P,
+        offer: &[u8],
+        batch: Batch<'_>,
+    ) -> Turn
+        requires { is_long (batch_of batch) ≡ false }
+        ensures { Turns (M.meaning «module».now) self (P.standing platform.old) (P.standing platform.new) offer.now
+            (batch_of batch.entry) result }
+    {
+        match self.ready {
+            None => Turn::first(read(alloc, module, platform, offer, batch)),
+            Some(ready) => Turn::last(write(ready, platform)),
+        }
+    }
+}
+
+impl Turn {
+    ghost use Rattle.std.specs.Prelude.{◌≡◌};
+    ghost use Rattle.mm_basic.specs.Turns.{turn_of, last_turn};
+
+    // What the first step comes to.
+    fn first(found: Result<Found, Refusal>) -> Turn
+        ensures { result ≡ turn_of found }
+    {
+        match found {
+            Ok(Found::Repeat(answer)) => Turn::Done(answer),
+            Ok(Found::Change(ready)) => Turn::Going(Call { ready: Some(ready) }),
+            Err(refusal) => Turn::Refused(refusal),
+        }
+    }
+
+    // What the last step comes to.
+    fn last(answered: Result<BatchAnswer, Refusal>) -> Turn
+        ensures { result ≡ last_turn answered }
+    {
+        match answered {
+            Ok(answer) => Turn::Done(answer),
+            Err(refusal) => Turn::Refused(refusal),
+        }
+    }
+}

@@ -1,0 +1,193 @@
+//! What a call finds in the cell and the offer.
+
+ghost use Rattle.std.specs.Prelude.{◌≡◌, ◌+◌, ◌≤◌, ◌^◌, ◌↔◌, false, None, IsTrue, OnOk};
+ghost use Rattle.std.specs.Str.{bytes_eq};
+ghost use Rattle.mm_digest.specs.declared.variant.Variant.TheVariants.{Basic};
+ghost use Rattle.mm_module.specs.Batch.{Many, has_tab, normal, size_of};
+ghost use Rattle.mm_module.specs.Batches.{batch_of};
+ghost use Rattle.mm_seal.specs.Cell.{FitsVariant};
+ghost use Rattle.mm_seal.specs.Snapshot.{variant_of};
+ghost use Rattle.mm_model.specs.Chains.{link};
+ghost use Rattle.mm_model.specs.Judge.{verdict_by};
+ghost use Rattle.mm_model.specs.Long.{is_long};
+ghost use Rattle.mm_basic.specs.Seen.{IsCellOf, Both};
+ghost use Rattle.mm_basic.specs.Order.{admitted, examined, summary_in};
+ghost use Rattle.mm_basic.specs.Answers.{found_in};
+ghost use Rattle.mm_basic.specs.Steps.{FindsIn, OrMemory, fault_in};
+
+use crate::found::{Found, Ready};
+use crate::run::answer;
+use mm_digest::{Digest, Variant, successor, successor_batch};
+use mm_model::{Refusal, Verdict};
+use mm_module::{Batch, Module};
+use mm_seal::{Cell, CellFault, Offered, PartsFault, Place, cell_bytes, parts, read_cell};
+use std::alloc::Global;
+
+/// The greatest position.
+const LAST_POSITION: u64 = 1 << 48;
+
+/// What is found in the cell's bytes and the offered ones, in the order of the refusals.
+pub fn find<M: Module>(
+    alloc: Global,
+    module: &M,
+    bytes: &[u8; 104],
+    offer: &[u8],
+    batch: Batch<'_>,
+) -> Result<Found, Refusal>
+    requires { is_long (batch_of batch) ≡ false }
+    ensures finds { FindsIn (M.meaning «module».now) bytes.now offer.now (batch_of batch.entry) result }
+    ensures no_fault { fault_in result ≡ None }
+{
+    let cell = match read_cell(bytes) {
+        Err(CellFault::Blank) => return Err(Refusal::Blank),
+        Err(CellFault::Cell) => return Err(Refusal::Cell),
+        Ok(cell) => cell,
+    };
+    let id = module.id();
+    if !is_of(&cell, id) {
+        return Err(Refusal::Cell);
+    }
+    match parts(offer, Variant::Basic, id) {
+        Err(PartsFault::Form) => Err(Refusal::Form),
+        Err(PartsFault::Kind) => Err(Refusal::Kind),
+        Ok(offered) => weigh(alloc, module, &cell, &offered, batch),
+    }
+}
+
+// Whether the cell is one of Basic and of the module with this id.
+fn is_of(cell: &Cell, id: u8) -> bool
+    ensures { IsTrue result ↔ IsCellOf id cell.now }
+{
+    if cell.variant != Variant::Basic {
+        return false;
+    }
+    cell.module == id
+}
+
+// What is found in a cell and an offer, each of Basic and of the module.
+fn weigh<M: Module>(
+    alloc: Global,
+    module: &M,
+    cell: &Cell,
+    offered: &Offered<'_>,
+    batch: Batch<'_>,
+) -> Result<Found, Refusal>
+    requires cell { FitsVariant cell.now.variant cell.now.flag cell.now.barrier }
+    requires variant { variant_of offered.now.content.place ≡ Basic }
+    requires position { offered.now.content.position ≤ 2 ^ 48 }
+    requires short { is_long (batch_of batch) ≡ false }
+    ensures { OrMemory (found_in (M.meaning «module».now) (Both cell.now offered.now) (batch_of batch.entry)) result }
+{
+    let body = offered.body();
+    let here = summary_in(&body.place);
+    let next = link(&here, batch);
+    let verdict = verdict(&cell.summary, &here, &next);
+    let again = match examine(module, &cell.key, offered, batch, verdict) {
+        Err(refusal) => return Err(refusal),
+        Ok(again) => again,
+    };
+    let answer = match answer(alloc, module, &cell.key, &body, next, batch, again) {
+        Err(_) => return Err(Refusal::Memory),
+        Ok(answer) => answer,
+    };
+    if again {
+        return Ok(Found::Repeat(answer));
+    }
+    let next = cell_bytes(&Cell {
+        summary: next,
+        ..*cell
+    });
+    Ok(Found::Change(Ready { next, answer }))
+}
+
+// The summary of a place of Basic.
+fn summary_in(place: &Place) -> Digest
+    requires { variant_of place.now ≡ Basic }
+    ensures { result.bytes ≡ summary_in place.now }
+{
+    match place {
+        Place::Basic(summary) => *summary,
+        Place::Opt { .. } => unreachable!(),
+    }
+}
+
+// The summary after the batch.
+#[tactic(auto, using(crate::proofs::Links::links))]
+fn link(summary: &Digest, batch: Batch<'_>) -> Digest
+    ensures { result.bytes ≡ link summary.now.bytes (normal (batch_of batch.entry)) }
+{
+    match batch {
+        Batch::One(request) => successor(summary, request),
+        Batch::Many(text) => link_text(summary, text),
+    }
+}
+
+// The summary after the requests between the TABs of a text.
+#[tactic(auto, using(crate::proofs::Links::links))]
+fn link_text(summary: &Digest, text: &[u8]) -> Digest
+    ensures { result.bytes ≡ link summary.now.bytes (normal (Many text.now)) }
+{
+    if has_tab(text) {
+        successor_batch(summary, text)
+    } else {
+        successor(summary, text)
+    }
+}
+
+fn has_tab(text: &[u8]) -> bool
+    ensures { result ≡ has_tab text.now }
+{
+    text.iter().any(|byte| *byte == b'\t')
+}
+
+// The verdict on an offered summary, with the summary that the batch leads to.
+fn verdict(summary: &Digest, offered: &Digest, next: &Digest) -> Verdict
+    ensures { result ≡ verdict_by false (bytes_eq offered.now.bytes summary.now.bytes) (bytes_eq next.now.bytes summary.now.bytes) }
+{
+    if offered == summary {
+        return Verdict::Fresh;
+    }
+    if next == summary {
+        return Verdict::Again;
+    }
+    Verdict::Stale
+}
+
+// Whether the offer is accepted, and as a repeat, by the verdict on it.
+fn examine<M: Module>(
+    module: &M,
+    key: &[u8; 32],
+    offered: &Offered<'_>,
+    batch: Batch<'_>,
+    verdict: Verdict,
+) -> Result<bool, Refusal>
+    requires position { offered.now.content.position ≤ 2 ^ 48 }
+    requires short { is_long (batch_of batch) ≡ false }
+    ensures answer { result ≡ examined (M.meaning «module».now) key.now offered.now (batch_of batch.entry) verdict }
+    ensures spelled { OnOk result (IsTrue ((M.meaning «module».now).is_spelled offered.now.content.state)) }
+    ensures fits { OnOk result (offered.now.content.position + size_of (batch_of batch.entry) ≤ 2 ^ 48) }
+{
+    let body = offered.body();
+    if !module.state_is_spelled(body.state) {
+        return Err(Refusal::State);
+    }
+    if !offered.tag_right(key) {
+        return Err(Refusal::Tag);
+    }
+    let fits = body.position + batch.len() as u64 <= LAST_POSITION;
+    admit(verdict, fits)
+}
+
+// Whether the batch is a repeat, by the verdict and by whether there are positions left for it.
+fn admit(verdict: Verdict, fits: bool) -> Result<bool, Refusal>
+    ensures answer { result ≡ admitted verdict fits }
+    ensures fits { OnOk result (IsTrue fits) }
+{
+    match verdict {
+        Verdict::Lost => Err(Refusal::Lost),
+        Verdict::Stale => Err(Refusal::Stale),
+        Verdict::Fresh | Verdict::Again if !fits => Err(Refusal::Full),
+        Verdict::Fresh => Ok(false),
+        Verdict::Again => Ok(true),
+    }
+}

@@ -1,0 +1,104 @@
+//! A batch that runs in memory.
+
+ghost use Rattle.std.specs.Prelude.{◌≡◌, ◌+◌, ◌<◌, ◌≤◌, ◌^◌, false, IfOk, IsTrue, Some, slice_get};
+ghost use Rattle.mm_module.specs.Meaning.{IsLine, state_from, outputs_from};
+ghost use Rattle.mm_module.specs.Batch.{members_of, size_of, normal};
+ghost use Rattle.mm_module.specs.Batches.{batch_of};
+ghost use Rattle.mm_seal.specs.Body.{content_of};
+ghost use Rattle.mm_model.specs.Long.{is_long};
+ghost use Rattle.mm_basic.specs.Answers.{answer_at};
+ghost use Rattle.mm_basic.specs.Ran.{RanSome};
+
+use mm_base::{Bytes, Memory};
+use mm_digest::Digest;
+use mm_model::BatchAnswer;
+use mm_module::{Batch, Module, Outputs, Stepped};
+use mm_seal::{Body, Place, seal};
+use std::alloc::Global;
+
+/// The answer to a batch that runs from an offered state, with the summary that it leads to.
+pub fn answer<M: Module>(
+    alloc: Global,
+    module: &M,
+    key: &[u8; 32],
+    offered: &Body<'_>,
+    summary: Digest,
+    batch: Batch<'_>,
+    again: bool,
+) -> Result<BatchAnswer, Memory>
+    requires spelled { IsTrue ((M.meaning «module».now).is_spelled offered.now.state.now) }
+    requires fits { offered.now.position + size_of (batch_of batch) ≤ 2 ^ 48 }
+    requires short { is_long (batch_of batch) ≡ false }
+    ensures { IfOk result (λ answer. answer ≡ answer_at (M.meaning «module».now) key.now (content_of offered.now) summary (batch_of batch.entry) again) }
+{
+    let Ran { state, outputs } = run(alloc, module, offered.state, batch)?;
+    let position = offered.position + batch.len() as u64;
+    let body = Body {
+        module: module.id(),
+        place: Place::Basic(summary),
+        position,
+        state: state.as_slice(),
+    };
+    let snapshot = seal(alloc, key, &body)?;
+    Ok(BatchAnswer {
+        again,
+        position,
+        outputs,
+        snapshot,
+    })
+}
+
+/// What a batch came to.
+#[derive(Drop)]
+struct Ran {
+    state: Bytes,
+    outputs: Outputs,
+}
+
+// Runs the members of a batch one after another.
+fn run<M: Module>(alloc: Global, module: &M, state: &[u8], batch: Batch<'_>) -> Result<Ran, Memory>
+    requires spelled { IsTrue ((M.meaning «module».now).is_spelled state.now) }
+    requires short { is_long (batch_of batch) ≡ false }
+    ensures state { IfOk result (λ ran. ran.state ≡ state_from (M.meaning «module».now) state.now (members_of (batch_of batch.entry))) }
+    ensures outputs { IfOk result (λ ran. ran.outputs ≡ outputs_from (M.meaning «module».now) state.now (members_of (batch_of batch.entry))) }
+{
+    let mut ran = run_first(alloc, module, state, batch)?;
+    'members: for i in 1..batch.len() {
+        let request = request_at(batch, i);
+        let Stepped { state, output } = module.step(alloc, ran.state.as_slice(), request)?;
+        ran.state = state;
+        ran.outputs.push(output)?;
+    }
+    Ok(ran)
+}
+
+// Runs the first member of a batch.
+fn run_first<M: Module>(
+    alloc: Global,
+    module: &M,
+    state: &[u8],
+    batch: Batch<'_>,
+) -> Result<Ran, Memory>
+    requires spelled { IsTrue ((M.meaning «module».now).is_spelled state.now) }
+    requires short { is_long (batch_of batch) ≡ false }
+    ensures { IfOk result (λ ran. RanSome (M.meaning «module».now) state.now (members_of (batch_of batch.entry)) 1 ran.state ran.outputs) }
+{
+    let request = request_at(batch, 0);
+    let Stepped { state, output } = module.step(alloc, state, request)?;
+    let mut outputs = Outputs::new(alloc);
+    outputs.push(output)?;
+    Ok(Ran { state, outputs })
+}
+
+// The request at this index.
+fn request_at<'a>(batch: Batch<'a>, i: usize) -> &'a [u8]
+    requires within { i < size_of (batch_of batch) }
+    requires short { is_long (batch_of batch) ≡ false }
+    ensures at { slice_get (members_of (batch_of batch.entry)) i ≡ Some result.now }
+    ensures line { IsLine result.now }
+{
+    match batch.member(i) {
+        Some(request) => request,
+        None => unreachable!(),
+    }
+}

@@ -1,0 +1,42 @@
+//! The device steps of a call.
+
+ghost use Rattle.std.specs.Prelude.{◌≡◌, false};
+ghost use Rattle.mm_module.specs.Batches.{batch_of};
+ghost use Rattle.mm_model.specs.Long.{is_long};
+ghost use Rattle.mm_basic.specs.Steps.{Reads, Writes};
+
+use crate::find::find;
+use crate::found::{Found, Ready};
+use mm_model::{BatchAnswer, Refusal};
+use mm_module::{Batch, Module};
+use mm_platform::Platform;
+use std::alloc::Global;
+
+/// The first step: reads the cell, and runs the batch in memory.
+pub fn read<M: Module, P: Platform>(
+    alloc: Global,
+    module: &M,
+    platform: &mut P,
+    offer: &[u8],
+    batch: Batch<'_>,
+) -> Result<Found, Refusal>
+    requires { is_long (batch_of batch) ≡ false }
+    ensures { Reads (M.meaning «module».now) (P.standing platform.old) (P.standing platform.new) offer.now (batch_of batch.entry) result }
+{
+    let mut bytes = [0; 104];
+    match platform.nv_read(&mut bytes) {
+        Err(fault) => Err(Refusal::Device(fault)),
+        Ok(()) => find(alloc, module, &bytes, offer, batch),
+    }
+}
+
+/// The last step: writes the cell, which commits the batch.
+pub fn write<P: Platform>(ready: Ready, platform: &mut P) -> Result<BatchAnswer, Refusal>
+    ensures { Writes ready (P.standing platform.old) (P.standing platform.new) result }
+{
+    let Ready { next, answer } = ready;
+    match platform.nv_write(&next) {
+        Err(fault) => Err(Refusal::Device(fault)),
+        Ok(()) => Ok(answer),
+    }
+}
