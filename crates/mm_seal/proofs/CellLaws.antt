@@ -1,13 +1,15 @@
 -- Laws of the cell's spelling.
-use Rattle.std.proofs.Common.{ℕ, ◌≡◌, Bool, true, false, List, [], ◌∷◌, ◌++◌, length, get_or, refl, ap, sym, ◌∙◌, arith, length-append}
+use Rattle.std.proofs.Common.{Result, Ok, Err, ◌≢◌, ℕ, ◌≡◌, Bool, true, false, List, [], ◌∷◌, ◌++◌, length, get_or, refl, ap, sym, ◌∙◌, arith, length-append}
 use Rattle.std.specs.Prelude.{◌==◌}
 use Rattle.std.proofs.lemmas.List.{append-nil}
 use Rattle.mm_digest.specs.declared.variant.Variant.{Variant}
 use Rattle.mm_digest.specs.declared.variant.Variant.TheVariants.{Basic, Opt}
 use Rattle.mm_digest.specs.Messages.{variant_byte}
 use Rattle.mm_seal.specs.declared.cell.Cell.{Cell}
+use Rattle.mm_seal.specs.declared.cell.CellFault.{CellFault}
+use Rattle.mm_seal.specs.declared.cell.CellFault.TheVariants.{Blank, Cell as Unspelled}
 use Rattle.mm_seal.specs.Fields.{version_of}
-use Rattle.mm_seal.specs.Cell.{IsCell, flag_byte, cell_spelling}
+use Rattle.mm_seal.specs.Cell.{IsCell, FitsVariant, SpellsCell, ReadsCell, flag_byte, cell_spelling, blank_cell}
 use Rattle.mm_seal.proofs.FieldLaws.{append-injective}
 
 pub length-cell_spelling : (cell : Cell) → IsCell cell → length (cell_spelling cell) ≡ 104
@@ -100,3 +102,59 @@ cell_of_fields-only cell v bytes head summary key barrier is e p t =
       key = f.at_key i;
       barrier = f.at_barrier i;
     }
+
+head_of_cell : Cell → List ℕ
+head_of_cell cell =
+    0x4d ∷ 0x4d ∷ 0x4e ∷ version_of cell.module ∷ variant_byte cell.variant ∷ cell.module
+    ∷ flag_byte cell.flag ∷ 0 ∷ []
+
+-- a cell's own bytes, taken apart
+split_of_cell : (cell : Cell) → IsCell cell →
+    IsSplit (cell_spelling cell) (head_of_cell cell) cell.summary.bytes cell.key cell.barrier
+unfolding cell_spelling head_of_cell
+split_of_cell cell is = record {
+  after_head = cell.summary.bytes ++ (cell.key ++ cell.barrier);
+  after_summary = cell.key ++ cell.barrier;
+  after_key = cell.barrier;
+  rest = [];
+  whole = refl;
+  at_summary = refl;
+  at_key = refl;
+  at_barrier = sym (append-nil cell.barrier);
+  head_size = refl;
+  summary_size = is.summary;
+  key_size = is.key;
+  barrier_size = is.barrier;
+}
+
+head_variant : (cell : Cell) → variant_byte cell.variant ≡ get_or (head_of_cell cell) 4 0
+unfolding head_of_cell
+head_variant cell = refl
+
+-- each list of bytes is one cell's at most
+pub cell_spelling-injective : (a b : Cell) → IsCell a → IsCell b → cell_spelling a ≡ cell_spelling b → a ≡ b
+cell_spelling-injective a b ia ib e =
+    sym (cell_of_fields-only a a.variant (cell_spelling a) (head_of_cell a) a.summary.bytes a.key a.barrier ia refl
+    (split_of_cell a ia) (head_variant a))
+    ∙ cell_of_fields-only b a.variant (cell_spelling a) (head_of_cell a) a.summary.bytes a.key a.barrier ib e
+    (split_of_cell a ia) (head_variant a)
+
+zero_unlike_letter : (a b : ℕ) → a ≡ b → a ≡ 0 → b ≡ 0x4d → ⊥
+zero_unlike_letter a b e f g = omega arith
+
+-- a blank cell is no cell's bytes
+pub blank_cell-unspelled : (cell : Cell) → blank_cell ≢ cell_spelling cell
+unfolding blank_cell cell_spelling
+blank_cell-unspelled cell e = zero_unlike_letter 0 0x4d (ap (λ (x : List ℕ). get_or x 0 0) e) refl refl
+
+-- reading has one answer
+pub reads_cell-same : (bytes : List ℕ) (r s : Result Cell CellFault) → ReadsCell bytes r → ReadsCell bytes s → r ≡ s
+reads_cell-same bytes (Ok a) (Ok b) h k = ap Ok (cell_spelling-injective a b h.0 k.0 (sym h.1 ∙ k.1))
+reads_cell-same bytes (Ok a) (Err Blank) h k = absurd (blank_cell-unspelled a (sym k ∙ h.1))
+reads_cell-same bytes (Ok a) (Err Unspelled) h k = absurd (k.1 a h.0 h.1)
+reads_cell-same bytes (Err Blank) (Ok b) h k = absurd (blank_cell-unspelled b (sym h ∙ k.1))
+reads_cell-same bytes (Err Blank) (Err Blank) h k = refl
+reads_cell-same bytes (Err Blank) (Err Unspelled) h k = absurd (k.0 h)
+reads_cell-same bytes (Err Unspelled) (Ok b) h k = absurd (h.1 b k.0 k.1)
+reads_cell-same bytes (Err Unspelled) (Err Blank) h k = absurd (h.0 k)
+reads_cell-same bytes (Err Unspelled) (Err Unspelled) h k = refl

@@ -1,5 +1,5 @@
 -- Laws of the snapshot's spelling.
-use Rattle.std.proofs.Common.{ℕ, ◌≡◌, ◌≢◌, ◌+◌, ◌<◌, ◌≤◌, ◌^◌, List, [], ◌∷◌, ◌++◌, length, get_or, refl, ap, sym, ◌∙◌, arith, length-append, append_assoc}
+use Rattle.std.proofs.Common.{Result, Ok, Err, subst, ℕ, ◌≡◌, ◌≢◌, ◌+◌, ◌<◌, ◌≤◌, ◌^◌, List, [], ◌∷◌, ◌++◌, length, get_or, refl, ap, sym, ◌∙◌, arith, length-append, append_assoc}
 use Rattle.std.proofs.lemmas.List.{append-nil}
 use Rattle.std.proofs.lemmas.Bool.Decides.{nat_tests}
 use Rattle.mm_base.specs.Limits.{limit_of}
@@ -9,7 +9,10 @@ use Rattle.mm_digest.specs.Messages.{variant_byte}
 use Rattle.mm_seal.specs.declared.snapshot.Place.{Place}
 use Rattle.mm_seal.specs.declared.snapshot.Place.TheVariants.{Basic, Opt}
 use Rattle.mm_seal.specs.Fields.{version_of, eight_bytes, four_bytes}
-use Rattle.mm_seal.specs.Snapshot.{Content, IsContent, IsPlace, OneSpelling, variant_of, place_spelling, front_head, snapshot_front}
+use Rattle.mm_seal.specs.Snapshot.{Content, IsContent, IsPlace, Snapshot, IsSnapshot, snapshot_spelling, OneSpelling, variant_of, place_spelling, front_head, snapshot_front, Spells, IsOfKind, ReadsParts, tag_of, sealed_of}
+use Rattle.mm_digest.proofs.Lengths.{length-hmac_of}
+use Rattle.mm_seal.specs.declared.snapshot.PartsFault.{PartsFault}
+use Rattle.mm_seal.specs.declared.snapshot.PartsFault.TheVariants.{Form, Kind}
 use Rattle.mm_seal.specs.Body.{IsNoFront, HasHead, place_length}
 use Rattle.mm_seal.proofs.FieldLaws.{append-injective, eight_bytes-injective, four_bytes-injective, length-eight_bytes, length-four_bytes}
 use Rattle.mm_seal.proofs.CellLaws.{variant_byte-injective}
@@ -174,3 +177,30 @@ one_spelling s t rest is it e =
     let contents = same_front s.content t.content (s.tag ++ rest) t.tag is.content it.content regrouped in
     let tags = append-injective s.tag t.tag rest [] (is.tag ∙ sym it.tag) (contents.1 ∙ sym (append-nil t.tag)) in
     (λ i. record { content = contents.0 i; tag = tags.0 i }, tags.1)
+
+-- equal bytes are of one snapshot
+pub same_snapshot : (bytes : List ℕ) (s t : Snapshot) → Spells bytes s → Spells bytes t → s ≡ t
+same_snapshot bytes s t h k =
+    (one_spelling s t [] h.0 k.0 (append-nil (snapshot_spelling s) ∙ sym h.1 ∙ k.1)).0
+
+-- taking apart has one answer
+pub reads_parts-same : (bytes : List ℕ) (variant : Variant) (id : ℕ) (r s : Result Snapshot PartsFault) →
+    ReadsParts bytes variant id r → ReadsParts bytes variant id s → r ≡ s
+reads_parts-same bytes variant id (Ok a) (Ok b) h k = ap Ok (same_snapshot bytes a b h.0 k.0)
+reads_parts-same bytes variant id (Ok a) (Err Form) h k = absurd (k a h.0.0 h.0.1)
+reads_parts-same bytes variant id (Ok a) (Err Kind) h k =
+    absurd (k.2 (subst (λ (x : Snapshot). IsOfKind variant id x) (same_snapshot bytes a k.0 h.0 k.1) h.1))
+reads_parts-same bytes variant id (Err Form) (Ok b) h k = absurd (h b k.0.0 k.0.1)
+reads_parts-same bytes variant id (Err Form) (Err Form) h k = refl
+reads_parts-same bytes variant id (Err Form) (Err Kind) h k = absurd (h k.0 k.1.0 k.1.1)
+reads_parts-same bytes variant id (Err Kind) (Ok b) h k =
+    absurd (h.2 (subst (λ (x : Snapshot). IsOfKind variant id x) (same_snapshot bytes b h.0 k.0 h.1) k.1))
+reads_parts-same bytes variant id (Err Kind) (Err Form) h k = absurd (k h.0 h.1.0 h.1.1)
+reads_parts-same bytes variant id (Err Kind) (Err Kind) h k = refl
+
+-- a sealed content is spelled, with its tag under the key
+pub sealed_of-spells : (key : List ℕ) (content : Content) → IsContent content →
+    Spells (sealed_of key content) (record { content = content; tag = tag_of key content })
+unfolding sealed_of
+sealed_of-spells key content is =
+    (record { content = is; tag = length-hmac_of key (snapshot_front content) }, refl)

@@ -23,6 +23,18 @@ pub struct Cell {
     pub barrier: [u8; 32],
 }
 
+impl Cell {
+    /// Whether a Basic cell has a clear flag and a zero barrier; an Opt cell may have any.
+    pub fn fits_variant(&self) -> bool
+        ensures { IsTrue result ↔ FitsVariant self.now.variant self.now.flag self.now.barrier }
+    {
+        match self.variant {
+            Variant::Basic => !self.flag && self.barrier == mm_digest::zero().bytes,
+            Variant::Opt => true,
+        }
+    }
+}
+
 /// Why the cell's bytes are no cell.
 #[derive(Clone, Copy, Debug, PartialEq, Eq, Error)]
 pub enum CellFault {
@@ -93,20 +105,10 @@ fn cell_of(bytes: &[u8; 104]) -> Option<Cell>
         key,
         barrier,
     };
-    if fits_variant(&cell) && is_spelled(&cell, bytes) {
+    if cell.fits_variant() && is_spelled(&cell, bytes) {
         Some(cell)
     } else {
         None
-    }
-}
-
-// Whether the cell has a clear flag and a zero barrier, or is of Opt.
-fn fits_variant(cell: &Cell) -> bool
-    ensures { IsTrue result ↔ FitsVariant cell.now.variant cell.now.flag cell.now.barrier }
-{
-    match cell.variant {
-        Variant::Basic => !cell.flag && cell.barrier == mm_digest::zero().bytes,
-        Variant::Opt => true,
     }
 }
 

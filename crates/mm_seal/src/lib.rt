@@ -7,3 +7,6 @@ mod snapshot;
 
 pub use cell::{Cell, CellFault, cell_bytes, read_cell};
 pub use snapshot::{Body, Offered, OpenFault, PartsFault, Place, open, parts, seal};
+
+#[cfg(test)]
+mod tests;
