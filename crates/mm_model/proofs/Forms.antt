@@ -1,21 +1,19 @@
 -- Opt: what the tests of the verdict by digests say of lists of values.
-use Rattle.std.proofs.Common.{ℕ, ◌≡◌, ◌≢◌, Bool, true, false, ◌&&◌, ◌||◌, List, [], ◌∷◌, ◌++◌, cond, refl, sym, ap, ◌∙◌, subst, ◌⊎◌, inl, inr}
+use Rattle.std.proofs.Common.{ℕ, ◌≡◌, Bool, true, false, List, [], ◌∷◌, ◌++◌, refl, sym, ap, ◌∙◌, subst}
 use Rattle.std.specs.Bool.{Decides}
 use Rattle.std.specs.Str.{bytes_eq}
-use Rattle.std.specs.List.{AllByRecursion, Contains, list_any}
-use Rattle.std.proofs.lemmas.Bool.{or_cases}
+use Rattle.std.specs.List.{AllByRecursion, Contains}
 use Rattle.std.proofs.lemmas.Bool.Decides.{Decides-and}
 use Rattle.std.proofs.lemmas.Slice.Eq.{bytes_eq-Decides}
-use Rattle.mm_digest.specs.declared.variant.Variant.TheVariants.{Basic, Opt}
+use Rattle.mm_digest.specs.declared.variant.Variant.TheVariants.{Opt}
 use Rattle.mm_digest.specs.Messages.{zero_bytes, start_message, start_of, extended_message, extended_of, anchored_message, anchored_of}
-use Rattle.mm_model.specs.Chains.{after, trail, closing_message, register_of, anchor_of}
-use Rattle.mm_model.specs.Life.{is_empty}
-use Rattle.mm_model.specs.Judge.{Point, forms_of, fits_fresh, fits_again}
+use Rattle.mm_model.specs.Chains.{trail, closing_message, register_of, anchor_of}
+use Rattle.mm_model.specs.Judge.{Point, fits_fresh, fits_again}
 use Rattle.mm_model.specs.Messages.{Within, IsClear, register_trail, form_messages}
 use Rattle.mm_model.proofs.Lists.{each_append}
 use Rattle.mm_model.proofs.Chains.{trail_push}
 use Rattle.mm_model.proofs.Digests.{same_registers, same_anchors, register_nonzero, register-push, anchor-push}
-use Rattle.mm_model.proofs.Segments.{Fresh, Again, taken_in}
+use Rattle.mm_model.proofs.Segments.{Fresh, Again}
 
 -- all messages of these segments and of these values after them are listed
 pub record Listed (id : ℕ) (all : List (List ℕ)) (segments : List (List (List ℕ))) (values : List (List ℕ)) : Type 0 where

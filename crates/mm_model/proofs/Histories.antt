@@ -1,18 +1,18 @@
 -- Histories as lists: batches, entries and values, and what soundness tells of them.
-use Rattle.std.proofs.Common.{ℕ, ◌≡◌, ◌≢◌, ◌+◌, ◌≤◌, Bool, true, false, ◌&&◌, ◌||◌, List, [], ◌∷◌, ◌++◌, length, map, refl, sym, ap, ◌∙◌, subst, ◌⊎◌, inl, inr, arith, append_assoc, length-append}
-use Rattle.std.proofs.lemmas.List.{append-nil, map-append, length-map, same_from_push}
-use Rattle.std.proofs.lemmas.Bool.{and_parts, or_cases, or_parts}
-use Rattle.std.proofs.lemmas.List.Elements.{Contains-append_left, Contains-append_right}
-use Rattle.std.specs.List.{Contains, AllByRecursion}
+use Rattle.std.proofs.Common.{ℕ, ◌≡◌, true, false, ◌||◌, List, [], ◌∷◌, ◌++◌, length, map, refl, sym, ap, ◌∙◌, inl, inr, arith, append_assoc}
+use Rattle.std.proofs.lemmas.List.{map-append, same_from_push}
+use Rattle.std.proofs.lemmas.Bool.{and_parts}
+use Rattle.std.proofs.lemmas.List.Elements.{Contains-append_right}
+use Rattle.std.specs.List.{Contains}
 use Rattle.mm_module.specs.Batch.{Batch}
 use Rattle.mm_model.specs.Chains.{guard, own_values}
-use Rattle.mm_model.specs.History.{Entry, Own, Value, History, joined, value_of, values_of}
+use Rattle.mm_model.specs.History.{Entry, Own, Value, joined, value_of, values_of}
 use Rattle.mm_model.specs.Life.{is_empty, has_value, are_own, same_batch}
 use Rattle.mm_model.specs.Messages.{values_in}
 use Rattle.mm_model.specs.Sound.{batches_in}
-use Rattle.mm_model.proofs.Lists.{HasLast, ends}
+use Rattle.mm_model.proofs.Lists.{ends}
 use Rattle.mm_model.proofs.Batches.{same_batch-Decides}
-use Rattle.mm_model.proofs.Segments.{joined-append, true_not_false}
+use Rattle.mm_model.proofs.Segments.{true_not_false}
 
 pub own_values-append : (barrier : List ℕ) (bs cs : List Batch) → own_values barrier (bs ++ cs) ≡ own_values barrier bs ++ own_values barrier cs
 own_values-append barrier bs cs = map-append (guard barrier) bs cs

@@ -11,3 +11,7 @@ pub mod Histories
 pub mod Paths
 pub mod Opt
 pub mod OptJudge
+pub mod Moves
+pub mod MovedDigests
+pub mod Named
+pub mod Ends

@@ -1,27 +1,18 @@
 -- Opt: the verdict by digests is the verdict on the history.
-use Rattle.std.proofs.Common.{ℕ, ◌≡◌, ◌≢◌, ◌+◌, Bool, true, false, ◌&&◌, ◌||◌, List, [], ◌∷◌, ◌++◌, length, map, refl, sym, ap, ◌∙◌, subst, ◌⊎◌, inl, inr}
-use Rattle.std.specs.Prelude.{nat_eq, if◌then◌else◌}
+use Rattle.std.proofs.Common.{ℕ, ◌≡◌, Bool, true, false, ◌||◌, List, [], ◌∷◌, ◌++◌, refl, sym, ap, ◌∙◌, subst, ◌⊎◌, inl, inr}
+use Rattle.std.specs.Prelude.{if◌then◌else◌}
 use Rattle.std.specs.Bool.{Decides}
 use Rattle.std.specs.Str.{bytes_eq}
-use Rattle.std.specs.List.{AllByRecursion, Contains, list_any, flat_map}
-use Rattle.std.proofs.lemmas.List.{append-nil}
-use Rattle.std.proofs.lemmas.List.Elements.{Contains-append_left, Contains-append_right}
-use Rattle.std.proofs.lemmas.Slice.Eq.{bytes_eq-Decides}
-use Rattle.mm_digest.specs.declared.variant.Variant.TheVariants.{Basic, Opt}
-use Rattle.mm_digest.specs.Messages.{zero_bytes, start_message, start_of, extended_of, anchored_message, anchored_of}
-use Rattle.mm_module.specs.Batch.{Batch, size_of}
-use Rattle.mm_module.specs.Meaning.{Meaning}
-use Rattle.mm_model.specs.declared.verdict.Verdict.TheVariants.{Fresh as IsFresh, Again as IsAgain, Lost as IsLost, Stale as IsStale}
-use Rattle.mm_model.specs.Chains.{trail, guard_message, closing_message, guard, register_of, anchor_of, own_values}
-use Rattle.mm_model.specs.History.{Entry, History, joined, total_of, value_of, values_of}
-use Rattle.mm_model.specs.Life.{is_empty, has_value, are_own}
-use Rattle.mm_model.specs.Judge.{Point, forms_of, fits_fresh, fits_again, is_last, verdict_by, opt_verdict, judge, judged}
+use Rattle.std.specs.List.{Contains, list_any}
+use Rattle.mm_digest.specs.Messages.{zero_bytes, anchored_message, anchored_of}
+use Rattle.mm_model.specs.Chains.{register_of, anchor_of}
+use Rattle.mm_model.specs.Life.{is_empty}
+use Rattle.mm_model.specs.Judge.{Point, forms_of, fits_fresh, fits_again}
 use Rattle.mm_model.specs.Messages.{Within, IsClear, register_trail, form_messages, point_messages}
 use Rattle.mm_model.proofs.Lists.{each_left, each_right}
-use Rattle.mm_model.proofs.Chains.{trail_push}
-use Rattle.mm_model.proofs.Digests.{register-push, anchor-push}
+use Rattle.mm_model.proofs.Digests.{anchor-push}
 use Rattle.mm_model.proofs.Batches.{same_tests}
-use Rattle.mm_model.proofs.Segments.{Fresh, Again, taken_in, true_not_false}
+use Rattle.mm_model.proofs.Segments.{Fresh, Again, true_not_false}
 use Rattle.mm_model.proofs.Forms.{Listed, Clears, point_of, fresh_tells, again_tells, zero_register, listed_segment, reads_zero}
 
 either : {A B : Type 0} (x y : Bool) → Decides x A → Decides y B → Decides (x || (y || false)) (A ⊎ B)

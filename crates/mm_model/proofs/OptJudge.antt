@@ -1,16 +1,14 @@
 -- Opt: from a sound history the verdict by digests is the verdict on the history.
-use Rattle.std.proofs.Common.{ℕ, ◌≡◌, ◌≢◌, ◌+◌, Bool, true, false, ◌&&◌, ◌||◌, List, [], ◌∷◌, ◌++◌, length, map, refl, sym, ap, ◌∙◌, subst, ◌⊎◌, inl, inr, append_assoc}
+use Rattle.std.proofs.Common.{ℕ, ◌≡◌, ◌≢◌, ◌+◌, Bool, true, false, ◌&&◌, ◌||◌, List, [], ◌∷◌, ◌++◌, length, map, refl, sym, ap, ◌∙◌, subst, ◌⊎◌, inl, inr}
 use Rattle.std.specs.Prelude.{nat_eq, if◌then◌else◌}
 use Rattle.std.specs.Bool.{Decides}
 use Rattle.std.specs.Str.{bytes_eq}
 use Rattle.std.specs.List.{AllByRecursion, Contains, list_any, flat_map}
 use Rattle.std.proofs.lemmas.List.{append-nil, map-append}
-use Rattle.std.proofs.lemmas.List.Elements.{Contains-append_left, Contains-append_right, Contains-append_cases, Contains-push, Contains-push_cases}
-use Rattle.mm_digest.specs.declared.variant.Variant.TheVariants.{Basic, Opt}
+use Rattle.std.proofs.lemmas.List.Elements.{Contains-append_left, Contains-append_right, Contains-push, Contains-push_cases}
+use Rattle.mm_digest.specs.declared.variant.Variant.TheVariants.{Opt}
 use Rattle.mm_digest.specs.Messages.{zero_bytes, start_message, start_of}
 use Rattle.mm_module.specs.Batch.{Batch, size_of}
-use Rattle.mm_model.specs.declared.verdict.Verdict.{Verdict}
-use Rattle.mm_model.specs.declared.verdict.Verdict.TheVariants.{Fresh as IsFresh, Again as IsAgain, Lost as IsLost, Stale as IsStale}
 use Rattle.mm_model.specs.Chains.{trail, guard_message, closing_message, guard, register_of, anchor_of, own_values}
 use Rattle.mm_module.specs.Meaning.{Meaning}
 use Rattle.mm_seal.specs.declared.snapshot.Place.{Place}
@@ -22,16 +20,16 @@ use Rattle.mm_model.specs.Life.{is_empty, has_value, are_own, Life, Live, Spoile
 use Rattle.mm_model.specs.Judge.{verdict_by_digests, forms_of, fits_fresh, fits_again, is_last, verdict_by, opt_verdict, judge, judged}
 use Rattle.mm_model.specs.Places.{IsPoint, IsPlaceOf, Names, anchor_after}
 use Rattle.mm_model.specs.Messages.{Within, IsClear, IsClearFor, register_trail, point_messages, messages_of, runs_of, counting, values_in, AreNoGuards}
-use Rattle.mm_model.specs.Sound.{IsSound, IsClean, IsMarred, batches_in}
+use Rattle.mm_model.specs.Sound.{IsSound, IsClean, batches_in}
 use Rattle.mm_model.proofs.Lists.{each_left, each_right, each_append}
 use Rattle.mm_model.proofs.Chains.{trail_front}
 use Rattle.mm_model.proofs.Digests.{same_own_values}
 use Rattle.mm_model.proofs.Batches.{same_tests, at_the_end, before_the_last}
 use Rattle.mm_model.proofs.Basic.{verdicts}
-use Rattle.mm_model.proofs.Segments.{joined-append, joined-push, true_not_false, Fresh, Again, taken_in, fresh_joins, again_joins, Reaches, IsHeld, fresh_from, again_from}
+use Rattle.mm_model.proofs.Segments.{joined-push, true_not_false, taken_in, fresh_joins, again_joins, Reaches, IsHeld, fresh_from, again_from}
 use Rattle.mm_model.proofs.Forms.{Listed, Clears}
-use Rattle.mm_model.proofs.Histories.{own_values-append, values_of-append, joined-values, has_value-append, values_of-clean, values_of-own, Meets, meets}
-use Rattle.mm_model.proofs.Paths.{Path, path_of, RunsListed, empty_cases, marred_has}
+use Rattle.mm_model.proofs.Histories.{own_values-append, values_of-append, joined-values, has_value-append, values_of-clean, values_of-own, meets}
+use Rattle.mm_model.proofs.Paths.{path_of, RunsListed, empty_cases, marred_has}
 use Rattle.mm_model.proofs.Opt.{zero_tells, FreshSomehow, AgainSomehow, fresh_somehow, again_somehow}
 
 each_flat : {A B : Type 0} (P : B → Type 0) (f : A → List B) (xs : List A) → AllByRecursion P (flat_map f xs) → AllByRecursion (λ x. AllByRecursion P (f x)) xs
@@ -126,7 +124,7 @@ counted_values barrier true closed items =
 counted_values barrier false closed items =
     append-nil (joined (map (values_of barrier) closed)) ∙ joined-values barrier closed ∙ ap (values_of barrier) (sym (append-nil (joined closed)))
 
-shut_current : (y : History) → IsSound y → y.is_open ≡ false → y.current ≡ []
+pub shut_current : (y : History) → IsSound y → y.is_open ≡ false → y.current ≡ []
 shut_current y sound shut =
     elim (empty_cases y.current) [
       | inl none ↦ none

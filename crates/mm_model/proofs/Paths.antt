@@ -1,8 +1,8 @@
 -- Opt: a place of a sound history as a path, some first closed segments and some batches after them.
-use Rattle.std.proofs.Common.{ℕ, zero, suc, ◌≡◌, ◌≢◌, ◌+◌, ◌-◌, ◌≤◌, Bool, true, false, ◌||◌, List, [], ◌∷◌, ◌++◌, length, map, take, drop, refl, sym, ap, ◌∙◌, subst, ◌⊎◌, inl, inr, arith, append_assoc, length-append}
-use Rattle.std.proofs.lemmas.List.{append-nil, append_cancel_left, append_cancel_right, length-map, length-drop, drop-append-le, take_all}
+use Rattle.std.proofs.Common.{ℕ, zero, suc, ◌≡◌, ◌-◌, ◌≤◌, Bool, true, false, ◌||◌, List, [], ◌∷◌, ◌++◌, length, map, take, drop, refl, sym, ap, ◌∙◌, subst, ◌⊎◌, inl, inr, arith, append_assoc, length-append}
+use Rattle.std.proofs.lemmas.List.{append-nil, append_cancel_right, length-map, length-drop, drop-append-le}
 use Rattle.std.proofs.lemmas.Bool.{or_parts}
-use Rattle.std.specs.List.{AllByRecursion, Contains}
+use Rattle.std.specs.List.{AllByRecursion}
 use Rattle.mm_digest.specs.Messages.{zero_bytes, extended_message}
 use Rattle.mm_module.specs.Batch.{Batch}
 use Rattle.mm_model.specs.Chains.{guard, register_of, own_values}
@@ -14,9 +14,9 @@ use Rattle.mm_model.specs.Messages.{Within, register_trail, closed_runs, runs_of
 use Rattle.mm_model.specs.Sound.{IsSound, IsClean, IsMarred, batches_in}
 use Rattle.mm_model.proofs.Lists.{each_left, each_right}
 use Rattle.mm_model.proofs.Chains.{trail_front}
-use Rattle.mm_model.proofs.Segments.{same_halves, joined-append, joined-push, true_not_false, nothing_left, not_empty, Reaches}
+use Rattle.mm_model.proofs.Segments.{same_halves, joined-append, joined-push, true_not_false, nothing_left, Reaches}
 use Rattle.mm_model.proofs.Forms.{reads_zero}
-use Rattle.mm_model.proofs.Histories.{own_values-append, has_value-append, batches_in-append, length-batches_in, values_of-clean, Sooner, sooner}
+use Rattle.mm_model.proofs.Histories.{own_values-append, has_value-append, batches_in-append, length-batches_in, values_of-clean, sooner}
 
 -- the batches begin with those of these segments, which hold no value that stands for none
 pub record Begins (y : History) (before : List (List Entry)) : Type 0 where
@@ -24,7 +24,7 @@ pub record Begins (y : History) (before : List (List Entry)) : Type 0 where
   pub tail : List Batch
   pub is : y.batches ≡ batches_in (joined before) ++ tail
 
-begins_clean : (y : History) (before later : List (List Entry)) → IsClean y → y.closed ≡ before ++ later → Begins y before
+pub begins_clean : (y : History) (before later : List (List Entry)) → IsClean y → y.closed ≡ before ++ later → Begins y before
 begins_clean y before later h split =
     let whole : joined y.closed ≡ joined before ++ joined later = ap joined split ∙ joined-append before later in
     let tests = or_parts (has_value (joined before)) (has_value (joined later))
@@ -133,14 +133,14 @@ path_at_anchor i y named rest a e all sound first p =
     }
 
 -- what a current segment tells: the history is clean
-current_clean : (y : History) → IsSound y → is_empty y.current ≡ false → IsClean y
+pub current_clean : (y : History) → IsSound y → is_empty y.current ≡ false → IsClean y
 current_clean y sound some =
     elim sound.history [
       | inl h ↦ h
       | inr h ↦ absurd (true_not_false (sym (sound.open_is some) ∙ h.shut))
     ]
 
-begun_longer : (taken more : List Batch) → is_empty taken ≡ false → is_empty (taken ++ more) ≡ false
+pub begun_longer : (taken more : List Batch) → is_empty taken ≡ false → is_empty (taken ++ more) ≡ false
 begun_longer [] more b = absurd (true_not_false b)
 begun_longer (x ∷ xs) more b = refl
 

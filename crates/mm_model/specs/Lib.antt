@@ -12,3 +12,4 @@ pub mod Codes
 pub mod Run
 pub mod Examples
 pub mod Long
+pub mod Moves

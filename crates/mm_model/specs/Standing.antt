@@ -6,7 +6,7 @@ use Rattle.mm_digest.specs.declared.variant.Variant.TheVariants.{Basic, Opt}
 use Rattle.mm_seal.specs.declared.cell.Cell.{Cell}
 use Rattle.mm_seal.specs.Cell.{IsCell, cell_spelling}
 use Rattle.mm_seal.specs.Snapshot.{Content, IsContent, variant_of, sealed_of}
-use Rattle.mm_platform.specs.Standing.{Standing, Item, values_of, register_of}
+use Rattle.mm_platform.specs.Standing.{Standing, values_of, register_of}
 use Rattle.mm_model.specs.Instance.{Instance}
 use Rattle.mm_model.specs.History.{History, cell_digest_of, register_value_of}
 use Rattle.mm_model.specs.Places.{Names, digest_of, issued}

@@ -10,14 +10,16 @@ ghost use Rattle.mm_digest.specs.Messages.{zero_bytes, start_message, start_of, 
 ghost use Rattle.mm_module.specs.Batch.{Batch, One, Many};
 ghost use Rattle.mm_module.specs.Meaning.{Meaning};
 ghost use Rattle.mm_model.specs.Chains.{trail, link_message, guard_message, closing_message, link, guard, summary_of, register_of, anchor_of};
-ghost use Rattle.mm_model.specs.Instance.{basic, opt};
+ghost use Rattle.mm_model.specs.Instance.{Instance, basic, opt};
 ghost use Rattle.mm_model.specs.History.{History, cell_digest_of, register_value_of};
 ghost use Rattle.mm_platform.specs.Standing.{register_of as folded_of};
 ghost use Rattle.mm_seal.specs.Snapshot.{Content};
 ghost use Rattle.mm_model.specs.Places.{Names};
 ghost use Rattle.mm_model.specs.Judge.{judge, verdict_by_digests};
-ghost use Rattle.mm_model.specs.Messages.{Within, IsClear, IsClearFor, history_messages, register_trail};
-ghost use Rattle.mm_model.specs.Life.{is_lost, life_of};
+ghost use Rattle.mm_model.specs.Messages.{Within, IsClear, IsClearFor, history_messages, offer_messages, register_trail, AreNoGuards, values_in, counting};
+ghost use Rattle.mm_model.specs.Life.{is_lost, life_of, Spoiled, Lost as LostLife};
+ghost use Rattle.mm_model.specs.declared.verdict.Verdict.TheVariants.{Lost, Stale};
+ghost use Rattle.mm_seal.specs.declared.snapshot.Place.{Place};
 ghost use Rattle.mm_model.specs.Sound.{IsSound};
 
 /// A batch of one request has the messages and digests of that request, and a batch of several those of
@@ -106,4 +108,26 @@ pub fn zero_is_lost()
         Within (history_messages (opt meaning key barrier) y) all →
         (y.is_open && bytes_eq (register_value_of (opt meaning key barrier) y) zero_bytes)
         ≡ is_lost (life_of Opt y) }
+{}
+
+/// Opt: an offer that names a position isn't accepted once the history is Spoiled or Lost.
+pub fn ended_histories_accept_nothing()
+    ensures spoiled { (meaning : Meaning) (key barrier : List ℕ) (y : History) (offered : Content) (b : Batch)
+        (all : List (List ℕ)) → IsSound y → IsClearFor all (opt meaning key barrier) y offered.place b →
+        Names (opt meaning key barrier) y offered → life_of Opt y ≡ Spoiled →
+        verdict_by_digests barrier y.is_open (cell_digest_of (opt meaning key barrier) Opt y)
+        (register_value_of (opt meaning key barrier) y) offered.place b ≡ Stale }
+    ensures lost { (meaning : Meaning) (key barrier : List ℕ) (y : History) (offered : Content) (b : Batch)
+        (all : List (List ℕ)) → IsSound y → IsClearFor all (opt meaning key barrier) y offered.place b →
+        Names (opt meaning key barrier) y offered → life_of Opt y ≡ LostLife →
+        verdict_by_digests barrier y.is_open (cell_digest_of (opt meaning key barrier) Opt y)
+        (register_value_of (opt meaning key barrier) y) offered.place b ≡ Lost }
+{}
+
+/// The messages of a history and a call alone may be that list.
+pub fn histories_list_their_messages()
+    ensures { (i : Instance) (y : History) (place : Place) (b : Batch) →
+        IsClear (history_messages i y ++ offer_messages i place b) →
+        AreNoGuards i.barrier (values_in (counting y)) (b ∷ y.batches) →
+        IsClearFor (history_messages i y ++ offer_messages i place b) i y place b }
 {}

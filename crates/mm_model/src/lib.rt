@@ -6,6 +6,7 @@ mod examples;
 mod laws;
 mod long;
 mod machine;
+mod move_laws;
 mod refusal;
 mod verdict;
 
@@ -13,10 +14,14 @@ pub use answer::{Answer, BatchAnswer};
 pub use examples::{after_one_request, after_two_requests};
 pub use laws::{
     anchors_are_told_apart, basic_verdict_is_judged, batches_are_hashed, batches_are_told_apart,
-    chains_go_on, opt_verdict_is_judged, registers_are_told_apart, summaries_are_told_apart,
-    zero_is_lost,
+    chains_go_on, ended_histories_accept_nothing, histories_list_their_messages,
+    opt_verdict_is_judged, registers_are_told_apart, summaries_are_told_apart, zero_is_lost,
 };
 pub use long::is_long;
 pub use machine::Machine;
+pub use move_laws::{
+    answers_name_the_last_position, basic_messages_go_on, moves_are_device_steps,
+    moves_keep_histories_sound, moves_keep_names, moves_keep_values_outside,
+};
 pub use refusal::Refusal;
 pub use verdict::Verdict;

@@ -1,0 +1,89 @@
+-- When a move is made, and what it does to the digests.
+use Rattle.std.specs.Prelude.{◌≡◌, ◌+◌, ℕ, Bool, true, false, List, [], ◌∷◌, ◌++◌}
+use Rattle.std.specs.List.{AllByRecursion, Contains}
+use Rattle.mm_digest.specs.declared.variant.Variant.{Variant}
+use Rattle.mm_digest.specs.declared.variant.Variant.TheVariants.{Basic, Opt}
+use Rattle.mm_digest.specs.Messages.{zero_bytes, extended_of, anchored_of}
+use Rattle.mm_module.specs.Batch.{Batch, size_of}
+use Rattle.mm_model.specs.Chains.{link, guard}
+use Rattle.mm_model.specs.Instance.{Instance}
+use Rattle.mm_model.specs.History.{Entry, Value, History, Move, Commit, Foreign, Placed, Reset, Close, Power, joined, total_of, cell_digest_of, register_value_of, renamed}
+use Rattle.mm_model.specs.Life.{is_empty, has_value}
+use Rattle.mm_model.specs.Sound.{batches_in}
+use Rattle.mm_model.specs.Messages.{values_in, counting}
+use Rattle.mm_model.specs.Standing.{flag_of}
+
+-- A batch may open a segment: no closed one is spoiled, and the register was emptied before, then took in values
+-- that stand for no batch, and last the guard of this one.
+pub record IsOpening (i : Instance) (y : History) (b : Batch) : Type 0 where
+  pub clean : has_value (joined y.closed) ≡ false
+  pub front : List Entry
+  pub items : y.items ≡ front ++ Value (guard i.barrier b) ∷ []
+  pub others : batches_in front ≡ []
+
+-- when calls, others and losses of power make a move: by the variant and whether a segment is open
+abbrev pub IsAllowed : Variant → Bool → Instance → History → Move → Type 0
+IsAllowed Basic is_open i y (Commit b) = Unit {0}
+IsAllowed Basic is_open i y (Placed b) = ⊥
+IsAllowed Basic is_open i y Reset = ⊥
+IsAllowed Basic is_open i y Close = ⊥
+IsAllowed Opt true i y (Commit b) = is_empty y.items ≡ false
+IsAllowed Opt false i y (Commit b) = IsOpening i y b
+IsAllowed Opt true i y (Placed b) = ⊥
+IsAllowed Opt false i y (Placed b) = Unit {0}
+IsAllowed Opt true i y Reset = ⊥
+IsAllowed Opt false i y Reset = Unit {0}
+IsAllowed Opt true i y Close = is_empty y.items ≡ false
+IsAllowed Opt false i y Close = ⊥
+IsAllowed variant is_open i y (Foreign d) = Unit {0}
+IsAllowed variant is_open i y Power = Unit {0}
+
+abbrev pub MayMove : Instance → History → Move → Type 0
+MayMove i y m = IsAllowed i.variant y.is_open i y m
+
+-- what stands on a platform, by digests: the cell's summary or anchor and its flag, the register's value, and the
+-- number of committed requests
+pub record Digests : Type 0 where
+  pub digest : List ℕ
+  pub flag : Bool
+  pub register : List ℕ
+  pub count : ℕ
+
+abbrev pub digests_of : Instance → History → Digests
+digests_of i y = record {
+  digest = cell_digest_of i i.variant y;
+  flag = flag_of i.variant y;
+  register = register_value_of i y;
+  count = total_of y.batches;
+}
+
+-- Basic writes the cell; Opt extends the register inside a segment, and sets the cell's flag to open one
+abbrev pub committing : Variant → Bool → Instance → Digests → Batch → Digests
+committing Basic flag i d b = record d { digest = link d.digest b; count = d.count + size_of b }
+committing Opt true i d b = record d { register = extended_of d.register (guard i.barrier b); count = d.count + size_of b }
+committing Opt false i d b = record d { flag = true; count = d.count + size_of b }
+
+-- what a move does to the digests: the effect of the device step that makes it
+abbrev pub made : Instance → Digests → Move → Digests
+made i d (Commit b) = committing i.variant d.flag i d b
+made i d (Foreign v) = record d { register = extended_of d.register v }
+made i d (Placed b) = record d { register = extended_of d.register (guard i.barrier b) }
+made i d Reset = record d { register = zero_bytes }
+made i d Close = record d { digest = anchored_of d.digest d.register; flag = false }
+made i d Power = record d { register = zero_bytes }
+
+-- each value that stands for no batch and counts is among those that others put there
+abbrev pub IsOutside : List (List ℕ) → History → Type 0
+IsOutside others y = AllByRecursion (Contains others) (values_in (counting y))
+
+-- what a move takes in from others is among these values: a foreign value, and what the register took in before a
+-- batch that opens a segment
+abbrev pub Brings : Variant → Bool → List (List ℕ) → History → Move → Type 0
+Brings Opt false others y (Commit b) = AllByRecursion (Contains others) (values_in (renamed y.items b))
+Brings Opt true others y (Commit b) = Unit {0}
+Brings Basic is_open others y (Commit b) = Unit {0}
+Brings variant is_open others y (Foreign d) = Contains others d
+Brings variant is_open others y (Placed b) = Unit {0}
+Brings variant is_open others y Reset = Unit {0}
+Brings variant is_open others y Close = Unit {0}
+Brings variant is_open others y Power = Unit {0}

@@ -1,0 +1,67 @@
+//! Laws of the moves, each the contract of a function that does nothing: what calls, others and losses of
+//! power keep.
+
+ghost use Rattle.std.specs.Prelude.{◌≡◌, ℕ, false, List, [], ◌∷◌};
+ghost use Rattle.std.specs.List.{Contains};
+ghost use Rattle.mm_digest.specs.declared.variant.Variant.TheVariants.{Opt};
+ghost use Rattle.mm_module.specs.Batch.{Batch};
+ghost use Rattle.mm_module.specs.Meaning.{Meaning};
+ghost use Rattle.mm_seal.specs.Snapshot.{Content};
+ghost use Rattle.mm_model.specs.Chains.{link_message, summary_of};
+ghost use Rattle.mm_model.specs.Instance.{basic, opt};
+ghost use Rattle.mm_model.specs.History.{History, Move, Commit, first_history, joined, moved};
+ghost use Rattle.mm_model.specs.Life.{has_value};
+ghost use Rattle.mm_model.specs.Sound.{IsSound};
+ghost use Rattle.mm_model.specs.Places.{Names, issued};
+ghost use Rattle.mm_model.specs.Messages.{Within, history_messages};
+ghost use Rattle.mm_model.specs.Moves.{MayMove, digests_of, made, IsOutside, Brings};
+
+/// Opt: the first history is sound, and each move leads from a sound history to a sound one.
+pub fn moves_keep_histories_sound()
+    ensures first { IsSound first_history }
+    ensures next { (meaning : Meaning) (key barrier : List ℕ) (y : History) (m : Move) → IsSound y →
+        MayMove (opt meaning key barrier) y m → IsSound (moved (opt meaning key barrier) y m) }
+{}
+
+/// A snapshot that names a position of a history names it after each move.
+pub fn moves_keep_names()
+    ensures basic { (meaning : Meaning) (key : List ℕ) (y : History) (m : Move) (offered : Content) →
+        Names (basic meaning key) y offered → Names (basic meaning key) (moved (basic meaning key) y m) offered }
+    ensures opt { (meaning : Meaning) (key barrier : List ℕ) (y : History) (m : Move) (offered : Content) → IsSound y →
+        MayMove (opt meaning key barrier) y m → Names (opt meaning key barrier) y offered →
+        Names (opt meaning key barrier) (moved (opt meaning key barrier) y m) offered }
+{}
+
+/// The snapshot of an answer names the last position, in Opt where no closed segment is spoiled.
+pub fn answers_name_the_last_position()
+    ensures basic { (meaning : Meaning) (key : List ℕ) (y : History) → Names (basic meaning key) y (issued (basic meaning key) y) }
+    ensures opt { (meaning : Meaning) (key barrier : List ℕ) (y : History) → IsSound y → has_value (joined y.closed) ≡ false →
+        Names (opt meaning key barrier) y (issued (opt meaning key barrier) y) }
+{}
+
+/// Opt: where others put in each value that stands for no batch and counts, they did after each move too.
+pub fn moves_keep_values_outside()
+    ensures first { (others : List (List ℕ)) → IsOutside others first_history }
+    ensures next { (meaning : Meaning) (key barrier : List ℕ) (others : List (List ℕ)) (y : History) (m : Move) →
+        IsOutside others y → MayMove (opt meaning key barrier) y m → Brings Opt y.is_open others y m →
+        IsOutside others (moved (opt meaning key barrier) y m) }
+{}
+
+/// A move does to the digests what the device step that makes it does.
+pub fn moves_are_device_steps()
+    ensures basic { (meaning : Meaning) (key : List ℕ) (y : History) (m : Move) → MayMove (basic meaning key) y m →
+        digests_of (basic meaning key) (moved (basic meaning key) y m)
+        ≡ made (basic meaning key) (digests_of (basic meaning key) y) m }
+    ensures opt { (meaning : Meaning) (key barrier : List ℕ) (y : History) (m : Move) → MayMove (opt meaning key barrier) y m →
+        digests_of (opt meaning key barrier) (moved (opt meaning key barrier) y m)
+        ≡ made (opt meaning key barrier) (digests_of (opt meaning key barrier) y) m }
+{}
+
+/// Basic: where the messages of a history are listed, and a batch's link message is, those of the history with
+/// the batch are.
+pub fn basic_messages_go_on()
+    ensures { (meaning : Meaning) (key : List ℕ) (y : History) (b : Batch) (all : List (List ℕ)) →
+        Within (history_messages (basic meaning key) y) all →
+        Contains all (link_message (summary_of meaning.id y.batches) b) →
+        Within (history_messages (basic meaning key) (moved (basic meaning key) y (Commit b))) all }
+{}
