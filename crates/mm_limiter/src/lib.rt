@@ -1,0 +1,9 @@
+//! The limiter: a secret that may be guessed a limited number of times.
+#![tactic(auto)]
+
+mod limiter;
+
+pub use limiter::Limiter;
+
+#[cfg(test)]
+mod tests;
