@@ -1,12 +1,11 @@
 -- What is found, by what the offer is examined to.
-use Rattle.std.proofs.Common.{◌≡◌, ℕ, Bool, true, false, List, Result, Ok, Err, None, refl, sym, ap, ◌∙◌, subst, inl, inr}
-use Rattle.mm_digest.specs.declared.digest.Digest.{Digest}
+use Rattle.std.proofs.Common.{◌≡◌, ℕ, Bool, true, false, List, length, Result, Ok, Err, None, refl, sym, ap, ◌∙◌, subst, inl, inr}
 use Rattle.mm_module.specs.Meaning.{Meaning}
-use Rattle.mm_module.specs.Batch.{Batch}
-use Rattle.mm_seal.specs.declared.cell.Cell.{Cell}
+use Rattle.mm_module.specs.Batch.{Batch, size_of, members_of}
+use Rattle.mm_module.proofs.RunLaws.{length-outputs_from}
 use Rattle.mm_seal.specs.declared.cell.CellFault.TheVariants.{Blank, Cell as Unspelled}
 use Rattle.mm_seal.specs.declared.snapshot.PartsFault.TheVariants.{Form, Kind}
-use Rattle.mm_seal.specs.Snapshot.{Snapshot}
+use Rattle.mm_seal.specs.Snapshot.{Content}
 use Rattle.mm_model.specs.declared.answer.BatchAnswer.{BatchAnswer}
 use Rattle.mm_model.specs.declared.refusal.Refusal.{Refusal}
 use Rattle.mm_model.specs.declared.refusal.Refusal.TheVariants.{Memory}
@@ -15,8 +14,8 @@ use Rattle.mm_model.specs.declared.verdict.Verdict.TheVariants.{Fresh, Again, Lo
 use Rattle.mm_basic.specs.declared.found.Found.{Found}
 use Rattle.mm_basic.specs.declared.found.Found.TheVariants.{Repeat, Change}
 use Rattle.mm_basic.specs.Seen.{Seen, NoCell, OtherCell, NoOffer, Both}
-use Rattle.mm_basic.specs.Order.{admitted, weighed, examined}
-use Rattle.mm_basic.specs.Answers.{found_from, found_in}
+use Rattle.mm_basic.specs.Order.{admitted, weighed, examined, verdict_of}
+use Rattle.mm_basic.specs.Answers.{answer_of, cell_after, found_from, found_in}
 use Rattle.mm_basic.specs.Steps.{fault_in, OrMemory, FindsIn}
 
 pub found_refused : (e : Result Bool Refusal) (next : List ℕ) (answer : Bool → BatchAnswer) (why : Refusal) → e ≡ Err why → OrMemory (found_from e next answer) (Err why)
@@ -76,3 +75,31 @@ no_fault_or (Ok it) found h o =
 
 pub no_fault : (meaning : Meaning) (bytes offer : List ℕ) (b : Batch) (found : Result Found Refusal) → FindsIn meaning bytes offer b found → fault_in found ≡ None
 no_fault meaning bytes offer b found f = no_fault_or (found_in meaning f.seen b) found (no_fault_in meaning f.seen b) f.found_is
+
+-- an answer found says whether it is a repeat's, and has an output for each request
+abbrev pub IsShaped : Batch → Result Found Refusal → Type 0
+IsShaped b (Err why) = Unit {0}
+IsShaped b (Ok (Repeat answer)) = (answer.again ≡ true) × (length answer.outputs ≡ size_of b)
+IsShaped b (Ok (Change ready)) = (ready.answer.again ≡ false) × (length ready.answer.outputs ≡ size_of b)
+
+shaped_from : (meaning : Meaning) (key next : List ℕ) (offered : Content) (b : Batch) (e : Result Bool Refusal) → IsShaped b (found_from e next (answer_of meaning key offered b))
+shaped_from meaning key next offered b (Err why) = tt
+shaped_from meaning key next offered b (Ok true) = (refl, length-outputs_from meaning offered.state (members_of b))
+shaped_from meaning key next offered b (Ok false) = (refl, length-outputs_from meaning offered.state (members_of b))
+
+shaped_in : (meaning : Meaning) (seen : Seen) (b : Batch) → IsShaped b (found_in meaning seen b)
+shaped_in meaning (NoCell Blank) b = tt
+shaped_in meaning (NoCell Unspelled) b = tt
+shaped_in meaning OtherCell b = tt
+shaped_in meaning (NoOffer Form) b = tt
+shaped_in meaning (NoOffer Kind) b = tt
+shaped_in meaning (Both cell offered) b =
+    shaped_from meaning cell.key (cell_after cell offered.content b) offered.content b (examined meaning cell.key offered b (verdict_of cell offered b))
+
+shaped_or : (b : Batch) (x found : Result Found Refusal) → IsShaped b x → OrMemory x found → IsShaped b found
+shaped_or b (Err why) found h o = subst (λ (r : Result Found Refusal). IsShaped b r) (sym o) tt
+shaped_or b (Ok it) found h o =
+    elim o [ inl e ↦ subst (λ (r : Result Found Refusal). IsShaped b r) (sym e) h | inr e ↦ subst (λ (r : Result Found Refusal). IsShaped b r) (sym e) tt ]
+
+pub shaped : (meaning : Meaning) (bytes offer : List ℕ) (b : Batch) (found : Result Found Refusal) → FindsIn meaning bytes offer b found → IsShaped b found
+shaped meaning bytes offer b found f = shaped_or b (found_in meaning f.seen b) found (shaped_in meaning f.seen b) f.found_is

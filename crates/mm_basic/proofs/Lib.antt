@@ -1,3 +1,5 @@
 pub mod Links
 pub mod Members
 pub mod Findings
+pub mod Asking
+pub mod FirstLaws

@@ -1,5 +1,5 @@
 -- The summary after a batch, by the digests of its request or of its text.
-use Rattle.std.proofs.Common.{◌≡◌, ℕ, Bool, true, false, List, refl, if◌then◌else◌, sym, ap, ◌∙◌}
+use Rattle.std.proofs.Common.{◌≡◌, ℕ, Bool, true, false, List, refl, if◌then◌else◌, ap, ◌∙◌}
 use Rattle.mm_digest.specs.Messages.{successor_of, successor_batch_of}
 use Rattle.mm_module.specs.Batch.{One, Many, has_tab, normal}
 use Rattle.mm_model.specs.Chains.{link}

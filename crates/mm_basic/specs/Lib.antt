@@ -4,3 +4,4 @@ pub mod Answers
 pub mod Ran
 pub mod Steps
 pub mod Turns
+pub mod Asks

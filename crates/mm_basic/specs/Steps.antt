@@ -1,5 +1,6 @@
 -- The device steps of a call: what each does to the platform, and what it gives.
-use Rattle.std.specs.Prelude.{◌≡◌, ℕ, List, Option, None, Some, Result, Ok, Err, ◌⊎◌}
+use Rattle.std.specs.Prelude.{◌≡◌, ℕ, List, Option, None, Some, Result, Ok, Err, IfOk, ◌⊎◌}
+use Rattle.std.specs.Result.{result_err}
 use Rattle.mm_platform.specs.declared.fault.StepFault.{StepFault}
 use Rattle.mm_platform.specs.Standing.{Standing}
 use Rattle.mm_platform.specs.Steps.{Act, ReadCell, WriteCell, Goes}
@@ -65,6 +66,11 @@ pub record Reads (meaning : Meaning) (old new : Standing) (offer : List ℕ) (b 
   pub finds : fault_in found ≡ None → Finds meaning old offer b found
 
 -- The writing step. Where it doesn't fail, the answer that was ready is given.
-pub record Writes (ready : Ready) (old new : Standing) (result : Result BatchAnswer Refusal) : Type 0 where
-  pub goes : Goes (WriteCell ready.next) old new (fault_in result)
-  pub gives : fault_in result ≡ None → result ≡ Ok ready.answer
+pub record Writes (ready : Ready) (old new : Standing) (written : Result BatchAnswer StepFault) : Type 0 where
+  pub goes : Goes (WriteCell ready.next) old new (result_err written)
+  pub gives : IfOk written (λ answer. answer ≡ ready.answer)
+
+-- a device's fault is handed on as it is
+abbrev pub handed_on : Result BatchAnswer StepFault → Result BatchAnswer Refusal
+handed_on (Ok answer) = Ok answer
+handed_on (Err fault) = Err (Device fault)

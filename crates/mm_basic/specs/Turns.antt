@@ -4,7 +4,9 @@ use Rattle.mm_platform.specs.Standing.{Standing}
 use Rattle.mm_module.specs.Meaning.{Meaning}
 use Rattle.mm_module.specs.Batch.{Batch}
 use Rattle.mm_model.specs.declared.answer.BatchAnswer.{BatchAnswer}
+use Rattle.mm_platform.specs.declared.fault.StepFault.{StepFault}
 use Rattle.mm_model.specs.declared.refusal.Refusal.{Refusal}
+use Rattle.mm_model.specs.declared.refusal.Refusal.TheVariants.{Device}
 use Rattle.mm_basic.specs.declared.found.Found.{Found}
 use Rattle.mm_basic.specs.declared.found.Found.TheVariants.{Repeat, Change}
 use Rattle.mm_basic.specs.declared.found.Ready.{Ready}
@@ -19,8 +21,8 @@ turn_of (Ok (Repeat answer)) = Done answer
 turn_of (Ok (Change ready)) = Going (Some ready)
 
 -- what the last turn gives
-abbrev pub last_turn : Result BatchAnswer Refusal → Turn
-last_turn (Err why) = Refused why
+abbrev pub last_turn : Result BatchAnswer StepFault → Turn
+last_turn (Err fault) = Refused (Device fault)
 last_turn (Ok answer) = Done answer
 
 -- the first turn of a call
@@ -31,9 +33,9 @@ pub record TurnsFirst (meaning : Meaning) (old new : Standing) (offer : List ℕ
 
 -- the turn of a call that is ready to commit its batch
 pub record TurnsLast (ready : Ready) (old new : Standing) (turn : Turn) : Type 0 where
-  pub result : Result BatchAnswer Refusal
-  pub writes : Writes ready old new result
-  pub gives : turn ≡ last_turn result
+  pub written : Result BatchAnswer StepFault
+  pub writes : Writes ready old new written
+  pub gives : turn ≡ last_turn written
 
 -- one turn of a call
 abbrev pub Turns : Meaning → Option Ready → Standing → Standing → List ℕ → Batch → Turn → Type 0

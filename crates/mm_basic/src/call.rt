@@ -8,7 +8,7 @@ use crate::found::{Found, Ready};
 use crate::step::{read, write};
 use mm_model::{BatchAnswer, Refusal};
 use mm_module::{Batch, Module};
-use mm_platform::Platform;
+use mm_platform::{Platform, StepFault};
 use std::alloc::Global;
 use std::marker::Model;
 
@@ -103,12 +103,12 @@ impl Turn {
     }
 
     // What the last step comes to.
-    fn last(answered: Result<BatchAnswer, Refusal>) -> Turn
-        ensures { result ≡ last_turn answered }
+    fn last(written: Result<BatchAnswer, StepFault>) -> Turn
+        ensures { result ≡ last_turn written }
     {
-        match answered {
+        match written {
             Ok(answer) => Turn::Done(answer),
-            Err(refusal) => Turn::Refused(refusal),
+            Err(fault) => Turn::Refused(Refusal::Device(fault)),
         }
     }
 }

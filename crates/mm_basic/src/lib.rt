@@ -4,8 +4,12 @@
 
 mod call;
 mod find;
+mod first;
 mod found;
 mod run;
 mod step;
+mod whole;
 
 pub use call::{Call, Turn, begin};
+pub use first::{Provisioned, provision};
+pub use whole::{Committed, Prepared, ask, ask_batch, prepare};

@@ -9,7 +9,7 @@ use crate::find::find;
 use crate::found::{Found, Ready};
 use mm_model::{BatchAnswer, Refusal};
 use mm_module::{Batch, Module};
-use mm_platform::Platform;
+use mm_platform::{Platform, StepFault};
 use std::alloc::Global;
 
 /// The first step: reads the cell, and runs the batch in memory.
@@ -30,13 +30,13 @@ pub fn read<M: Module, P: Platform>(
     }
 }
 
-/// The last step: writes the cell, which commits the batch.
-pub fn write<P: Platform>(ready: Ready, platform: &mut P) -> Result<BatchAnswer, Refusal>
+/// The last step: writes the cell, which commits the batch. Takes no memory.
+pub fn write<P: Platform>(ready: Ready, platform: &mut P) -> Result<BatchAnswer, StepFault>
     ensures { Writes ready (P.standing platform.old) (P.standing platform.new) result }
 {
     let Ready { next, answer } = ready;
     match platform.nv_write(&next) {
-        Err(fault) => Err(Refusal::Device(fault)),
+        Err(fault) => Err(fault),
         Ok(()) => Ok(answer),
     }
 }

@@ -1,0 +1,179 @@
+-- What a whole call leaves and counts.
+use Rattle.std.proofs.Common.{◌≡◌, ℕ, Bool, true, false, List, [], ◌∷◌, length, Option, None, Some, Result, Ok, Err, IfOk, refl, sym, ap, ◌∙◌, subst, arith, inl, inr}
+use Rattle.std.specs.Result.{result_err}
+use Rattle.mm_base.specs.Faults.{counted}
+use Rattle.mm_platform.specs.declared.fault.StepFault.{StepFault}
+use Rattle.mm_platform.specs.declared.fault.StepFault.TheVariants.{Failed, Off}
+use Rattle.mm_platform.specs.Standing.{Standing}
+use Rattle.mm_platform.specs.Steps.{ReadCell, WriteCell, EndsBy, Goes}
+use Rattle.mm_platform.proofs.Calling.{beside-none}
+use Rattle.mm_module.specs.Meaning.{Meaning}
+use Rattle.mm_module.specs.Batch.{Batch, size_of}
+use Rattle.mm_model.specs.Long.{is_long}
+use Rattle.mm_model.specs.declared.answer.Answer.{Answer}
+use Rattle.mm_model.specs.declared.answer.BatchAnswer.{BatchAnswer}
+use Rattle.mm_model.specs.declared.refusal.Refusal.{Refusal}
+use Rattle.mm_model.specs.declared.refusal.Refusal.TheVariants.{Long}
+use Rattle.mm_basic.specs.declared.found.Found.{Found}
+use Rattle.mm_basic.specs.declared.found.Found.TheVariants.{Repeat, Change}
+use Rattle.mm_basic.specs.declared.found.Ready.{Ready}
+use Rattle.mm_basic.specs.Steps.{fault_of, fault_in, handed_on, Reads, Writes}
+use Rattle.mm_basic.specs.Asks.{Ends, Calls, IsUntouched, LeavesUntouched, Blames, ReadsOnce, ReadsAndWrites, StepsAnswered, StepsRefused, StepsBy, whole}
+use Rattle.mm_basic.proofs.Findings.{IsShaped, shaped}
+
+same_untouched : (old : Standing) → IsUntouched old old
+same_untouched old = record {
+  others = [];
+  cell = refl;
+  items = sym (beside-none old.items);
+  is_on = refl;
+  writes = refl;
+  room = omega arith;
+  faults = refl;
+}
+
+read_untouched : (old new : Standing) → Goes ReadCell old new None → IsUntouched old new
+read_untouched old new g = record {
+  others = g.others;
+  cell = g.cell;
+  items = g.items;
+  is_on = g.ends.is_on ∙ sym g.ends.was_on;
+  writes = g.writes;
+  room = omega (arith, g.room);
+  faults = g.ends.faults;
+}
+
+goes_quietly : (old new : Standing) (fault : Option StepFault) → fault ≡ None → Goes ReadCell old new fault → Goes ReadCell old new None
+goes_quietly old new fault e g = subst (λ (f : Option StepFault). Goes ReadCell old new f) e g
+
+written_untouched : (written : Result BatchAnswer StepFault) (old new : Standing) → LeavesUntouched (handed_on written) old new
+written_untouched (Ok answer) old new = tt
+written_untouched (Err fault) old new = λ (h : Some fault ≡ None). absurd (cc)
+
+ends_untouched : (found : Result Found Refusal) (old middle new : Standing) (result : Result BatchAnswer Refusal) → Goes ReadCell old middle (fault_in found) → Ends found middle new result → LeavesUntouched result old new
+ends_untouched (Err why) old middle new result g e =
+    subst (λ (r : Result BatchAnswer Refusal). LeavesUntouched r old new) (sym e.1)
+    (λ (h : fault_of why ≡ None). subst (λ (s : Standing). IsUntouched old s) (sym e.0)
+    (read_untouched old middle (goes_quietly old middle (fault_of why) h g)))
+ends_untouched (Ok found) old middle new result g e =
+    subst (λ (r : Result BatchAnswer Refusal). LeavesUntouched r old new) (sym e.gives) (written_untouched e.written old new)
+
+blamed : (fault : Option StepFault) (old new : Standing) (made : Bool) → EndsBy fault old new made → Blames fault old.faults new.faults
+blamed None old new made e = e.faults
+blamed (Some Failed) old new made e = e.faults
+blamed (Some Off) old new made e = e.faults
+
+blamed_later : (fault : Option StepFault) (first before now : ℕ) → before ≡ first → Blames fault before now → Blames fault first now
+blamed_later fault first before now e b = subst (λ (n : ℕ). Blames fault n now) e b
+
+-- a handed fault is the device's
+fault_handed : (written : Result BatchAnswer StepFault) → fault_in (handed_on written) ≡ result_err written
+fault_handed (Ok answer) = refl
+fault_handed (Err fault) = refl
+
+written_blamed : (written : Result BatchAnswer StepFault) (old new : Standing) → Blames (result_err written) old.faults new.faults → Blames (fault_in (handed_on written)) old.faults new.faults
+written_blamed written old new b = subst (λ (f : Option StepFault). Blames f old.faults new.faults) (sym (fault_handed written)) b
+
+ends_blamed : (found : Result Found Refusal) (old middle new : Standing) (result : Result BatchAnswer Refusal) → Goes ReadCell old middle (fault_in found) → Ends found middle new result → Blames (fault_in result) old.faults new.faults
+ends_blamed (Err why) old middle new result g e =
+    subst (λ (r : Result BatchAnswer Refusal). Blames (fault_in r) old.faults new.faults) (sym e.1)
+    (subst (λ (s : Standing). Blames (fault_of why) old.faults s.faults) (sym e.0) (blamed (fault_of why) old middle g.is_made g.ends))
+ends_blamed (Ok (Repeat answer)) old middle new result g e =
+    subst (λ (r : Result BatchAnswer Refusal). Blames (fault_in r) old.faults new.faults) (sym (e.gives ∙ ap handed_on e.commits.1))
+    (ap (λ (s : Standing). s.faults) e.commits.0 ∙ g.ends.faults)
+ends_blamed (Ok (Change ready)) old middle new result g e =
+    subst (λ (r : Result BatchAnswer Refusal). Blames (fault_in r) old.faults new.faults) (sym e.gives)
+    (written_blamed e.written old new
+    (blamed_later (result_err e.written) old.faults middle.faults new.faults g.ends.faults
+    (blamed (result_err e.written) middle new e.commits.goes.is_made e.commits.goes.ends)))
+
+once_refused : (fault : Option StepFault) (old new : Standing) → ReadsOnce old new → StepsRefused fault old new
+once_refused None old new r = r
+once_refused (Some fault) old new r = inl r
+
+read_once : (fault : Option StepFault) (old new : Standing) → Goes ReadCell old new fault → ReadsOnce old new
+read_once fault old new g = (g.steps, g.writes)
+
+then_written : (fault last : Option StepFault) (ready : Ready) (old middle new : Standing) → Goes ReadCell old middle fault → Goes (WriteCell ready.next) middle new last → ReadsAndWrites old new
+then_written fault last ready old middle new g h = (h.steps ∙ ap counted g.steps, h.writes ∙ ap counted g.writes)
+
+written_stepped : (written : Result BatchAnswer StepFault) (ready : Ready) (old middle new : Standing) → Goes ReadCell old middle None → Writes ready middle new written → ready.answer.again ≡ false → StepsBy (handed_on written) old new
+written_stepped (Ok answer) ready old middle new g w e =
+    subst (λ (t : Bool). StepsAnswered t old new) (sym (ap (λ (a : BatchAnswer). a.again) w.gives ∙ e))
+    (then_written None None ready old middle new g w.goes)
+written_stepped (Err fault) ready old middle new g w e = inr (then_written None (Some fault) ready old middle new g w.goes)
+
+ends_stepped : (b : Batch) (found : Result Found Refusal) (old middle new : Standing) (result : Result BatchAnswer Refusal) → IsShaped b found → Goes ReadCell old middle (fault_in found) → Ends found middle new result → StepsBy result old new
+ends_stepped b (Err why) old middle new result shape g e =
+    subst (λ (r : Result BatchAnswer Refusal). StepsBy r old new) (sym e.1)
+    (subst (λ (s : Standing). StepsRefused (fault_of why) old s) (sym e.0)
+    (once_refused (fault_of why) old middle (read_once (fault_of why) old middle g)))
+ends_stepped b (Ok (Repeat answer)) old middle new result shape g e =
+    subst (λ (r : Result BatchAnswer Refusal). StepsBy r old new) (sym (e.gives ∙ ap handed_on e.commits.1))
+    (subst (λ (t : Bool). StepsAnswered t old new) (sym shape.0)
+    (subst (λ (s : Standing). ReadsOnce old s) (sym e.commits.0) (read_once None old middle g)))
+ends_stepped b (Ok (Change ready)) old middle new result shape g e =
+    subst (λ (r : Result BatchAnswer Refusal). StepsBy r old new) (sym e.gives)
+    (written_stepped e.written ready old middle new g e.commits shape.0)
+
+-- what was found, by what a call asked: its shape, or a device's fault
+found_shaped : (meaning : Meaning) (old middle : Standing) (offer : List ℕ) (b : Batch) (found : Result Found Refusal) → Reads meaning old middle offer b found → IsShaped b found
+found_shaped meaning old middle offer b (Err why) r = tt
+found_shaped meaning old middle offer b (Ok (Repeat answer)) r = let f = r.finds refl in shaped meaning f.bytes offer b (Ok (Repeat answer)) f.finds
+found_shaped meaning old middle offer b (Ok (Change ready)) r = let f = r.finds refl in shaped meaning f.bytes offer b (Ok (Change ready)) f.finds
+
+calls_untouched : (t : Bool) (meaning : Meaning) (old new : Standing) (offer : List ℕ) (b : Batch) (result : Result BatchAnswer Refusal) → is_long b ≡ t → Calls meaning old new offer b result → LeavesUntouched result old new
+calls_untouched true meaning old new offer b result is c =
+    let l = c.long is in
+    subst (λ (r : Result BatchAnswer Refusal). LeavesUntouched r old new) (sym l.1)
+    (λ (h : fault_of Long ≡ None). subst (λ (s : Standing). IsUntouched old s) (sym l.0) (same_untouched old))
+calls_untouched false meaning old new offer b result is c =
+    let a = c.asks is in ends_untouched a.found old a.middle new result a.reads.goes a.ends
+
+pub untouched : (meaning : Meaning) (old new : Standing) (offer : List ℕ) (b : Batch) (result : Result BatchAnswer Refusal) → Calls meaning old new offer b result → LeavesUntouched result old new
+untouched meaning old new offer b result c = calls_untouched (is_long b) meaning old new offer b result refl c
+
+calls_blamed : (t : Bool) (meaning : Meaning) (old new : Standing) (offer : List ℕ) (b : Batch) (result : Result BatchAnswer Refusal) → is_long b ≡ t → Calls meaning old new offer b result → Blames (fault_in result) old.faults new.faults
+calls_blamed true meaning old new offer b result is c =
+    let l = c.long is in
+    subst (λ (r : Result BatchAnswer Refusal). Blames (fault_in r) old.faults new.faults) (sym l.1)
+    (ap (λ (s : Standing). s.faults) l.0)
+calls_blamed false meaning old new offer b result is c =
+    let a = c.asks is in ends_blamed a.found old a.middle new result a.reads.goes a.ends
+
+pub blames : (meaning : Meaning) (old new : Standing) (offer : List ℕ) (b : Batch) (result : Result BatchAnswer Refusal) → Calls meaning old new offer b result → Blames (fault_in result) old.faults new.faults
+blames meaning old new offer b result c = calls_blamed (is_long b) meaning old new offer b result refl c
+
+pub steps : (meaning : Meaning) (old new : Standing) (offer : List ℕ) (b : Batch) (result : Result BatchAnswer Refusal) → Calls meaning old new offer b result → is_long b ≡ false → StepsBy result old new
+steps meaning old new offer b result c is =
+    let a = c.asks is in
+    ends_stepped b a.found old a.middle new result (found_shaped meaning old a.middle offer b a.found a.reads) a.reads.goes a.ends
+
+-- an answer has as many outputs as the batch has requests
+abbrev pub IsCounted : Batch → Result BatchAnswer Refusal → Type 0
+IsCounted b result = IfOk result (λ answer. length answer.outputs ≡ size_of b)
+
+written_counted : (b : Batch) (written : Result BatchAnswer StepFault) (ready : Ready) (old new : Standing) → Writes ready old new written → length ready.answer.outputs ≡ size_of b → IsCounted b (handed_on written)
+written_counted b (Ok answer) ready old new w e = ap (λ (a : BatchAnswer). length a.outputs) w.gives ∙ e
+written_counted b (Err fault) ready old new w e = tt
+
+ends_counted : (b : Batch) (found : Result Found Refusal) (old new : Standing) (result : Result BatchAnswer Refusal) → IsShaped b found → Ends found old new result → IsCounted b result
+ends_counted b (Err why) old new result shape e = subst (λ (r : Result BatchAnswer Refusal). IsCounted b r) (sym e.1) tt
+ends_counted b (Ok (Repeat answer)) old new result shape e =
+    subst (λ (r : Result BatchAnswer Refusal). IsCounted b r) (sym (e.gives ∙ ap handed_on e.commits.1)) shape.1
+ends_counted b (Ok (Change ready)) old new result shape e =
+    subst (λ (r : Result BatchAnswer Refusal). IsCounted b r) (sym e.gives) (written_counted b e.written ready old new e.commits shape.1)
+
+calls_counted : (t : Bool) (meaning : Meaning) (old new : Standing) (offer : List ℕ) (b : Batch) (result : Result BatchAnswer Refusal) → is_long b ≡ t → Calls meaning old new offer b result → IsCounted b result
+calls_counted true meaning old new offer b result is c = subst (λ (r : Result BatchAnswer Refusal). IsCounted b r) (sym (c.long is).1) tt
+calls_counted false meaning old new offer b result is c =
+    let a = c.asks is in
+    ends_counted b a.found a.middle new result (found_shaped meaning old a.middle offer b a.found a.reads) a.ends
+
+pub counted_outputs : (meaning : Meaning) (old new : Standing) (offer : List ℕ) (b : Batch) (result : Result BatchAnswer Refusal) → Calls meaning old new offer b result → IsCounted b result
+counted_outputs meaning old new offer b result c = calls_counted (is_long b) meaning old new offer b result refl c
+
+-- the answer to a batch of one is that to its request
+pub wholly : (all : BatchAnswer) (answer : Answer) → answer.again ≡ all.again → answer.position ≡ all.position → all.outputs ≡ answer.output ∷ [] → answer.snapshot ≡ all.snapshot → all ≡ whole answer
+wholly all answer again position outputs snapshot =
+    λ i. record { again = sym again i; position = sym position i; outputs = outputs i; snapshot = sym snapshot i }

@@ -1,0 +1,95 @@
+-- What a whole call does to the platform, and what it answers.
+use Rattle.std.specs.Prelude.{◌≡◌, ◌∷◌, ℕ, ◌≤◌, Bool, true, false, List, [], Option, None, Some, Result, Ok, Err, ◌⊎◌}
+use Rattle.mm_base.specs.Faults.{counted, Rose}
+use Rattle.mm_platform.specs.declared.fault.StepFault.{StepFault}
+use Rattle.mm_platform.specs.Standing.{Standing}
+use Rattle.mm_platform.specs.Steps.{beside}
+use Rattle.mm_module.specs.Meaning.{Meaning}
+use Rattle.mm_module.specs.Batch.{Batch}
+use Rattle.mm_model.specs.declared.answer.Answer.{Answer}
+use Rattle.mm_model.specs.declared.answer.BatchAnswer.{BatchAnswer}
+use Rattle.mm_model.specs.declared.refusal.Refusal.{Refusal}
+use Rattle.mm_model.specs.declared.refusal.Refusal.TheVariants.{Long}
+use Rattle.mm_model.specs.Long.{is_long}
+use Rattle.mm_basic.specs.declared.found.Found.{Found}
+use Rattle.mm_basic.specs.declared.found.Found.TheVariants.{Repeat, Change}
+use Rattle.mm_basic.specs.Steps.{fault_of, handed_on, Reads, Writes}
+
+-- How a call goes on once its batch has run in memory: a repeat is answered, and a new batch is committed.
+abbrev pub CommitsFound : Found → Standing → Standing → Result BatchAnswer StepFault → Type 0
+CommitsFound (Repeat answer) old new written = (new ≡ old) × (written ≡ Ok answer)
+CommitsFound (Change ready) old new written = Writes ready old new written
+
+pub record Commits (found : Found) (old new : Standing) (result : Result BatchAnswer Refusal) : Type 0 where
+  pub written : Result BatchAnswer StepFault
+  pub commits : CommitsFound found old new written
+  pub gives : result ≡ handed_on written
+
+abbrev pub Ends : Result Found Refusal → Standing → Standing → Result BatchAnswer Refusal → Type 0
+Ends (Err why) old new result = (new ≡ old) × (result ≡ Err why)
+Ends (Ok found) old new result = Commits found old new result
+
+-- A call that isn't refused as Long: it reads the cell, and goes on by what it finds.
+pub record Asks (meaning : Meaning) (old new : Standing) (offer : List ℕ) (b : Batch) (result : Result BatchAnswer Refusal) : Type 0 where
+  pub middle : Standing
+  pub found : Result Found Refusal
+  pub reads : Reads meaning old middle offer b found
+  pub ends : Ends found middle new result
+
+-- A call: one that is too long is refused before its first step.
+pub record Calls (meaning : Meaning) (old new : Standing) (offer : List ℕ) (b : Batch) (result : Result BatchAnswer Refusal) : Type 0 where
+  pub long : is_long b ≡ true → (new ≡ old) × (result ≡ Err Long)
+  pub asks : is_long b ≡ false → Asks meaning old new offer b result
+
+-- The platform is as before, but for the count of steps, the values of others in the register, and room.
+pub record IsUntouched (old new : Standing) : Type 0 where
+  pub others : List (List ℕ)
+  pub cell : new.cell ≡ old.cell
+  pub items : new.items ≡ beside others old.items
+  pub is_on : new.is_on ≡ old.is_on
+  pub writes : new.writes ≡ old.writes
+  pub room : old.spare ≤ new.spare
+  pub faults : new.faults ≡ old.faults
+
+-- The count of faults rose where a device's fault is handed on, and is as before otherwise.
+abbrev pub Blames : Option StepFault → ℕ → ℕ → Type 0
+Blames None before now = now ≡ before
+Blames (Some fault) before now = Rose before now
+
+-- what a refused call leaves, unless it hands on a device's fault
+abbrev pub LeavesUntouched : Result BatchAnswer Refusal → Standing → Standing → Type 0
+LeavesUntouched (Ok answer) old new = Unit {0}
+LeavesUntouched (Err why) old new = fault_of why ≡ None → IsUntouched old new
+
+-- one step, which reads; or two, of which the second writes the cell
+abbrev pub ReadsOnce : Standing → Standing → Type 0
+ReadsOnce old new = (new.steps ≡ counted old.steps) × (new.writes ≡ old.writes)
+
+abbrev pub ReadsAndWrites : Standing → Standing → Type 0
+ReadsAndWrites old new = (new.steps ≡ counted (counted old.steps)) × (new.writes ≡ counted old.writes)
+
+abbrev pub StepsAnswered : Bool → Standing → Standing → Type 0
+StepsAnswered true old new = ReadsOnce old new
+StepsAnswered false old new = ReadsAndWrites old new
+
+abbrev pub StepsRefused : Option StepFault → Standing → Standing → Type 0
+StepsRefused None old new = ReadsOnce old new
+StepsRefused (Some fault) old new = ReadsOnce old new ⊎ ReadsAndWrites old new
+
+-- The steps that a call makes: a repeat and a refusal make one, a new batch two, and a fault ends the call at its step.
+abbrev pub StepsBy : Result BatchAnswer Refusal → Standing → Standing → Type 0
+StepsBy (Ok answer) old new = StepsAnswered answer.again old new
+StepsBy (Err why) old new = StepsRefused (fault_of why) old new
+
+-- the answer to one request, as the answer to a batch of one
+abbrev pub whole : Answer → BatchAnswer
+whole answer = record {
+  again = answer.again;
+  position = answer.position;
+  outputs = answer.output ∷ [];
+  snapshot = answer.snapshot;
+}
+
+abbrev pub whole_in : Result Answer Refusal → Result BatchAnswer Refusal
+whole_in (Ok answer) = Ok (whole answer)
+whole_in (Err why) = Err why

@@ -1,0 +1,58 @@
+//! The first cell and snapshot of a platform.
+
+ghost use Rattle.std.specs.Prelude.{◌≡◌, [], IfOk};
+ghost use Rattle.mm_seal.specs.Cell.{cell_spelling};
+ghost use Rattle.mm_model.specs.History.{first_history};
+ghost use Rattle.mm_model.specs.Instance.{basic};
+ghost use Rattle.mm_model.specs.Standing.{cell_of, issued_bytes};
+
+use mm_base::{Bytes, Memory};
+use mm_digest::{Variant, start, zero};
+use mm_module::Module;
+use mm_seal::{Body, Cell, Place, cell_bytes, seal};
+use std::alloc::Global;
+
+/// The first cell and the snapshot of position 0.
+#[derive(Debug, Drop)]
+pub struct Provisioned {
+    /// The cell's 104 bytes.
+    pub cell: [u8; 104],
+    pub snapshot: Bytes,
+}
+
+/// The first cell and snapshot of a module under a key. Basic has no barrier, and ignores it.
+pub fn provision<M: Module>(
+    alloc: Global,
+    module: &M,
+    key: &[u8; 32],
+    _barrier: &[u8; 32],
+) -> Result<Provisioned, Memory>
+    ensures cell { IfOk result (λ made. made.cell ≡ cell_spelling (cell_of (basic (M.meaning «module».now) key.now) first_history)) }
+    ensures snapshot { IfOk result (λ made. made.snapshot ≡ issued_bytes (basic (M.meaning «module».now) key.now) first_history) }
+{
+    let id = module.id();
+    let summary = start(Variant::Basic, id);
+    let state = module.first_state(alloc)?;
+    let snapshot = seal(
+        alloc,
+        key,
+        &Body {
+            module: id,
+            place: Place::Basic(summary),
+            position: 0,
+            state: state.as_slice(),
+        },
+    )?;
+    let barrier = zero();
+    let barrier = barrier.bytes;
+    let key = *key;
+    let cell = cell_bytes(&Cell {
+        variant: Variant::Basic,
+        module: id,
+        flag: false,
+        summary,
+        key,
+        barrier,
+    });
+    Ok(Provisioned { cell, snapshot })
+}
