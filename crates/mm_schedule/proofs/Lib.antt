@@ -1,0 +1,3 @@
+pub mod HexWords
+pub mod MeddleLaws
+pub mod PrintLaws

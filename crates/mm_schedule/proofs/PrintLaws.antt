@@ -1,0 +1,31 @@
+-- Pieces put one behind another, and the lines of a batch.
+use Rattle.std.proofs.Common.{◌≡◌, ◌+◌, ◌<◌, ℕ, zero, suc, Bool, List, [], ◌∷◌, ◌++◌, length, take, refl, ap, ◌∙◌, arith}
+use Rattle.std.proofs.Math.Seq.{take-append-add, take-append_seam}
+use Rattle.std.specs.Option.{option_map}
+use Rattle.std.specs.Prelude.{Some, None, slice_get}
+use Rattle.mm_schedule.specs.Replies.{told_line, told_lines}
+
+pub put-behind : (front piece rest : List ℕ) (at : ℕ) → length front ≡ at → take (at + length piece) (front ++ (piece ++ rest)) ≡ front ++ piece
+put-behind front piece rest at is =
+    rw (← is) (take-append-add front (piece ++ rest) (length piece) ∙ ap (λ (back : List ℕ). front ++ back) (take-append_seam piece rest))
+
+-- a line for each output
+pub length-told_lines : (again : Bool) (before : ℕ) (outputs : List (List ℕ)) → length (told_lines again before outputs) ≡ length outputs
+length-told_lines again before [] = refl
+length-told_lines again before (output ∷ outputs) = ap (λ (n : ℕ). suc n) (length-told_lines again (before + 1) outputs)
+
+-- and which
+pub told_lines-at : (again : Bool) (before : ℕ) (outputs : List (List ℕ)) (index : ℕ)
+    → slice_get (told_lines again before outputs) index ≡ option_map (told_line again (before + index + 1)) (slice_get outputs index)
+told_lines-at again before [] index = refl
+told_lines-at again before (output ∷ outputs) zero =
+    let counts : before + 1 ≡ before + 0 + 1 = omega arith in ap (λ (n : ℕ). Some (told_line again n output)) counts
+told_lines-at again before (output ∷ outputs) (suc index) =
+    let counts : before + 1 + index + 1 ≡ before + suc index + 1 = omega arith in
+    told_lines-at again (before + 1) outputs index ∙ ap (λ (n : ℕ). option_map (told_line again n) (slice_get outputs index)) counts
+
+-- an index within the list has an element
+pub not_missing : {A : Type 0} (xs : List A) (index : ℕ) → index < length xs → slice_get xs index ≡ None → ⊥
+not_missing [] index within none = absurd (omega arith)
+not_missing (x ∷ xs) zero within none = cc
+not_missing (x ∷ xs) (suc index) within none = not_missing xs index (omega arith) none

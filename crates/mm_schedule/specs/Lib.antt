@@ -1,0 +1,5 @@
+pub mod Events
+pub mod Grammar
+pub mod Replies
+pub mod Texts
+pub mod Words

@@ -1,0 +1,68 @@
+-- The lines that answer events.
+use Rattle.std.specs.Prelude.{ℕ, ◌+◌, Bool, true, false, List, [], ◌∷◌, ◌++◌, ◌≤◌, ◌^◌, All, length, codes}
+use Rattle.std.specs.Fmt.{decimal}
+use Rattle.mm_schedule.specs.declared.reply.Cause.{Cause}
+use Rattle.mm_schedule.specs.declared.reply.Cause.TheVariants.{Long, Lost, Form, Kind, State, Tag, Stale, Full, Segment, Snapshot}
+use Rattle.mm_schedule.specs.declared.reply.Reply.{Reply}
+use Rattle.mm_schedule.specs.declared.reply.Reply.TheVariants.{Told, No, Kept, Nothing, Closed, Checkpointed, Power, Extended}
+use Rattle.mm_schedule.specs.declared.reply.Way.{Way}
+use Rattle.mm_schedule.specs.declared.reply.Way.TheVariants.{Cut, Drop, Fault}
+
+-- why a call was refused
+abbrev pub cause_text : Cause → List ℕ
+cause_text Long = codes "long"
+cause_text Lost = codes "lost"
+cause_text Form = codes "form"
+cause_text Kind = codes "kind"
+cause_text State = codes "state"
+cause_text Tag = codes "tag"
+cause_text Stale = codes "stale"
+cause_text Full = codes "full"
+cause_text Segment = codes "segment"
+cause_text Snapshot = codes "snapshot"
+
+-- how a call was disturbed
+abbrev pub way_text : Way → List ℕ
+way_text Cut = codes "cut"
+way_text Drop = codes "drop"
+way_text Fault = codes "fault"
+
+-- whether a request is told for the first time
+abbrev pub told_text : Bool → List ℕ
+told_text true = codes "again "
+told_text false = codes "ok "
+
+-- the line of a position and an output
+abbrev pub told_line : Bool → ℕ → List ℕ → List ℕ
+told_line again position output = told_text again ++ decimal position ++ 32 ∷ [] ++ output ++ 10 ∷ []
+
+-- the lines of a batch, the first with the position after this one
+abbrev pub told_lines : Bool → ℕ → List (List ℕ) → List (List ℕ)
+told_lines again before [] = []
+told_lines again before (output ∷ outputs) = told_line again (before + 1) output ∷ told_lines again (before + 1) outputs
+
+-- the lines of a reply, each with its LF
+abbrev pub lines_of : Reply → List (List ℕ)
+lines_of (Told again before outputs) = told_lines again before outputs
+lines_of (No cause) = (codes "no " ++ cause_text cause ++ 10 ∷ []) ∷ []
+lines_of (Kept way position) = (way_text way ++ codes " kept " ++ decimal position ++ 10 ∷ []) ∷ []
+lines_of (Nothing way) = (way_text way ++ codes " lost" ++ 10 ∷ []) ∷ []
+lines_of (Closed way) = (way_text way ++ codes " closed" ++ 10 ∷ []) ∷ []
+lines_of Checkpointed = (codes "checkpointed" ++ 10 ∷ []) ∷ []
+lines_of Power = (codes "power" ++ 10 ∷ []) ∷ []
+lines_of Extended = (codes "extended" ++ 10 ∷ []) ∷ []
+
+-- the line `end N K`: how many requests were committed, and how many snapshots issued
+abbrev pub end_line : ℕ → ℕ → List ℕ
+end_line committed issued = codes "end " ++ decimal committed ++ 32 ∷ [] ++ decimal issued ++ 10 ∷ []
+
+-- what a reply has to meet to be printed: short outputs, and positions of at most 2^48
+abbrev pub IsPrintable : Reply → Type 0
+IsPrintable (Told again before outputs) = (All (λ (output : List ℕ). length output ≤ 4096) outputs) × (before + length outputs ≤ 2 ^ 48)
+IsPrintable (No cause) = Unit {0}
+IsPrintable (Kept way position) = Unit {0}
+IsPrintable (Nothing way) = Unit {0}
+IsPrintable (Closed way) = Unit {0}
+IsPrintable Checkpointed = Unit {0}
+IsPrintable Power = Unit {0}
+IsPrintable Extended = Unit {0}

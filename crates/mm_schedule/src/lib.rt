@@ -1,0 +1,16 @@
+//! Schedules, line by line: the events that they ask for, and the lines that answer them.
+#![tactic(auto)]
+
+mod event;
+mod fault;
+mod print;
+mod read;
+mod reply;
+mod text;
+mod words;
+
+pub use event::{Event, Meddles, Offer};
+pub use fault::EventFault;
+pub use print::{print_end, print_line, reply_lines};
+pub use read::read_event;
+pub use reply::{Cause, Reply, Way};

@@ -1,0 +1,22 @@
+//! Reading an event line.
+
+ghost use Rattle.std.specs.Prelude.{◌≡◌, ◌↔◌, Some, None, IfOk, IsErrOf};
+ghost use Rattle.mm_schedule.specs.Events.{event_of};
+ghost use Rattle.mm_schedule.specs.Grammar.{event_at};
+
+use crate::event::Event;
+use crate::fault::EventFault;
+use crate::text::{event_in, owned};
+use std::alloc::Global;
+
+/// The event of a line, which stands without its LF.
+pub fn read_event(alloc: Global, line: &[u8]) -> Result<Event, EventFault>
+    ensures read { IfOk result (λ event. event_at line.now ≡ Some (event_of event)) }
+    ensures bad { IsErrOf result EventFault.Bad ↔ (event_at line.now ≡ None) }
+{
+    let Some(event) = event_in(line) else {
+        return Err(EventFault::Bad);
+    };
+    let event = owned(alloc, event)?;
+    Ok(event)
+}
