@@ -1,3 +1,4 @@
 pub mod HexWords
 pub mod MeddleLaws
 pub mod PrintLaws
+pub mod RunLaws

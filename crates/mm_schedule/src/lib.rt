@@ -3,6 +3,7 @@
 
 mod event;
 mod fault;
+pub mod laws;
 mod print;
 mod read;
 mod reply;
