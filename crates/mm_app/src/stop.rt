@@ -1,0 +1,39 @@
+//! The line that says why the program stopped.
+
+ghost use Rattle.std.specs.Prelude.{◌≡◌, ◌++◌, ◌∷◌, []};
+ghost use Rattle.std.specs.Fmt.{decimal};
+ghost use Rattle.mm_base.specs.Faults.{CountsFaults};
+ghost use Rattle.mm_base.specs.Streams.{Sends};
+ghost use Rattle.mm_app.specs.Status.{stop_line};
+
+use crate::status::Status;
+use itoa::Buffer;
+use mm_base::{Sink, WriteFault, write_all};
+
+/// Writes the stop line of a status, where it has one.
+pub fn write_stop<K: Sink>(status: Status, out: &mut K) -> Result<(), WriteFault>
+    ensures sent { Sends (K.received out.old) (K.received out.new) (stop_line status) result }
+    ensures counted { CountsFaults (K.faults out.old) (K.faults out.new) result }
+{
+    match status {
+        Status::Done | Status::WriteFault => write_all(out, b""),
+        Status::Usage => write_all(out, b"stop usage\n"),
+        Status::ReadFault => write_all(out, b"stop read\n"),
+        Status::Memory => write_all(out, b"stop memory\n"),
+        Status::BadLine { line } => write_numbered(b"stop line ", line, out),
+        Status::LineLong { line } => write_numbered(b"stop long ", line, out),
+        Status::TooMuch => write_all(out, b"stop much\n"),
+    }
+}
+
+// Writes the words and the number as a line.
+fn write_numbered<K: Sink>(words: &[u8], number: u32, out: &mut K) -> Result<(), WriteFault>
+    ensures sent { Sends (K.received out.old) (K.received out.new) (words.now ++ (decimal number ++ 10 ∷ [])) result }
+    ensures counted { CountsFaults (K.faults out.old) (K.faults out.new) result }
+{
+    let mut buffer = Buffer::new();
+    let digits = buffer.format(number);
+    write_all(out, words)?;
+    write_all(out, digits.as_bytes())?;
+    write_all(out, b"\n")
+}
