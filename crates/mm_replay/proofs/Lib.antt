@@ -1,3 +1,4 @@
 pub mod Runs
 pub mod TurnLemmas
 pub mod Stands
+pub mod Writing

@@ -2,3 +2,4 @@ pub mod Play
 pub mod Takes
 pub mod Plays
 pub mod Turns
+pub mod Text

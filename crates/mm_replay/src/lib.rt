@@ -3,6 +3,8 @@
 
 mod lines;
 mod player;
+mod write;
 
 pub use lines::play;
 pub use player::{Player, Refused, TakeFault};
+pub use write::{write_end, write_reply};
