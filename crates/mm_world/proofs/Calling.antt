@@ -1,0 +1,143 @@
+-- Basic: a call gives the same by digests as by lists.
+use Rattle.std.proofs.Common.{ℕ, ◌≡◌, ◌+◌, ◌-◌, ◌≤◌, Bool, true, false, List, [], ◌∷◌, ◌++◌, length, map, drop, Option, None, Some, Result, Ok, Err, refl, sym, ap, ◌∙◌, subst, arith, length-append}
+use Rattle.std.specs.Prelude.{if◌then◌else◌}
+use Rattle.std.specs.List.{flat_map, AllByRecursion, Contains}
+use Rattle.std.proofs.lemmas.Grind.{flat_map-append}
+use Rattle.std.proofs.lemmas.List.{append-nil}
+use Rattle.mm_digest.specs.declared.variant.Variant.TheVariants.{Basic, Opt}
+use Rattle.mm_digest.specs.Messages.{start_of}
+use Rattle.mm_module.specs.Meaning.{Meaning, state_from, state_after, outputs_from}
+use Rattle.mm_module.specs.Batch.{Batch, members_of, size_of}
+use Rattle.mm_module.proofs.RunLaws.{state_after-append, outputs_from-append, length-outputs_from}
+use Rattle.mm_seal.specs.Snapshot.{Content, sealed_of}
+use Rattle.mm_seal.specs.declared.snapshot.Place.{Place}
+use Rattle.mm_seal.specs.declared.snapshot.Place.TheVariants.{Basic as InBasic, Opt as InOpt}
+use Rattle.mm_model.specs.Chains.{link, link_message, summary_of, after, trail}
+use Rattle.mm_model.specs.Instance.{Instance, basic}
+use Rattle.mm_model.specs.History.{History, Move, requests_of, total_of}
+use Rattle.mm_model.specs.Messages.{Within, history_messages, offer_messages}
+use Rattle.mm_model.specs.Places.{digest_of, issued, IsPlaceOf}
+use Rattle.mm_model.specs.Standing.{issued_bytes}
+use Rattle.mm_model.proofs.Batches.{total-append, total-cons}
+use Rattle.mm_model.proofs.Chains.{trail_push}
+use Rattle.mm_model.proofs.Digests.{summary-push}
+use Rattle.mm_world.specs.Levels.{Answer, Level, Digests, by_lists, by_digests, answer_by_lists, answer_by_digests}
+use Rattle.mm_world.specs.Folds.{Found}
+use Rattle.mm_world.specs.Laws.{Agrees}
+use Rattle.mm_world.proofs.Finding.{Placed}
+
+pub requests-append : (bs cs : List Batch) → requests_of (bs ++ cs) ≡ requests_of bs ++ requests_of cs
+requests-append bs cs = flat_map-append members_of bs cs
+
+pub requests-push : (bs : List Batch) (b : Batch) → requests_of (bs ++ b ∷ []) ≡ requests_of bs ++ members_of b
+requests-push bs b = requests-append bs (b ∷ []) ∙ ap (λ v. requests_of bs ++ v) (append-nil (members_of b))
+
+pub total-push : (bs : List Batch) (b : Batch) → total_of (bs ++ b ∷ []) ≡ total_of bs + size_of b
+total-push bs b = ap length (requests-push bs b) ∙ length-append (requests_of bs) (members_of b)
+
+drop-front : (xs ys : List (List ℕ)) → drop (length xs) (xs ++ ys) ≡ ys
+drop-front [] ys = refl
+drop-front (x ∷ xs) ys = drop-front xs ys
+
+drop-at : (n : ℕ) (xs ys : List (List ℕ)) → n ≡ length xs → drop n (xs ++ ys) ≡ ys
+drop-at n xs ys e = ap (λ k. drop k (xs ++ ys)) e ∙ drop-front xs ys
+
+-- the batch ends the history: the answer by lists
+abbrev pub answer_after : Instance → List Batch → Batch → Answer
+answer_after i named b = record {
+  before = total_of named;
+  outputs = outputs_from i.meaning (state_after i.meaning (requests_of named)) (members_of b);
+  snapshot = sealed_of i.key (record {
+    id = i.meaning.id;
+    place = InBasic (digest_of (summary_of i.meaning.id (named ++ b ∷ [])));
+    position = total_of named + size_of b;
+    state = state_from i.meaning (state_after i.meaning (requests_of named)) (members_of b);
+  });
+}
+
+answer-lists : (meaning : Meaning) (key : List ℕ) (y : History) (named : List Batch) (b : Batch) → y.batches ≡ named ++ b ∷ []
+    → answer_by_lists (basic meaning key) y b ≡ answer_after (basic meaning key) named b
+answer-lists meaning key y named b e =
+    let total : total_of y.batches ≡ total_of named + size_of b = ap total_of e ∙ total-push named b in
+    let before : total_of y.batches - size_of b ≡ total_of named = omega arith in
+    let requests : requests_of y.batches ≡ requests_of named ++ members_of b = ap requests_of e ∙ requests-push named b in
+    let outputs : outputs_from meaning meaning.first (requests_of y.batches)
+    ≡ outputs_from meaning meaning.first (requests_of named) ++ outputs_from meaning (state_after meaning (requests_of named)) (members_of b) =
+    ap (outputs_from meaning meaning.first) requests ∙ outputs_from-append meaning meaning.first (requests_of named) (members_of b) in
+    let dropped = ap (λ n. drop n (outputs_from meaning meaning.first (requests_of y.batches))) before
+    ∙ ap (drop (total_of named)) outputs
+    ∙ drop-at (total_of named) (outputs_from meaning meaning.first (requests_of named)) _ (sym (length-outputs_from meaning meaning.first (requests_of named))) in
+    let place = ap (λ v. InBasic (digest_of (summary_of meaning.id v))) e in
+    let state = ap (state_after meaning) requests ∙ state_after-append meaning (requests_of named) (members_of b) in
+    λ j. record {
+      before = before j;
+      outputs = dropped j;
+      snapshot = sealed_of key (record { id = meaning.id; place = place j; position = total j; state = state j });
+    }
+
+-- the answer by digests, where what is found is the first batches of the history
+answer-digests : (meaning : Meaning) (key : List ℕ) (d : Digests) (named : List Batch) (b : Batch) (again : Bool) (offered : Content)
+    → offered.position ≡ total_of named → offered.state ≡ state_after meaning (requests_of named)
+    → (if again then d.digest else link d.digest b) ≡ summary_of meaning.id (named ++ b ∷ [])
+    → answer_by_digests (basic meaning key) again d offered b ≡ answer_after (basic meaning key) named b
+answer-digests meaning key d named b again offered position state place =
+    λ j. record {
+      before = position j;
+      outputs = outputs_from meaning (state j) (members_of b);
+      snapshot = sealed_of key (record {
+        id = meaning.id;
+        place = InBasic (digest_of (place j));
+        position = position j + size_of b;
+        state = state_from meaning (state j) (members_of b);
+      });
+    }
+
+-- the summary after the batch
+summary_then : (id : ℕ) (batches named : List Batch) (b : Batch) (again : Bool) (digest : List ℕ) → digest ≡ summary_of id batches
+    → (again ≡ false → named ≡ batches) → (again ≡ true → named ++ b ∷ [] ≡ batches)
+    → (if again then digest else link digest b) ≡ summary_of id (named ++ b ∷ [])
+summary_then id batches named b true digest e fresh repeat = e ∙ ap (summary_of id) (sym (repeat refl))
+summary_then id batches named b false digest e fresh repeat =
+    ap (λ x. link x b) (e ∙ ap (summary_of id) (sym (fresh refl))) ∙ sym (summary-push id named b)
+
+pub answers_same : (meaning : Meaning) (key : List ℕ) (seen : History) (d : Digests) (y : History) (d' : Digests) (b : Batch) (found : Found)
+    → Agrees (basic meaning key) seen d → (p : Placed (basic meaning key) seen b found) → y.batches ≡ p.named ++ b ∷ []
+    → (by_digests (basic meaning key)).answer found.again d d' found.offered b ≡ (by_lists (basic meaning key)).answer found.again seen y found.offered b
+answers_same meaning key seen d y d' b found agrees p e =
+    answer-digests meaning key d p.named b found.again found.offered p.position p.state
+    (summary_then meaning.id seen.batches p.named b found.again d.digest agrees.digest p.fresh p.repeat)
+    ∙ sym (answer-lists meaning key y p.named b e)
+
+-- the batches at the end of a call that isn't broken off, or that committed its batch
+pub ended_batches : (batches named committed : List Batch) (b : Batch) (again : Bool)
+    → (again ≡ false → named ≡ batches) → (again ≡ true → named ++ b ∷ [] ≡ batches)
+    → (again ≡ true → committed ≡ []) → (again ≡ false → committed ≡ b ∷ [])
+    → batches ++ committed ≡ named ++ b ∷ []
+ended_batches batches named committed b true fresh repeat none one =
+    ap (λ v. batches ++ v) (none refl) ∙ append-nil batches ∙ sym (repeat refl)
+ended_batches batches named committed b false fresh repeat none one =
+    ap (λ v. batches ++ v) (one refl) ∙ ap (λ v. v ++ b ∷ []) (sym (fresh refl))
+
+-- the messages of a history that goes on by the batch
+pub listed_push : (meaning : Meaning) (key : List ℕ) (all : List (List ℕ)) (y y' : History) (b : Batch)
+    → Within (history_messages (basic meaning key) y) all → Contains all (link_message (summary_of meaning.id y.batches) b)
+    → y'.batches ≡ y.batches ++ b ∷ [] → Within (history_messages (basic meaning key) y') all
+unfolding summary_of
+listed_push meaning key all y y' b listed called e =
+    let P : List Batch → Type 0 = λ v. Within (trail link_message (start_of Basic meaning.id) v) all in
+    (listed.0, subst P (sym e) (trail_push link_message (start_of Basic meaning.id) y.batches b all listed.1 called))
+
+pub listed_same : (meaning : Meaning) (key : List ℕ) (all : List (List ℕ)) (y y' : History)
+    → Within (history_messages (basic meaning key) y) all → y'.batches ≡ y.batches → Within (history_messages (basic meaning key) y') all
+listed_same meaning key all y y' listed e =
+    let P : List Batch → Type 0 = λ v. Within (trail link_message (start_of Basic meaning.id) v) all in
+    (listed.0, subst P (sym e) listed.1)
+
+-- the message of a batch that is asked at the end of the history
+pub called_message : (meaning : Meaning) (key : List ℕ) (all : List (List ℕ)) (y : History) (b : Batch) (place : Place) (named : List Batch)
+    → Within (offer_messages (basic meaning key) place b) all → IsPlaceOf Basic (basic meaning key) y named place → named ≡ y.batches
+    → Contains all (link_message (summary_of meaning.id y.batches) b)
+called_message meaning key all y b (InBasic s) named called is e =
+    let P : List ℕ → Type 0 = λ v. Contains all (link_message v b) in
+    subst P (is ∙ ap (summary_of meaning.id) e) called.0
+called_message meaning key all y b (InOpt a x) named called is e = absurd is

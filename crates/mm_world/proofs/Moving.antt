@@ -1,0 +1,103 @@
+-- Basic: moves keep the agreement of a history and its digests.
+use Rattle.std.proofs.Common.{ℕ, ◌≡◌, ◌+◌, Bool, true, false, List, [], ◌∷◌, ◌++◌, length, map, refl, sym, ap, ◌∙◌, arith, append_assoc}
+use Rattle.std.proofs.lemmas.List.{append-nil}
+use Rattle.std.specs.List.{fold, AllByRecursion}
+use Rattle.mm_digest.specs.declared.variant.Variant.TheVariants.{Basic}
+use Rattle.mm_digest.specs.Messages.{zero_bytes, extended_of}
+use Rattle.mm_module.specs.Meaning.{Meaning}
+use Rattle.mm_module.specs.Batch.{Batch, size_of}
+use Rattle.mm_model.specs.Chains.{link, register_of}
+use Rattle.mm_model.specs.Instance.{Instance, basic}
+use Rattle.mm_model.specs.History.{History, Value, Move, Commit, Foreign, Placed, Reset, Close, Power, moved, total_of, values_of}
+use Rattle.mm_model.proofs.Batches.{total-append, total-cons}
+use Rattle.mm_model.proofs.Digests.{summary-push, register-push}
+use Rattle.mm_model.proofs.Histories.{values_of-append}
+use Rattle.mm_world.specs.Levels.{Digests, by_lists, by_digests, digests_moved}
+use Rattle.mm_world.specs.Folds.{all_made}
+use Rattle.mm_world.specs.Laws.{Agrees}
+
+-- the moves of Basic
+abbrev pub IsBasicMove : Move → Type 0
+IsBasicMove (Commit b) = Unit {0}
+IsBasicMove (Foreign v) = Unit {0}
+IsBasicMove Power = Unit {0}
+IsBasicMove (Placed b) = ⊥
+IsBasicMove Reset = ⊥
+IsBasicMove Close = ⊥
+
+-- a history of Basic has no segments
+pub record IsPlain (y : History) : Type 0 where
+  pub closed : y.closed ≡ []
+  pub shut : y.is_open ≡ false
+
+pub register-nil : register_of [] ≡ zero_bytes
+unfolding register_of
+register-nil = refl
+
+pub agrees-moved : (meaning : Meaning) (key : List ℕ) (y : History) (d : Digests) (m : Move) → IsBasicMove m
+    → Agrees (basic meaning key) y d → Agrees (basic meaning key) (moved (basic meaning key) y m) (digests_moved (basic meaning key) d m)
+agrees-moved meaning key y d (Commit b) is a =
+    let sum = total-append y.batches (b ∷ []) in
+    let one = total-cons b [] in
+    let count = a.count in
+    record {
+      digest = ap (λ x. link x b) a.digest ∙ sym (summary-push meaning.id y.batches b);
+      flag = a.flag;
+      register = a.register;
+      count = omega (arith, sum, one, count);
+    }
+agrees-moved meaning key y d (Foreign v) is a =
+    record {
+      digest = a.digest;
+      flag = a.flag;
+      register = ap (λ x. extended_of x v) a.register ∙ sym (register-push (values_of zero_bytes y.items) v)
+          ∙ ap register_of (sym (values_of-append zero_bytes y.items (Value v ∷ [])));
+      count = a.count;
+    }
+agrees-moved meaning key y d Power is a =
+    record { digest = a.digest; flag = a.flag; register = sym register-nil; count = a.count }
+agrees-moved meaning key y d (Placed b) is a = absurd is
+agrees-moved meaning key y d Reset is a = absurd is
+agrees-moved meaning key y d Close is a = absurd is
+
+pub plain-moved : (meaning : Meaning) (key : List ℕ) (y : History) (m : Move) → IsBasicMove m → IsPlain y → IsPlain (moved (basic meaning key) y m)
+plain-moved meaning key y (Commit b) is p = record { closed = p.closed; shut = p.shut }
+plain-moved meaning key y (Foreign v) is p = record { closed = p.closed; shut = p.shut }
+plain-moved meaning key y Power is p = record { closed = p.closed; shut = p.shut }
+plain-moved meaning key y (Placed b) is p = absurd is
+plain-moved meaning key y Reset is p = absurd is
+plain-moved meaning key y Close is p = absurd is
+
+pub agrees-made : (meaning : Meaning) (key : List ℕ) (moves : List Move) (y : History) (d : Digests) → AllByRecursion IsBasicMove moves
+    → Agrees (basic meaning key) y d
+    → Agrees (basic meaning key) (all_made (by_lists (basic meaning key)) y moves) (all_made (by_digests (basic meaning key)) d moves)
+agrees-made meaning key [] y d is a = a
+agrees-made meaning key (m ∷ moves) y d is a =
+    agrees-made meaning key moves (moved (basic meaning key) y m) (digests_moved (basic meaning key) d m) is.1 (agrees-moved meaning key y d m is.0 a)
+
+pub plain-made : (meaning : Meaning) (key : List ℕ) (moves : List Move) (y : History) → AllByRecursion IsBasicMove moves
+    → IsPlain y → IsPlain (all_made (by_lists (basic meaning key)) y moves)
+plain-made meaning key [] y is p = p
+plain-made meaning key (m ∷ moves) y is p =
+    plain-made meaning key moves (moved (basic meaning key) y m) is.1 (plain-moved meaning key y m is.0 p)
+
+-- the batches that moves commit
+abbrev pub committed_in : List Move → List Batch
+committed_in [] = []
+committed_in (Commit b ∷ moves) = b ∷ committed_in moves
+committed_in (Foreign v ∷ moves) = committed_in moves
+committed_in (Placed b ∷ moves) = committed_in moves
+committed_in (Reset ∷ moves) = committed_in moves
+committed_in (Close ∷ moves) = committed_in moves
+committed_in (Power ∷ moves) = committed_in moves
+
+pub batches-made : (meaning : Meaning) (key : List ℕ) (moves : List Move) (y : History)
+    → (all_made (by_lists (basic meaning key)) y moves).batches ≡ y.batches ++ committed_in moves
+batches-made meaning key [] y = sym (append-nil y.batches)
+batches-made meaning key (Commit b ∷ moves) y =
+    batches-made meaning key moves (moved (basic meaning key) y (Commit b)) ∙ append_assoc y.batches (b ∷ []) (committed_in moves)
+batches-made meaning key (Foreign v ∷ moves) y = batches-made meaning key moves (moved (basic meaning key) y (Foreign v))
+batches-made meaning key (Placed b ∷ moves) y = batches-made meaning key moves (moved (basic meaning key) y (Placed b))
+batches-made meaning key (Reset ∷ moves) y = batches-made meaning key moves (moved (basic meaning key) y Reset)
+batches-made meaning key (Close ∷ moves) y = batches-made meaning key moves (moved (basic meaning key) y Close)
+batches-made meaning key (Power ∷ moves) y = batches-made meaning key moves (moved (basic meaning key) y Power)

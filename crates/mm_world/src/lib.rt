@@ -1,0 +1,4 @@
+//! Schedules over a platform in memory.
+#![tactic(auto)]
+
+pub mod laws;
