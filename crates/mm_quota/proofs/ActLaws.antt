@@ -1,0 +1,70 @@
+-- What an action does to the bytes of a ledger.
+use Rattle.std.specs.Prelude.{◌≡◌, ℕ, suc, ◌+◌, ◌^◌, ◌<◌, ◌≤◌, Bool, true, false, nat_le, min, List, [], ◌++◌, length, Option, Some, None, is_some, option_map, if◌then◌else◌}
+use Rattle.std.proofs.Common.{refl, sym, ◌∙◌, ap, arith, subst}
+use Rattle.std.proofs.lemmas.Bool.Decides.{nat_tests}
+use Rattle.mm_quota.specs.Table.{Account, Action, Request, On, Says, account_named, put, decision_of, is_name, is_account, request_of, rises, account_bytes, body_of, count_bytes, spelling_of, is_state, ledger_of}
+use Rattle.mm_quota.specs.LedgerLaws.{FoundOf, account_named-found, length-put-there, length-put-absent}
+use Rattle.mm_quota.specs.SpellingLaws.{IsAccount-from, is_state-Holds}
+use Rattle.mm_quota.specs.QuotaLaws.{IsAction, IsAsked, request_of-asked, PutIf, IsPut, decision_of-is}
+use Rattle.mm_quota.specs.Spelled.{IsSpelled}
+use Rattle.mm_quota.specs.Views.{as_account}
+use Rattle.mm_quota.specs.declared.account.Account as declared
+
+-- a state spells a ledger that its size allows
+pub IsSpelled-from : (most : ℕ) (bytes : List ℕ) → most < 2 ^ 16 → is_state most bytes ≡ true → IsSpelled bytes
+IsSpelled-from most bytes small is =
+    let h = is_state-Holds most bytes is in
+    record { few = omega (arith, h.ledger.few); good = h.ledger.good; rising = h.ledger.rising; spelled = h.spelled; body = h.body; counted = h.counted; headed = h.headed }
+
+pub few-from : (most : ℕ) (bytes : List ℕ) → is_state most bytes ≡ true → length (ledger_of bytes) ≤ most
+few-from most bytes is = (is_state-Holds most bytes is).ledger.few
+
+-- the account that was found
+within-step : (name : List ℕ) (found : Option declared.Account) (named : Option Account) → option_map as_account found ≡ named → FoundOf is_account name named → (account : declared.Account) → found ≡ Some account → (account.used ≤ account.limit) × (account.limit ≤ 2 ^ 48)
+within-step name found None same is account this = let clash : true ≡ false = sym (ap (λ (f : Option declared.Account). is_some (option_map as_account f)) this) ∙ ap (λ (n : Option Account). is_some n) same in cc
+within-step name found (Some other) same is account this =
+    let one : Some (as_account account) ≡ Some other = sym (ap (λ (f : Option declared.Account). option_map as_account f) this) ∙ same in
+    let e : as_account account ≡ other = cc in
+    let kept = IsAccount-from other is.passed in
+    let used : account.used ≡ other.used = ap (λ (a : Account). a.used) e in
+    let limit : account.limit ≡ other.limit = ap (λ (a : Account). a.limit) e in
+    (omega (arith, used, limit, kept.within), omega (arith, limit, kept.limited))
+
+pub found-within : (bytes name : List ℕ) (found : Option declared.Account) → IsSpelled bytes → option_map as_account found ≡ account_named name (ledger_of bytes) → (account : declared.Account) → found ≡ Some account → (account.used ≤ account.limit) × (account.limit ≤ 2 ^ 48)
+found-within bytes name found is same account this = within-step name found (account_named name (ledger_of bytes)) same (account_named-found is_account name (ledger_of bytes) is.good) account this
+
+-- the account that a decision puts
+pub put-is : (most : ℕ) (bytes name : List ℕ) (action : Action) (account : Account) → IsSpelled bytes → is_name name ≡ true → IsAction action → (decision_of (nat_le most (length (ledger_of bytes))) name (account_named name (ledger_of bytes)) action).0 ≡ Some account → IsPut (nat_le most (length (ledger_of bytes))) name (account_named name (ledger_of bytes)) account
+put-is most bytes name action account is named acts puts =
+    let d = decision_of-is (nat_le most (length (ledger_of bytes))) name (account_named name (ledger_of bytes)) action named acts (account_named-found is_account name (ledger_of bytes) is.good) in
+    let P : Option Account → Type 0 = λ change. PutIf (nat_le most (length (ledger_of bytes))) name (account_named name (ledger_of bytes)) change in
+    subst P puts d.change
+
+count-case : (most : ℕ) (accounts : List Account) (account : Account) (there : Bool) → is_some (account_named account.name accounts) ≡ there → rises [] accounts ≡ true → (there ≡ false → nat_le most (length accounts) ≡ false) → most < 2 ^ 16 → (if there then length accounts else min (length accounts + 1) 65535) ≡ length (put account accounts)
+count-case most accounts account true is rising room small = sym (length-put-there [] account accounts rising is)
+count-case most accounts account false is rising room small =
+    let free : length accounts < most = let spare : nat_le most (length accounts) ≡ false = room refl in grind (arith, nat_tests) in
+    let longer : length (put account accounts) ≡ suc (length accounts) = length-put-absent account accounts is in
+    let fits : min (length accounts + 1) 65535 ≡ length accounts + 1 = omega arith in
+    fits ∙ omega arith
+
+-- the bytes with the account at its place are those of the ledger with the account
+pub put-spelled : (most count : ℕ) (bytes name front back : List ℕ) (account : Account) (there : Bool) → most < 2 ^ 16 → IsSpelled bytes → IsPut (nat_le most (length (ledger_of bytes))) name (account_named name (ledger_of bytes)) account → there ≡ is_some (account_named name (ledger_of bytes)) → count ≡ (if there then length (ledger_of bytes) else min (length (ledger_of bytes) + 1) 65535) → ((new : Account) → new.name ≡ name → body_of (put new (ledger_of bytes)) ≡ front ++ (account_bytes new ++ back)) → count_bytes count ++ (front ++ (account_bytes account ++ back)) ≡ spelling_of (put account (ledger_of bytes))
+unfolding spelling_of
+put-spelled most count bytes name front back account there small is puts there_is count_is stands =
+    let found : is_some (account_named account.name (ledger_of bytes)) ≡ there = ap (λ (n : List ℕ). is_some (account_named n (ledger_of bytes))) puts.named ∙ sym there_is in
+    let counted : count ≡ length (put account (ledger_of bytes)) = count_is ∙ count-case most (ledger_of bytes) account there found is.rising (λ absent. puts.room (sym there_is ∙ absent)) small in
+    rw (counted, stands account puts.named) refl
+
+pub is_some-as_account : (found : Option declared.Account) → is_some found ≡ is_some (option_map as_account found)
+is_some-as_account None = refl
+is_some-as_account (Some account) = refl
+
+-- a decision on what was counted and found is one on the ledger
+pub decided : (most count : ℕ) (bytes name : List ℕ) (found : Option Account) (action : Action) (decision : Option Account × Says) → decision ≡ decision_of (nat_le most count) name found action → count ≡ length (ledger_of bytes) → found ≡ account_named name (ledger_of bytes) → decision ≡ decision_of (nat_le most (length (ledger_of bytes))) name (account_named name (ledger_of bytes)) action
+decided most count bytes name found action decision is count_is found_is =
+    is ∙ ap (λ (n : ℕ). decision_of (nat_le most n) name found action) count_is ∙ ap (λ (f : Option Account). decision_of (nat_le most (length (ledger_of bytes))) name f action) found_is
+
+-- what was read of a request
+pub asked-named : (words : List (List ℕ)) (name : List ℕ) (action : Action) → request_of words ≡ Some (On name action) → (is_name name ≡ true) × IsAction action
+asked-named words name action is = subst (λ (r : Option Request). IsAsked r) is (request_of-asked words)

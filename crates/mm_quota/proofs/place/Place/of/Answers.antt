@@ -1,0 +1,29 @@
+use Rattle.std.proofs.Common.{ap, sym, ◌∙◌, List, ℕ, ◌++◌}
+use Rattle.std.specs.Prelude.{None, Some}
+use Rattle.mm_quota.specs.Table.{account_bytes}
+use Rattle.mm_quota.specs.Views.{as_front}
+use Rattle.mm_quota.proofs.PlaceLaws.{Finding-given, Finding-begins}
+use Rattle.mm_quota.proofs.place.Place.of.Goals as goal
+
+pub accounts-init : goal.accounts-init
+accounts-init c = Finding-begins _ _ _ _ c.requires c.parts-count.ensures.body (c.parts-count.ensures.count ∙ c.requires.counted)
+
+pub unreachable-requires : goal.unreachable-requires
+unreachable-requires c = Finding-given _ _ _ _ _ _ None c.accounts.invariant c.accounts-test.true c.in-None.ensures
+
+pub returns-in-Equal : goal.returns-in-Equal
+returns-in-Equal c =
+    let next = Finding-given _ _ _ _ _ _ (Some (as_front (c.in-Some.account, c.in-Some.others))) c.accounts.invariant c.accounts-test.true c.in-Some.ensures in
+    let place = next.equal (sym c.in-Equal.ensures) in
+    record { account = sym place.0; puts = λ new named. place.1 new named ∙ ap (λ (front : List ℕ). front ++ (account_bytes new ++ c.in-Some.others.now)) (sym c.front_of.ensures) }
+
+pub returns-in-Less : goal.returns-in-Less
+returns-in-Less c =
+    let next = Finding-given _ _ _ _ _ _ (Some (as_front (c.in-Some.account, c.in-Some.others))) c.accounts.invariant c.accounts-test.true c.in-Some.ensures in
+    let place = next.less (sym c.in-Less.ensures) in
+    record { account = sym place.0; puts = λ new named. place.1 new named ∙ ap (λ (front : List ℕ). front ++ (account_bytes new ++ c.accounts.rest.now)) (sym c.front_of-in-Less.ensures) }
+
+pub accounts-preserved : goal.accounts-preserved
+accounts-preserved c =
+    let next = Finding-given _ _ _ _ _ _ (Some (as_front (c.in-Some.account, c.in-Some.others))) c.accounts.invariant c.accounts-test.true c.in-Some.ensures in
+    next.greater (sym c.in-Greater.ensures)

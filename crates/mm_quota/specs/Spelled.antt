@@ -1,0 +1,19 @@
+-- Bytes that spell a ledger.
+use Rattle.std.specs.Prelude.{◌≡◌, ℕ, ◌<◌, ◌≤◌, ◌^◌, ◌&&◌, Bool, true, false, List, [], length, take, drop, Option, Some, None}
+use Rattle.std.specs.List.{list_all}
+use Rattle.mm_quota.specs.Table.{Account, is_account, rises, body_of, spelling_of, count_in, ledger_of}
+
+-- the bytes spell a ledger of some size
+pub record IsSpelled (bytes : List ℕ) : Type 0 where
+  pub few : length (ledger_of bytes) < 2 ^ 16
+  pub good : list_all is_account (ledger_of bytes) ≡ true
+  pub rising : rises [] (ledger_of bytes) ≡ true
+  pub spelled : bytes ≡ spelling_of (ledger_of bytes)
+  pub body : drop 2 bytes ≡ body_of (ledger_of bytes)
+  pub counted : count_in (take 2 bytes) ≡ length (ledger_of bytes)
+  pub headed : 2 ≤ length bytes
+
+-- accounts whose names rise from this one on
+abbrev pub follow : List ℕ → Option (List Account) → Bool
+follow name None = false
+follow name (Some accounts) = list_all is_account accounts && rises name accounts

@@ -1,0 +1,218 @@
+-- The quota ledger: accounts with a name, a limit and what is used, in the order of their names.
+use Rattle.std.specs.Prelude.{ℕ, zero, suc, ◌+◌, ◌-◌, ◌^◌, ◌==◌, ◌&&◌, Bool, true, false, nat_le, List, [], ◌∷◌, ◌++◌, length, take, drop, codes, Option, Some, None, unwrap_or, option_map, option_and_then, if◌then◌else◌}
+use Rattle.std.specs.declared.cmp.Ordering.{Ordering}
+use Rattle.std.specs.Cmp.Lexicographic.{slice_cmp}
+use Rattle.std.specs.Fmt.{decimal}
+use Rattle.std.specs.Int.{w16, w64, to_be_bytes, from_be_bytes}
+use Rattle.std.specs.List.{list_all}
+use Rattle.std.specs.Ordering.{nat_cmp, is_lt, match_ordering}
+use Rattle.std.specs.Str.{bytes_eq}
+use Rattle.mm_base.specs.Decimals.{number_of}
+use Rattle.mm_module.specs.Bytes.{are_bytes}
+use Rattle.mm_module.specs.Words.{words_of}
+use Rattle.mm_module.specs.Meaning.{Meaning}
+
+-- an account
+pub record Account : Type 0 where
+  pub name : List ℕ
+  pub limit : ℕ
+  pub used : ℕ
+
+-- what a request does with the account that it names
+pub data Action : Type 0 where
+  Open : (limit : ℕ) → Action
+  Use : (number : ℕ) → Action
+  Free : (number : ℕ) → Action
+  Left : Action
+
+-- ask for the sum of what is used, or act on one account
+pub data Request : Type 0 where
+  Sum : Request
+  On : (name : List ℕ) (action : Action) → Request
+
+-- what is said
+pub data Says : Type 0 where
+  IsOpened : Says
+  IsThere : Says
+  IsFull : Says
+  IsNone : Says
+  IsUsed : (used : ℕ) → Says
+  IsOver : (left : ℕ) → Says
+  IsUnder : (used : ℕ) → Says
+  HasLeft : (left : ℕ) → Says
+  HasSum : (sum : ℕ) → Says
+  IsBad : Says
+
+-- the order of two names, by their bytes
+abbrev pub order_of : List ℕ → List ℕ → Ordering
+order_of name other = slice_cmp nat_cmp name other
+
+-- the account of this name
+abbrev pub account_named : List ℕ → List Account → Option Account
+account_named name [] = None
+account_named name (account ∷ accounts) = if bytes_eq name account.name then Some account else account_named name accounts
+
+-- the accounts, with this one at its place in the order, instead of the one with its name
+abbrev pub put : Account → List Account → List Account
+put new [] = new ∷ []
+put new (account ∷ accounts) = match_ordering (order_of new.name account.name) (new ∷ account ∷ accounts) (new ∷ accounts) (account ∷ put new accounts)
+
+-- what is used of all accounts
+abbrev pub total_used : List Account → ℕ
+total_used [] = 0
+total_used (account ∷ accounts) = account.used + total_used accounts
+
+-- The account that an action puts, where it puts one, and what is said: from whether the ledger is full, and the
+-- account of the name, where there is one.
+abbrev pub decision_of : Bool → List ℕ → Option Account → Action → Option Account × Says
+decision_of full name (Some account) (Open limit) = (None, IsThere)
+decision_of full name None (Open limit) = if full then (None, IsFull) else (Some (record { name = name; limit = limit; used = 0 }), IsOpened)
+decision_of full name None (Use number) = (None, IsNone)
+decision_of full name (Some account) (Use number) =
+    if nat_le number (account.limit - account.used) then (Some (record account { used = account.used + number }), IsUsed (account.used + number))
+    else (None, IsOver (account.limit - account.used))
+decision_of full name None (Free number) = (None, IsNone)
+decision_of full name (Some account) (Free number) =
+    if nat_le number account.used then (Some (record account { used = account.used - number }), IsUsed (account.used - number))
+    else (None, IsUnder account.used)
+decision_of full name None Left = (None, IsNone)
+decision_of full name (Some account) Left = (None, HasLeft (account.limit - account.used))
+
+-- the accounts after a decision
+abbrev pub settled : List Account → Option Account → List Account
+settled accounts None = accounts
+settled accounts (Some account) = put account accounts
+
+-- the accounts after a request, and what is said, in a ledger of at most so many accounts
+abbrev pub outcome_of : ℕ → List Account → Option Request → List Account × Says
+outcome_of most accounts (Some Sum) = (accounts, HasSum (total_used accounts))
+outcome_of most accounts (Some (On name action)) =
+    let decision = decision_of (nat_le most (length accounts)) name (account_named name accounts) action in
+    (settled accounts decision.0, decision.1)
+outcome_of most accounts None = (accounts, IsBad)
+
+-- the text of what is said
+abbrev pub text_of : Says → List ℕ
+text_of IsOpened = codes "opened"
+text_of IsThere = codes "exists"
+text_of IsFull = codes "full"
+text_of IsNone = codes "none"
+text_of (IsUsed used) = codes "used " ++ decimal used
+text_of (IsOver left) = codes "over " ++ decimal left
+text_of (IsUnder used) = codes "under " ++ decimal used
+text_of (HasLeft left) = codes "left " ++ decimal left
+text_of (HasSum sum) = codes "sum " ++ decimal sum
+text_of IsBad = codes "bad"
+
+-- a visible byte of ASCII
+abbrev pub is_visible : ℕ → Bool
+is_visible byte = nat_le 33 byte && nat_le byte 126
+
+-- a name: 1 to 32 visible bytes
+unfoldable pub is_name : List ℕ → Bool
+is_name bytes = nat_le 1 (length bytes) && nat_le (length bytes) 32 && list_all is_visible bytes
+
+-- an opening, where the limit is at most 2 ^ 48
+abbrev pub opening_of : ℕ → Option Action
+opening_of limit = if nat_le limit (2 ^ 48) then Some (Open limit) else None
+
+-- the action of a word with a number
+abbrev pub action_of : List ℕ → ℕ → Option Action
+action_of word number =
+    if bytes_eq word (codes "open") then opening_of number
+    else (if bytes_eq word (codes "use") then Some (Use number)
+    else (if bytes_eq word (codes "free") then Some (Free number) else None))
+
+-- the request that these words are: `sum`, `left NAME`, or `open`, `use` or `free` with a name and a number
+unfoldable pub request_of : List (List ℕ) → Option Request
+request_of (word ∷ []) = if bytes_eq word (codes "sum") then Some Sum else None
+request_of (word ∷ name ∷ []) = if bytes_eq word (codes "left") && is_name name then Some (On name Left) else None
+request_of (word ∷ name ∷ number ∷ []) = if is_name name then option_map (λ action. On name action) (option_and_then (action_of word) (number_of number)) else None
+request_of _ = None
+
+-- an account of a ledger: its name is one, its limit at most 2 ^ 48, and at most that is used
+unfoldable pub is_account : Account → Bool
+is_account account = is_name account.name && nat_le account.limit (2 ^ 48) && nat_le account.used account.limit
+
+-- the names rise strictly from this one on
+abbrev pub rises : List ℕ → List Account → Bool
+rises name [] = true
+rises name (account ∷ accounts) = is_lt (order_of name account.name) && rises account.name accounts
+
+-- a ledger of at most so many accounts
+unfoldable pub is_ledger : ℕ → List Account → Bool
+is_ledger most accounts = nat_le (length accounts) most && list_all is_account accounts && rises [] accounts
+
+-- a number in 8 bytes, and a count in 2 bytes, the greatest first
+unfoldable pub number_bytes : ℕ → List ℕ
+number_bytes number = to_be_bytes w64 number
+
+unfoldable pub count_bytes : ℕ → List ℕ
+count_bytes count = to_be_bytes w16 count
+
+-- the number that 8 bytes spell, and the count that 2 bytes spell
+unfoldable pub number_in : List ℕ → ℕ
+number_in bytes = from_be_bytes w64 bytes
+
+unfoldable pub count_in : List ℕ → ℕ
+count_in bytes = from_be_bytes w16 bytes
+
+-- the bytes of an account: the length of its name, the name, the limit and what is used
+unfoldable pub account_bytes : Account → List ℕ
+account_bytes account = length account.name ∷ (account.name ++ (number_bytes account.limit ++ number_bytes account.used))
+
+-- the bytes of accounts in a row
+abbrev pub body_of : List Account → List ℕ
+body_of [] = []
+body_of (account ∷ accounts) = account_bytes account ++ body_of accounts
+
+-- the bytes of a ledger: the number of accounts in two bytes, and the accounts
+unfoldable pub spelling_of : List Account → List ℕ
+spelling_of accounts = count_bytes (length accounts) ++ body_of accounts
+
+-- the account that begins with a name of this length, and the bytes after it
+unfoldable pub account_after : ℕ → List ℕ → Option (Account × List ℕ)
+account_after count bytes =
+    if nat_le (count + 16) (length bytes) then Some (record { name = take count bytes; limit = number_in (take 8 (drop count bytes)); used = number_in (take 8 (drop 8 (drop count bytes))) }, drop 8 (drop 8 (drop count bytes)))
+    else None
+
+-- the account at the front of these bytes, and the bytes after it
+abbrev pub account_at : List ℕ → Option (Account × List ℕ)
+account_at [] = None
+account_at (count ∷ bytes) = account_after count bytes
+
+-- so many accounts and nothing after them
+abbrev pub accounts_from : ℕ → List ℕ → Option (List Account)
+accounts_from zero bytes = if length bytes == 0 then Some [] else None
+accounts_from (suc count) bytes = option_and_then (λ (front : Account × List ℕ). option_map (λ accounts. front.0 ∷ accounts) (accounts_from count front.1)) (account_at bytes)
+
+-- the accounts that these bytes spell
+unfoldable pub accounts_of : List ℕ → Option (List Account)
+accounts_of bytes = if nat_le 2 (length bytes) then accounts_from (count_in (take 2 bytes)) (drop 2 bytes) else None
+
+-- these are the accounts of a ledger
+abbrev pub holds_ledger : ℕ → Option (List Account) → Bool
+holds_ledger most None = false
+holds_ledger most (Some accounts) = is_ledger most accounts
+
+-- the bytes spell a ledger
+unfoldable pub is_state : ℕ → List ℕ → Bool
+is_state most bytes = are_bytes bytes && holds_ledger most (accounts_of bytes)
+
+-- the accounts of a spelled ledger
+unfoldable pub ledger_of : List ℕ → List Account
+ledger_of bytes = unwrap_or (accounts_of bytes) []
+
+-- what a request does to a spelled ledger
+unfoldable pub stepped : ℕ → List ℕ → List ℕ → List Account × Says
+stepped most state request = outcome_of most (ledger_of state) (request_of (words_of request))
+
+-- the ledger of this id, of at most so many accounts, as a module
+abbrev pub quota : ℕ → ℕ → Meaning
+quota id most = record {
+  id = id;
+  first = 0 ∷ 0 ∷ [];
+  next = λ state request. spelling_of (stepped most state request).0;
+  says = λ state request. text_of (stepped most state request).1;
+  is_spelled = is_state most;
+}

@@ -1,0 +1,165 @@
+//! Requests to a ledger, and what it says.
+
+ghost use Rattle.std.specs.Prelude.{◌≡◌, ◌≤◌, ◌^◌, ◌++◌, IfOk, option_map};
+ghost use Rattle.std.specs.Fmt.{decimal};
+ghost use Rattle.std.specs.Option.{ForSome};
+ghost use Rattle.mm_module.specs.Words.{words_of};
+ghost use Rattle.mm_quota.specs.Table.{action_of, request_of, decision_of, text_of, IsUsed};
+ghost use Rattle.mm_quota.specs.Views.{as_account, as_action, as_request, as_says};
+
+use crate::account::{Account, name_is_formed};
+use mm_base::{Bytes, Memory, put_decimal, read_decimal};
+use mm_module::Words;
+use std::alloc::Global;
+
+/// What a request does with the account that it names.
+#[derive(Clone, Copy, Debug)]
+pub enum Action {
+    Open(u64),
+    Use(u64),
+    Free(u64),
+    Left,
+}
+
+/// A request to a ledger.
+#[derive(Clone, Copy, Debug)]
+pub enum Request<'a> {
+    Sum,
+    On(&'a [u8], Action),
+}
+
+/// What a ledger says.
+#[derive(Clone, Copy, Debug)]
+pub enum Says {
+    Opened,
+    Exists,
+    Full,
+    None,
+    Used(u64),
+    Over(u64),
+    Under(u64),
+    Left(u64),
+    Sum(u64),
+    Bad,
+}
+
+/// The action of a word with a number.
+fn read_action(word: &[u8], number: u64) -> Option<Action>
+    ensures { option_map as_action result ≡ action_of word.now number }
+{
+    if word == b"open".as_slice() {
+        return if number <= 1 << 48 {
+            Some(Action::Open(number))
+        } else {
+            None
+        };
+    }
+    if word == b"use".as_slice() {
+        return Some(Action::Use(number));
+    }
+    if word == b"free".as_slice() {
+        return Some(Action::Free(number));
+    }
+    None
+}
+
+/// The request that these bytes are, where they are one.
+#[tactic(auto, unfolding(crate::specs::Table::request_of))]
+pub fn read_request(bytes: &[u8]) -> Option<Request<'_>>
+    ensures { option_map as_request result ≡ request_of (words_of bytes.now) }
+{
+    match Words::of(bytes) {
+        Words::One(word) if word == b"sum".as_slice() => Some(Request::Sum),
+        Words::Two(word, name) if word == b"left".as_slice() && name_is_formed(name) => {
+            Some(Request::On(name, Action::Left))
+        }
+        Words::Three(word, name, number) if name_is_formed(name) => {
+            let action = read_action(word, read_decimal(number)?)?;
+            Some(Request::On(name, action))
+        }
+        _ => None,
+    }
+}
+
+/// The account that an action puts, where it puts one, and what is said: from whether the ledger is full, and the
+/// account of the name, where there is one.
+pub fn decision<'a>(
+    full: bool,
+    name: &'a [u8],
+    found: Option<Account<'a>>,
+    action: Action,
+) -> (Option<Account<'a>>, Says)
+    requires { ForSome found (λ account. (account.used ≤ account.limit) × (account.limit ≤ 2 ^ 48)) }
+    ensures { (option_map as_account result.0, as_says result.1) ≡ decision_of full name.now (option_map as_account found.entry) (as_action action) }
+{
+    let Some(account) = found else {
+        return opening(full, name, action);
+    };
+    let left = account.limit - account.used;
+    match action {
+        Action::Open(_) => (None, Says::Exists),
+        Action::Use(number) if number <= left => used(account, account.used + number),
+        Action::Use(_) => (None, Says::Over(left)),
+        Action::Free(number) if number <= account.used => used(account, account.used - number),
+        Action::Free(_) => (None, Says::Under(account.used)),
+        Action::Left => (None, Says::Left(left)),
+    }
+}
+
+/// What an action does where there is no such account.
+fn opening(full: bool, name: &[u8], action: Action) -> (Option<Account<'_>>, Says)
+    ensures { (option_map as_account result.0, as_says result.1) ≡ decision_of full name.now None (as_action action) }
+{
+    match action {
+        Action::Open(_) if full => (None, Says::Full),
+        Action::Open(limit) => {
+            let account = Account {
+                name,
+                limit,
+                used: 0,
+            };
+            (Some(account), Says::Opened)
+        }
+        _ => (None, Says::None),
+    }
+}
+
+/// The account with another use, and what is said.
+fn used(account: Account<'_>, amount: u64) -> (Option<Account<'_>>, Says)
+    ensures account { option_map as_account result.0 ≡ Some (record (as_account account.entry) { used = amount }) }
+    ensures says { as_says result.1 ≡ IsUsed amount }
+{
+    let account = Account {
+        name: account.name,
+        limit: account.limit,
+        used: amount,
+    };
+    (Some(account), Says::Used(amount))
+}
+
+/// A word and a number.
+fn counted(alloc: Global, word: &[u8], number: u64) -> Result<Bytes, Memory>
+    ensures { IfOk result (λ text. text ≡ word.now ++ decimal number) }
+{
+    let mut text = Bytes::copy_of(alloc, word)?;
+    put_decimal(&mut text, number)?;
+    Ok(text)
+}
+
+/// The text of what is said.
+pub fn text(alloc: Global, says: Says) -> Result<Bytes, Memory>
+    ensures { IfOk result (λ text. text ≡ text_of (as_says says)) }
+{
+    match says {
+        Says::Opened => Bytes::copy_of(alloc, b"opened"),
+        Says::Exists => Bytes::copy_of(alloc, b"exists"),
+        Says::Full => Bytes::copy_of(alloc, b"full"),
+        Says::None => Bytes::copy_of(alloc, b"none"),
+        Says::Used(used) => counted(alloc, b"used ", used),
+        Says::Over(left) => counted(alloc, b"over ", left),
+        Says::Under(used) => counted(alloc, b"under ", used),
+        Says::Left(left) => counted(alloc, b"left ", left),
+        Says::Sum(sum) => counted(alloc, b"sum ", sum),
+        Says::Bad => Bytes::copy_of(alloc, b"bad"),
+    }
+}
