@@ -55,7 +55,7 @@ answer_after i named b = record {
   });
 }
 
-answer-lists : (meaning : Meaning) (key : List ℕ) (y : History) (named : List Batch) (b : Batch) → y.batches ≡ named ++ b ∷ []
+pub answer-lists : (meaning : Meaning) (key : List ℕ) (y : History) (named : List Batch) (b : Batch) → y.batches ≡ named ++ b ∷ []
     → answer_by_lists (basic meaning key) y b ≡ answer_after (basic meaning key) named b
 answer-lists meaning key y named b e =
     let total : total_of y.batches ≡ total_of named + size_of b = ap total_of e ∙ total-push named b in

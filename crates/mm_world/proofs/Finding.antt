@@ -117,7 +117,7 @@ pub record Placed (i : Instance) (y : History) (b : Batch) (found : Found) : Typ
   pub fresh : found.again ≡ false → named ≡ y.batches
   pub repeat : found.again ≡ true → named ++ b ∷ [] ≡ y.batches
 
-admitted_tells : (here repeat fits again : Bool) → admitted (judged Live here repeat) fits ≡ Ok again
+pub admitted_tells : (here repeat fits again : Bool) → admitted (judged Live here repeat) fits ≡ Ok again
     → (again ≡ false → here ≡ true) × (again ≡ true → repeat ≡ true)
 admitted_tells true repeat true again e = (λ _. refl, λ a. cc)
 admitted_tells true repeat false again e = cc
@@ -125,13 +125,13 @@ admitted_tells false true true again e = (λ a. cc, λ _. refl)
 admitted_tells false true false again e = cc
 admitted_tells false false fits again e = cc
 
-weighed_tells : (spelled tagged : Bool) (v : Verdict) (fits again : Bool) → weighed spelled tagged v fits ≡ Ok again
+pub weighed_tells : (spelled tagged : Bool) (v : Verdict) (fits again : Bool) → weighed spelled tagged v fits ≡ Ok again
     → (spelled ≡ true) × (tagged ≡ true) × (admitted v fits ≡ Ok again)
 weighed_tells false tagged v fits again e = cc
 weighed_tells true false v fits again e = cc
 weighed_tells true true v fits again e = (refl, refl, e)
 
-found_with_tells : (offered : Content) (examination : Result Bool Refusal) (found : Found) → found_with offered examination ≡ Ok found
+pub found_with_tells : (offered : Content) (examination : Result Bool Refusal) (found : Found) → found_with offered examination ≡ Ok found
     → (found.offered ≡ offered) × (examination ≡ Ok found.again)
 found_with_tells offered (Ok again) found e =
     let same : record { offered = offered; again = again } ≡ found = cc in

@@ -44,11 +44,11 @@ broken_same : (way : Way) (committed : Bool) (p q : ℕ) → (committed ≡ true
 broken_same way true p q e = ap (λ x. broken_reply way true x) (e refl)
 broken_same way false p q e = refl
 
-again_of : (again : Bool) → (if again then false else true) ≡ false → again ≡ true
+pub again_of : (again : Bool) → (if again then false else true) ≡ false → again ≡ true
 again_of true e = refl
 again_of false e = cc
 
-fresh_of : (again : Bool) → (if again then false else true) ≡ true → again ≡ false
+pub fresh_of : (again : Bool) → (if again then false else true) ≡ true → again ≡ false
 fresh_of true e = cc
 fresh_of false e = refl
 

@@ -5,3 +5,5 @@ pub mod Finding
 pub mod Calling
 pub mod Following
 pub mod Events
+pub mod Running
+pub mod GoingOn

@@ -1,13 +1,14 @@
 -- The laws of whole runs.
-use Rattle.std.specs.Prelude.{◌≡◌, ℕ, List}
+use Rattle.std.specs.Prelude.{◌≡◌, ℕ, ◌+◌, List, [], ◌++◌}
 use Rattle.mm_module.specs.Meaning.{Meaning}
 use Rattle.mm_model.specs.Instance.{Instance, basic}
-use Rattle.mm_model.specs.History.{History, total_of, cell_digest_of, register_value_of}
+use Rattle.mm_model.specs.History.{History, requests_of, total_of, cell_digest_of, register_value_of}
 use Rattle.mm_model.specs.Standing.{flag_of}
 use Rattle.mm_schedule.specs.Events.{Event}
-use Rattle.mm_world.specs.Levels.{Digests}
-use Rattle.mm_world.specs.Folds.{Followed, expected, replies_by_digests}
-use Rattle.mm_world.specs.Premises.{IsClearRun, IsGenuineRun}
+use Rattle.mm_schedule.specs.Machine.{Runs}
+use Rattle.mm_world.specs.Levels.{Digests, by_lists, by_digests}
+use Rattle.mm_world.specs.Folds.{Followed, followed, expected, replies_by_digests}
+use Rattle.mm_world.specs.Premises.{messages_from, IsClearRun, IsGenuineRun}
 
 -- The digests are those of the history: what its cell and its register hold, and how many requests it has.
 pub record Agrees (i : Instance) (y : History) (d : Digests) : Type 0 where
@@ -31,3 +32,28 @@ abbrev pub BasicIsExpected : Type 0
 BasicIsExpected = (meaning : Meaning) (key : List ℕ) (events : List Event) →
     IsClearRun (basic meaning key) events → IsGenuineRun (basic meaning key) events →
     AgreesThroughout (basic meaning key) (expected (basic meaning key) events) (replies_by_digests (basic meaning key) events)
+
+-- Without a premise, what is expected is one run of the machine, on one list of requests.
+abbrev pub BasicRuns : Type 0
+BasicRuns = (meaning : Meaning) (key : List ℕ) (events : List Event) →
+    let lists : Followed History = expected (basic meaning key) events in
+    Runs meaning [] events lists.replies (requests_of lists.state.batches)
+
+-- What stands after some events and then more.
+abbrev pub continued : {S : Type 0} → Followed S → Followed S → Followed S
+continued first second = record {
+  state = second.state;
+  issued = second.issued;
+  replies = first.replies ++ second.replies;
+  steps = first.steps + second.steps;
+  writes = first.writes + second.writes;
+}
+
+-- A schedule goes on from what stands after its first events, by either level; and so do its messages.
+abbrev pub GoesOn : Type 0
+GoesOn = (i : Instance) (es fs : List Event) (y : History) (d : Digests) (issued : List (List ℕ)) →
+    let lists : Followed History = followed i (by_lists i) y issued es in
+    let digests : Followed Digests = followed i (by_digests i) d issued es in
+    (followed i (by_lists i) y issued (es ++ fs) ≡ continued lists (followed i (by_lists i) lists.state lists.issued fs))
+    × (followed i (by_digests i) d issued (es ++ fs) ≡ continued digests (followed i (by_digests i) digests.state digests.issued fs))
+    × (messages_from i y issued (es ++ fs) ≡ messages_from i y issued es ++ messages_from i lists.state lists.issued fs)
