@@ -3,3 +3,8 @@ pub mod Members
 pub mod Findings
 pub mod Asking
 pub mod FirstLaws
+pub mod Reading
+pub mod Verdicts
+pub mod Continuing
+pub mod Completeness
+pub mod Turning

@@ -5,3 +5,4 @@ pub mod Ran
 pub mod Steps
 pub mod Turns
 pub mod Asks
+pub mod Continuity

@@ -55,7 +55,7 @@ impl Call {
     ghost use Rattle.mm_module.specs.Batches.{batch_of};
     ghost use Rattle.mm_model.specs.Long.{is_long};
     ghost use Rattle.mm_basic.specs.Steps.{number_of};
-    ghost use Rattle.mm_basic.specs.Turns.{Turns};
+    ghost use Rattle.mm_basic.specs.Turns.{Turns, TurnContinues};
 
     /// The number of the next device step, from 1.
     pub fn next_step(&self) -> u8
@@ -67,8 +67,27 @@ impl Call {
         }
     }
 
-    /// Makes the next device step.
+    /// Makes the next device step. The first reads the cell, and runs the batch in memory; the last writes the
+    /// cell, which commits the batch, and takes no memory. The offer, the batch and the module are read by the
+    /// first alone.
     pub fn advance<M: Module, P: Platform>(
+        self,
+        alloc: Global,
+        module: &M,
+        platform: &mut P,
+        offer: &[u8],
+        batch: Batch<'_>,
+    ) -> Turn
+        requires { is_long (batch_of batch) ≡ false }
+        ensures turns { Turns (M.meaning «module».now) self (P.standing platform.old) (P.standing platform.new) offer.now
+            (batch_of batch.entry) result }
+        ensures continuity { TurnContinues (M.meaning «module».now) self (P.standing platform.old) (P.standing platform.new) offer.now
+            (batch_of batch.entry) result }
+    {
+        self.turn(alloc, module, platform, offer, batch)
+    }
+
+    fn turn<M: Module, P: Platform>(
         self,
         alloc: Global,
         module: &M,

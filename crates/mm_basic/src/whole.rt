@@ -5,6 +5,7 @@ ghost use Rattle.mm_module.specs.Batch.{One};
 ghost use Rattle.mm_module.specs.Batches.{batch_of};
 ghost use Rattle.mm_model.specs.Long.{is_long};
 ghost use Rattle.mm_basic.specs.Steps.{fault_in, Reads};
+ghost use Rattle.mm_basic.specs.Continuity.{ReadContinues, CommitContinues, Continues, IsComplete};
 ghost use Rattle.mm_basic.specs.Asks.{Calls, Commits, CommitsFound, LeavesUntouched, Blames, StepsBy, whole_in};
 
 use crate::found::Found;
@@ -81,6 +82,13 @@ fn prepare_batch<M: Module, P: Platform>(
 impl Prepared {
     /// Makes the writing step, which commits the request; a repeat has none. Takes no memory.
     pub fn commit<P: Platform>(self, platform: &mut P) -> Result<Committed, StepFault>
+        ensures commits { CommitsFound self (P.standing platform.old) (P.standing platform.new) result }
+        ensures continuity { CommitContinues self (P.standing platform.old) (P.standing platform.new) result }
+    {
+        self.write(platform)
+    }
+
+    fn write<P: Platform>(self, platform: &mut P) -> Result<Committed, StepFault>
         ensures { CommitsFound self (P.standing platform.old) (P.standing platform.new) result }
     {
         match self.found {
@@ -142,6 +150,8 @@ pub fn ask_batch<M: Module, P: Platform>(
     ensures untouched { LeavesUntouched result (P.standing platform.old) (P.standing platform.new) }
     ensures faults { Blames (fault_in result) (P.standing platform.old).faults (P.standing platform.new).faults }
     ensures steps { is_long (batch_of batch.entry) ≡ false → StepsBy result (P.standing platform.old) (P.standing platform.new) }
+    ensures continuity { Continues (M.meaning «module».now) (P.standing platform.old) (P.standing platform.new) offer.now (batch_of batch.entry) result }
+    ensures complete { IsComplete (M.meaning «module».now) (P.standing platform.old) (P.standing platform.new) offer.now (batch_of batch.entry) result }
 {
     call(alloc, module, platform, offer, batch)
 }
@@ -158,6 +168,8 @@ pub fn ask<M: Module, P: Platform>(
     ensures untouched { LeavesUntouched (whole_in result) (P.standing platform.old) (P.standing platform.new) }
     ensures faults { Blames (fault_in result) (P.standing platform.old).faults (P.standing platform.new).faults }
     ensures steps { is_long (One request.now) ≡ false → StepsBy (whole_in result) (P.standing platform.old) (P.standing platform.new) }
+    ensures continuity { Continues (M.meaning «module».now) (P.standing platform.old) (P.standing platform.new) offer.now (One request.now) (whole_in result) }
+    ensures complete { IsComplete (M.meaning «module».now) (P.standing platform.old) (P.standing platform.new) offer.now (One request.now) (whole_in result) }
 {
     match call_one(alloc, module, platform, offer, request) {
         Err(refusal) => Err(refusal),

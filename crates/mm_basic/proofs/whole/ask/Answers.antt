@@ -2,6 +2,9 @@ use Rattle.std.proofs.Common.{Ok, Err, subst}
 use Rattle.mm_module.specs.Batch.{One}
 use Rattle.mm_model.specs.declared.answer.BatchAnswer.{BatchAnswer}
 use Rattle.mm_basic.specs.Asks.{Calls}
+use Rattle.mm_basic.specs.Asks.{whole}
+use Rattle.mm_basic.proofs.Continuing.{continues}
+use Rattle.mm_basic.proofs.Completeness.{complete}
 use Rattle.mm_basic.proofs.Asking.{untouched, blames, steps, wholly}
 use Rattle.mm_basic.proofs.whole.ask.Goals as goal
 
@@ -27,3 +30,23 @@ returns-in-Ok-clause-calls g c =
     (g.P.Device.standing c.call_one.new.platform) c.args.offer.now (One c.args.request.now) (Ok a))
     (wholly c.in-Ok.answer c.into_one.result c.into_one.ensures.again c.into_one.ensures.position c.into_one.ensures.output c.into_one.ensures.snapshot)
     c.in-Ok.ensures.calls
+
+pub returns-in-Err-clause-continuity : goal.returns-in-Err-clause-continuity
+returns-in-Err-clause-continuity g c =
+    continues (g.M.Module.meaning c.args.module.now) (g.P.Device.standing c.args.platform.now)
+    (g.P.Device.standing c.call_one.new.platform) c.args.offer.now (One c.args.request.now) (Err c.in-Err.refusal) c.in-Err.ensures.calls
+
+pub returns-in-Err-clause-complete : goal.returns-in-Err-clause-complete
+returns-in-Err-clause-complete g c =
+    complete (g.M.Module.meaning c.args.module.now) (g.P.Device.standing c.args.platform.now)
+    (g.P.Device.standing c.call_one.new.platform) c.args.offer.now (One c.args.request.now) (Err c.in-Err.refusal) c.in-Err.ensures.calls
+
+pub returns-in-Ok-clause-continuity : goal.returns-in-Ok-clause-continuity
+returns-in-Ok-clause-continuity g c =
+    continues (g.M.Module.meaning c.args.module.now) (g.P.Device.standing c.args.platform.now)
+    (g.P.Device.standing c.call_one.new.platform) c.args.offer.now (One c.args.request.now) (Ok (whole c.into_one.result))
+    (subst
+    (λ (a : BatchAnswer). Calls (g.M.Module.meaning c.args.module.now) (g.P.Device.standing c.args.platform.now)
+    (g.P.Device.standing c.call_one.new.platform) c.args.offer.now (One c.args.request.now) (Ok a))
+    (wholly c.in-Ok.answer c.into_one.result c.into_one.ensures.again c.into_one.ensures.position c.into_one.ensures.output c.into_one.ensures.snapshot)
+    c.in-Ok.ensures.calls)

@@ -1,4 +1,6 @@
 use Rattle.mm_module.specs.Batches.{batch_of}
+use Rattle.mm_basic.proofs.Continuing.{continues}
+use Rattle.mm_basic.proofs.Completeness.{complete}
 use Rattle.mm_basic.proofs.Asking.{untouched, blames, steps}
 use Rattle.mm_basic.proofs.whole.ask_batch.Goals as goal
 
@@ -15,4 +17,14 @@ returns-clause-faults g c =
 pub returns-clause-steps : goal.returns-clause-steps
 returns-clause-steps g c =
     steps (g.M.Module.meaning c.args.module.now) (g.P.Device.standing c.args.platform.now)
+    (g.P.Device.standing c.call.new.platform) c.args.offer.now (batch_of c.args.batch) c.call.result c.call.ensures
+
+pub returns-clause-continuity : goal.returns-clause-continuity
+returns-clause-continuity g c =
+    continues (g.M.Module.meaning c.args.module.now) (g.P.Device.standing c.args.platform.now)
+    (g.P.Device.standing c.call.new.platform) c.args.offer.now (batch_of c.args.batch) c.call.result c.call.ensures
+
+pub returns-clause-complete : goal.returns-clause-complete
+returns-clause-complete g c =
+    complete (g.M.Module.meaning c.args.module.now) (g.P.Device.standing c.args.platform.now)
     (g.P.Device.standing c.call.new.platform) c.args.offer.now (batch_of c.args.batch) c.call.result c.call.ensures

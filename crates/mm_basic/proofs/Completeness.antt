@@ -1,0 +1,91 @@
+-- A right offer that the verdict accepts is answered.
+use Rattle.std.proofs.Common.{◌≡◌, ℕ, ◌+◌, ◌≤◌, ◌^◌, Bool, true, false, List, Option, None, Some, Result, Ok, Err, refl, sym, ap, subst, inl, inr}
+use Rattle.std.specs.Prelude.{nat_le}
+use Rattle.std.specs.Str.{bytes_eq}
+use Rattle.std.proofs.lemmas.Bool.{le-leb}
+use Rattle.std.proofs.lemmas.Slice.Eq.{bytes_eq-Decides}
+use Rattle.mm_digest.specs.declared.variant.Variant.TheVariants.{Basic}
+use Rattle.mm_digest.proofs.Lengths.{length-hmac_of}
+use Rattle.mm_platform.specs.declared.fault.StepFault.{StepFault}
+use Rattle.mm_platform.specs.Standing.{Standing}
+use Rattle.mm_module.specs.Meaning.{Meaning}
+use Rattle.mm_module.specs.Batch.{Batch, size_of, normal}
+use Rattle.mm_seal.specs.Snapshot.{Content, Snapshot, ReadsParts, snapshot_front, sealed_of, tag_of}
+use Rattle.mm_model.specs.Instance.{Instance, basic}
+use Rattle.mm_model.specs.History.{History}
+use Rattle.mm_model.specs.Judge.{judge}
+use Rattle.mm_model.specs.Standing.{IsRight}
+use Rattle.mm_model.specs.declared.answer.BatchAnswer.{BatchAnswer}
+use Rattle.mm_model.specs.declared.refusal.Refusal.{Refusal}
+use Rattle.mm_model.specs.declared.refusal.Refusal.TheVariants.{Memory}
+use Rattle.mm_model.specs.declared.verdict.Verdict.{Verdict}
+use Rattle.mm_model.specs.declared.verdict.Verdict.TheVariants.{Fresh, Again, Lost, Stale}
+use Rattle.mm_basic.specs.declared.found.Found.{Found}
+use Rattle.mm_basic.specs.Order.{admitted, weighed}
+use Rattle.mm_basic.specs.Steps.{fault_of, fault_in, OrMemory}
+use Rattle.mm_basic.specs.Asks.{Calls, Blames}
+use Rattle.mm_basic.specs.Continuity.{expected_by, expected, RefusesFrom, GoesOn, IsAccepted, IsAnswered, IsComplete}
+use Rattle.mm_basic.proofs.Asking.{blames}
+use Rattle.mm_basic.proofs.Continuing.{continues}
+
+-- the offer, taken apart
+abbrev pub offered_of : List ℕ → Content → Snapshot
+offered_of key content = record { content = content; tag = tag_of key content }
+
+right_reads : (meaning : Meaning) (key offer : List ℕ) (content : Content) → IsRight (basic meaning key) offer content → ReadsParts offer Basic meaning.id (Ok (offered_of key content))
+unfolding sealed_of
+right_reads meaning key offer content r =
+    ((record { content = r.formed; tag = length-hmac_of key (snapshot_front content) }, r.sealed), (r.variant, r.id))
+
+-- an accepted offer gives something
+record IsGiven (e : Result Bool Refusal) : Type 0 where
+  again : Bool
+  is : e ≡ Ok again
+
+admits : (v : Verdict) → IsAccepted v → IsGiven (admitted v true)
+admits Fresh a = record { again = false; is = refl }
+admits Again a = record { again = true; is = refl }
+admits Lost a = absurd a
+admits Stale a = absurd a
+
+weighs : (s t fits : Bool) (v : Verdict) → s ≡ true → t ≡ true → fits ≡ true → IsAccepted v → IsGiven (weighed s t v fits)
+weighs s t fits v p q r a =
+    subst (λ (x : Bool). IsGiven (weighed x t v fits)) (sym p)
+    (subst (λ (x : Bool). IsGiven (weighed true x v fits)) (sym q)
+    (subst (λ (x : Bool). IsGiven (weighed true true v x)) (sym r) (admits v a)))
+
+record IsFound (x : Result Found Refusal) : Type 0 where
+  found : Found
+  is : x ≡ Ok found
+
+given_found : (again : Bool) (i : Instance) (y : History) (b : Batch) → IsFound (expected_by (Ok again) i y b)
+given_found true i y b = record { found = _; is = refl }
+given_found false i y b = record { found = _; is = refl }
+
+accepted_found : (meaning : Meaning) (key : List ℕ) (y : History) (content : Content) (b : Batch) → meaning.is_spelled content.state ≡ true → IsAccepted (judge Basic y content.position (normal b)) → content.position + size_of b ≤ 2 ^ 48 → IsFound (expected (basic meaning key) y (Ok (offered_of key content)) b)
+accepted_found meaning key y content b spelled accepted fits =
+    let v : Verdict = judge Basic y content.position (normal b) in
+    let t : Bool = bytes_eq (tag_of key content) (tag_of key content) in
+    let e = weighs (meaning.is_spelled content.state) t (nat_le (content.position + size_of b) (2 ^ 48)) v spelled
+    ((bytes_eq-Decides (tag_of key content) (tag_of key content)).1 refl) (le-leb (content.position + size_of b) (2 ^ 48) fits) accepted in
+    subst (λ (r : Result Bool Refusal). IsFound (expected_by r (basic meaning key) y b)) (sym e.is) (given_found e.again (basic meaning key) y b)
+
+memory_only : (found : Found) (why : Refusal) → OrMemory (Ok found) (Err why) → why ≡ Memory
+memory_only found why o = elim o [ inl e ↦ cc | inr e ↦ cc ]
+
+refused_only : (fault : Option StepFault) (i : Instance) (y : History) (b : Batch) (found : Found) (old new : Standing) (why : Refusal) → Blames fault old.faults new.faults → RefusesFrom i y b (Ok found) new why fault → IsAnswered (Err why) old new
+refused_only None i y b found old new why h r = inr (inl (ap (λ (w : Refusal). Err w) (memory_only found why r.0)))
+refused_only (Some fault) i y b found old new why h r = inr (inr h)
+
+answered_only : (result : Result BatchAnswer Refusal) (i : Instance) (y : History) (b : Batch) (found : Found) (old new : Standing) → Blames (fault_in result) old.faults new.faults → GoesOn i y b (Ok found) new result → IsAnswered result old new
+answered_only (Ok answer) i y b found old new h g = inl refl
+answered_only (Err why) i y b found old new h g = refused_only (fault_of why) i y b found old new why h g
+
+pub complete : (meaning : Meaning) (old new : Standing) (offer : List ℕ) (b : Batch) (result : Result BatchAnswer Refusal) → Calls meaning old new offer b result → IsComplete meaning old new offer b result
+complete meaning old new offer b result c short key y all content asked right accepted fits =
+    let i : Instance = basic meaning key in
+    let spelled : meaning.is_spelled content.state ≡ true = right.state in
+    let f = accepted_found meaning key y content b spelled accepted fits in
+    let g = continues meaning old new offer b result c short key y all (Ok (offered_of key content)) asked (right_reads meaning key offer content right) in
+    answered_only result i y b f.found old new (blames meaning old new offer b result c)
+    (subst (λ (x : Result Found Refusal). GoesOn i y b x new result) f.is g)

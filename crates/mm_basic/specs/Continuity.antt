@@ -1,0 +1,156 @@
+-- State continuity: what a call gives from any history that the platform stands for.
+use Rattle.std.specs.Prelude.{◌≡◌, ℕ, ◌-◌, ◌+◌, ◌≤◌, ◌^◌, Bool, true, false, List, Option, None, Some, Result, Ok, Err, IsOk, drop, ◌⊎◌}
+use Rattle.mm_base.specs.Faults.{Rose}
+use Rattle.mm_digest.specs.declared.variant.Variant.TheVariants.{Basic}
+use Rattle.mm_platform.specs.declared.fault.StepFault.{StepFault}
+use Rattle.mm_platform.specs.Standing.{Standing}
+use Rattle.mm_module.specs.Meaning.{Meaning, outputs_from}
+use Rattle.mm_module.specs.Batch.{Batch, size_of, normal}
+use Rattle.mm_seal.specs.declared.snapshot.PartsFault.{PartsFault}
+use Rattle.mm_seal.specs.declared.snapshot.PartsFault.TheVariants.{Form, Kind}
+use Rattle.mm_seal.specs.Cell.{cell_spelling}
+use Rattle.mm_seal.specs.Snapshot.{Content, Snapshot, ReadsParts}
+use Rattle.mm_model.specs.Instance.{Instance, basic}
+use Rattle.mm_model.specs.History.{History, Commit, moved, requests_of, total_of}
+use Rattle.mm_model.specs.Judge.{judge}
+use Rattle.mm_model.specs.Long.{is_long}
+use Rattle.mm_model.specs.Messages.{IsClearFor}
+use Rattle.mm_model.specs.Standing.{StandsFor, IsRight, IsGenuine, cell_of, issued_bytes}
+use Rattle.mm_model.specs.declared.answer.BatchAnswer.{BatchAnswer}
+use Rattle.mm_model.specs.declared.refusal.Refusal.{Refusal}
+use Rattle.mm_model.specs.declared.refusal.Refusal.TheVariants as refusal
+use Rattle.mm_model.specs.declared.verdict.Verdict.{Verdict}
+use Rattle.mm_model.specs.declared.verdict.Verdict.TheVariants.{Fresh, Again, Lost, Stale}
+use Rattle.mm_basic.specs.declared.found.Found.{Found}
+use Rattle.mm_basic.specs.declared.found.Found.TheVariants.{Repeat, Change}
+use Rattle.mm_basic.specs.declared.found.Ready.{Ready}
+use Rattle.mm_basic.specs.Order.{examined}
+use Rattle.mm_basic.specs.Steps.{fault_of, fault_in, OrMemory}
+
+-- the history once the batch is committed
+abbrev pub with_batch : Instance → History → Batch → History
+with_batch i y b = moved i y (Commit (normal b))
+
+-- what the module says to the last requests of a history, this many of them
+abbrev pub last_outputs : Meaning → History → ℕ → List (List ℕ)
+last_outputs meaning y count =
+    drop (total_of y.batches - count) (outputs_from meaning meaning.first (requests_of y.batches))
+
+-- the answer to a batch with which a history ends, by whether it is a repeat
+abbrev pub answer_on : Instance → History → Batch → Bool → BatchAnswer
+answer_on i y b again = record {
+  again = again;
+  position = total_of y.batches;
+  outputs = last_outputs i.meaning y (size_of b);
+  snapshot = issued_bytes i y;
+}
+
+-- a new batch, ready to be committed
+abbrev pub ready_on : Instance → History → Batch → Ready
+ready_on i y b = record {
+  next = cell_spelling (cell_of i (with_batch i y b));
+  answer = answer_on i (with_batch i y b) b false;
+}
+
+abbrev pub expected_by : Result Bool Refusal → Instance → History → Batch → Result Found Refusal
+expected_by (Err why) i y b = Err why
+expected_by (Ok true) i y b = Ok (Repeat (answer_on i y b true))
+expected_by (Ok false) i y b = Ok (Change (ready_on i y b))
+
+-- What is found from a history, by what the offer is taken apart to: the same order of refusals, with the verdict on
+-- the history, which knows no digest, in place of the verdict by digests.
+abbrev pub expected : Instance → History → Result Snapshot PartsFault → Batch → Result Found Refusal
+expected i y (Err Form) b = Err refusal.Form
+expected i y (Err Kind) b = Err refusal.Kind
+expected i y (Ok offered) b =
+    expected_by (examined i.meaning i.key offered b (judge i.variant y offered.content.position (normal b))) i y b
+
+-- What is asked of a call from a history: the platform stands for it; a right offer names a position of it; and then
+-- the list `all`, which holds the messages of the history and of this call, is clear.
+pub record IsAskedFrom (all : List (List ℕ)) (i : Instance) (y : History) (old : Standing) (offer : List ℕ) (b : Batch) : Type 0 where
+  pub stands : StandsFor i old y
+  pub genuine : IsGenuine i y offer
+  pub clear : (content : Content) → IsRight i offer content → IsClearFor all i y content.place (normal b)
+
+-- State continuity of the reading step: what it finds is what the history gives, and the platform still stands for it.
+pub record ReadsOn (i : Instance) (y : History) (expects : Result Found Refusal) (new : Standing) (found : Result Found Refusal) : Type 0 where
+  pub found_is : fault_in found ≡ None → OrMemory expects found
+  pub stands : StandsFor i new y
+
+-- the cell that is to be written is that of the history with the batch
+abbrev pub IsReadyOn : Instance → History → Batch → Found → Type 0
+IsReadyOn i y b (Repeat answer) = Unit {0}
+IsReadyOn i y b (Change ready) = ready.next ≡ cell_spelling (cell_of i (with_batch i y b))
+
+-- State continuity of the writing step: the platform stands for the history with the batch; or, after a fault, for
+-- that or the history as it was.
+abbrev pub WritesOn : Instance → History → Batch → Ready → Standing → Result BatchAnswer StepFault → Type 0
+WritesOn i y b ready new (Ok answer) = (answer ≡ ready.answer) × StandsFor i new (with_batch i y b)
+WritesOn i y b ready new (Err fault) = StandsFor i new y ⊎ StandsFor i new (with_batch i y b)
+
+abbrev pub CommitsOn : Instance → History → Batch → Found → Standing → Result BatchAnswer StepFault → Type 0
+CommitsOn i y b (Repeat answer) new written = (written ≡ Ok answer) × StandsFor i new y
+CommitsOn i y b (Change ready) new written = WritesOn i y b ready new written
+
+-- State continuity of a call's reading step and of its rest, from every history under every key.
+abbrev pub ReadContinues : Meaning → Standing → Standing → List ℕ → Batch → Result Found Refusal → Type 0
+ReadContinues meaning old new offer b found =
+    (key : List ℕ) (y : History) (all : List (List ℕ)) (taken : Result Snapshot PartsFault) →
+    IsAskedFrom all (basic meaning key) y old offer b → ReadsParts offer Basic meaning.id taken →
+    ReadsOn (basic meaning key) y (expected (basic meaning key) y taken b) new found
+
+abbrev pub CommitContinues : Found → Standing → Standing → Result BatchAnswer StepFault → Type 0
+CommitContinues found old new written =
+    (meaning : Meaning) (key : List ℕ) (y : History) (b : Batch) →
+    StandsFor (basic meaning key) old y → IsReadyOn (basic meaning key) y b found →
+    CommitsOn (basic meaning key) y b found new written
+
+-- a new batch was to be committed
+abbrev pub IsChange : Result Found Refusal → Type 0
+IsChange (Ok (Change ready)) = Unit {0}
+IsChange (Ok (Repeat answer)) = ⊥
+IsChange (Err why) = ⊥
+
+-- An answer is the expected one, and the platform stands for the history, with a new batch committed.
+abbrev pub AnswersFrom : Instance → History → Batch → Result Found Refusal → Standing → BatchAnswer → Type 0
+AnswersFrom i y b (Ok (Repeat expects)) new answer = (answer ≡ expects) × StandsFor i new y
+AnswersFrom i y b (Ok (Change ready)) new answer = (answer ≡ ready.answer) × StandsFor i new (with_batch i y b)
+AnswersFrom i y b (Err why) new answer = ⊥
+
+-- A refusal is the expected one, or want of memory in place of an answer, and the platform stands for the history.
+-- After a device's fault it stands for the history, or, where a new batch was to be committed, for that with the batch.
+abbrev pub RefusesFrom : Instance → History → Batch → Result Found Refusal → Standing → Refusal → Option StepFault → Type 0
+RefusesFrom i y b expects new why None = OrMemory expects (Err why) × StandsFor i new y
+RefusesFrom i y b expects new why (Some fault) =
+    StandsFor i new y ⊎ (IsChange expects × StandsFor i new (with_batch i y b))
+
+abbrev pub GoesOn : Instance → History → Batch → Result Found Refusal → Standing → Result BatchAnswer Refusal → Type 0
+GoesOn i y b expects new (Ok answer) = AnswersFrom i y b expects new answer
+GoesOn i y b expects new (Err why) = RefusesFrom i y b expects new why (fault_of why)
+
+-- State continuity of a call that isn't too long, from every history under every key.
+abbrev pub Continues : Meaning → Standing → Standing → List ℕ → Batch → Result BatchAnswer Refusal → Type 0
+Continues meaning old new offer b result =
+    is_long b ≡ false → (key : List ℕ) (y : History) (all : List (List ℕ)) (taken : Result Snapshot PartsFault) →
+    IsAskedFrom all (basic meaning key) y old offer b → ReadsParts offer Basic meaning.id taken →
+    GoesOn (basic meaning key) y b (expected (basic meaning key) y taken b) new result
+
+-- the verdict accepts the offer
+abbrev pub IsAccepted : Verdict → Type 0
+IsAccepted Fresh = Unit {0}
+IsAccepted Again = Unit {0}
+IsAccepted Lost = ⊥
+IsAccepted Stale = ⊥
+
+-- answered, or refused for want of memory or for a device's fault, which was counted
+abbrev pub IsAnswered : Result BatchAnswer Refusal → Standing → Standing → Type 0
+IsAnswered result old new = IsOk result ⊎ (result ≡ Err refusal.Memory) ⊎ Rose old.faults new.faults
+
+-- Completeness: a right offer of the last position, or of the one before the batch that was committed last and is
+-- asked again, is answered, while there are positions left.
+abbrev pub IsComplete : Meaning → Standing → Standing → List ℕ → Batch → Result BatchAnswer Refusal → Type 0
+IsComplete meaning old new offer b result =
+    is_long b ≡ false → (key : List ℕ) (y : History) (all : List (List ℕ)) (content : Content) →
+    IsAskedFrom all (basic meaning key) y old offer b → IsRight (basic meaning key) offer content →
+    IsAccepted (judge Basic y content.position (normal b)) → content.position + size_of b ≤ 2 ^ 48 →
+    IsAnswered result old new
