@@ -15,3 +15,5 @@ pub mod Moves
 pub mod MovedDigests
 pub mod Named
 pub mod Ends
+pub mod KeptLaws
+pub mod Whole

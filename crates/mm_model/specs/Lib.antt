@@ -13,3 +13,5 @@ pub mod Run
 pub mod Examples
 pub mod Long
 pub mod Moves
+pub mod Kept
+pub mod Symbolic

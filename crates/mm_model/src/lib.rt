@@ -3,11 +3,13 @@
 
 mod answer;
 mod examples;
+mod kept;
 mod laws;
 mod long;
 mod machine;
 mod move_laws;
 mod refusal;
+mod symbolic;
 mod verdict;
 
 pub use answer::{Answer, BatchAnswer};
@@ -22,6 +24,11 @@ pub use machine::Machine;
 pub use move_laws::{
     answers_name_the_last_position, basic_messages_go_on, moves_are_device_steps,
     moves_keep_histories_sound, moves_keep_names, moves_keep_values_outside,
+    whole_commits_are_moves,
 };
 pub use refusal::Refusal;
+pub use symbolic::Symbolic;
 pub use verdict::Verdict;
+
+#[cfg(test)]
+mod tests;

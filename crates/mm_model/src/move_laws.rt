@@ -3,7 +3,7 @@
 
 ghost use Rattle.std.specs.Prelude.{◌≡◌, ℕ, false, List, [], ◌∷◌};
 ghost use Rattle.std.specs.List.{Contains};
-ghost use Rattle.mm_digest.specs.declared.variant.Variant.TheVariants.{Opt};
+ghost use Rattle.mm_digest.specs.declared.variant.Variant.TheVariants.{Basic, Opt};
 ghost use Rattle.mm_module.specs.Batch.{Batch};
 ghost use Rattle.mm_module.specs.Meaning.{Meaning};
 ghost use Rattle.mm_seal.specs.Snapshot.{Content};
@@ -14,6 +14,7 @@ ghost use Rattle.mm_model.specs.Life.{has_value};
 ghost use Rattle.mm_model.specs.Sound.{IsSound};
 ghost use Rattle.mm_model.specs.Places.{Names, issued};
 ghost use Rattle.mm_model.specs.Messages.{Within, history_messages};
+ghost use Rattle.mm_model.specs.Symbolic.{commit_moves, moved_by, with_batch};
 ghost use Rattle.mm_model.specs.Moves.{MayMove, digests_of, made, IsOutside, Brings};
 
 /// Opt: the first history is sound, and each move leads from a sound history to a sound one.
@@ -64,4 +65,13 @@ pub fn basic_messages_go_on()
         Within (history_messages (basic meaning key) y) all →
         Contains all (link_message (summary_of meaning.id y.batches) b) →
         Within (history_messages (basic meaning key) (moved (basic meaning key) y (Commit b))) all }
+{}
+
+/// The commit of a batch as a whole is its moves: where it opens a segment, the extension of the register and
+/// then the commit.
+pub fn whole_commits_are_moves()
+    ensures basic { (meaning : Meaning) (key : List ℕ) (y : History) (b : Batch) →
+        with_batch Basic y b ≡ moved_by (basic meaning key) y (commit_moves Basic y.is_open b) }
+    ensures opt { (meaning : Meaning) (key barrier : List ℕ) (y : History) (b : Batch) →
+        with_batch Opt y b ≡ moved_by (opt meaning key barrier) y (commit_moves Opt y.is_open b) }
 {}

@@ -1,0 +1,9 @@
+use Rattle.std.proofs.Common.{◌≡◌, drop}
+use Rattle.mm_model.specs.Life.{are_own}
+use Rattle.mm_model.specs.Kept.{kept_entries, kept_batches}
+use Rattle.mm_model.proofs.kept.all_own.Given as goal
+
+abbrev pub invariant-entries : goal.invariant-entries
+invariant-entries l =
+    are_own (kept_entries (drop l.i l.entries)) (kept_batches (drop l.i l.batches))
+    ≡ are_own (kept_entries l.entries) (kept_batches l.batches)

@@ -1,0 +1,17 @@
+use Rattle.std.proofs.Common.{◌≡◌, ◌∙◌, sym, ap, true, false}
+use Rattle.mm_model.specs.Life.{has_value}
+use Rattle.mm_model.specs.Kept.{kept_entries}
+use Rattle.mm_model.proofs.KeptLaws.{segment_here, no_segment_here}
+use Rattle.mm_model.proofs.kept.some_segment_has_value.Goals as goal
+
+pub returns-then-some_value : goal.returns-then-some_value
+returns-then-some_value c =
+    segment_here c.args.segments.now c.segments.segment-index c.segment-item.result c.segments-test.true c.segment-item.is
+    (sym (ap (λ v. has_value (kept_entries v)) c.as_slice.ensures.value) ∙ sym c.some_value.ensures ∙ c.if-some_value.true)
+    c.segments.invariant
+
+pub segments-preserved : goal.segments-preserved
+segments-preserved c =
+    no_segment_here c.args.segments.now c.segments.segment-index c.segment-item.result c.segments-test.true c.segment-item.is
+    (sym (ap (λ v. has_value (kept_entries v)) c.as_slice.ensures.value) ∙ sym c.some_value.ensures ∙ c.if-some_value.false)
+    c.segments.invariant

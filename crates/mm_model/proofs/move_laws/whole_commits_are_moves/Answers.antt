@@ -1,0 +1,8 @@
+use Rattle.mm_model.proofs.Whole.{basic_whole, opt_whole}
+use Rattle.mm_model.proofs.move_laws.whole_commits_are_moves.Goals as goal
+
+pub returns-clause-basic : goal.returns-clause-basic
+returns-clause-basic c = basic_whole
+
+pub returns-clause-opt : goal.returns-clause-opt
+returns-clause-opt c = opt_whole

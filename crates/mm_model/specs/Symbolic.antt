@@ -1,0 +1,33 @@
+-- What a commit does as a whole.
+use Rattle.std.specs.Prelude.{Bool, true, false, List, [], ◌∷◌, ◌++◌}
+use Rattle.mm_digest.specs.declared.variant.Variant.{Variant}
+use Rattle.mm_digest.specs.declared.variant.Variant.TheVariants.{Basic, Opt}
+use Rattle.mm_module.specs.Batch.{Batch}
+use Rattle.mm_model.specs.Instance.{Instance}
+use Rattle.mm_model.specs.History.{Own, History, Move, Commit, Placed, moved}
+
+-- the moves of a commit: where it opens a segment, its guard goes into the register first
+abbrev pub commit_moves : Variant → Bool → Batch → List Move
+commit_moves Basic is_open b = Commit b ∷ []
+commit_moves Opt true b = Commit b ∷ []
+commit_moves Opt false b = Placed b ∷ Commit b ∷ []
+
+-- the history after these moves
+abbrev pub moved_by : Instance → History → List Move → History
+moved_by i y [] = y
+moved_by i y (m ∷ moves) = moved_by i (moved i y m) moves
+
+-- the batches that are open once a batch is committed: those before, where a segment was open
+abbrev pub opened : Bool → List Batch → Batch → List Batch
+opened true current b = current ++ b ∷ []
+opened false current b = b ∷ []
+
+-- a batch is committed, as a whole
+abbrev pub with_batch : Variant → History → Batch → History
+with_batch Basic y b = record y { batches = y.batches ++ b ∷ [] }
+with_batch Opt y b = record y {
+  batches = y.batches ++ b ∷ [];
+  current = opened y.is_open y.current b;
+  is_open = true;
+  items = y.items ++ Own b ∷ [];
+}
