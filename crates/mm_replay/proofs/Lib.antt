@@ -2,3 +2,4 @@ pub mod Runs
 pub mod TurnLemmas
 pub mod Stands
 pub mod Writing
+pub mod Answering

@@ -3,3 +3,5 @@ pub mod Takes
 pub mod Plays
 pub mod Turns
 pub mod Text
+pub mod Schedule
+pub mod Headline

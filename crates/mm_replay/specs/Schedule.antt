@@ -1,0 +1,73 @@
+-- A schedule line by line: the header, and then the events.
+use Rattle.std.specs.Prelude.{◌≡◌, ℕ, ◌+◌, ◌-◌, Bool, true, false, ◌||◌, nat_le, nat_lt, List, [], ◌∷◌, ◌++◌, length, Option, None, Some, Result, Ok, Err, if◌then◌else◌}
+use Rattle.std.specs.List.{sum_by}
+use Rattle.mm_model.specs.Instance.{Instance}
+use Rattle.mm_schedule.specs.Events.{Event}
+use Rattle.mm_schedule.specs.Grammar.{event_at}
+use Rattle.mm_schedule.specs.Replies.{end_line}
+use Rattle.mm_world.specs.Levels.{Digests, by_digests, first_digests}
+use Rattle.mm_world.specs.Folds.{Outcome, outcome_of, first_issued}
+use Rattle.mm_replay.specs.declared.player.Refused.{Refused}
+use Rattle.mm_replay.specs.declared.player.Refused.TheVariants.{Bad, Much}
+use Rattle.mm_replay.specs.Text.{text_of}
+
+-- the most events, and the most bytes of event lines and issued snapshots together
+abbrev pub most_events : ℕ
+most_events = 20000
+
+abbrev pub most_kept : ℕ
+most_kept = 268435456
+
+-- what stands between two events, by digests: the snapshots issued, the events answered, and the bytes of their lines
+pub record Running : Type 0 where
+  pub instance : Instance
+  pub digests : Digests
+  pub issued : List (List ℕ)
+  pub events : ℕ
+  pub read : ℕ
+
+abbrev pub begun : Instance → Running
+begun i = record { instance = i; digests = first_digests i; issued = first_issued i; events = 0; read = 0 }
+
+-- one event more would be too many, or its line too many bytes
+abbrev pub is_too_much : Running → List ℕ → Bool
+is_too_much r line = nat_le most_events r.events || nat_lt most_kept (r.read + length line + sum_by length r.issued)
+
+-- what an event comes to
+abbrev pub outcome_in : Running → Event → Outcome Digests
+outcome_in r event = outcome_of r.instance (by_digests r.instance) r.digests r.issued event
+
+abbrev pub after_event : Running → List ℕ → Event → Running
+after_event r line event = record {
+  instance = r.instance; digests = (outcome_in r event).state; issued = (outcome_in r event).issued;
+  events = r.events + 1; read = r.read + length line }
+
+-- before the header, or among the events
+pub data Stage : Type 0 where
+  AtHeader : Stage
+  InEvents : Running → Stage
+
+abbrev pub event_answer : Running → List ℕ → Option Event → Result (List ℕ × Stage) Refused
+event_answer r line None = Err Bad
+event_answer r line (Some event) =
+    if is_too_much r line then Err Much else Ok (text_of (outcome_in r event).reply, InEvents (after_event r line event))
+
+-- a header of an instance that can be replayed
+abbrev pub header_answer : Option Instance → Result (List ℕ × Stage) Refused
+header_answer None = Err Bad
+header_answer (Some i) = Ok ([], InEvents (begun i))
+
+-- the reply to a line, by what the header line names
+abbrev pub schedule_answer : (List ℕ → Option Instance) → Stage → List ℕ → Result (List ℕ × Stage) Refused
+schedule_answer header AtHeader line = header_answer (header line)
+schedule_answer header (InEvents r) line = event_answer r line (event_at line)
+
+-- the last line, which needs a header before it
+abbrev pub schedule_closing : Stage → Option (List ℕ)
+schedule_closing AtHeader = None
+schedule_closing (InEvents r) = Some (end_line r.digests.count (length r.issued))
+
+-- how many more lines can be answered
+abbrev pub lines_left_at : Stage → ℕ
+lines_left_at AtHeader = most_events + 1
+lines_left_at (InEvents r) = most_events - r.events
