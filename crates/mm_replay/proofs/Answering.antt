@@ -18,23 +18,23 @@ abbrev followed_in : Running → List Event → Followed Digests
 followed_in r events = followed r.instance (by_digests r.instance) r.digests r.issued events
 
 -- The first lines were answered, each an event; where all were, the run stands behind the last.
-record AnswersFrom (r : Running) (lines : List (List ℕ)) (t : Told Stage) : Type 0 where
-  done : List (List ℕ)
-  rest : List (List ℕ)
-  events : List Event
-  last : Running
-  split : lines ≡ done ++ rest
-  read : map event_at done ≡ map Some events
-  sent : t.written ≡ texts_of (followed_in r events).replies
-  state : last.digests ≡ (followed_in r events).state
-  issued : last.issued ≡ (followed_in r events).issued
-  instance : last.instance ≡ r.instance
-  whole : (p : Stage) → t.outcome ≡ Ok p → (rest ≡ []) × (p ≡ InEvents last)
+pub record AnswersFrom (r : Running) (lines : List (List ℕ)) (t : Told Stage) : Type 0 where
+  pub done : List (List ℕ)
+  pub rest : List (List ℕ)
+  pub events : List Event
+  pub last : Running
+  pub split : lines ≡ done ++ rest
+  pub read : map event_at done ≡ map Some events
+  pub sent : t.written ≡ texts_of (followed_in r events).replies
+  pub state : last.digests ≡ (followed_in r events).state
+  pub issued : last.issued ≡ (followed_in r events).issued
+  pub instance : last.instance ≡ r.instance
+  pub whole : (p : Stage) → t.outcome ≡ Ok p → (rest ≡ []) × (p ≡ InEvents last)
 
-not_ok : {P : Type 0} (fault : ReplayFault) (p : P) → (let r : Result P ReplayFault = Err fault in r ≡ Ok p) → ⊥
+pub not_ok : {P : Type 0} (fault : ReplayFault) (p : P) → (let r : Result P ReplayFault = Err fault in r ≡ Ok p) → ⊥
 not_ok fault p h = cc
 
-ok_same : {P : Type 0} (p q : P) → (let r : Result P ReplayFault = Ok p in r ≡ Ok q) → p ≡ q
+pub ok_same : {P : Type 0} (p q : P) → (let r : Result P ReplayFault = Ok p in r ≡ Ok q) → p ≡ q
 ok_same p q h = cc
 
 -- no line was answered
@@ -86,7 +86,7 @@ answers_line : (header : List ℕ → Option Instance) (r : Running) (line : Lis
 answers_line header r line lines number true on = answers_none r (line ∷ lines) (LineLong number)
 answers_line header r line lines number false on = answers_found header r line lines number (event_at line) refl on
 
-answers_from : (header : List ℕ → Option Instance) (lines : List (List ℕ)) (number : ℕ) (r : Running)
+pub answers_from : (header : List ℕ → Option Instance) (lines : List (List ℕ)) (number : ℕ) (r : Running)
     → AnswersFrom r lines (run (schedule_answer header) number (InEvents r) lines)
 answers_from header [] number r = record {
   done = []; rest = []; events = []; last = r; split = refl; read = refl; sent = refl; state = refl; issued = refl; instance = refl;

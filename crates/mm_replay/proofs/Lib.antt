@@ -3,3 +3,4 @@ pub mod TurnLemmas
 pub mod Stands
 pub mod Writing
 pub mod Answering
+pub mod Telling
