@@ -17,3 +17,4 @@ pub mod Named
 pub mod Ends
 pub mod KeptLaws
 pub mod Whole
+pub mod Listing

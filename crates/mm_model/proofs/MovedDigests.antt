@@ -27,7 +27,7 @@ register_more : (barrier : List ℕ) (items : List Entry) (e : Entry) → regist
 register_more barrier items e =
     ap register_of (values_of-append barrier items (e ∷ [])) ∙ register-push (values_of barrier items) (value_of barrier e)
 
-values_renamed : (barrier : List ℕ) (front : List Entry) (b : Batch) → values_of barrier (renamed (front ++ Value (guard barrier b) ∷ []) b) ≡ values_of barrier (front ++ Value (guard barrier b) ∷ [])
+pub values_renamed : (barrier : List ℕ) (front : List Entry) (b : Batch) → values_of barrier (renamed (front ++ Value (guard barrier b) ∷ []) b) ≡ values_of barrier (front ++ Value (guard barrier b) ∷ [])
 values_renamed barrier [] b = refl
 values_renamed barrier (x ∷ []) b = refl
 values_renamed barrier (x ∷ y ∷ front) b = ap (λ v. value_of barrier x ∷ v) (values_renamed barrier (y ∷ front) b)

@@ -3,9 +3,9 @@ use Rattle.std.specs.Prelude.{◌≡◌, ◌+◌, ℕ, Bool, true, false, List, 
 use Rattle.std.specs.List.{AllByRecursion, Contains}
 use Rattle.mm_digest.specs.declared.variant.Variant.{Variant}
 use Rattle.mm_digest.specs.declared.variant.Variant.TheVariants.{Basic, Opt}
-use Rattle.mm_digest.specs.Messages.{zero_bytes, extended_of, anchored_of}
+use Rattle.mm_digest.specs.Messages.{zero_bytes, extended_message, extended_of, anchored_of}
 use Rattle.mm_module.specs.Batch.{Batch, size_of}
-use Rattle.mm_model.specs.Chains.{link, guard}
+use Rattle.mm_model.specs.Chains.{link, guard, guard_message, register_of, own_values}
 use Rattle.mm_model.specs.Instance.{Instance}
 use Rattle.mm_model.specs.History.{Entry, Value, History, Move, Commit, Foreign, Placed, Reset, Close, Power, joined, total_of, cell_digest_of, register_value_of, renamed}
 use Rattle.mm_model.specs.Life.{is_empty, has_value}
@@ -87,3 +87,14 @@ Brings variant is_open others y (Placed b) = Unit {0}
 Brings variant is_open others y Reset = Unit {0}
 Brings variant is_open others y Close = Unit {0}
 Brings variant is_open others y Power = Unit {0}
+
+-- what the messages of a history gain by a batch, besides those of the move: its guard, and its extension after the
+-- batches of its segment
+abbrev pub batch_messages : Instance → History → Move → List (List ℕ)
+batch_messages i y (Commit b) =
+    guard_message i.barrier b ∷ extended_message (register_of (own_values i.barrier y.current)) (guard i.barrier b) ∷ []
+batch_messages i y (Foreign d) = []
+batch_messages i y (Placed b) = []
+batch_messages i y Reset = []
+batch_messages i y Close = []
+batch_messages i y Power = []

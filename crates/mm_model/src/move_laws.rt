@@ -13,9 +13,9 @@ ghost use Rattle.mm_model.specs.History.{History, Move, Commit, first_history, j
 ghost use Rattle.mm_model.specs.Life.{has_value};
 ghost use Rattle.mm_model.specs.Sound.{IsSound};
 ghost use Rattle.mm_model.specs.Places.{Names, issued};
-ghost use Rattle.mm_model.specs.Messages.{Within, history_messages};
+ghost use Rattle.mm_model.specs.Messages.{Within, history_messages, move_messages};
 ghost use Rattle.mm_model.specs.Symbolic.{commit_moves, moved_by, with_batch};
-ghost use Rattle.mm_model.specs.Moves.{MayMove, digests_of, made, IsOutside, Brings};
+ghost use Rattle.mm_model.specs.Moves.{MayMove, digests_of, made, IsOutside, Brings, batch_messages};
 
 /// Opt: the first history is sound, and each move leads from a sound history to a sound one.
 pub fn moves_keep_histories_sound()
@@ -74,4 +74,15 @@ pub fn whole_commits_are_moves()
         with_batch Basic y b ≡ moved_by (basic meaning key) y (commit_moves Basic y.is_open b) }
     ensures opt { (meaning : Meaning) (key barrier : List ℕ) (y : History) (b : Batch) →
         with_batch Opt y b ≡ moved_by (opt meaning key barrier) y (commit_moves Opt y.is_open b) }
+{}
+
+/// Opt: where the messages of a sound history are listed, and those of a move and of its batch are, those of the
+/// history after it are.
+pub fn opt_messages_go_on()
+    ensures { (meaning : Meaning) (key barrier : List ℕ) (y : History) (m : Move) (all : List (List ℕ)) → IsSound y →
+        MayMove (opt meaning key barrier) y m →
+        Within (history_messages (opt meaning key barrier) y) all →
+        Within (move_messages (opt meaning key barrier) y m) all →
+        Within (batch_messages (opt meaning key barrier) y m) all →
+        Within (history_messages (opt meaning key barrier) (moved (opt meaning key barrier) y m)) all }
 {}
