@@ -7,6 +7,8 @@ pub mod laws;
 mod print;
 mod read;
 mod reply;
+#[cfg(test)]
+mod tests;
 mod text;
 mod words;
 
