@@ -2,3 +2,5 @@ pub mod HexWords
 pub mod MeddleLaws
 pub mod PrintLaws
 pub mod RunLaws
+pub mod ReadIsSpelled
+pub mod HeaderLaws

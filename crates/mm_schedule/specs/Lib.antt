@@ -1,7 +1,9 @@
 pub mod Events
 pub mod Grammar
+pub mod Headers
 pub mod Laws
 pub mod Machine
 pub mod Replies
+pub mod Spelling
 pub mod Texts
 pub mod Words

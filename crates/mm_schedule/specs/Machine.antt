@@ -1,5 +1,5 @@
 -- The machine that a protected module stands for. Its state is the list of the requests that it ran.
-use Rattle.std.specs.Prelude.{◌≡◌, ℕ, Bool, true, false, List, [], ◌∷◌, ◌++◌, length}
+use Rattle.std.specs.Prelude.{◌≡◌, ℕ, true, false, List, [], ◌∷◌, ◌++◌, length}
 use Rattle.mm_module.specs.Batch.{Batch, members_of}
 use Rattle.mm_module.specs.Meaning.{Meaning, state_after, outputs_from}
 use Rattle.mm_schedule.specs.declared.reply.Reply.{Reply}

@@ -3,6 +3,7 @@
 
 mod event;
 mod fault;
+mod header;
 pub mod laws;
 mod print;
 mod read;
@@ -14,6 +15,7 @@ mod words;
 
 pub use event::{Event, Meddles, Offer};
 pub use fault::EventFault;
+pub use header::{Header, read_header};
 pub use print::{print_end, print_line, reply_lines};
 pub use read::read_event;
 pub use reply::{Cause, Reply, Way};

@@ -3,6 +3,7 @@
 ghost use Rattle.std.specs.Prelude.{◌≡◌, ◌↔◌, Some, None, IfOk, IsErrOf};
 ghost use Rattle.mm_schedule.specs.Events.{event_of};
 ghost use Rattle.mm_schedule.specs.Grammar.{event_at};
+ghost use Rattle.mm_schedule.specs.Spelling.{SpellsEvent};
 
 use crate::event::Event;
 use crate::fault::EventFault;
@@ -10,7 +11,9 @@ use crate::text::{event_in, owned};
 use std::alloc::Global;
 
 /// The event of a line, which stands without its LF.
+#[tactic(auto, using(crate::proofs::ReadIsSpelled::event_spelled))]
 pub fn read_event(alloc: Global, line: &[u8]) -> Result<Event, EventFault>
+    ensures spelled { IfOk result (λ event. SpellsEvent (event_of event) line.now) }
     ensures read { IfOk result (λ event. event_at line.now ≡ Some (event_of event)) }
     ensures bad { IsErrOf result EventFault.Bad ↔ (event_at line.now ≡ None) }
 {

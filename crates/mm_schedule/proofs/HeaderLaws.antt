@@ -1,0 +1,71 @@
+-- A header has one line, and that line is read as it.
+use Rattle.std.proofs.Common.{◌≡◌, inl, inr, ℕ, List, ◌∷◌, ◌++◌, refl, sym, ap, ◌∙◌, append_assoc}
+use Rattle.std.specs.Prelude.{Option, Some, None, IfSome, codes}
+use Rattle.std.specs.Str.{bytes_eq}
+use Rattle.mm_digest.specs.declared.variant.Variant.{Variant}
+use Rattle.mm_digest.specs.declared.variant.Variant.TheVariants.{Basic, Opt}
+use Rattle.mm_modules.specs.declared.any.AnyModule.{AnyModule}
+use Rattle.mm_modules.specs.declared.any.AnyModule.TheVariants.{Counter, Limiter, Quota, Ledger}
+use Rattle.mm_modules.specs.Modules.{module_named, name_of}
+use Rattle.mm_schedule.specs.declared.header.Header.{Header}
+use Rattle.mm_schedule.specs.Headers.{header_at, header_text, variant_at, variant_text}
+use Rattle.mm_schedule.specs.Words.{after, word_at}
+use Rattle.mm_schedule.proofs.ReadIsSpelled.{after-front, bind-some, chosen, some-same, text_is, word-front}
+
+variant-spelled : (word : List ℕ) (variant : Variant) → variant_at word ≡ Some variant → word ≡ variant_text variant
+variant-spelled word variant is =
+    elim (chosen (bytes_eq word (codes "basic")) (Some Basic) _ variant is) [
+      | inl w ↦ text_is word (codes "basic") w.0 ∙ ap variant_text (some-same Basic variant w.1)
+      | inr w ↦ elim (chosen (bytes_eq word (codes "opt")) (Some Opt) None variant w.1) [
+        | inl v ↦ text_is word (codes "opt") v.0 ∙ ap variant_text (some-same Opt variant v.1)
+        | inr v ↦ cc
+      ]
+    ]
+
+name-spelled : (word : List ℕ) (it : AnyModule) → module_named word ≡ Some it → word ≡ name_of it
+name-spelled word it is =
+    elim (chosen (bytes_eq word (codes "counter")) (Some Counter) _ it is) [
+      | inl w ↦ text_is word (codes "counter") w.0 ∙ ap name_of (some-same Counter it w.1)
+      | inr w ↦ elim (chosen (bytes_eq word (codes "limiter")) (Some Limiter) _ it w.1) [
+        | inl v ↦ text_is word (codes "limiter") v.0 ∙ ap name_of (some-same Limiter it v.1)
+        | inr v ↦ elim (chosen (bytes_eq word (codes "quota")) (Some Quota) _ it v.1) [
+          | inl u ↦ text_is word (codes "quota") u.0 ∙ ap name_of (some-same Quota it u.1)
+          | inr u ↦ elim (chosen (bytes_eq word (codes "ledger")) (Some Ledger) None it u.1) [
+            | inl t ↦ text_is word (codes "ledger") t.0 ∙ ap name_of (some-same Ledger it t.1)
+            | inr t ↦ cc
+          ]
+        ]
+      ]
+    ]
+
+pub header-spelled : (line : List ℕ) (header : Header) → header_at line ≡ Some header → line ≡ header_text header
+unfolding header_at
+header-spelled line header is =
+    let a = bind-some (after (codes "memoir 1 ") line) _ header is in
+    let b = bind-some (word_at a.0) _ header a.2 in
+    let c = bind-some (variant_at b.0.0) _ header b.2 in
+    let d = bind-some (module_named b.0.1) _ header c.2 in
+    after-front (codes "memoir 1 ") line a.0 a.1
+    ∙ ap (λ (back : List ℕ). codes "memoir 1 " ++ back) (word-front a.0 b.0.0 b.0.1 b.1
+    ∙ ap (λ (word : List ℕ). word ++ 32 ∷ b.0.1) (variant-spelled b.0.0 c.0 c.1)
+    ∙ ap (λ (name : List ℕ). variant_text c.0 ++ 32 ∷ name) (name-spelled b.0.1 d.0 d.1))
+    ∙ (simp append_assoc) ∙ ap header_text (some-same _ header d.2)
+
+-- each of the eight lines is read as its header
+eight : (variant : Variant) (it : AnyModule) → header_at (header_text (record { variant = variant; «module» = it })) ≡ Some (record { variant = variant; «module» = it })
+unfolding header_at after word_at
+eight Basic Counter = refl
+eight Basic Limiter = refl
+eight Basic Quota = refl
+eight Basic Ledger = refl
+eight Opt Counter = refl
+eight Opt Limiter = refl
+eight Opt Quota = refl
+eight Opt Ledger = refl
+
+pub header-read : (line : List ℕ) (header : Header) → line ≡ header_text header → header_at line ≡ Some header
+header-read line header is = ap header_at is ∙ eight header.variant header.module
+
+pub if-spelled : (line : List ℕ) (read : Option Header) → read ≡ header_at line → IfSome read (λ header. line ≡ header_text header)
+if-spelled line None is = tt
+if-spelled line (Some header) is = header-spelled line header (sym is)

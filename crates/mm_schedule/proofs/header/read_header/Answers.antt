@@ -1,0 +1,9 @@
+use Rattle.std.proofs.Common.{◌∙◌}
+use Rattle.mm_schedule.proofs.HeaderLaws.{header-read, if-spelled}
+use Rattle.mm_schedule.proofs.header.read_header.Goals as goal
+
+pub returns-clause-spelled : goal.returns-clause-spelled
+returns-clause-spelled c = if-spelled c.args.line.now c.header_in.result c.header_in.ensures
+
+pub returns-clause-only : goal.returns-clause-only
+returns-clause-only c header is = c.header_in.ensures ∙ header-read c.args.line.now header is

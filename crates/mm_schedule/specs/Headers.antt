@@ -1,0 +1,30 @@
+-- The header line of a schedule: the variant and the module that it runs.
+use Rattle.std.specs.Prelude.{List, ℕ, ◌∷◌, ◌++◌, Option, Some, None, if◌then◌else◌, codes}
+use Rattle.std.specs.Str.{bytes_eq}
+use Rattle.mm_digest.specs.declared.variant.Variant.{Variant}
+use Rattle.mm_digest.specs.declared.variant.Variant.TheVariants.{Basic, Opt}
+use Rattle.mm_modules.specs.Modules.{module_named, name_of}
+use Rattle.mm_schedule.specs.declared.header.Header.{Header}
+use Rattle.mm_schedule.specs.Words.{◌>>=◌, after, word_at}
+
+abbrev pub variant_text : Variant → List ℕ
+variant_text Basic = codes "basic"
+variant_text Opt = codes "opt"
+
+-- the one line of a header
+abbrev pub header_text : Header → List ℕ
+header_text header = codes "memoir 1 " ++ variant_text header.variant ++ 32 ∷ name_of header.module
+
+abbrev pub variant_at : List ℕ → Option Variant
+variant_at word =
+    if bytes_eq word (codes "basic") then Some Basic
+    else (if bytes_eq word (codes "opt") then Some Opt else None)
+
+-- the header that a line is read as
+unfoldable pub header_at : List ℕ → Option Header
+header_at line =
+    after (codes "memoir 1 ") line >>= λ words.
+    word_at words >>= λ variant_word.
+    variant_at variant_word.0 >>= λ variant.
+    module_named variant_word.1 >>= λ module_read.
+    Some (record { variant = variant; «module» = module_read })
