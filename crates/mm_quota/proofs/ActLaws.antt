@@ -1,11 +1,12 @@
 -- What an action does to the bytes of a ledger.
-use Rattle.std.specs.Prelude.{◌≡◌, ℕ, suc, ◌+◌, ◌^◌, ◌<◌, ◌≤◌, Bool, true, false, nat_le, min, List, [], ◌++◌, length, Option, Some, None, is_some, option_map, if◌then◌else◌}
+use Rattle.std.specs.Prelude.{Result, Ok, Err, IfOk, ◌≡◌, ℕ, suc, ◌+◌, ◌^◌, ◌<◌, ◌≤◌, Bool, true, false, nat_le, min, List, [], ◌++◌, length, Option, Some, None, is_some, option_map, if◌then◌else◌}
 use Rattle.std.proofs.Common.{refl, sym, ◌∙◌, ap, arith, subst}
 use Rattle.std.proofs.lemmas.Bool.Decides.{nat_tests}
-use Rattle.mm_quota.specs.Table.{Account, Action, Request, On, Says, account_named, put, decision_of, is_name, is_account, request_of, rises, account_bytes, body_of, count_bytes, spelling_of, is_state, ledger_of}
+use Rattle.mm_quota.specs.Table.{Account, Action, Request, On, Says, account_named, put, decision_of, is_name, is_account, request_of, rises, account_bytes, body_of, count_bytes, spelling_of, is_state, ledger_of, stepped}
 use Rattle.mm_quota.specs.LedgerLaws.{FoundOf, account_named-found, length-put-there, length-put-absent}
 use Rattle.mm_quota.specs.SpellingLaws.{IsAccount-from, is_state-Holds}
 use Rattle.mm_quota.specs.QuotaLaws.{IsAction, IsAsked, request_of-asked, PutIf, IsPut, decision_of-is}
+use Rattle.mm_quota.specs.OthersStay.{OthersStay, others_stay}
 use Rattle.mm_quota.specs.Spelled.{IsSpelled}
 use Rattle.mm_quota.specs.Views.{as_account}
 use Rattle.mm_quota.specs.declared.account.Account as declared
@@ -68,3 +69,8 @@ decided most count bytes name found action decision is count_is found_is =
 -- what was read of a request
 pub asked-named : (words : List (List ℕ)) (name : List ℕ) (action : Action) → request_of words ≡ Some (On name action) → (is_name name ≡ true) × IsAction action
 asked-named words name action is = subst (λ (r : Option Request). IsAsked r) is (request_of-asked words)
+
+-- what a step gives, where it gives the state of the table
+pub IfOk-others : {X E : Type 0} (r : Result X E) (view : X → List ℕ) (most : ℕ) (state request : List ℕ) → most < 2 ^ 16 → is_state most state ≡ true → IfOk r (λ x. view x ≡ spelling_of (stepped most state request).0) → IfOk r (λ x. OthersStay state request (view x))
+IfOk-others (Ok x) view most state request small is same = subst (λ (s : List ℕ). OthersStay state request s) (sym same) (others_stay most state request small is)
+IfOk-others (Err e) view most state request small is same = tt

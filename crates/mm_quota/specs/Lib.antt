@@ -6,3 +6,4 @@ pub mod Views
 pub mod Spelled
 pub mod Places
 pub mod Ids
+pub mod OthersStay

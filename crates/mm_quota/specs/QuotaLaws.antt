@@ -176,7 +176,7 @@ text_of-IsText (HasLeft left) is = record { short = omega (arith, length-decimal
 text_of-IsText (HasSum sum) is = record { short = omega (arith, length-decimal sum is); unbroken = is_unbroken-decimal sum is }
 text_of-IsText IsBad is = record { short = omega arith; unbroken = refl }
 
-stepped-IsOutcome : (most : ℕ) (state request : List ℕ) → most < 2 ^ 16 → is_state most state ≡ true → IsOutcome most (stepped most state request)
+pub stepped-IsOutcome : (most : ℕ) (state request : List ℕ) → most < 2 ^ 16 → is_state most state ≡ true → IsOutcome most (stepped most state request)
 unfolding stepped
 stepped-IsOutcome most state request small is = outcome_of-is most _ _ small (is_state-Holds most state is).ledger (request_of-asked (words_of request))
 

@@ -1,6 +1,6 @@
 -- Laws of the bytes of a ledger.
 use Rattle.std.specs.Prelude.{◌≡◌, ℕ, zero, suc, ◌+◌, ◌-◌, ◌*◌, ◌^◌, ◌<◌, ◌≤◌, ◌==◌, ◌&&◌, Bool, true, false, nat_le, List, [], ◌∷◌, ◌++◌, length, take, drop, Option, Some, None, option_map, option_and_then, if◌then◌else◌}
-use Rattle.std.proofs.Common.{refl, sym, ◌∙◌, ap, arith, get_or, append_assoc, length-append}
+use Rattle.std.proofs.Common.{unwrap_or, refl, sym, ◌∙◌, ap, arith, get_or, append_assoc, length-append}
 use Rattle.std.specs.List.{list_all}
 use Rattle.std.proofs.Math.Seq.{take-append_seam, drop-append_seam}
 use Rattle.std.proofs.lemmas.Bool.Decides.{nat_tests}
@@ -296,6 +296,10 @@ accounts_of-spelling_of accounts few all =
     let tail : drop 2 (count_bytes (length accounts) ++ body_of accounts) ≡ body_of accounts = drop-front 2 (count_bytes (length accounts)) (body_of accounts) (length-count_bytes (length accounts)) in
     let counted : count_in (count_bytes (length accounts)) ≡ length accounts = count_in-count_bytes (length accounts) few in
     rw (long, head, tail, counted) (accounts_from-body_of accounts all)
+
+pub ledger_of-spelling_of : (most : ℕ) (accounts : List Account) → most < 2 ^ 16 → IsLedger most accounts → ledger_of (spelling_of accounts) ≡ accounts
+unfolding ledger_of
+ledger_of-spelling_of most accounts small is = ap (λ (read : Option (List Account)). unwrap_or read []) (accounts_of-spelling_of accounts (omega (arith, is.few)) is.good)
 
 pub is_state-spelling_of : (most : ℕ) (accounts : List Account) → most < 2 ^ 16 → IsLedger most accounts → is_state most (spelling_of accounts) ≡ true
 unfolding is_state

@@ -7,3 +7,6 @@ mod quota;
 mod request;
 
 pub use quota::{Accounts, Ledger, Quota};
+
+#[cfg(test)]
+mod tests;

@@ -4,6 +4,7 @@ ghost use Rattle.std.specs.Prelude.{◌≡◌, ◌≤◌, ◌+◌, ◌++◌, Som
 ghost use Rattle.mm_quota.specs.Table.{On, is_name, account_bytes, count_bytes, spelling_of, is_state, ledger_of, outcome_of, stepped, text_of};
 ghost use Rattle.mm_quota.specs.Views.{as_account, as_action, as_says};
 ghost use Rattle.mm_quota.specs.QuotaLaws.{IsAction};
+ghost use Rattle.mm_quota.specs.OthersStay.{OthersStay};
 ghost use Rattle.mm_quota.specs.Spelled.{IsSpelled};
 ghost use Rattle.mm_quota.specs.Ids.{small_ledger, small_ledger_is_lawful, small_ledger_is_short, wide_ledger, wide_ledger_is_lawful};
 
@@ -135,7 +136,12 @@ impl Module for Accounts<256> {
         state_is_spelled(256, state)
     }
 
-    fn step(&self, alloc: Global, state: &[u8], request: &[u8]) -> Result<Stepped, Memory> {
+    fn step(&self, alloc: Global, state: &[u8], request: &[u8]) -> Result<Stepped, Memory>
+        requires { IsTrue (is_state 256 state.now) }
+        ensures state { IfOk result (λ after. after.state ≡ small_ledger.next state.now request.now) }
+        ensures output { IfOk result (λ after. after.output ≡ small_ledger.says state.now request.now) }
+        ensures others { IfOk result (λ after. OthersStay state.now request.now after.state) }
+    {
         step(256, alloc, state, request)
     }
 }
@@ -161,7 +167,12 @@ impl Module for Accounts<16384> {
         state_is_spelled(16384, state)
     }
 
-    fn step(&self, alloc: Global, state: &[u8], request: &[u8]) -> Result<Stepped, Memory> {
+    fn step(&self, alloc: Global, state: &[u8], request: &[u8]) -> Result<Stepped, Memory>
+        requires { IsTrue (is_state 16384 state.now) }
+        ensures state { IfOk result (λ after. after.state ≡ wide_ledger.next state.now request.now) }
+        ensures output { IfOk result (λ after. after.output ≡ wide_ledger.says state.now request.now) }
+        ensures others { IfOk result (λ after. OthersStay state.now request.now after.state) }
+    {
         step(16384, alloc, state, request)
     }
 }

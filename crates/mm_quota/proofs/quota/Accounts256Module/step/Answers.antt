@@ -1,0 +1,8 @@
+use Rattle.std.proofs.Common.{rules, arith}
+use Rattle.mm_module.specs.declared.machine.Stepped.{Stepped}
+use Rattle.mm_quota.proofs.ActLaws.{IfOk-others}
+use Rattle.mm_quota.proofs.quota.Accounts256Module.step.Goals as goal
+
+-- the new state is that of the table, where the other accounts stay
+pub returns-clause-others : goal.returns-clause-others
+returns-clause-others c = IfOk-others c.step.result (λ (after : Stepped). after.state) 256 c.args.state.now c.args.request.now (omega arith) (search (rules, c.requires)) c.step.ensures.state
