@@ -52,6 +52,7 @@ pub fn begin(batch: Batch<'_>) -> Result<Call, Refusal>
 
 impl Call {
     ghost use Rattle.std.specs.Prelude.{◌≡◌, false};
+    ghost use Rattle.std.specs.Option.{option_map};
     ghost use Rattle.mm_module.specs.Batches.{batch_of};
     ghost use Rattle.mm_model.specs.Long.{is_long};
     ghost use Rattle.mm_basic.specs.Steps.{number_of};
@@ -64,6 +65,16 @@ impl Call {
         match &self.ready {
             None => 1,
             Some(_) => 2,
+        }
+    }
+
+    /// The position after the batch, once the cell was read.
+    pub fn position(&self) -> Option<u64>
+        ensures { result ≡ option_map (λ ready. ready.answer.position) self.now }
+    {
+        match &self.ready {
+            None => None,
+            Some(ready) => Some(ready.answer.position),
         }
     }
 
