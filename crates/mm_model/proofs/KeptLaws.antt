@@ -1,11 +1,10 @@
 -- Loops over owned batches and entries.
-use Rattle.std.proofs.Common.{ℕ, zero, suc, ◌≡◌, ◌+◌, ◌-◌, ◌<◌, ◌≤◌, Bool, true, false, ◌&&◌, ◌||◌, List, [], ◌∷◌, ◌++◌, length, map, take, drop, get_or, refl, sym, ap, ◌∙◌, subst, ◌⊎◌, inl, inr, arith}
+use Rattle.std.proofs.Common.{ℕ, zero, suc, ◌≡◌, ◌+◌, ◌<◌, ◌≤◌, Bool, true, false, ◌&&◌, ◌||◌, List, [], ◌∷◌, ◌++◌, length, take, drop, get_or, refl, sym, ap, ◌∙◌, arith}
 use Rattle.std.specs.Prelude.{Vec}
-use Rattle.std.proofs.lemmas.List.{map-append, take_more, drop_more, drop_all, take_all, length-map}
+use Rattle.std.proofs.lemmas.List.{map-append, take_more, drop_more, drop_all, length-map}
 use Rattle.mm_module.specs.Batch.{Batch}
 use Rattle.mm_model.specs.declared.kept.KeptBatch.{KeptBatch}
 use Rattle.mm_model.specs.declared.kept.KeptEntry.{KeptEntry}
-use Rattle.mm_model.specs.declared.kept.KeptEntry.TheVariants.{Own, Value}
 use Rattle.mm_model.specs.Kept.{kept_batch, kept_batches, kept_entry, kept_entries, kept_segments, stands_for}
 use Rattle.mm_model.specs.History.{Entry, joined}
 use Rattle.mm_model.specs.History as own

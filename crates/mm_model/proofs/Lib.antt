@@ -18,3 +18,4 @@ pub mod Ends
 pub mod KeptLaws
 pub mod Whole
 pub mod Listing
+pub mod FreshLists

@@ -1,24 +1,22 @@
 -- Opt: where the messages of a history, of a move and of its batch are listed, those of the history after it are.
-use Rattle.std.proofs.Common.{ℕ, ◌≡◌, ◌+◌, ◌-◌, ◌≤◌, Bool, true, false, List, [], ◌∷◌, ◌++◌, length, map, take, drop, refl, sym, ap, ◌∙◌, subst, ◌⊎◌, inl, inr, arith, append_assoc, length-append}
+use Rattle.std.proofs.Common.{ℕ, ◌≡◌, ◌-◌, ◌≤◌, Bool, true, false, List, [], ◌∷◌, ◌++◌, length, map, take, drop, refl, sym, ap, ◌∙◌, subst, arith, length-append}
 use Rattle.std.specs.List.{AllByRecursion, Contains, flat_map}
 use Rattle.std.proofs.lemmas.List.{append-nil, map-append, length-drop, take-append-le, drop-append-le, take_all, take_at, drop_at}
-use Rattle.mm_digest.specs.declared.variant.Variant.TheVariants.{Basic, Opt}
-use Rattle.mm_digest.specs.Messages.{zero_bytes, start_message, start_of, extended_message, anchored_message}
+use Rattle.mm_digest.specs.declared.variant.Variant.TheVariants.{Opt}
+use Rattle.mm_digest.specs.Messages.{zero_bytes, start_of, extended_message, anchored_message}
 use Rattle.mm_module.specs.Batch.{Batch}
 use Rattle.mm_module.specs.Meaning.{Meaning}
 use Rattle.mm_model.specs.Chains.{trail, guard_message, closing_message, guard, register_of, anchor_of, own_values}
 use Rattle.mm_model.specs.Instance.{Instance, opt}
-use Rattle.mm_model.specs.History.{Entry, Own, Value, History, Move, Commit, Foreign, Placed, Reset, Close, Power, joined, value_of, values_of, renamed, moved, committed}
-use Rattle.mm_model.specs.Life.{is_empty, has_value}
+use Rattle.mm_model.specs.History.{Entry, Own, Value, History, Move, Commit, Foreign, Placed, Reset, Close, Power, joined, value_of, values_of, renamed, moved}
 use Rattle.mm_model.specs.Sound.{IsSound, IsClean, batches_in}
 use Rattle.mm_model.specs.Messages.{Within, register_trail, closed_runs, runs_of, messages_of, moving_messages, move_messages}
-use Rattle.mm_model.specs.Moves.{IsOpening, IsAllowed, MayMove, batch_messages}
+use Rattle.mm_model.specs.Moves.{IsAllowed, MayMove, batch_messages}
 use Rattle.mm_model.proofs.Lists.{each_append, each_left, each_right}
 use Rattle.mm_model.proofs.Chains.{trail_push}
 use Rattle.mm_model.proofs.Segments.{nothing_left}
 use Rattle.mm_model.proofs.Histories.{own_values-append, values_of-append, length-batches_in}
 use Rattle.mm_model.proofs.Paths.{RunsListed, current_clean}
-use Rattle.mm_model.proofs.Forms.{Listed}
 use Rattle.mm_model.proofs.OptJudge.{HistoryListed, history_listed, shut_current}
 use Rattle.mm_model.proofs.Moves.{moving, moving_is, open_current}
 use Rattle.mm_model.proofs.MovedDigests.{values_renamed}

@@ -55,11 +55,11 @@ AgainSomehow flag closed items v before rest =
     Again flag closed items v before rest ⊎ (is_empty rest ≡ false) × Again flag closed items v (before ++ rest ∷ []) []
 
 -- the messages of the second form's place, where there is one
-record SecondListed (id : ℕ) (all : List (List ℕ)) (before : List (List (List ℕ))) (rest : List (List ℕ)) (v : List ℕ) : Type 0 where
-  closes : Contains all (anchored_message (anchor_of id before) (register_of rest))
-  forms : Within (form_messages (anchored_of (anchor_of id before) (register_of rest)) zero_bytes v) all
+pub record SecondListed (id : ℕ) (all : List (List ℕ)) (before : List (List (List ℕ))) (rest : List (List ℕ)) (v : List ℕ) : Type 0 where
+  pub closes : Contains all (anchored_message (anchor_of id before) (register_of rest))
+  pub forms : Within (form_messages (anchored_of (anchor_of id before) (register_of rest)) zero_bytes v) all
 
-second_listed : (id : ℕ) (all : List (List ℕ)) → IsClear all → (before : List (List (List ℕ))) (rest : List (List ℕ)) (v : List ℕ) → Listed id all before rest → Within (point_messages (anchor_of id before) (register_of rest) v) all → is_empty rest ≡ false → SecondListed id all before rest v
+pub second_listed : (id : ℕ) (all : List (List ℕ)) → IsClear all → (before : List (List (List ℕ))) (rest : List (List ℕ)) (v : List ℕ) → Listed id all before rest → Within (point_messages (anchor_of id before) (register_of rest) v) all → is_empty rest ≡ false → SecondListed id all before rest v
 second_listed id all clear before rest v l m some =
     let a = anchor_of id before in
     let e = register_of rest in

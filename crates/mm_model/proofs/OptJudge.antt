@@ -75,10 +75,10 @@ history_listed i y all h =
     }
 
 -- what life tells of its four tests
-record LiveParts (is_open is_bare is_own is_marred : Bool) : Type 0 where
-  clean : is_marred ≡ false
-  own : is_open ≡ true → is_own ≡ true
-  held : is_open ≡ true → is_bare ≡ false
+pub record LiveParts (is_open is_bare is_own is_marred : Bool) : Type 0 where
+  pub clean : is_marred ≡ false
+  pub own : is_open ≡ true → is_own ≡ true
+  pub held : is_open ≡ true → is_bare ≡ false
 
 life_clash : Spoiled ≡ Live → ⊥
 life_clash e = cc
@@ -92,7 +92,7 @@ lost_spoiled e = cc
 live_spoiled : Live ≡ Spoiled → ⊥
 live_spoiled e = cc
 
-live_parts : (f p o m : Bool) → life_by f p o m ≡ Live → LiveParts f p o m
+pub live_parts : (f p o m : Bool) → life_by f p o m ≡ Live → LiveParts f p o m
 live_parts true true o m e = absurd (lost_live e)
 live_parts true false true false e = record { clean = refl; own = λ _. refl; held = λ _. refl }
 live_parts true false true true e = absurd (life_clash e)
@@ -118,7 +118,7 @@ lost_test false p o false = refl
 lost_test false p o true = refl
 
 -- the values that count, with the register's items where a segment is open
-counted_values : (barrier : List ℕ) (flag : Bool) (closed : List (List Entry)) (items : List Entry) → joined (map (values_of barrier) closed) ++ taken_in flag (values_of barrier items) ≡ values_of barrier (joined closed ++ (if flag then items else []))
+pub counted_values : (barrier : List ℕ) (flag : Bool) (closed : List (List Entry)) (items : List Entry) → joined (map (values_of barrier) closed) ++ taken_in flag (values_of barrier items) ≡ values_of barrier (joined closed ++ (if flag then items else []))
 counted_values barrier true closed items =
     ap (λ (v : List (List ℕ)). v ++ values_of barrier items) (joined-values barrier closed) ∙ sym (values_of-append barrier (joined closed) items)
 counted_values barrier false closed items =
@@ -131,7 +131,7 @@ shut_current y sound shut =
       | inr some ↦ absurd (true_not_false (sym (sound.open_is some) ∙ shut))
     ]
 
-live_values_at : (barrier : List ℕ) (y : History) (flag : Bool) → IsSound y → y.is_open ≡ flag → IsClean y → LiveParts flag (is_empty y.items) (are_own y.items y.current) (has_value (joined y.closed)) → values_of barrier (joined y.closed ++ (if flag then y.items else [])) ≡ own_values barrier y.batches
+pub live_values_at : (barrier : List ℕ) (y : History) (flag : Bool) → IsSound y → y.is_open ≡ flag → IsClean y → LiveParts flag (is_empty y.items) (are_own y.items y.current) (has_value (joined y.closed)) → values_of barrier (joined y.closed ++ (if flag then y.items else [])) ≡ own_values barrier y.batches
 live_values_at barrier y true sound f h live =
     values_of-append barrier (joined y.closed) y.items
     ∙ ap (λ (v : List (List ℕ)). v ++ values_of barrier y.items) (values_of-clean barrier (joined y.closed) h.clean)
@@ -142,14 +142,14 @@ live_values_at barrier y false sound f h live =
     ∙ ap (own_values barrier) (sym (append-nil (batches_in (joined y.closed)))
     ∙ ap (λ (v : List Batch). batches_in (joined y.closed) ++ v) (sym (shut_current y sound f)) ∙ sym h.batches)
 
-live_clean : (y : History) → IsSound y → has_value (joined y.closed) ≡ false → IsClean y
+pub live_clean : (y : History) → IsSound y → has_value (joined y.closed) ≡ false → IsClean y
 live_clean y sound clean =
     elim sound.history [
       | inl h ↦ h
       | inr h ↦ absurd (true_not_false (sym (marred_has y h) ∙ clean))
     ]
 
-held_at : (flag : Bool) (items : List Entry) (barrier : List ℕ) → (flag ≡ true → is_empty items ≡ false) → IsHeld flag (values_of barrier items)
+pub held_at : (flag : Bool) (items : List Entry) (barrier : List ℕ) → (flag ≡ true → is_empty items ≡ false) → IsHeld flag (values_of barrier items)
 held_at true [] barrier h = absurd (true_not_false (h refl))
 held_at true (x ∷ items) barrier h = refl
 held_at false items barrier h = tt
@@ -184,19 +184,19 @@ spoiled_has_at y flag sound f e =
     ]
 
 -- A path, with all that the verdict on it looks at.
-record Standpoint (i : Instance) (y : History) (named rest : List Batch) (b : Batch) (all : List (List ℕ)) (before : List (List (List ℕ))) (taken : List (List ℕ)) : Type 0 where
-  first : y.batches ≡ named ++ rest
-  later : List (List (List ℕ))
-  split : map (values_of i.barrier) y.closed ≡ before ++ later
-  flat : joined before ++ taken ≡ own_values i.barrier named
-  reaches : Reaches y.is_open later (length taken)
-  filled : AllByRecursion (λ vs. is_empty vs ≡ false) later
-  clears : Clears i.meaning.id all
-  history : Listed i.meaning.id all (map (values_of i.barrier) y.closed) (values_of i.barrier y.items)
-  path : Listed i.meaning.id all before taken
-  guards : Within (map (guard_message i.barrier) y.batches) all
-  call_guard : Contains all (guard_message i.barrier b)
-  call : Within (point_messages (anchor_of i.meaning.id before) (register_of taken) (guard i.barrier b)) all
+pub record Standpoint (i : Instance) (y : History) (named rest : List Batch) (b : Batch) (all : List (List ℕ)) (before : List (List (List ℕ))) (taken : List (List ℕ)) : Type 0 where
+  pub first : y.batches ≡ named ++ rest
+  pub later : List (List (List ℕ))
+  pub split : map (values_of i.barrier) y.closed ≡ before ++ later
+  pub flat : joined before ++ taken ≡ own_values i.barrier named
+  pub reaches : Reaches y.is_open later (length taken)
+  pub filled : AllByRecursion (λ vs. is_empty vs ≡ false) later
+  pub clears : Clears i.meaning.id all
+  pub history : Listed i.meaning.id all (map (values_of i.barrier) y.closed) (values_of i.barrier y.items)
+  pub path : Listed i.meaning.id all before taken
+  pub guards : Within (map (guard_message i.barrier) y.batches) all
+  pub call_guard : Contains all (guard_message i.barrier b)
+  pub call : Within (point_messages (anchor_of i.meaning.id before) (register_of taken) (guard i.barrier b)) all
 
 -- the values that count are all there is to a fresh path, and to a repeat with one more value
 fresh_counts : (i : Instance) (y : History) (named rest : List Batch) (b : Batch) (all : List (List ℕ)) (before : List (List (List ℕ))) (taken : List (List ℕ)) → Standpoint i y named rest b all before taken → FreshSomehow y.is_open (map (values_of i.barrier) y.closed) (values_of i.barrier y.items) before taken → own_values i.barrier named ≡ values_of i.barrier (counting y)
@@ -304,9 +304,16 @@ zero_items : (barrier : List ℕ) (items : List Entry) → is_empty (values_of b
 zero_items barrier [] = refl
 zero_items barrier (x ∷ items) = refl
 
--- the verdict on a place, by the path that it is
-opt_on : (i : Instance) (y : History) (named rest : List Batch) (a e : List ℕ) (b : Batch) (all : List (List ℕ)) → IsSound y → IsClear all → Within (messages_of Opt i y) all → Contains all (guard_message i.barrier b) → Within (point_messages a e (guard i.barrier b)) all → AreNoGuards i.barrier (values_in (counting y)) (b ∷ y.batches) → y.batches ≡ named ++ rest → IsPoint i y named a e → opt_verdict y.is_open (anchor_after i y.closed) (register_of (values_of i.barrier y.items)) (forms_of a e) (guard i.barrier b) ≡ judge Opt y (total_of named) b
-opt_on i y named rest a e b all sound clear history called call foreign first place =
+-- an offered place as a path, with all that the verdict on it looks at
+pub record Stood (i : Instance) (y : History) (named rest : List Batch) (a e : List ℕ) (b : Batch) (all : List (List ℕ)) : Type 0 where
+  pub before : List (List (List ℕ))
+  pub taken : List (List ℕ)
+  pub anchor_is : a ≡ anchor_of i.meaning.id before
+  pub extension_is : e ≡ register_of taken
+  pub point : Standpoint i y named rest b all before taken
+
+pub stood_of : (i : Instance) (y : History) (named rest : List Batch) (a e : List ℕ) (b : Batch) (all : List (List ℕ)) → IsSound y → IsClear all → Within (messages_of Opt i y) all → Contains all (guard_message i.barrier b) → Within (point_messages a e (guard i.barrier b)) all → y.batches ≡ named ++ rest → IsPoint i y named a e → Stood i y named rest a e b all
+stood_of i y named rest a e b all sound clear history called call first place =
     let h = history_listed i y all history in
     let p = path_of i y named rest a e all sound first h.runs place in
     let V = values_of i.barrier in
@@ -314,7 +321,6 @@ opt_on i y named rest a e b all sound clear history called call foreign first pl
     let taken = own_values i.barrier p.taken in
     let id = i.meaning.id in
     let split : map V y.closed ≡ before ++ map V p.later = ap (map V) p.split ∙ map-append V p.before p.later in
-    let clears : Clears id all = record { clear = clear; starts = h.starts } in
     let call' : Within (point_messages (anchor_of id before) (register_of taken) (guard i.barrier b)) all =
     subst (λ (v : List ℕ). Within (point_messages (anchor_of id before) v (guard i.barrier b)) all) p.extension_is
     (subst (λ (v : List ℕ). Within (point_messages v e (guard i.barrier b)) all) p.anchor_is call) in
@@ -329,31 +335,47 @@ opt_on i y named rest a e b all sound clear history called call foreign first pl
     (λ segment some. zero_items i.barrier segment ∙ some) p.later
     (each_right (λ segment. is_empty segment ≡ false) p.before p.later
     (subst (λ (v : List (List Entry)). AllByRecursion (λ segment. is_empty segment ≡ false) v) p.split sound.filled)) in
-    let s : Standpoint i y named rest b all before taken = record {
-      first = first;
-      later = map V p.later;
-      split = split;
-      flat = ap (λ (v : List (List ℕ)). v ++ taken) (joined-values i.barrier p.before) ∙ p.flat;
-      reaches = p.reaches;
-      filled = filled;
-      clears = clears;
-      history = h.listed;
-      path = path;
-      guards = h.guards;
-      call_guard = called;
-      call = call';
-    } in
-    let fresh = list_any (fits_fresh y.is_open (anchor_of id (map V y.closed)) (register_of (V y.items))) (forms_of (anchor_of id before) (register_of taken)) in
-    let again = list_any (fits_again y.is_open (anchor_of id (map V y.closed)) (register_of (V y.items)) (guard i.barrier b)) (forms_of (anchor_of id before) (register_of taken)) in
-    let lost : (y.is_open && bytes_eq (register_of (V y.items)) zero_bytes) ≡ is_lost_life (life_of Opt y) =
-    ap (λ (x : Bool). y.is_open && x) (zero_tells all clear (V y.items) h.listed.last ∙ zero_items i.barrier y.items)
+    record {
+      before = before;
+      taken = taken;
+      anchor_is = p.anchor_is;
+      extension_is = p.extension_is;
+      point = record {
+        first = first;
+        later = map V p.later;
+        split = split;
+        flat = ap (λ (v : List (List ℕ)). v ++ taken) (joined-values i.barrier p.before) ∙ p.flat;
+        reaches = p.reaches;
+        filled = filled;
+        clears = record { clear = clear; starts = h.starts };
+        history = h.listed;
+        path = path;
+        guards = h.guards;
+        call_guard = called;
+        call = call';
+      };
+    }
+
+-- the verdict on a place, by the path that it is
+opt_on : (i : Instance) (y : History) (named rest : List Batch) (a e : List ℕ) (b : Batch) (all : List (List ℕ)) → IsSound y → IsClear all → Within (messages_of Opt i y) all → Contains all (guard_message i.barrier b) → Within (point_messages a e (guard i.barrier b)) all → AreNoGuards i.barrier (values_in (counting y)) (b ∷ y.batches) → y.batches ≡ named ++ rest → IsPoint i y named a e → opt_verdict y.is_open (anchor_after i y.closed) (register_of (values_of i.barrier y.items)) (forms_of a e) (guard i.barrier b) ≡ judge Opt y (total_of named) b
+opt_on i y named rest a e b all sound clear history called call foreign first place =
+    let q = stood_of i y named rest a e b all sound clear history called call first place in
+    let s = q.point in
+    let id = i.meaning.id in
+    let closed = map (values_of i.barrier) y.closed in
+    let items = values_of i.barrier y.items in
+    let v = guard i.barrier b in
+    let fresh = list_any (fits_fresh y.is_open (anchor_of id closed) (register_of items)) (forms_of (anchor_of id q.before) (register_of q.taken)) in
+    let again = list_any (fits_again y.is_open (anchor_of id closed) (register_of items) v) (forms_of (anchor_of id q.before) (register_of q.taken)) in
+    let lost : (y.is_open && bytes_eq (register_of items) zero_bytes) ≡ is_lost_life (life_of Opt y) =
+    ap (λ (x : Bool). y.is_open && x) (zero_tells all clear items s.history.last ∙ zero_items i.barrier y.items)
     ∙ lost_test y.is_open (is_empty y.items) (are_own y.items y.current) (has_value (joined y.closed)) in
-    ap (λ (v : List ℕ). opt_verdict y.is_open (anchor_of id (map V y.closed)) (register_of (V y.items)) (forms_of v e) (guard i.barrier b)) p.anchor_is
-    ∙ ap (λ (v : List ℕ). opt_verdict y.is_open (anchor_of id (map V y.closed)) (register_of (V y.items)) (forms_of (anchor_of id before) v) (guard i.barrier b)) p.extension_is
+    ap (λ (w : List ℕ). opt_verdict y.is_open (anchor_of id closed) (register_of items) (forms_of w e) v) q.anchor_is
+    ∙ ap (λ (w : List ℕ). opt_verdict y.is_open (anchor_of id closed) (register_of items) (forms_of (anchor_of id q.before) w) v) q.extension_is
     ∙ ap (λ (x : Bool). verdict_by x fresh again) lost
-    ∙ opt_by i y named rest b all before taken s sound foreign fresh again
-    (fresh_somehow id all clears y.is_open (map V y.closed) (V y.items) before taken (guard i.barrier b) h.listed path call')
-    (again_somehow id all clears y.is_open (map V y.closed) (V y.items) before taken (guard i.barrier b) h.listed path call')
+    ∙ opt_by i y named rest b all q.before q.taken s sound foreign fresh again
+    (fresh_somehow id all s.clears y.is_open closed items q.before q.taken v s.history s.path s.call)
+    (again_somehow id all s.clears y.is_open closed items q.before q.taken v s.history s.path s.call)
     (life_of Opt y) refl
 
 opt_at : (meaning : Meaning) (key barrier : List ℕ) (y : History) (named rest : List Batch) (place : Place) (b : Batch) (all : List (List ℕ)) → IsSound y → IsClearFor all (opt meaning key barrier) y place b → y.batches ≡ named ++ rest → IsPlaceOf Opt (opt meaning key barrier) y named place → verdict_by_digests barrier y.is_open (cell_digest_of (opt meaning key barrier) Opt y) (register_value_of (opt meaning key barrier) y) place b ≡ judge Opt y (total_of named) b

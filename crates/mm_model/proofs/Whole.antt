@@ -5,8 +5,8 @@ use Rattle.mm_module.specs.Batch.{Batch}
 use Rattle.mm_module.specs.Meaning.{Meaning}
 use Rattle.mm_model.specs.Chains.{guard}
 use Rattle.mm_model.specs.Instance.{basic, opt}
-use Rattle.mm_model.specs.History.{Entry, Own, Value, History, Commit, Placed, renamed, committed, moved}
-use Rattle.mm_model.specs.Symbolic.{commit_moves, moved_by, with_batch, opened}
+use Rattle.mm_model.specs.History.{Entry, Own, Value, History, renamed}
+use Rattle.mm_model.specs.Symbolic.{commit_moves, moved_by, with_batch}
 
 pub basic_whole : (meaning : Meaning) (key : List ℕ) (y : History) (b : Batch) → with_batch Basic y b ≡ moved_by (basic meaning key) y (commit_moves Basic y.is_open b)
 basic_whole meaning key y b = refl

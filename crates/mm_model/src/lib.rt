@@ -22,9 +22,9 @@ pub use laws::{
 pub use long::is_long;
 pub use machine::Machine;
 pub use move_laws::{
-    answers_name_the_last_position, basic_messages_go_on, moves_are_device_steps,
-    moves_keep_histories_sound, moves_keep_names, moves_keep_values_outside, opt_messages_go_on,
-    whole_commits_are_moves,
+    answers_name_the_last_position, basic_messages_go_on, fresh_offers_list_their_batch,
+    moves_are_device_steps, moves_keep_histories_sound, moves_keep_names,
+    moves_keep_values_outside, opt_messages_go_on, whole_commits_are_moves,
 };
 pub use refusal::Refusal;
 pub use symbolic::Symbolic;

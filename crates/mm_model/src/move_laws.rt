@@ -12,8 +12,10 @@ ghost use Rattle.mm_model.specs.Instance.{basic, opt};
 ghost use Rattle.mm_model.specs.History.{History, Move, Commit, first_history, joined, moved};
 ghost use Rattle.mm_model.specs.Life.{has_value};
 ghost use Rattle.mm_model.specs.Sound.{IsSound};
+ghost use Rattle.mm_model.specs.Judge.{judge};
+ghost use Rattle.mm_model.specs.declared.verdict.Verdict.TheVariants.{Fresh};
 ghost use Rattle.mm_model.specs.Places.{Names, issued};
-ghost use Rattle.mm_model.specs.Messages.{Within, history_messages, move_messages};
+ghost use Rattle.mm_model.specs.Messages.{Within, IsClearFor, history_messages, move_messages};
 ghost use Rattle.mm_model.specs.Symbolic.{commit_moves, moved_by, with_batch};
 ghost use Rattle.mm_model.specs.Moves.{MayMove, digests_of, made, IsOutside, Brings, batch_messages};
 
@@ -85,4 +87,13 @@ pub fn opt_messages_go_on()
         Within (move_messages (opt meaning key barrier) y m) all →
         Within (batch_messages (opt meaning key barrier) y m) all →
         Within (history_messages (opt meaning key barrier) (moved (opt meaning key barrier) y m)) all }
+{}
+
+/// Opt: an offer on which the verdict is Fresh lists, by its call's messages, what its batch adds to the messages of
+/// the history.
+pub fn fresh_offers_list_their_batch()
+    ensures { (meaning : Meaning) (key barrier : List ℕ) (y : History) (offered : Content) (b : Batch)
+        (all : List (List ℕ)) → IsSound y → IsClearFor all (opt meaning key barrier) y offered.place b →
+        Names (opt meaning key barrier) y offered → judge Opt y offered.position b ≡ Fresh →
+        Within (batch_messages (opt meaning key barrier) y (Commit b)) all }
 {}

@@ -1,4 +1,4 @@
-use Rattle.std.proofs.Common.{◌≡◌, ◌∙◌, sym, ap, true, false}
+use Rattle.std.proofs.Common.{◌∙◌, sym, ap}
 use Rattle.mm_model.specs.Life.{has_value}
 use Rattle.mm_model.specs.Kept.{kept_entries}
 use Rattle.mm_model.proofs.KeptLaws.{segment_here, no_segment_here}
