@@ -4,3 +4,6 @@
 mod any;
 
 pub use any::{AnyModule, by_id, by_name};
+
+#[cfg(test)]
+mod tests;
