@@ -4,3 +4,4 @@ pub mod PrintLaws
 pub mod RunLaws
 pub mod ReadIsSpelled
 pub mod HeaderLaws
+pub mod SpelledIsRead

@@ -1,9 +1,11 @@
--- Laws of the machine's runs.
-use Rattle.std.specs.Prelude.{◌≡◌, ℕ, List, ◌++◌}
+-- Laws of the grammar, and of the machine's runs.
+use Rattle.std.specs.Prelude.{◌≡◌, ℕ, List, ◌++◌, Some}
 use Rattle.mm_module.specs.Meaning.{Meaning}
 use Rattle.mm_schedule.specs.declared.reply.Reply.{Reply}
 use Rattle.mm_schedule.specs.Events.{Event}
+use Rattle.mm_schedule.specs.Grammar.{event_at}
 use Rattle.mm_schedule.specs.Machine.{Runs}
+use Rattle.mm_schedule.specs.Spelling.{SpellsEvent}
 
 -- the events and the replies fix the requests that are run
 abbrev pub RunIsFixed : Type 0
@@ -15,3 +17,7 @@ abbrev pub RunsGoOn : Type 0
 RunsGoOn = (meaning : Meaning) (requests between after : List (List ℕ)) (events more : List Event) (replies others : List Reply)
     → Runs meaning requests events replies between → Runs meaning between more others after
     → Runs meaning requests (events ++ more) (replies ++ others) after
+
+-- what is spelled in a line is read of it
+abbrev pub SpelledIsRead : Type 0
+SpelledIsRead = (line : List ℕ) (event : Event) → SpellsEvent event line → event_at line ≡ Some event

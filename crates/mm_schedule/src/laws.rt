@@ -1,6 +1,6 @@
-//! Laws of the machine's runs, for whoever reads schedules.
+//! Laws of the grammar, and of the machine's runs.
 
-ghost use Rattle.mm_schedule.specs.Laws.{RunIsFixed, RunsGoOn};
+ghost use Rattle.mm_schedule.specs.Laws.{RunIsFixed, RunsGoOn, SpelledIsRead};
 
 /// The events and the replies fix the requests that are run.
 pub fn run_is_fixed()
@@ -10,4 +10,9 @@ pub fn run_is_fixed()
 /// A run goes on where another ended.
 pub fn runs_go_on()
     ensures { RunsGoOn }
+{}
+
+/// What is spelled in a line is read of it; `read_event` has the other direction.
+pub fn spelled_is_read()
+    ensures { SpelledIsRead }
 {}

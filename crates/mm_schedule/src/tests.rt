@@ -1,8 +1,13 @@
 //! Lines from outside, and the lines that answer them.
 
-use crate::{Cause, Event, EventFault, Reply, Way, print_end, print_line, read_event, reply_lines};
+use crate::{
+    Cause, Event, EventFault, Header, Reply, Way, print_end, print_line, read_event, read_header,
+    reply_lines,
+};
 use mm_base::Bytes;
+use mm_digest::Variant;
 use mm_module::Outputs;
+use mm_modules::AnyModule;
 use std::alloc::{AllocError, Global};
 use std::test::Fail;
 
@@ -178,4 +183,22 @@ fn a_batch_has_a_line_for_each_request(rt: HostRuntime) -> Result<(), Fail> {
     let size = print_end(2, 3, &mut into);
     assert_eq!(rt; &into[..size], b"end 2 3\n".as_slice());
     Ok(())
+}
+
+#[test]
+fn a_header_names_a_variant_and_a_module(rt: HostRuntime) {
+    let ledger = Header {
+        variant: Variant::Opt,
+        module: AnyModule::Ledger,
+    };
+    assert_eq!(rt; read_header(b"memoir 1 opt ledger"), Some(ledger));
+    for line in [
+        "memoir 1 basic",
+        "memoir 1 basic counter ",
+        "memoir 2 basic counter",
+        "memoir 1 Basic counter",
+        "",
+    ] {
+        assert_eq!(rt; read_header(line.as_bytes()), None, "{line}");
+    }
 }

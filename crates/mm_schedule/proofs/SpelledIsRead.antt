@@ -1,0 +1,368 @@
+-- What is spelled in a line is read of it.
+use Rattle.std.proofs.Common.{◌≡◌, ◌≢◌, ◌+◌, ◌-◌, ◌<◌, ◌≤◌, ◌^◌, inl, inr, ℕ, zero, suc, Bool, true, false, List, [], ◌∷◌, ◌++◌, length, refl, sym, ap, ◌∙◌, arith, append_assoc, subst}
+use Rattle.std.proofs.Math.Seq.{take-append_seam, drop-append-add}
+use Rattle.std.proofs.lemmas.Bool.{ne_eqb}
+use Rattle.std.proofs.lemmas.Bool.Decides.{nat_tests}
+use Rattle.std.proofs.lemmas.Fmt.{decimal_digit, digits_decimal}
+use Rattle.std.proofs.lemmas.List.{length-append}
+use Rattle.std.proofs.lemmas.List.Elements.{All-head, All-tail}
+use Rattle.std.proofs.lemmas.Str.Parse.{numerals_by_value, tells_all_ascii_digits}
+use Rattle.std.specs.Char.{is_ascii_digit}
+use Rattle.std.specs.Fmt.{decimal}
+use Rattle.std.specs.List.{list_all, position, position_or_len, AllPass}
+use Rattle.std.specs.Prelude.{Option, Some, None, Ok, codes, nat_lt, ◌||◌, ◌==◌, not}
+use Rattle.std.specs.Str.{all_ascii_digits, bytes_eq}
+use Rattle.hex.specs.Hex.{decode_of, is_hex_digit}
+use Rattle.hex.proofs.HexLemmas.{decode_of-ok, decode_sized-ok, decode_sized-twice}
+use Rattle.mm_base.specs.Decimals.{number_of}
+use Rattle.mm_base.proofs.DecimalLemmas.{read_by_spelling}
+use Rattle.mm_module.specs.Batch.{Batch, One, Many}
+use Rattle.mm_platform.specs.declared.plan.Meddle.{Meddle}
+use Rattle.mm_platform.specs.declared.plan.Stop.{Stop}
+use Rattle.mm_platform.specs.declared.plan.Stop.TheVariants.{Quiet, Cut, Drop, Fail}
+use Rattle.mm_schedule.specs.declared.event.Offer.{Offer}
+use Rattle.mm_schedule.specs.declared.event.Offer.TheVariants.{Number, Last, Flip, Raw}
+use Rattle.mm_schedule.specs.Events.{Event, Ask, Checkpoint, Power, Extend}
+use Rattle.mm_schedule.specs.Grammar.{call_at, event_at, failing_at, flip_at, meddle_at, meddles_at, offer_at, prefixed_at, raw_at, stop_at, stop_step_at}
+use Rattle.mm_schedule.specs.Spelling.{SpellsBytes, SpellsEvent, SpellsMeddles, SpellsNumber, SpellsOffer, SpellsPrefix, SpellsStep, SpellsStop, SpellsValue, asks}
+use Rattle.mm_schedule.specs.Words.{after, bytes_at, is_space, number_at, step_at, value_at, word_at}
+use Rattle.mm_schedule.proofs.ReadIsSpelled.{after-front, text_is}
+
+-- no space is among the bytes
+abbrev NoSpace : List ℕ → Type 0
+NoSpace [] = Unit {0}
+NoSpace (byte ∷ bytes) = (byte ≢ 32) × NoSpace bytes
+
+first-space : (word rest : List ℕ) → NoSpace word → position_or_len is_space (word ++ 32 ∷ rest) ≡ length word
+first-space [] rest none = refl
+first-space (byte ∷ word) rest none =
+    let one : 1 + length word ≡ suc (length word) = omega arith in
+    rw (ne_eqb byte 32 none.0) (ap (λ (n : ℕ). 1 + n) (first-space word rest none.1) ∙ one)
+
+word-again : (word rest : List ℕ) → NoSpace word → word_at (word ++ 32 ∷ rest) ≡ Some (word, rest)
+unfolding word_at
+word-again word rest none =
+    let within : length word < length (word ++ 32 ∷ rest) = omega (arith, length-append word (32 ∷ rest)) in
+    let test : nat_lt (length word) (length (word ++ 32 ∷ rest)) ≡ true = grind (arith, nat_tests) in
+    let found : position is_space (word ++ 32 ∷ rest) ≡ Some (length word) = rw (first-space word rest none, test) refl in
+    rw (found, take-append_seam word (32 ∷ rest), drop-append-add word (32 ∷ rest) 1) refl
+
+digits-spaceless : (ds : List ℕ) → all_ascii_digits ds ≡ true → NoSpace ds
+digits-spaceless [] are = tt
+digits-spaceless (d ∷ ds) are =
+    let first : is_ascii_digit d ≡ true = grind (arith, nat_tests) in
+    let rest : all_ascii_digits ds ≡ true = grind (arith, nat_tests) in
+    (λ space. let clash : false ≡ true = rw space at first in cc, digits-spaceless ds rest)
+
+decimal-spaceless : (number : ℕ) → number < 2 ^ 64 → NoSpace (decimal number)
+decimal-spaceless number small =
+    digits-spaceless (decimal number)
+    (digits_decimal (numerals_by_value (λ (ds : List ℕ). all_ascii_digits ds ≡ true) tells_all_ascii_digits) number small)
+
+hex-spaceless : (word : List ℕ) → AllPass is_hex_digit word → NoSpace word
+hex-spaceless [] pass = tt
+hex-spaceless (c ∷ word) pass = (
+  λ space. let clash : false ≡ true = rw space at (All-head (λ (b : ℕ). is_hex_digit b ≡ true) c word pass) in cc,
+  hex-spaceless word (All-tail (λ (b : ℕ). is_hex_digit b ≡ true) c word pass),
+)
+
+value-spaceless : (value word : List ℕ) → SpellsValue value word → NoSpace word
+value-spaceless value word spelled =
+    let size = decode_sized-ok word 32 value spelled in
+    hex-spaceless word (decode_of-ok word value (sym (decode_sized-twice word 32 size) ∙ spelled)).1
+
+letters : (word : List ℕ) → list_all (λ (b : ℕ). not (b == 32)) word ≡ true → NoSpace word
+letters [] all = tt
+letters (c ∷ word) all =
+    let first : not (c == 32) ≡ true = grind (arith, nat_tests) in
+    let rest : list_all (λ (b : ℕ). not (b == 32)) word ≡ true = grind (arith, nat_tests) in
+    (λ space. let clash : false ≡ true = rw space at first in cc, letters word rest)
+
+dash-word : NoSpace (codes "-")
+dash-word = letters (codes "-") refl
+
+bytes-spaceless : (bytes word : List ℕ) → SpellsBytes bytes word → NoSpace word
+bytes-spaceless bytes word (inl none) = subst NoSpace (sym none.1) dash-word
+bytes-spaceless bytes word (inr some) = hex-spaceless word (decode_of-ok word bytes some.1).1
+
+step-again : (step : ℕ) (word : List ℕ) → SpellsStep step word → step_at word ≡ Some step
+unfolding step_at
+step-again step word spelled =
+    let low : nat_lt 48 (48 + step) ≡ true = let some : 1 ≤ step = spelled.low in grind (arith, nat_tests) in
+    let high : nat_lt (48 + step) 58 ≡ true = let few : step ≤ 9 = spelled.high in grind (arith, nat_tests) in
+    let back : 48 + step - 48 ≡ step = omega arith in
+    rw (spelled.digit, decimal_digit step (omega (arith, spelled.high)), low, high, back) refl
+
+step-spaceless : (step : ℕ) (word : List ℕ) → SpellsStep step word → NoSpace word
+step-spaceless step word spelled = rw spelled.digit (decimal-spaceless step (omega (arith, spelled.high)))
+
+number-again : (number : ℕ) (word : List ℕ) → SpellsNumber number word → number_at word ≡ Some number
+unfolding number_at
+number-again number word spelled =
+    let few : number ≤ 999999999 = spelled.most in
+    let test : nat_lt 999999999 number ≡ false = grind (arith, nat_tests) in
+    rw (read_by_spelling word number (omega arith) spelled.digits, test) refl
+
+number-spaceless : (number : ℕ) (word : List ℕ) → SpellsNumber number word → NoSpace word
+number-spaceless number word spelled = rw spelled.digits (decimal-spaceless number (omega (arith, spelled.most)))
+
+value-again : (value word : List ℕ) → SpellsValue value word → value_at word ≡ Some value
+unfolding value_at
+value-again value word spelled = rw spelled refl
+
+no-dash : (word bytes : List ℕ) (dash : Bool) → bytes_eq word (codes "-") ≡ dash → decode_of word ≡ Ok bytes → dash ≡ false
+no-dash word bytes true dash is =
+    let odd : decode_of (codes "-") ≡ Ok bytes = rw (text_is word (codes "-") dash) at is in cc
+no-dash word bytes false dash is = refl
+
+bytes-again : (bytes word : List ℕ) → SpellsBytes bytes word → bytes_at word ≡ Some bytes
+unfolding bytes_at
+bytes-again bytes word (inl none) = rw (none.1, none.0) refl
+bytes-again bytes word (inr some) =
+    let long : 0 < length word = some.0 in
+    let test : (length word == 0) ≡ false = grind (arith, nat_tests) in
+    rw (no-dash word bytes (bytes_eq word (codes "-")) refl some.1, test, some.1) refl
+
+after-again-meddle : (rest : List ℕ) → after (codes "meddle ") (codes "meddle " ++ rest) ≡ Some rest
+unfolding after
+after-again-meddle rest = refl
+
+done-word : NoSpace (codes "done")
+done-word = letters (codes "done") refl
+
+undone-word : NoSpace (codes "undone")
+undone-word = letters (codes "undone") refl
+
+last-word : NoSpace (codes "last")
+last-word = letters (codes "last") refl
+
+flip-word : NoSpace (codes "flip")
+flip-word = letters (codes "flip") refl
+
+raw-word : NoSpace (codes "raw")
+raw-word = letters (codes "raw") refl
+
+meddle-again : (least : ℕ) (meddle : Meddle) (step value rest : List ℕ) → least ≤ meddle.step → SpellsStep meddle.step step
+    → SpellsValue meddle.value.bytes value → meddle_at least (step ++ 32 ∷ (value ++ 32 ∷ rest)) ≡ Some (meddle, rest)
+unfolding meddle_at
+meddle-again least meddle step value rest rising stepped valued =
+    let test : nat_lt meddle.step least ≡ false = grind (arith, nat_tests) in
+    rw (
+      word-again step (value ++ 32 ∷ rest) (step-spaceless meddle.step step stepped),
+      step-again meddle.step step stepped,
+      test,
+      word-again value rest (value-spaceless meddle.value.bytes value valued),
+      value-again meddle.value.bytes value valued,
+    ) refl
+
+-- meddles are read up to what is none
+meddles-again : (room least : ℕ) (meddles : List Meddle) (text rest : List ℕ) → SpellsMeddles least meddles text → length meddles ≤ room
+    → after (codes "meddle ") rest ≡ None → meddles_at room least (text ++ rest) ≡ Some (meddles, rest)
+unfolding meddles_at
+meddles-again zero least [] text rest spelled few over = rw spelled refl
+meddles-again (suc room) least [] text rest spelled few over = rw (spelled, over) refl
+meddles-again zero least (meddle ∷ meddles) text rest spelled few over = absurd (omega arith)
+meddles-again (suc room) least (meddle ∷ meddles) text rest spelled few over =
+    let step = spelled.0 in
+    let value = spelled.1 in
+    let later = spelled.2 in
+    let words : text ++ rest ≡ codes "meddle " ++ (step ++ 32 ∷ (value ++ 32 ∷ (later ++ rest))) =
+    ap (λ (front : List ℕ). front ++ rest) spelled.7 ∙ simp append_assoc in
+    rw (
+      words,
+      after-again-meddle (step ++ 32 ∷ (value ++ 32 ∷ (later ++ rest))),
+      meddle-again least meddle step value (later ++ rest) spelled.3 spelled.4 spelled.5,
+      meddles-again room meddle.step meddles later rest spelled.6 (omega arith) over,
+    ) refl
+
+-- what follows is no stop
+record IsNoStop (call : List ℕ) : Type 0 where
+  cut : after (codes "cut ") call ≡ None
+  dropped : after (codes "drop ") call ≡ None
+  failed : after (codes "fail ") call ≡ None
+
+stop_step-again : (at : ℕ) (step rest : List ℕ) → SpellsStep at step → stop_step_at (step ++ 32 ∷ rest) ≡ Some (at, rest)
+unfolding stop_step_at
+stop_step-again at step rest stepped = rw (word-again step rest (step-spaceless at step stepped), step-again at step stepped) refl
+
+done-again : (at : ℕ) (step rest : List ℕ) → SpellsStep at step → failing_at (step ++ 32 ∷ (codes "done" ++ 32 ∷ rest)) ≡ Some (Fail at true, rest)
+unfolding failing_at
+done-again at step rest stepped =
+    rw (stop_step-again at step (codes "done" ++ 32 ∷ rest) stepped, word-again (codes "done") rest done-word) refl
+
+undone-again : (at : ℕ) (step rest : List ℕ) → SpellsStep at step → failing_at (step ++ 32 ∷ (codes "undone" ++ 32 ∷ rest)) ≡ Some (Fail at false, rest)
+unfolding failing_at
+undone-again at step rest stepped =
+    rw (stop_step-again at step (codes "undone" ++ 32 ∷ rest) stepped, word-again (codes "undone") rest undone-word) refl
+
+stop-again : (stop : Stop) (text call : List ℕ) → SpellsStop stop text → IsNoStop call → stop_at (text ++ call) ≡ Some (stop, call)
+unfolding stop_at after
+stop-again Quiet text call spelled over = rw (spelled, over.cut, over.dropped, over.failed) refl
+stop-again (Cut at) text call spelled over =
+    let words : text ++ call ≡ codes "cut " ++ (spelled.0 ++ 32 ∷ call) = ap (λ (front : List ℕ). front ++ call) spelled.2 ∙ simp append_assoc in
+    rw (words, stop_step-again at spelled.0 call spelled.1) refl
+stop-again (Drop at) text call spelled over =
+    let words : text ++ call ≡ codes "drop " ++ (spelled.0 ++ 32 ∷ call) = ap (λ (front : List ℕ). front ++ call) spelled.2 ∙ simp append_assoc in
+    rw (words, stop_step-again at spelled.0 call spelled.1) refl
+stop-again (Fail at true) text call spelled over =
+    let words : text ++ call ≡ codes "fail " ++ (spelled.0 ++ 32 ∷ (codes "done" ++ 32 ∷ call)) =
+    ap (λ (front : List ℕ). front ++ call) spelled.2 ∙ simp append_assoc in
+    rw (words, done-again at spelled.0 call spelled.1) refl
+stop-again (Fail at false) text call spelled over =
+    let words : text ++ call ≡ codes "fail " ++ (spelled.0 ++ 32 ∷ (codes "undone" ++ 32 ∷ call)) =
+    ap (λ (front : List ℕ). front ++ call) spelled.2 ∙ simp append_assoc in
+    rw (words, undone-again at spelled.0 call spelled.1) refl
+
+-- a number is none of the words that begin other offers
+not_word : (word other : List ℕ) (number : ℕ) (same : Bool) → bytes_eq word other ≡ same → number_at word ≡ Some number → number_at other ≡ None → same ≡ false
+not_word word other number true same is none =
+    let clash : Some number ≡ None = sym is ∙ ap number_at (text_is word other same) ∙ none in cc
+not_word word other number false same is none = refl
+
+no-number-last : number_at (codes "last") ≡ None
+unfolding number_at number_of
+no-number-last = refl
+
+no-number-flip : number_at (codes "flip") ≡ None
+unfolding number_at number_of
+no-number-flip = refl
+
+no-number-raw : number_at (codes "raw") ≡ None
+unfolding number_at number_of
+no-number-raw = refl
+
+flip-again : (number byte : ℕ) (first second rest : List ℕ) → SpellsNumber number first → SpellsNumber byte second
+    → flip_at (first ++ 32 ∷ (second ++ 32 ∷ rest)) ≡ Some (Flip number byte, rest)
+unfolding flip_at
+flip-again number byte first second rest one two =
+    rw (
+      word-again first (second ++ 32 ∷ rest) (number-spaceless number first one),
+      number-again number first one,
+      word-again second rest (number-spaceless byte second two),
+      number-again byte second two,
+    ) refl
+
+raw-again : (bytes word rest : List ℕ) → SpellsBytes bytes word → raw_at (word ++ 32 ∷ rest) ≡ Some (Raw bytes, rest)
+unfolding raw_at
+raw-again bytes word rest spelled = rw (word-again word rest (bytes-spaceless bytes word spelled), bytes-again bytes word spelled) refl
+
+offer-again : (offer : Offer) (text rest : List ℕ) → SpellsOffer offer text → offer_at (text ++ 32 ∷ rest) ≡ Some (offer, rest)
+unfolding offer_at
+offer-again (Number number) text rest spelled =
+    let read = number-again number text spelled in
+    rw (
+      word-again text rest (number-spaceless number text spelled),
+      not_word text (codes "last") number (bytes_eq text (codes "last")) refl read no-number-last,
+      not_word text (codes "flip") number (bytes_eq text (codes "flip")) refl read no-number-flip,
+      not_word text (codes "raw") number (bytes_eq text (codes "raw")) refl read no-number-raw,
+      read,
+    ) refl
+offer-again Last text rest spelled = rw (spelled, word-again (codes "last") rest last-word) refl
+offer-again (Flip number byte) text rest spelled =
+    let words : text ++ 32 ∷ rest ≡ codes "flip" ++ 32 ∷ (spelled.0 ++ 32 ∷ (spelled.1 ++ 32 ∷ rest)) =
+    ap (λ (front : List ℕ). front ++ 32 ∷ rest) spelled.4 ∙ simp append_assoc in
+    rw (
+      words,
+      word-again (codes "flip") (spelled.0 ++ 32 ∷ (spelled.1 ++ 32 ∷ rest)) flip-word,
+      flip-again number byte spelled.0 spelled.1 rest spelled.2 spelled.3,
+    ) refl
+offer-again (Raw bytes) text rest spelled =
+    let words : text ++ 32 ∷ rest ≡ codes "raw" ++ 32 ∷ (spelled.0 ++ 32 ∷ rest) =
+    ap (λ (front : List ℕ). front ++ 32 ∷ rest) spelled.2 ∙ simp append_assoc in
+    rw (words, word-again (codes "raw") (spelled.0 ++ 32 ∷ rest) raw-word, raw-again bytes spelled.0 rest spelled.1) refl
+
+asked-again : (meddles : List Meddle) (stop : Stop) (offer : Offer) (from : List ℕ) (batch : Batch) → SpellsOffer offer from
+    → call_at meddles stop (asks batch from) ≡ Some (Ask meddles stop offer batch)
+unfolding call_at after
+asked-again meddles stop offer from (One request) spelled = rw (offer-again offer from request spelled) refl
+asked-again meddles stop offer from (Many text) spelled = rw (offer-again offer from text spelled) refl
+
+-- a line that may begin `power` or `extend`
+abbrev opens : List ℕ → Bool
+opens [] = false
+opens (c ∷ rest) = (c == 112) || (c == 101)
+
+no-power : (line : List ℕ) (same : Bool) → opens line ≡ false → bytes_eq line (codes "power") ≡ same → same ≡ false
+no-power line true shut same = let clash : true ≡ false = sym (ap opens (text_is line (codes "power") same)) ∙ shut in cc
+no-power line false shut same = refl
+
+no-extend : (line : List ℕ) (found : Option (List ℕ)) → opens line ≡ false → after (codes "extend ") line ≡ found → found ≡ None
+no-extend line None shut is = refl
+no-extend line (Some rest) shut is = let clash : true ≡ false = sym (ap opens (after-front (codes "extend ") line rest is)) ∙ shut in cc
+
+-- a prefix with a call that doesn't open so doesn't either
+prefix-shut : (meddles : List Meddle) (stop : Stop) (extensions ending call : List ℕ) → SpellsMeddles 0 meddles extensions → SpellsStop stop ending
+    → opens call ≡ false → opens (extensions ++ ending ++ call) ≡ false
+prefix-shut [] Quiet extensions ending call one two shut = rw (one, two) shut
+prefix-shut [] (Cut at) extensions ending call one two shut = rw (one, two.2) refl
+prefix-shut [] (Drop at) extensions ending call one two shut = rw (one, two.2) refl
+prefix-shut [] (Fail at true) extensions ending call one two shut = rw (one, two.2) refl
+prefix-shut [] (Fail at false) extensions ending call one two shut = rw (one, two.2) refl
+prefix-shut (meddle ∷ meddles) stop extensions ending call one two shut = rw one.7 refl
+
+-- a stop or a call is no meddle
+no-meddle : (stop : Stop) (ending call : List ℕ) → SpellsStop stop ending → after (codes "meddle ") call ≡ None → after (codes "meddle ") (ending ++ call) ≡ None
+unfolding after
+no-meddle Quiet ending call spelled over = rw spelled over
+no-meddle (Cut at) ending call spelled over = rw spelled.2 refl
+no-meddle (Drop at) ending call spelled over = rw spelled.2 refl
+no-meddle (Fail at true) ending call spelled over = rw spelled.2 refl
+no-meddle (Fail at false) ending call spelled over = rw spelled.2 refl
+
+record IsCall (meddles : List Meddle) (stop : Stop) (call : List ℕ) (event : Event) : Type 0 where
+  shut : opens call ≡ false
+  none : after (codes "meddle ") call ≡ None
+  last : IsNoStop call
+  read : call_at meddles stop call ≡ Some event
+
+prefixed-again : (meddles : List Meddle) (stop : Stop) (line call : List ℕ) (event : Event) → SpellsPrefix meddles stop line call
+    → IsCall meddles stop call event → event_at line ≡ Some event
+unfolding event_at prefixed_at
+prefixed-again meddles stop line call event spelled is =
+    let shut : opens line ≡ false =
+    ap opens spelled.parts ∙ prefix-shut meddles stop spelled.extensions spelled.ending call spelled.meddled spelled.stopped is.shut in
+    let grouped : line ≡ spelled.extensions ++ (spelled.ending ++ call) =
+    spelled.parts ∙ append_assoc spelled.extensions spelled.ending call in
+    let first : meddles_at 8 0 line ≡ Some (meddles, spelled.ending ++ call) =
+    ap (meddles_at 8 0) grouped ∙ meddles-again 8 0 meddles spelled.extensions (spelled.ending ++ call) spelled.meddled spelled.few
+    (no-meddle stop spelled.ending call spelled.stopped is.none) in
+    rw (
+      no-power line (bytes_eq line (codes "power")) shut refl,
+      no-extend line (after (codes "extend ") line) shut refl,
+      first,
+      stop-again stop spelled.ending call spelled.stopped is.last,
+    ) is.read
+
+ask-call : (meddles : List Meddle) (stop : Stop) (offer : Offer) (from : List ℕ) (batch : Batch) → SpellsOffer offer from
+    → IsCall meddles stop (asks batch from) (Ask meddles stop offer batch)
+unfolding after
+ask-call meddles stop offer from (One request) spelled = record {
+  shut = refl;
+  none = refl;
+  last = record { cut = refl; dropped = refl; failed = refl };
+  read = asked-again meddles stop offer from (One request) spelled;
+}
+ask-call meddles stop offer from (Many text) spelled = record {
+  shut = refl;
+  none = refl;
+  last = record { cut = refl; dropped = refl; failed = refl };
+  read = asked-again meddles stop offer from (Many text) spelled;
+}
+
+checkpoint-call : (meddles : List Meddle) (stop : Stop) → IsCall meddles stop (codes "checkpoint") (Checkpoint meddles stop)
+unfolding after call_at
+checkpoint-call meddles stop = record {
+  shut = refl;
+  none = refl;
+  last = record { cut = refl; dropped = refl; failed = refl };
+  read = refl;
+}
+
+pub spelled_is_read : (line : List ℕ) (event : Event) → SpellsEvent event line → event_at line ≡ Some event
+unfolding event_at after
+spelled_is_read line (Ask meddles stop offer batch) spelled =
+    prefixed-again meddles stop line (asks batch spelled.0) (Ask meddles stop offer batch) spelled.2 (ask-call meddles stop offer spelled.0 batch spelled.1)
+spelled_is_read line (Checkpoint meddles stop) spelled =
+    prefixed-again meddles stop line (codes "checkpoint") (Checkpoint meddles stop) spelled (checkpoint-call meddles stop)
+spelled_is_read line Power spelled = rw spelled refl
+spelled_is_read line (Extend value) spelled = rw (spelled.2, value-again value spelled.0 spelled.1) refl
