@@ -1,10 +1,10 @@
 -- Basic: a call gives the same by digests as by lists.
-use Rattle.std.proofs.Common.{ℕ, ◌≡◌, ◌+◌, ◌-◌, ◌≤◌, Bool, true, false, List, [], ◌∷◌, ◌++◌, length, map, drop, Option, None, Some, Result, Ok, Err, refl, sym, ap, ◌∙◌, subst, arith, length-append}
+use Rattle.std.proofs.Common.{ℕ, ◌≡◌, ◌+◌, ◌-◌, Bool, true, false, List, [], ◌∷◌, ◌++◌, length, drop, refl, sym, ap, ◌∙◌, subst, arith, length-append}
 use Rattle.std.specs.Prelude.{if◌then◌else◌}
-use Rattle.std.specs.List.{flat_map, AllByRecursion, Contains}
+use Rattle.std.specs.List.{Contains}
 use Rattle.std.proofs.lemmas.Grind.{flat_map-append}
 use Rattle.std.proofs.lemmas.List.{append-nil}
-use Rattle.mm_digest.specs.declared.variant.Variant.TheVariants.{Basic, Opt}
+use Rattle.mm_digest.specs.declared.variant.Variant.TheVariants.{Basic}
 use Rattle.mm_digest.specs.Messages.{start_of}
 use Rattle.mm_module.specs.Meaning.{Meaning, state_from, state_after, outputs_from}
 use Rattle.mm_module.specs.Batch.{Batch, members_of, size_of}
@@ -12,16 +12,14 @@ use Rattle.mm_module.proofs.RunLaws.{state_after-append, outputs_from-append, le
 use Rattle.mm_seal.specs.Snapshot.{Content, sealed_of}
 use Rattle.mm_seal.specs.declared.snapshot.Place.{Place}
 use Rattle.mm_seal.specs.declared.snapshot.Place.TheVariants.{Basic as InBasic, Opt as InOpt}
-use Rattle.mm_model.specs.Chains.{link, link_message, summary_of, after, trail}
+use Rattle.mm_model.specs.Chains.{link, link_message, summary_of, trail}
 use Rattle.mm_model.specs.Instance.{Instance, basic}
-use Rattle.mm_model.specs.History.{History, Move, requests_of, total_of}
+use Rattle.mm_model.specs.History.{History, requests_of, total_of}
 use Rattle.mm_model.specs.Messages.{Within, history_messages, offer_messages}
-use Rattle.mm_model.specs.Places.{digest_of, issued, IsPlaceOf}
-use Rattle.mm_model.specs.Standing.{issued_bytes}
-use Rattle.mm_model.proofs.Batches.{total-append, total-cons}
+use Rattle.mm_model.specs.Places.{digest_of, IsPlaceOf}
 use Rattle.mm_model.proofs.Chains.{trail_push}
 use Rattle.mm_model.proofs.Digests.{summary-push}
-use Rattle.mm_world.specs.Levels.{Answer, Level, Digests, by_lists, by_digests, answer_by_lists, answer_by_digests}
+use Rattle.mm_world.specs.Levels.{Answer, Digests, by_lists, by_digests, answer_by_lists, answer_by_digests}
 use Rattle.mm_world.specs.Folds.{Found}
 use Rattle.mm_world.specs.Laws.{Agrees}
 use Rattle.mm_world.proofs.Finding.{Placed}
@@ -39,7 +37,7 @@ drop-front : (xs ys : List (List ℕ)) → drop (length xs) (xs ++ ys) ≡ ys
 drop-front [] ys = refl
 drop-front (x ∷ xs) ys = drop-front xs ys
 
-drop-at : (n : ℕ) (xs ys : List (List ℕ)) → n ≡ length xs → drop n (xs ++ ys) ≡ ys
+pub drop-at : (n : ℕ) (xs ys : List (List ℕ)) → n ≡ length xs → drop n (xs ++ ys) ≡ ys
 drop-at n xs ys e = ap (λ k. drop k (xs ++ ys)) e ∙ drop-front xs ys
 
 -- the batch ends the history: the answer by lists

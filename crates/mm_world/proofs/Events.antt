@@ -1,46 +1,41 @@
 -- Basic: each event, and so a whole schedule, gives the same by digests as by lists.
-use Rattle.std.proofs.Common.{ℕ, ◌≡◌, ◌+◌, Bool, true, false, List, [], ◌∷◌, ◌++◌, length, map, Option, None, Some, Result, Ok, Err, refl, sym, ap, ◌∙◌, subst, arith, append_assoc}
+use Rattle.std.proofs.Common.{ℕ, ◌≡◌, ◌+◌, Bool, true, false, List, [], ◌∷◌, ◌++◌, Option, None, Some, Result, refl, sym, ap, ◌∙◌, subst, arith, append_assoc}
 use Rattle.std.specs.Prelude.{if◌then◌else◌}
 use Rattle.std.specs.List.{AllByRecursion, Contains}
 use Rattle.std.proofs.lemmas.List.{append-nil}
 use Rattle.std.proofs.lemmas.List.Elements.{Contains-append_right}
-use Rattle.std.specs.Str.{bytes_eq}
-use Rattle.mm_digest.specs.declared.variant.Variant.TheVariants.{Basic, Opt}
-use Rattle.mm_digest.specs.Messages.{zero_bytes, start_message, start_of}
+use Rattle.mm_digest.specs.declared.variant.Variant.TheVariants.{Basic}
+use Rattle.mm_digest.specs.Messages.{start_message, start_of}
 use Rattle.mm_module.specs.Meaning.{Meaning}
-use Rattle.mm_module.specs.Batch.{Batch, size_of, normal}
-use Rattle.mm_seal.specs.Snapshot.{Content, Snapshot}
-use Rattle.mm_seal.specs.declared.snapshot.PartsFault.{PartsFault}
-use Rattle.mm_seal.specs.declared.snapshot.PartsFault.TheVariants.{Form, Kind}
+use Rattle.mm_module.specs.Batch.{Batch, normal}
+use Rattle.mm_seal.specs.Snapshot.{Content}
 use Rattle.mm_seal.specs.declared.snapshot.Place.{Place}
 use Rattle.mm_seal.specs.declared.snapshot.Place.TheVariants.{Basic as InBasic, Opt as InOpt}
 use Rattle.mm_platform.specs.declared.plan.Meddle.{Meddle}
 use Rattle.mm_platform.specs.declared.plan.Stop.{Stop}
 use Rattle.mm_platform.specs.Standing.{due}
-use Rattle.mm_model.specs.Chains.{link_message, summary_of, register_of}
+use Rattle.mm_model.specs.Chains.{summary_of}
 use Rattle.mm_model.specs.Instance.{Instance, basic}
-use Rattle.mm_model.specs.History.{History, Move, Foreign, Power as PowerMove, first_history, moved}
-use Rattle.mm_model.specs.Steps.{Step, Reads, ask_steps, checkpoint_steps}
+use Rattle.mm_model.specs.History.{History, Move, Foreign, Power as PowerMove, first_history}
+use Rattle.mm_model.specs.Steps.{Reads, ask_steps, checkpoint_steps}
 use Rattle.mm_model.specs.Long.{is_long}
-use Rattle.mm_model.specs.Messages.{Within, IsClear, history_messages, offer_messages}
+use Rattle.mm_model.specs.Messages.{Within, IsClear}
 use Rattle.mm_model.specs.Places.{IsPlaceOf, Names}
 use Rattle.mm_model.specs.Standing.{IsGenuine}
 use Rattle.mm_model.specs.declared.refusal.Refusal.{Refusal}
 use Rattle.mm_schedule.specs.Events.{Event, Ask, Checkpoint, Power, Extend}
-use Rattle.mm_schedule.specs.declared.event.Offer.{Offer}
-use Rattle.mm_schedule.specs.declared.reply.Way.{Way}
 use Rattle.mm_schedule.specs.declared.reply.Reply.{Reply}
 use Rattle.mm_schedule.specs.declared.reply.Reply.TheVariants as reply
 use Rattle.mm_schedule.specs.declared.reply.Cause.TheVariants as cause
-use Rattle.mm_world.specs.Offered.{offered_bytes, parts_of, right_content}
-use Rattle.mm_world.specs.Walk.{Walked, walk, seen_in, closes}
-use Rattle.mm_world.specs.Levels.{Level, Digests, by_lists, by_digests, first_digests, digests_moved}
-use Rattle.mm_world.specs.Folds.{Outcome, all_made, Found, found_at, is_fresh, ended, called_with, called, uncalled, asked, checkpoint_reply, checkpoint_ended, checkpointed_with, checkpointed, outcome_of, Followed, after_event, followed, reading_steps, seen_at, outcome, first_issued, expected, replies_by_digests}
+use Rattle.mm_world.specs.Offered.{offered_bytes, right_content}
+use Rattle.mm_world.specs.Walk.{Walked, walk, seen_in}
+use Rattle.mm_world.specs.Levels.{Digests, by_lists, by_digests, first_digests}
+use Rattle.mm_world.specs.Folds.{Outcome, all_made, Found, found_at, is_fresh, called_with, called, uncalled, asked, checkpointed, outcome_of, followed, first_issued, expected, replies_by_digests}
 use Rattle.mm_world.specs.Premises.{right_messages, asking_messages, event_messages, moves_messages, moves_of, messages_from, IsGenuineOffer, IsGenuineEvent, AreGenuine, IsClearRun, IsGenuineRun, run_messages}
-use Rattle.mm_world.specs.Laws.{Agrees, AgreesThroughout}
-use Rattle.mm_world.proofs.Moving.{IsBasicMove, IsPlain, agrees-made, plain-made, committed_in, batches-made, register-nil}
-use Rattle.mm_world.proofs.Walking.{WalksBasic, walks_basic, ReadsOnly, checkpoint_reads, seen_basic, seen_commits}
-use Rattle.mm_world.proofs.Finding.{Holds, Asking, found_same, Placed, placed, right_of_found}
+use Rattle.mm_world.specs.Laws.{AgreesThroughout}
+use Rattle.mm_world.proofs.Moving.{IsBasicMove, agrees-made, plain-made, committed_in, batches-made, register-nil}
+use Rattle.mm_world.proofs.Walking.{walks_basic, checkpoint_reads, seen_basic, seen_commits}
+use Rattle.mm_world.proofs.Finding.{Holds, Asking, found_same, placed, right_of_found}
 use Rattle.mm_world.proofs.Calling.{listed_same, called_message}
 use Rattle.mm_world.proofs.Following.{Same, Calls, ended_same}
 
@@ -132,7 +127,7 @@ if_same : (all : List (List ℕ)) (i : Instance) (long : Bool) (x y : Outcome Hi
 if_same all i true x y z w a b = a
 if_same all i false x y z w a b = b refl
 
-unless_long : (long : Bool) (all messages : List (List ℕ)) → Within (if long then [] else messages) all → long ≡ false → Within messages all
+pub unless_long : (long : Bool) (all messages : List (List ℕ)) → Within (if long then [] else messages) all → long ≡ false → Within messages all
 unless_long true all messages listed e = cc
 unless_long false all messages listed e = listed
 
@@ -190,11 +185,11 @@ event_same meaning key all y d issued (Extend value) h clear listed genuine = re
   holds = (quiet_moves meaning key all y d (Foreign value ∷ []) (tt, tt) refl h).holds;
 }
 
-within_front : (xs ys all : List (List ℕ)) → Within (xs ++ ys) all → Within xs all
+pub within_front : (xs ys all : List (List ℕ)) → Within (xs ++ ys) all → Within xs all
 within_front [] ys all w = tt
 within_front (x ∷ xs) ys all w = (w.0, within_front xs ys all w.1)
 
-within_back : (xs ys all : List (List ℕ)) → Within (xs ++ ys) all → Within ys all
+pub within_back : (xs ys all : List (List ℕ)) → Within (xs ++ ys) all → Within ys all
 within_back [] ys all w = w
 within_back (x ∷ xs) ys all w = within_back xs ys all w.1
 
@@ -234,7 +229,7 @@ summary-nil : (id : ℕ) → start_of Basic id ≡ summary_of id []
 unfolding summary_of
 summary-nil id = refl
 
-within_self : (front xs : List (List ℕ)) → Within xs (front ++ xs)
+pub within_self : (front xs : List (List ℕ)) → Within xs (front ++ xs)
 within_self front [] = tt
 within_self front (x ∷ xs) =
     let P : List (List ℕ) → Type 0 = λ v. Within xs v in (

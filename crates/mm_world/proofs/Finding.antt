@@ -1,9 +1,8 @@
 -- Basic: a call finds the same by digests as by lists, and what it finds names the history.
-use Rattle.std.proofs.Common.{ℕ, ◌≡◌, ◌+◌, ◌-◌, ◌≤◌, ◌^◌, Bool, true, false, ◌&&◌, List, [], ◌∷◌, ◌++◌, length, map, drop, Option, None, Some, Result, Ok, Err, IsTrue, refl, sym, ap, ◌∙◌, subst, arith}
-use Rattle.std.specs.Prelude.{if◌then◌else◌, nat_le, nat_eq}
+use Rattle.std.proofs.Common.{ℕ, ◌≡◌, ◌+◌, Bool, true, false, ◌&&◌, List, [], ◌∷◌, ◌++◌, Option, Some, Result, Ok, Err, refl, sym, ap, ◌∙◌, subst, arith}
+use Rattle.std.specs.Prelude.{if◌then◌else◌, nat_eq}
 use Rattle.std.specs.Str.{bytes_eq}
-use Rattle.std.specs.List.{Contains}
-use Rattle.mm_digest.specs.declared.variant.Variant.TheVariants.{Basic, Opt}
+use Rattle.mm_digest.specs.declared.variant.Variant.TheVariants.{Basic}
 use Rattle.mm_digest.specs.Messages.{zero_bytes}
 use Rattle.mm_module.specs.Meaning.{Meaning, state_after}
 use Rattle.mm_module.specs.Batch.{Batch, size_of}
@@ -11,21 +10,20 @@ use Rattle.mm_seal.specs.declared.snapshot.PartsFault.{PartsFault}
 use Rattle.mm_seal.specs.declared.snapshot.PartsFault.TheVariants.{Form, Kind}
 use Rattle.mm_seal.specs.Snapshot.{Content, Snapshot, tag_of}
 use Rattle.mm_model.specs.Instance.{Instance, basic}
-use Rattle.mm_model.specs.History.{History, Entry, requests_of, total_of, cell_digest_of, joined}
+use Rattle.mm_model.specs.History.{History, Entry, requests_of, total_of, joined}
 use Rattle.mm_model.specs.Life.{Live}
 use Rattle.mm_model.specs.Judge.{is_last, judged, judge, verdict_by_digests}
 use Rattle.mm_model.specs.Places.{IsPlaceOf, Names}
-use Rattle.mm_model.specs.Messages.{Within, IsClear, IsClearFor, AreNoGuards, history_messages, offer_messages, values_in, counting}
+use Rattle.mm_model.specs.Messages.{Within, IsClear, AreNoGuards, history_messages, offer_messages, values_in}
 use Rattle.mm_model.specs.Standing.{IsGenuine}
 use Rattle.mm_model.specs.declared.verdict.Verdict.{Verdict}
-use Rattle.mm_model.specs.declared.verdict.Verdict.TheVariants.{Fresh, Again, Lost, Stale}
 use Rattle.mm_model.specs.declared.refusal.Refusal.{Refusal}
 use Rattle.mm_model.specs.declared.refusal.Refusal.TheVariants as refusal
 use Rattle.mm_model.proofs.Basic.{basic_is_judged}
 use Rattle.mm_model.proofs.Batches.{at_the_end, before_the_last}
 use Rattle.mm_basic.specs.Order.{admitted, weighed, examined}
 use Rattle.mm_world.specs.Offered.{parts_of, content_if_right, right_content}
-use Rattle.mm_world.specs.Levels.{Level, Digests, by_lists, by_digests}
+use Rattle.mm_world.specs.Levels.{Digests, by_lists, by_digests}
 use Rattle.mm_world.specs.Folds.{Found, found_with, found_from, found_at}
 use Rattle.mm_world.specs.Premises.{right_messages}
 use Rattle.mm_world.specs.Laws.{Agrees}
@@ -61,13 +59,13 @@ verdict_same meaning key all y d offered b clear h called names =
       foreign = no_counting zero_bytes y.closed y.is_open y.items (b ∷ y.batches) h.plain.closed h.plain.shut;
     }) names
 
-weighed_same : (spelled tagged : Bool) (v w : Verdict) (fits : Bool) → (spelled ≡ true → tagged ≡ true → v ≡ w)
+pub weighed_same : (spelled tagged : Bool) (v w : Verdict) (fits : Bool) → (spelled ≡ true → tagged ≡ true → v ≡ w)
     → weighed spelled tagged v fits ≡ weighed spelled tagged w fits
 weighed_same false tagged v w fits e = refl
 weighed_same true false v w fits e = refl
 weighed_same true true v w fits e = ap (λ x. admitted x fits) (e refl refl)
 
-right_is : (i : Instance) (parts : Result Snapshot PartsFault) (snapshot : Snapshot) → parts ≡ Ok snapshot
+pub right_is : (i : Instance) (parts : Result Snapshot PartsFault) (snapshot : Snapshot) → parts ≡ Ok snapshot
     → i.meaning.is_spelled snapshot.content.state ≡ true → bytes_eq snapshot.tag (tag_of i.key snapshot.content) ≡ true
     → content_if_right i parts ≡ Some snapshot.content
 right_is i parts snapshot e state tagged = rw (e, state, tagged) refl

@@ -1,35 +1,23 @@
 -- Basic: a schedule gives the same by digests as by lists.
-use Rattle.std.proofs.Common.{ℕ, ◌≡◌, ◌+◌, Bool, true, false, List, [], ◌∷◌, ◌++◌, length, map, Option, None, Some, Result, Ok, Err, refl, sym, ap, ◌∙◌, subst, arith}
+use Rattle.std.proofs.Common.{ℕ, ◌≡◌, ◌+◌, Bool, true, false, List, [], ◌∷◌, ◌++◌, Option, None, Some, Result, Ok, Err, refl, sym, ap, ◌∙◌}
 use Rattle.std.specs.Prelude.{if◌then◌else◌}
 use Rattle.std.specs.List.{AllByRecursion, Contains}
 use Rattle.std.proofs.lemmas.List.{append-nil}
-use Rattle.mm_digest.specs.declared.variant.Variant.TheVariants.{Basic, Opt}
 use Rattle.mm_module.specs.Meaning.{Meaning}
-use Rattle.mm_module.specs.Batch.{Batch, size_of, normal}
-use Rattle.mm_seal.specs.Snapshot.{Content}
-use Rattle.mm_seal.specs.declared.snapshot.Place.{Place}
-use Rattle.mm_seal.specs.declared.snapshot.Place.TheVariants.{Basic as InBasic, Opt as InOpt}
-use Rattle.mm_platform.specs.declared.plan.Meddle.{Meddle}
-use Rattle.mm_platform.specs.declared.plan.Stop.{Stop}
-use Rattle.mm_platform.specs.Standing.{due}
+use Rattle.mm_module.specs.Batch.{Batch, size_of}
 use Rattle.mm_model.specs.Chains.{link_message, summary_of}
 use Rattle.mm_model.specs.Instance.{Instance, basic}
-use Rattle.mm_model.specs.History.{History, Move, Foreign}
-use Rattle.mm_model.specs.Steps.{ask_steps, checkpoint_steps}
-use Rattle.mm_model.specs.Messages.{Within, history_messages}
-use Rattle.mm_model.specs.Places.{IsPlaceOf, Names}
-use Rattle.mm_model.specs.Standing.{IsGenuine}
+use Rattle.mm_model.specs.History.{History}
 use Rattle.mm_model.specs.declared.refusal.Refusal.{Refusal}
 use Rattle.mm_schedule.specs.declared.reply.Way.{Way}
-use Rattle.mm_schedule.specs.declared.reply.Reply.{Reply}
 use Rattle.mm_schedule.specs.declared.reply.Reply.TheVariants as reply
-use Rattle.mm_world.specs.Walk.{Walked, walk, commits}
-use Rattle.mm_world.specs.Levels.{Answer, Level, Digests, by_lists, by_digests}
-use Rattle.mm_world.specs.Folds.{Outcome, all_made, Found, found_at, is_fresh, broken_reply, position_of, ended, called_with, called}
+use Rattle.mm_world.specs.Walk.{Walked, commits}
+use Rattle.mm_world.specs.Levels.{Answer, Digests, by_lists, by_digests}
+use Rattle.mm_world.specs.Folds.{Outcome, all_made, Found, is_fresh, broken_reply, ended}
 use Rattle.mm_world.specs.Laws.{Agrees}
-use Rattle.mm_world.proofs.Moving.{IsBasicMove, IsPlain, agrees-made, plain-made, committed_in, batches-made}
-use Rattle.mm_world.proofs.Walking.{Commits, nothing, batch, WalksBasic, walks_basic, commits-none, seen_basic, seen_commits}
-use Rattle.mm_world.proofs.Finding.{Holds, Asking, found_same, Placed, placed}
+use Rattle.mm_world.proofs.Moving.{IsBasicMove, agrees-made, plain-made, committed_in, batches-made}
+use Rattle.mm_world.proofs.Walking.{Commits, nothing, batch, commits-none}
+use Rattle.mm_world.proofs.Finding.{Holds, Placed}
 use Rattle.mm_world.proofs.Calling.{answers_same, ended_batches, listed_push, listed_same}
 
 -- two outcomes are the same, and what holds before holds after
@@ -40,7 +28,7 @@ pub record Same (all : List (List ℕ)) (i : Instance) (lists : Outcome History)
   pub writes : digests.writes ≡ lists.writes
   pub holds : Holds all i lists.state digests.state
 
-broken_same : (way : Way) (committed : Bool) (p q : ℕ) → (committed ≡ true → p ≡ q) → broken_reply way committed p ≡ broken_reply way committed q
+pub broken_same : (way : Way) (committed : Bool) (p q : ℕ) → (committed ≡ true → p ≡ q) → broken_reply way committed p ≡ broken_reply way committed q
 broken_same way true p q e = ap (λ x. broken_reply way true x) (e refl)
 broken_same way false p q e = refl
 

@@ -7,3 +7,12 @@ pub mod Following
 pub mod Events
 pub mod Running
 pub mod GoingOn
+pub mod OptMessages
+pub mod OptHolding
+pub mod OptWalking
+pub mod OptFinding
+pub mod OptReady
+pub mod OptCalling
+pub mod OptFollowing
+pub mod OptEvents
+pub mod OptRuns

@@ -1,14 +1,13 @@
 -- Basic: moves keep the agreement of a history and its digests.
-use Rattle.std.proofs.Common.{ℕ, ◌≡◌, ◌+◌, Bool, true, false, List, [], ◌∷◌, ◌++◌, length, map, refl, sym, ap, ◌∙◌, arith, append_assoc}
+use Rattle.std.proofs.Common.{ℕ, ◌≡◌, false, List, [], ◌∷◌, ◌++◌, refl, sym, ap, ◌∙◌, arith, append_assoc}
 use Rattle.std.proofs.lemmas.List.{append-nil}
-use Rattle.std.specs.List.{fold, AllByRecursion}
-use Rattle.mm_digest.specs.declared.variant.Variant.TheVariants.{Basic}
+use Rattle.std.specs.List.{AllByRecursion}
 use Rattle.mm_digest.specs.Messages.{zero_bytes, extended_of}
 use Rattle.mm_module.specs.Meaning.{Meaning}
-use Rattle.mm_module.specs.Batch.{Batch, size_of}
+use Rattle.mm_module.specs.Batch.{Batch}
 use Rattle.mm_model.specs.Chains.{link, register_of}
-use Rattle.mm_model.specs.Instance.{Instance, basic}
-use Rattle.mm_model.specs.History.{History, Value, Move, Commit, Foreign, Placed, Reset, Close, Power, moved, total_of, values_of}
+use Rattle.mm_model.specs.Instance.{basic}
+use Rattle.mm_model.specs.History.{History, Value, Move, Commit, Foreign, Placed, Reset, Close, Power, moved, values_of}
 use Rattle.mm_model.proofs.Batches.{total-append, total-cons}
 use Rattle.mm_model.proofs.Digests.{summary-push, register-push}
 use Rattle.mm_model.proofs.Histories.{values_of-append}

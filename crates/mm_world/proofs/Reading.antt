@@ -1,6 +1,6 @@
 -- What is read of an offer.
-use Rattle.std.proofs.Common.{ℕ, ◌≡◌, ◌+◌, ◌-◌, ◌≤◌, ◌^◌, Bool, true, false, ◌&&◌, List, [], ◌∷◌, ◌++◌, length, take, drop, IsTrue, Option, None, Some, Result, Ok, Err, refl, sym, ap, ◌∙◌, subst, arith, length-drop}
-use Rattle.std.specs.Prelude.{if◌then◌else◌, nat_le, nat_eq, ◌==◌, slice_index}
+use Rattle.std.proofs.Common.{ℕ, ◌≡◌, ◌+◌, ◌-◌, ◌≤◌, ◌^◌, Bool, true, false, ◌&&◌, List, ◌++◌, length, take, drop, Ok, Err, refl, sym, ap, ◌∙◌, subst, arith, length-drop}
+use Rattle.std.specs.Prelude.{if◌then◌else◌, nat_le, ◌==◌, slice_index}
 use Rattle.std.specs.Str.{bytes_eq}
 use Rattle.std.proofs.lemmas.Bool.{and_parts}
 use Rattle.std.proofs.lemmas.Bool.Decides.{nat_tests}
@@ -9,15 +9,12 @@ use Rattle.std.proofs.lemmas.List.{length-take}
 use Rattle.mm_base.specs.Limits.{limit_of}
 use Rattle.mm_digest.specs.declared.variant.Variant.{Variant}
 use Rattle.mm_digest.specs.declared.variant.Variant.TheVariants as variants
-use Rattle.mm_seal.specs.declared.snapshot.PartsFault.{PartsFault}
 use Rattle.mm_seal.specs.declared.snapshot.PartsFault.TheVariants.{Form, Kind}
-use Rattle.mm_seal.specs.declared.snapshot.Place.{Place}
-use Rattle.mm_seal.specs.declared.snapshot.Place.TheVariants.{Basic as InBasic, Opt as InOpt}
-use Rattle.mm_seal.specs.Snapshot.{Content, Snapshot, IsContent, IsSnapshot, IsPlace, Spells, IsOfKind, snapshot_spelling, snapshot_front, sealed_of, tag_of, variant_of}
+use Rattle.mm_seal.specs.Snapshot.{Snapshot, IsPlace, Spells, IsOfKind, snapshot_spelling, snapshot_front, sealed_of, tag_of, variant_of}
 use Rattle.mm_seal.specs.Body.{place_length}
 use Rattle.mm_model.specs.Instance.{Instance}
 use Rattle.mm_model.specs.Standing.{IsRight}
-use Rattle.mm_world.specs.Offered.{fields_of, snapshot_with, is_bounded, is_spelled_by, same_variant, is_of_kind, read_as, parts_of, content_if_right, right_content}
+use Rattle.mm_world.specs.Offered.{fields_of, snapshot_with, is_bounded, is_spelled_by, same_variant, is_of_kind, parts_of}
 
 -- what a snapshot read from the bytes is
 pub record IsReadAs (variant : Variant) (id : ℕ) (bytes : List ℕ) (snapshot : Snapshot) : Type 0 where

@@ -1,5 +1,5 @@
 -- Basic: what is expected is a run of the machine.
-use Rattle.std.proofs.Common.{ℕ, ◌≡◌, ◌+◌, ◌-◌, Bool, true, false, ◌&&◌, List, [], ◌∷◌, ◌++◌, length, Option, None, Some, Result, Ok, Err, refl, sym, ap, ◌∙◌, subst, arith}
+use Rattle.std.proofs.Common.{ℕ, ◌≡◌, ◌+◌, ◌-◌, Bool, true, false, ◌&&◌, List, [], ◌∷◌, ◌++◌, Option, None, Some, Result, Ok, Err, refl, sym, ap, ◌∙◌, subst, arith}
 use Rattle.std.specs.Prelude.{if◌then◌else◌, nat_eq}
 use Rattle.std.specs.Str.{bytes_eq}
 use Rattle.std.proofs.lemmas.List.{append-nil}
@@ -14,8 +14,8 @@ use Rattle.mm_seal.specs.Snapshot.{Snapshot, tag_of}
 use Rattle.mm_platform.specs.declared.plan.Meddle.{Meddle}
 use Rattle.mm_platform.specs.declared.plan.Stop.{Stop}
 use Rattle.mm_platform.specs.Standing.{due}
-use Rattle.mm_model.specs.Instance.{Instance, basic}
-use Rattle.mm_model.specs.History.{History, Move, Commit, Foreign, Placed, Reset, Close, Power as PowerMove, first_history, requests_of, total_of}
+use Rattle.mm_model.specs.Instance.{basic}
+use Rattle.mm_model.specs.History.{History, Move, Commit, Foreign, Placed, Reset, Close, Power as PowerMove, requests_of, total_of}
 use Rattle.mm_model.specs.Judge.{is_last, judge}
 use Rattle.mm_model.specs.Long.{is_long}
 use Rattle.mm_model.specs.Steps.{Reads, ask_steps, checkpoint_steps}
@@ -31,7 +31,7 @@ use Rattle.mm_schedule.specs.declared.reply.Reply.TheVariants.{Told, No, Kept, N
 use Rattle.mm_world.specs.Offered.{offered_bytes, parts_of}
 use Rattle.mm_world.specs.Walk.{Walked, walk, seen_in, commits, closes}
 use Rattle.mm_world.specs.Levels.{Answer, by_lists, answer_by_lists}
-use Rattle.mm_world.specs.Folds.{Outcome, all_made, Found, found_from, found_at, is_fresh, broken_reply, ended, called_with, called, uncalled, asked, checkpoint_ended, checkpointed, outcome_of, Followed, followed}
+use Rattle.mm_world.specs.Folds.{Outcome, all_made, Found, found_from, found_at, is_fresh, broken_reply, ended, called, asked, checkpoint_ended, outcome_of, Followed, followed}
 use Rattle.mm_world.proofs.Moving.{committed_in, batches-made}
 use Rattle.mm_world.proofs.Walking.{Commits, nothing, batch, walks_basic, commits-none, seen_commits, checkpoint_reads}
 use Rattle.mm_world.proofs.Finding.{admitted_tells, weighed_tells, found_with_tells}

@@ -1,10 +1,9 @@
 -- Basic: what a walk over the steps of a call gives.
-use Rattle.std.proofs.Common.{ℕ, ◌≡◌, ◌+◌, Bool, true, false, List, [], ◌∷◌, ◌++◌, map, Option, None, Some, refl, sym, ap, ◌∙◌}
+use Rattle.std.proofs.Common.{ℕ, ◌≡◌, Bool, true, false, List, [], ◌∷◌, ◌++◌, map, None, Some, refl, ap, ◌∙◌}
 use Rattle.std.specs.Prelude.{is_none, ◌==◌, if◌then◌else◌}
 use Rattle.std.specs.List.{AllByRecursion}
 use Rattle.mm_digest.specs.declared.variant.Variant.TheVariants.{Basic}
 use Rattle.mm_module.specs.Batch.{Batch}
-use Rattle.mm_platform.specs.declared.fault.StepFault.{StepFault}
 use Rattle.mm_platform.specs.declared.fault.StepFault.TheVariants.{Failed}
 use Rattle.mm_platform.specs.declared.plan.Meddle.{Meddle}
 use Rattle.mm_platform.specs.declared.plan.Stop.{Stop}
@@ -12,9 +11,8 @@ use Rattle.mm_platform.specs.declared.plan.Stop.TheVariants.{Quiet, Cut, Drop, F
 use Rattle.mm_platform.specs.Standing.{due}
 use Rattle.mm_platform.specs.Steps.{fault_at, is_made_at}
 use Rattle.mm_model.specs.History.{Move, Commit, Foreign, Placed, Reset, Close, Power}
-use Rattle.mm_model.specs.Steps.{Step, Reads, Changes, Writes, ask_steps, checkpoint_steps}
-use Rattle.mm_schedule.specs.declared.reply.Way.{Way}
-use Rattle.mm_world.specs.Walk.{Walked, made_move, step_moves, after_stop, after_step, stopped_at, walk, way_of, commits, closes}
+use Rattle.mm_model.specs.Steps.{Reads, Writes, ask_steps, checkpoint_steps}
+use Rattle.mm_world.specs.Walk.{Walked, made_move, after_stop, after_step, stopped_at, walk, commits, closes}
 use Rattle.mm_world.proofs.Moving.{IsBasicMove, committed_in}
 
 basic-append : (xs ys : List Move) → AllByRecursion IsBasicMove xs → AllByRecursion IsBasicMove ys → AllByRecursion IsBasicMove (xs ++ ys)
@@ -44,7 +42,7 @@ committed-foreign : (values : List (List ℕ)) → committed_in (map Foreign val
 committed-foreign [] = refl
 committed-foreign (v ∷ values) = committed-foreign values
 
-committed-stop : (stop : Stop) → committed_in (after_stop stop) ≡ []
+pub committed-stop : (stop : Stop) → committed_in (after_stop stop) ≡ []
 committed-stop Quiet = refl
 committed-stop (Cut n) = refl
 committed-stop (Drop n) = refl
@@ -78,7 +76,7 @@ pub record WalksBasic (b : Batch) (fresh : Bool) (walked : Walked) : Type 0 wher
   pub moves : AllByRecursion IsBasicMove walked.moves
   pub commits : Commits b fresh walked
 
-foreign_first : (values : List (List ℕ)) (rest : List Move) → committed_in (map Foreign values ++ rest) ≡ committed_in rest
+pub foreign_first : (values : List (List ℕ)) (rest : List Move) → committed_in (map Foreign values ++ rest) ≡ committed_in rest
 foreign_first values rest =
     committed-append (map Foreign values) rest ∙ ap (λ v. v ++ committed_in rest) (committed-foreign values)
 
@@ -141,7 +139,7 @@ made_by true done e = cc
 made_by false done e = refl
 
 -- a step that doesn't fail has its effect
-made_unless : (stop : Stop) (step : ℕ) → is_none (fault_at stop step) ≡ true → is_made_at stop step ≡ true
+pub made_unless : (stop : Stop) (step : ℕ) → is_none (fault_at stop step) ≡ true → is_made_at stop step ≡ true
 made_unless Quiet step e = refl
 made_unless (Cut n) step e = refl
 made_unless (Drop n) step e = refl

@@ -1,7 +1,7 @@
 -- The laws of whole runs.
 use Rattle.std.specs.Prelude.{◌≡◌, ℕ, ◌+◌, List, [], ◌++◌}
 use Rattle.mm_module.specs.Meaning.{Meaning}
-use Rattle.mm_model.specs.Instance.{Instance, basic}
+use Rattle.mm_model.specs.Instance.{Instance, basic, opt}
 use Rattle.mm_model.specs.History.{History, requests_of, total_of, cell_digest_of, register_value_of}
 use Rattle.mm_model.specs.Standing.{flag_of}
 use Rattle.mm_schedule.specs.Events.{Event}
@@ -57,3 +57,9 @@ GoesOn = (i : Instance) (es fs : List Event) (y : History) (d : Digests) (issued
     (followed i (by_lists i) y issued (es ++ fs) ≡ continued lists (followed i (by_lists i) lists.state lists.issued fs))
     × (followed i (by_digests i) d issued (es ++ fs) ≡ continued digests (followed i (by_digests i) digests.state digests.issued fs))
     × (messages_from i y issued (es ++ fs) ≡ messages_from i y issued es ++ messages_from i lists.state lists.issued fs)
+
+-- The same for Opt.
+abbrev pub OptIsExpected : Type 0
+OptIsExpected = (meaning : Meaning) (key barrier : List ℕ) (events : List Event) →
+    IsClearRun (opt meaning key barrier) events → IsGenuineRun (opt meaning key barrier) events →
+    AgreesThroughout (opt meaning key barrier) (expected (opt meaning key barrier) events) (replies_by_digests (opt meaning key barrier) events)

@@ -1,17 +1,17 @@
 -- Two ways to follow a schedule: by lists, which know no digest, and by digests, which know no list.
-use Rattle.std.specs.Prelude.{ℕ, ◌+◌, ◌-◌, Bool, true, false, ◌&&◌, List, [], ◌∷◌, drop, if◌then◌else◌}
+use Rattle.std.specs.Prelude.{ℕ, ◌+◌, ◌-◌, Bool, true, false, ◌&&◌, List, drop, if◌then◌else◌}
 use Rattle.std.specs.Str.{bytes_eq}
 use Rattle.mm_digest.specs.declared.variant.Variant.{Variant}
 use Rattle.mm_digest.specs.declared.variant.Variant.TheVariants.{Basic, Opt}
 use Rattle.mm_digest.specs.Messages.{zero_bytes, start_of, extended_of, anchored_of}
-use Rattle.mm_module.specs.Meaning.{Meaning, state_from, outputs_from}
+use Rattle.mm_module.specs.Meaning.{state_from, outputs_from}
 use Rattle.mm_module.specs.Batch.{Batch, members_of, size_of}
 use Rattle.mm_seal.specs.declared.snapshot.Place.{Place}
 use Rattle.mm_seal.specs.declared.snapshot.Place.TheVariants.{Basic as InBasic, Opt as InOpt}
 use Rattle.mm_seal.specs.Snapshot.{Content, sealed_of}
 use Rattle.mm_model.specs.Chains.{link, guard}
 use Rattle.mm_model.specs.Instance.{Instance}
-use Rattle.mm_model.specs.History.{History, Move, Commit, Foreign, Placed, Reset, Close, Power, first_history, moved, requests_of, total_of}
+use Rattle.mm_model.specs.History.{History, Move, Commit, Foreign, Placed, Reset, Close, Power, moved, requests_of, total_of}
 use Rattle.mm_model.specs.Life.{Life, Live, Spoiled, Lost, life_of}
 use Rattle.mm_model.specs.Places.{digest_of}
 use Rattle.mm_model.specs.Judge.{judge, verdict_by_digests}

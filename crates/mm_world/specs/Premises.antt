@@ -1,6 +1,5 @@
 -- The messages that a run of events hashes, as far as a proof looks at them, and what is asked of the run.
-use Rattle.std.specs.Prelude.{◌≡◌, ℕ, Bool, true, false, List, [], ◌∷◌, ◌++◌, Option, None, Some, map, if◌then◌else◌}
-use Rattle.std.specs.Option.{option_map_or}
+use Rattle.std.specs.Prelude.{ℕ, List, [], ◌∷◌, ◌++◌, Option, None, Some, map, if◌then◌else◌}
 use Rattle.mm_digest.specs.declared.variant.Variant.{Variant}
 use Rattle.mm_digest.specs.declared.variant.Variant.TheVariants.{Basic, Opt}
 use Rattle.mm_digest.specs.Messages.{start_message}
@@ -10,15 +9,15 @@ use Rattle.mm_platform.specs.declared.plan.Meddle.{Meddle}
 use Rattle.mm_platform.specs.declared.plan.Stop.{Stop}
 use Rattle.mm_model.specs.Instance.{Instance}
 use Rattle.mm_model.specs.History.{History, Move, Foreign, Power as PowerMove, moved, first_history}
-use Rattle.mm_model.specs.Steps.{Step, ask_steps, checkpoint_steps}
+use Rattle.mm_model.specs.Steps.{ask_steps, checkpoint_steps}
 use Rattle.mm_model.specs.Messages.{IsClear, AreNoGuards, offer_messages, move_messages}
 use Rattle.mm_model.specs.Standing.{IsGenuine}
 use Rattle.mm_model.specs.Long.{is_long}
 use Rattle.mm_schedule.specs.Events.{Event, Ask, Checkpoint, Power, Extend}
 use Rattle.mm_world.specs.Offered.{offered_bytes, right_content}
 use Rattle.mm_world.specs.Walk.{walk}
-use Rattle.mm_world.specs.Levels.{Level, by_lists}
-use Rattle.mm_world.specs.Folds.{Outcome, reading_steps, seen_at, found_at, is_fresh, outcome_of, first_issued}
+use Rattle.mm_world.specs.Levels.{by_lists}
+use Rattle.mm_world.specs.Folds.{reading_steps, seen_at, found_at, is_fresh, outcome_of, first_issued}
 
 -- the moves that an event makes
 abbrev pub ask_moves : Instance → History → List Meddle → Stop → Option (List ℕ) → Batch → List Move

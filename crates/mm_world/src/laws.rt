@@ -1,6 +1,6 @@
 //! The laws of whole runs, each the contract of a function that does nothing.
 
-ghost use Rattle.mm_world.specs.Laws.{BasicIsExpected, BasicRuns, GoesOn};
+ghost use Rattle.mm_world.specs.Laws.{BasicIsExpected, BasicRuns, GoesOn, OptIsExpected};
 
 /// A schedule of Basic is told as expected, where no two messages of the run share a digest and each right offer
 /// names a position.
@@ -16,4 +16,9 @@ pub fn basic_runs()
 /// A schedule goes on from what stands after its first events.
 pub fn schedules_go_on()
     ensures { GoesOn }
+{}
+
+/// A schedule of Opt is told as expected, where besides no value of others is the guard of a batch that is asked.
+pub fn opt_is_expected()
+    ensures { OptIsExpected }
 {}
