@@ -13,3 +13,6 @@ mod whole;
 pub use call::{Call, Turn, begin};
 pub use first::{Provisioned, provision};
 pub use whole::{Committed, Prepared, ask, ask_batch, prepare};
+
+#[cfg(test)]
+mod tests;
