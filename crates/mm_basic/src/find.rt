@@ -76,7 +76,8 @@ fn weigh<M: Module>(
     requires variant { variant_of offered.now.content.place ≡ Basic }
     requires position { offered.now.content.position ≤ 2 ^ 48 }
     requires short { is_long (batch_of batch) ≡ false }
-    ensures { OrMemory (found_in (M.meaning «module».now) (Both cell.now offered.now) (batch_of batch.entry)) result }
+    ensures { OrMemory (found_in (M.meaning «module».now) (Both cell.now offered.now) (batch_of batch.entry))
+        result }
 {
     let body = offered.body();
     let here = summary_in(&body.place);

@@ -27,8 +27,10 @@ pub fn provision<M: Module>(
     key: &[u8; 32],
     _barrier: &[u8; 32],
 ) -> Result<Provisioned, Memory>
-    ensures cell { IfOk result (λ made. made.cell ≡ cell_spelling (cell_of (basic (M.meaning «module».now) key.now) first_history)) }
-    ensures snapshot { IfOk result (λ made. made.snapshot ≡ issued_bytes (basic (M.meaning «module».now) key.now) first_history) }
+    ensures cell { IfOk result (λ made.
+        made.cell ≡ cell_spelling (cell_of (basic (M.meaning «module».now) key.now) first_history)) }
+    ensures snapshot { IfOk result (λ made.
+        made.snapshot ≡ issued_bytes (basic (M.meaning «module».now) key.now) first_history) }
 {
     let id = module.id();
     let summary = start(Variant::Basic, id);

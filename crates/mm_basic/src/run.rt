@@ -29,7 +29,8 @@ pub fn answer<M: Module>(
     requires spelled { IsTrue ((M.meaning «module».now).is_spelled offered.now.state.now) }
     requires fits { offered.now.position + size_of (batch_of batch) ≤ 2 ^ 48 }
     requires short { is_long (batch_of batch) ≡ false }
-    ensures { IfOk result (λ answer. answer ≡ answer_at (M.meaning «module».now) key.now (content_of offered.now) summary (batch_of batch.entry) again) }
+    ensures { IfOk result (λ answer. answer ≡ answer_at (M.meaning «module».now) key.now
+        (content_of offered.now) summary (batch_of batch.entry) again) }
 {
     let Ran { state, outputs } = run(alloc, module, offered.state, batch)?;
     let position = offered.position + batch.len() as u64;
@@ -59,8 +60,10 @@ struct Ran {
 fn run<M: Module>(alloc: Global, module: &M, state: &[u8], batch: Batch<'_>) -> Result<Ran, Memory>
     requires spelled { IsTrue ((M.meaning «module».now).is_spelled state.now) }
     requires short { is_long (batch_of batch) ≡ false }
-    ensures state { IfOk result (λ ran. ran.state ≡ state_from (M.meaning «module».now) state.now (members_of (batch_of batch.entry))) }
-    ensures outputs { IfOk result (λ ran. ran.outputs ≡ outputs_from (M.meaning «module».now) state.now (members_of (batch_of batch.entry))) }
+    ensures state { IfOk result (λ ran.
+        ran.state ≡ state_from (M.meaning «module».now) state.now (members_of (batch_of batch.entry))) }
+    ensures outputs { IfOk result (λ ran.
+        ran.outputs ≡ outputs_from (M.meaning «module».now) state.now (members_of (batch_of batch.entry))) }
 {
     let mut ran = run_first(alloc, module, state, batch)?;
     'members: for i in 1..batch.len() {
@@ -81,7 +84,9 @@ fn run_first<M: Module>(
 ) -> Result<Ran, Memory>
     requires spelled { IsTrue ((M.meaning «module».now).is_spelled state.now) }
     requires short { is_long (batch_of batch) ≡ false }
-    ensures { IfOk result (λ ran. RanSome (M.meaning «module».now) state.now (members_of (batch_of batch.entry)) 1 ran.state ran.outputs) }
+    ensures { IfOk result (λ ran.
+        RanSome (M.meaning «module».now) state.now (members_of (batch_of batch.entry)) 1
+        ran.state ran.outputs) }
 {
     let request = request_at(batch, 0);
     let Stepped { state, output } = module.step(alloc, state, request)?;

@@ -21,7 +21,8 @@ pub fn read<M: Module, P: Platform>(
     batch: Batch<'_>,
 ) -> Result<Found, Refusal>
     requires { is_long (batch_of batch) ≡ false }
-    ensures { Reads (M.meaning «module».now) (P.standing platform.old) (P.standing platform.new) offer.now (batch_of batch.entry) result }
+    ensures { Reads (M.meaning «module».now) (P.standing platform.old) (P.standing platform.new)
+        offer.now (batch_of batch.entry) result }
 {
     let mut bytes = [0; 104];
     match platform.nv_read(&mut bytes) {

@@ -52,9 +52,14 @@ pub fn prepare<M: Module, P: Platform>(
     offer: &[u8],
     request: &[u8],
 ) -> Result<Prepared, Refusal>
-    ensures long { is_long (One request.now) ≡ true → (result ≡ Err Refusal.Long) × (P.standing platform.new ≡ P.standing platform.old) }
+    ensures long { is_long (One request.now) ≡ true →
+        (result ≡ Err Refusal.Long) × (P.standing platform.new ≡ P.standing platform.old) }
     ensures reads { is_long (One request.now) ≡ false →
-        Reads (M.meaning «module».now) (P.standing platform.old) (P.standing platform.new) offer.now (One request.now) result }
+        Reads (M.meaning «module».now) (P.standing platform.old) (P.standing platform.new)
+        offer.now (One request.now) result }
+    ensures continuity { is_long (One request.now) ≡ false →
+        ReadContinues (M.meaning «module».now) (P.standing platform.old) (P.standing platform.new)
+        offer.now (One request.now) result }
 {
     prepare_batch(alloc, module, platform, offer, Batch::One(request))
 }
@@ -66,9 +71,14 @@ fn prepare_batch<M: Module, P: Platform>(
     offer: &[u8],
     batch: Batch<'_>,
 ) -> Result<Prepared, Refusal>
-    ensures long { is_long (batch_of batch.entry) ≡ true → (result ≡ Err Refusal.Long) × (P.standing platform.new ≡ P.standing platform.old) }
+    ensures long { is_long (batch_of batch.entry) ≡ true →
+        (result ≡ Err Refusal.Long) × (P.standing platform.new ≡ P.standing platform.old) }
     ensures reads { is_long (batch_of batch.entry) ≡ false →
-        Reads (M.meaning «module».now) (P.standing platform.old) (P.standing platform.new) offer.now (batch_of batch.entry) result }
+        Reads (M.meaning «module».now) (P.standing platform.old) (P.standing platform.new)
+        offer.now (batch_of batch.entry) result }
+    ensures continuity { is_long (batch_of batch.entry) ≡ false →
+        ReadContinues (M.meaning «module».now) (P.standing platform.old) (P.standing platform.new)
+        offer.now (batch_of batch.entry) result }
 {
     if mm_model::is_long(&batch) {
         return Err(Refusal::Long);
@@ -118,7 +128,8 @@ fn call<M: Module, P: Platform>(
     offer: &[u8],
     batch: Batch<'_>,
 ) -> Result<BatchAnswer, Refusal>
-    ensures { Calls (M.meaning «module».now) (P.standing platform.old) (P.standing platform.new) offer.now (batch_of batch.entry) result }
+    ensures { Calls (M.meaning «module».now) (P.standing platform.old) (P.standing platform.new)
+        offer.now (batch_of batch.entry) result }
 {
     match prepare_batch(alloc, module, platform, offer, batch) {
         Err(refusal) => Err(refusal),
@@ -146,12 +157,16 @@ pub fn ask_batch<M: Module, P: Platform>(
     offer: &[u8],
     batch: Batch<'_>,
 ) -> Result<BatchAnswer, Refusal>
-    ensures calls { Calls (M.meaning «module».now) (P.standing platform.old) (P.standing platform.new) offer.now (batch_of batch.entry) result }
+    ensures calls { Calls (M.meaning «module».now) (P.standing platform.old) (P.standing platform.new)
+        offer.now (batch_of batch.entry) result }
     ensures untouched { LeavesUntouched result (P.standing platform.old) (P.standing platform.new) }
     ensures faults { Blames (fault_in result) (P.standing platform.old).faults (P.standing platform.new).faults }
-    ensures steps { is_long (batch_of batch.entry) ≡ false → StepsBy result (P.standing platform.old) (P.standing platform.new) }
-    ensures continuity { Continues (M.meaning «module».now) (P.standing platform.old) (P.standing platform.new) offer.now (batch_of batch.entry) result }
-    ensures complete { IsComplete (M.meaning «module».now) (P.standing platform.old) (P.standing platform.new) offer.now (batch_of batch.entry) result }
+    ensures steps { is_long (batch_of batch.entry) ≡ false →
+        StepsBy result (P.standing platform.old) (P.standing platform.new) }
+    ensures continuity { Continues (M.meaning «module».now) (P.standing platform.old) (P.standing platform.new)
+        offer.now (batch_of batch.entry) result }
+    ensures complete { IsComplete (M.meaning «module».now) (P.standing platform.old) (P.standing platform.new)
+        offer.now (batch_of batch.entry) result }
 {
     call(alloc, module, platform, offer, batch)
 }
@@ -164,12 +179,16 @@ pub fn ask<M: Module, P: Platform>(
     offer: &[u8],
     request: &[u8],
 ) -> Result<Answer, Refusal>
-    ensures calls { Calls (M.meaning «module».now) (P.standing platform.old) (P.standing platform.new) offer.now (One request.now) (whole_in result) }
+    ensures calls { Calls (M.meaning «module».now) (P.standing platform.old) (P.standing platform.new)
+        offer.now (One request.now) (whole_in result) }
     ensures untouched { LeavesUntouched (whole_in result) (P.standing platform.old) (P.standing platform.new) }
     ensures faults { Blames (fault_in result) (P.standing platform.old).faults (P.standing platform.new).faults }
-    ensures steps { is_long (One request.now) ≡ false → StepsBy (whole_in result) (P.standing platform.old) (P.standing platform.new) }
-    ensures continuity { Continues (M.meaning «module».now) (P.standing platform.old) (P.standing platform.new) offer.now (One request.now) (whole_in result) }
-    ensures complete { IsComplete (M.meaning «module».now) (P.standing platform.old) (P.standing platform.new) offer.now (One request.now) (whole_in result) }
+    ensures steps { is_long (One request.now) ≡ false →
+        StepsBy (whole_in result) (P.standing platform.old) (P.standing platform.new) }
+    ensures continuity { Continues (M.meaning «module».now) (P.standing platform.old) (P.standing platform.new)
+        offer.now (One request.now) (whole_in result) }
+    ensures complete { IsComplete (M.meaning «module».now) (P.standing platform.old) (P.standing platform.new)
+        offer.now (One request.now) (whole_in result) }
 {
     match call_one(alloc, module, platform, offer, request) {
         Err(refusal) => Err(refusal),
@@ -185,7 +204,8 @@ fn call_one<M: Module, P: Platform>(
     offer: &[u8],
     request: &[u8],
 ) -> Result<BatchAnswer, Refusal>
-    ensures calls { Calls (M.meaning «module».now) (P.standing platform.old) (P.standing platform.new) offer.now (One request.now) result }
+    ensures calls { Calls (M.meaning «module».now) (P.standing platform.old) (P.standing platform.new)
+        offer.now (One request.now) result }
     ensures one { IfOk result (λ answer. length answer.outputs ≡ 1) }
 {
     call(alloc, module, platform, offer, Batch::One(request))
