@@ -16,3 +16,12 @@ pub mod OptCalling
 pub mod OptFollowing
 pub mod OptEvents
 pub mod OptRuns
+pub mod Fields
+pub mod Stepping
+pub mod CallFinds
+pub mod Outcomes
+pub mod CallRuns
+pub mod Asking
+pub mod Worlds
+pub mod Printing
+pub mod Flipping

@@ -4,3 +4,8 @@ pub mod Levels
 pub mod Folds
 pub mod Premises
 pub mod Laws
+pub mod Stands
+pub mod Calls
+pub mod Held
+pub mod OfferedBytes
+pub mod Asks

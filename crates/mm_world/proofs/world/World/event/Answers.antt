@@ -1,0 +1,9 @@
+use Rattle.mm_schedule.specs.Events.{event_of}
+use Rattle.mm_world.proofs.Printing.{printed_event, grown_event}
+use Rattle.mm_world.proofs.world.World.event.Goals as goal
+
+pub returns-clause-printable : goal.returns-clause-printable
+returns-clause-printable c = printed_event c.args.self.now c.run.new.self (event_of c.args.event.now) c.run.result c.run.ensures.ok
+
+pub returns-clause-grows : goal.returns-clause-grows
+returns-clause-grows c = grown_event c.args.self.now c.run.new.self (event_of c.args.event.now) c.run.result c.run.ensures.ok c.run.ensures.memory

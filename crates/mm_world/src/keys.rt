@@ -1,0 +1,23 @@
+//! The key and the barrier of each world.
+
+ghost use Rattle.std.specs.Prelude.{◌≡◌};
+ghost use Rattle.mm_world.specs.Held.{world_key};
+
+/// The key: the bytes 0 to 31.
+#[tactic(auto, unfolding(crate::specs::Held::world_key))]
+pub fn key() -> [u8; 32]
+    ensures { result ≡ world_key }
+{
+    [
+        0, 1, 2, 3, 4, 5, 6, 7, 8, 9, 10, 11, 12, 13, 14, 15, 16, 17, 18, 19, 20, 21, 22, 23, 24,
+        25, 26, 27, 28, 29, 30, 31,
+    ]
+}
+
+/// The barrier: the bytes 32 to 63.
+pub fn barrier() -> [u8; 32] {
+    [
+        32, 33, 34, 35, 36, 37, 38, 39, 40, 41, 42, 43, 44, 45, 46, 47, 48, 49, 50, 51, 52, 53, 54,
+        55, 56, 57, 58, 59, 60, 61, 62, 63,
+    ]
+}

@@ -1,0 +1,36 @@
+//! Parts of events and worlds.
+
+ghost use Rattle.std.specs.Prelude.{◌≡◌, ◌<◌, ◌∷◌, [], ◌++◌, IfOk, vec_len, vec_capacity, option_to_list};
+ghost use Rattle.mm_schedule.specs.Events.{meddles_of};
+
+use mm_base::{Bytes, Memory};
+use mm_platform::Meddle;
+use mm_schedule::Meddles;
+use std::alloc::Global;
+
+/// The meddles that count.
+pub fn listed(meddles: &Meddles) -> &[Meddle]
+    ensures { result.now ≡ meddles_of meddles.now }
+{
+    let (front, _) = meddles.items.split_at(meddles.count as usize);
+    front
+}
+
+/// Keeps the snapshot that was handed out, if one was.
+pub fn keep(issued: &mut Vec<Bytes>, snapshot: Option<Bytes>)
+    requires { vec_len issued.old < vec_capacity issued.old }
+    ensures { issued.new.items ≡ issued.old.items ++ option_to_list snapshot }
+{
+    if let Some(snapshot) = snapshot {
+        issued.push_reserved(snapshot);
+    }
+}
+
+/// The list of one snapshot.
+pub fn first(alloc: Global, snapshot: Bytes) -> Result<Vec<Bytes>, Memory>
+    ensures { IfOk result (λ issued. issued.items ≡ snapshot ∷ []) }
+{
+    let mut issued = Vec::new(alloc);
+    issued.push(snapshot)?;
+    Ok(issued)
+}

@@ -1,0 +1,216 @@
+//! A world: a platform in memory with a module on it, and the snapshots that were handed out.
+
+use crate::call::{Called, asked, checkpoint};
+use crate::keys::{barrier, key};
+use crate::parts::{first, keep, listed};
+use mm_base::{Bytes, Memory};
+use mm_basic::{Provisioned, provision};
+use mm_digest::Digest;
+use mm_module::Batch;
+use mm_modules::AnyModule;
+use mm_platform::{Meddle, MemPlatform, Platform, Stop};
+use mm_schedule::{Event, Header, Offer, Reply};
+use std::alloc::Global;
+use std::marker::Model;
+
+/// A world, which contracts see by digests: the module, where it stands, the issued snapshots by their numbers, and
+/// the counts of steps.
+#[derive(Drop)]
+pub struct World {
+    module: AnyModule,
+    platform: MemPlatform,
+    issued: Vec<Bytes>,
+    committed: u64,
+}
+
+impl Model for World {
+    ghost use Rattle.mm_world.specs.Held.{Held, held_in, IsSettled};
+
+    ghost Value = { Held };
+
+    ghost view = { λ w. held_in w.module w.platform w.issued.items w.committed };
+
+    ghost invariant = { λ w. IsSettled w.module w.platform w.issued.items w.committed };
+}
+
+impl World {
+    ghost use Rattle.std.specs.Prelude.{◌≡◌, ◌<◌, ◌≤◌, ◌+◌, ◌-◌, ◌^◌, IfOk, OnErr, length, slice_get, option_copied};
+    ghost use Rattle.mm_digest.specs.declared.variant.Variant.TheVariants.{Basic};
+    ghost use Rattle.mm_module.specs.Batches.{batch_of};
+    ghost use Rattle.mm_schedule.specs.Events.{Ask, Checkpoint, Power, Extend, event_of};
+    ghost use Rattle.mm_schedule.specs.Replies.{IsPrintable};
+    ghost use Rattle.mm_seal.specs.Cell.{cell_spelling};
+    ghost use Rattle.mm_model.specs.History.{first_history};
+    ghost use Rattle.mm_model.specs.Standing.{cell_of, issued_bytes};
+    ghost use Rattle.mm_world.specs.Held.{first_held, world_of, HoldsWorld, outcome_in, Follows, Lacked};
+
+    /// A new world: the platform is provisioned for the header's module, and its first snapshot has number 0. Opt
+    /// is not built yet.
+    pub fn new(alloc: Global, header: &Header) -> Result<World, Memory>
+        requires { header.now.variant ≡ Basic }
+        ensures { IfOk result (λ world. world ≡ first_held header.now.module) }
+    {
+        let module = header.module;
+        match provision(alloc, &module, &key(), &barrier()) {
+            Err(memory) => Err(memory),
+            Ok(made) => World::provisioned(alloc, module, made),
+        }
+    }
+
+    // A world with this first cell and snapshot.
+    fn provisioned(alloc: Global, module: AnyModule, made: Provisioned) -> Result<World, Memory>
+        requires cell { made.cell ≡ cell_spelling (cell_of (world_of «module») first_history) }
+        requires snapshot { made.snapshot ≡ issued_bytes (world_of «module») first_history }
+        ensures { IfOk result (λ world. world ≡ first_held «module») }
+    {
+        let Provisioned { cell, snapshot } = made;
+        match first(alloc, snapshot) {
+            Err(memory) => Err(memory),
+            Ok(issued) => Ok(World {
+                module,
+                platform: MemPlatform::new(alloc, &cell),
+                issued,
+                committed: 0,
+            }),
+        }
+    }
+
+    /// Runs one event, and answers it. After want of memory nothing has changed but the count of steps, and what
+    /// others put into the register.
+    pub fn event(&mut self, event: &Event) -> Result<Reply, Memory>
+        requires { length self.old.issued < 2 ^ 32 - 1 }
+        ensures ok { IfOk result (Follows (outcome_in self.old (event_of event.now)) self.old self.new) }
+        ensures memory { OnErr result (Lacked self.old self.new) }
+
+        // The reply can be printed, and at most one snapshot is issued.
+        ensures printable { IfOk result IsPrintable }
+        ensures grows { length self.new.issued ≤ length self.old.issued + 1 }
+    {
+        self.run(event)
+    }
+
+    fn run(&mut self, event: &Event) -> Result<Reply, Memory>
+        requires { length self.old.issued < 2 ^ 32 - 1 }
+        ensures ok { IfOk result (Follows (outcome_in self.old (event_of event.now)) self.old self.new) }
+        ensures memory { OnErr result (Lacked self.old self.new) }
+    {
+        match event {
+            Event::Ask {
+                meddles,
+                stop,
+                offer,
+                request,
+            } => {
+                self.ask(
+                    listed(meddles),
+                    *stop,
+                    offer,
+                    Batch::One(request.as_slice()),
+                )
+            }
+            Event::Batch {
+                meddles,
+                stop,
+                offer,
+                text,
+            } => { self.ask(listed(meddles), *stop, offer, Batch::Many(text.as_slice())) }
+            Event::Checkpoint { meddles, stop } => self.checkpoint(listed(meddles), *stop),
+            Event::Power => Ok(self.power()),
+            Event::Extend { value } => self.extend(value),
+        }
+    }
+
+    /// How many requests are committed.
+    pub fn committed(&self) -> u64
+        ensures { result ≡ self.now.digests.count }
+    {
+        self.committed
+    }
+
+    /// How many snapshots were issued, the first of them included.
+    pub fn issued(&self) -> u32
+        ensures { result ≡ length self.now.issued }
+    {
+        self.issued.len() as u32
+    }
+
+    /// The issued snapshot with this number. None exactly where it isn't issued.
+    pub fn snapshot(&self, number: u32) -> Option<&[u8]>
+        ensures { option_copied result ≡ slice_get self.now.issued number }
+    {
+        match self.issued.get(number as usize) {
+            None => None,
+            Some(snapshot) => Some(snapshot.as_slice()),
+        }
+    }
+
+    /// The platform.
+    pub fn platform(&self) -> &MemPlatform
+        ensures { HoldsWorld self.now result.now }
+    {
+        &self.platform
+    }
+
+    // Asks for a batch.
+    fn ask(
+        &mut self,
+        meddles: &[Meddle],
+        stop: Stop,
+        offer: &Offer,
+        batch: Batch<'_>,
+    ) -> Result<Reply, Memory>
+        requires { length self.old.issued < 2 ^ 32 - 1 }
+        ensures ok { IfOk result (Follows (outcome_in self.old (Ask meddles.now stop offer.now (batch_of batch.entry))) self.old self.new) }
+        ensures memory { OnErr result (Lacked self.old self.new) }
+    {
+        self.issued.reserve(1)?;
+        let alloc = *self.issued.allocator();
+        match asked(
+            alloc,
+            &self.module,
+            &mut self.platform,
+            self.issued.as_slice(),
+            offer,
+            batch,
+            meddles,
+            stop,
+        ) {
+            Err(memory) => Err(memory),
+            Ok(called) => {
+                let Called {
+                    reply,
+                    snapshot,
+                    committed,
+                } = called;
+                self.committed = self.committed.saturating_add(committed);
+                keep(&mut self.issued, snapshot);
+                Ok(reply)
+            }
+        }
+    }
+
+    // Closes the open segment.
+    fn checkpoint(&mut self, meddles: &[Meddle], stop: Stop) -> Result<Reply, Memory>
+        ensures ok { IfOk result (Follows (outcome_in self.old (Checkpoint meddles.now stop)) self.old self.new) }
+        ensures memory { OnErr result (Lacked self.old self.new) }
+    {
+        checkpoint(&mut self.platform, meddles, stop)
+    }
+
+    // Power is lost and comes back.
+    fn power(&mut self) -> Reply
+        ensures { Follows (outcome_in self.old Power) self.old self.new result }
+    {
+        let _ = self.platform.cycle();
+        Reply::Power
+    }
+
+    // Others extend the register.
+    fn extend(&mut self, value: &Digest) -> Result<Reply, Memory>
+        ensures ok { IfOk result (Follows (outcome_in self.old (Extend value.now.bytes)) self.old self.new) }
+        ensures memory { OnErr result (Lacked self.old self.new) }
+    {
+        self.platform.foreign(value)?;
+        Ok(Reply::Extended)
+    }
+}
