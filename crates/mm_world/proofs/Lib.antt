@@ -25,3 +25,4 @@ pub mod Asking
 pub mod Worlds
 pub mod Printing
 pub mod Flipping
+pub mod Counting

@@ -9,3 +9,6 @@ mod parts;
 mod world;
 
 pub use world::World;
+
+#[cfg(test)]
+mod tests;

@@ -82,9 +82,10 @@ impl World {
         ensures ok { IfOk result (Follows (outcome_in self.old (event_of event.now)) self.old self.new) }
         ensures memory { OnErr result (Lacked self.old self.new) }
 
-        // The reply can be printed, and at most one snapshot is issued.
+        // The reply can be printed; at most one snapshot is issued, and at most 64 requests are committed.
         ensures printable { IfOk result IsPrintable }
         ensures grows { length self.new.issued ≤ length self.old.issued + 1 }
+        ensures few { (outcome_in self.old (event_of event.now)).state.count ≤ self.old.digests.count + 64 }
     {
         self.run(event)
     }
