@@ -5,6 +5,7 @@ ghost use Rattle.std.specs.Fmt.{decimal};
 ghost use Rattle.mm_base.specs.Faults.{CountsFaults};
 ghost use Rattle.mm_base.specs.Streams.{Sends};
 ghost use Rattle.mm_app.specs.Status.{stop_line};
+ghost use Rattle.mm_app.specs.declared.status.Status.TheVariants as ended;
 
 use crate::status::Status;
 use itoa::Buffer;
@@ -14,9 +15,13 @@ use mm_base::{Sink, WriteFault, write_all};
 pub fn write_stop<K: Sink>(status: Status, out: &mut K) -> Result<(), WriteFault>
     ensures sent { Sends (K.received out.old) (K.received out.new) (stop_line status) result }
     ensures counted { CountsFaults (K.faults out.old) (K.faults out.new) result }
+
+    // Nothing is written where there is no stop line.
+    ensures done { status ≡ ended.Done → K.faults out.new ≡ K.faults out.old }
+    ensures failed { status ≡ ended.WriteFault → K.faults out.new ≡ K.faults out.old }
 {
     match status {
-        Status::Done | Status::WriteFault => write_all(out, b""),
+        Status::Done | Status::WriteFault => Ok(()),
         Status::Usage => write_all(out, b"stop usage\n"),
         Status::ReadFault => write_all(out, b"stop read\n"),
         Status::Memory => write_all(out, b"stop memory\n"),

@@ -4,3 +4,6 @@ pub mod Stands
 pub mod Writing
 pub mod Answering
 pub mod Telling
+pub mod Issuing
+pub mod Progressing
+pub mod Replaying

@@ -5,12 +5,14 @@ use Rattle.mm_base.specs.declared.replay_fault.ReplayFault.{ReplayFault}
 use Rattle.mm_base.specs.declared.replay_fault.ReplayFault.TheVariants.{Memory, ReadFault, WriteFault, BadLine, LineLong, TooMuch}
 use Rattle.mm_module.specs.Meaning.{Meaning}
 use Rattle.mm_model.specs.Instance.{Instance}
+use Rattle.mm_modules.specs.declared.any.AnyModule.{AnyModule}
 use Rattle.mm_schedule.specs.Events.{Event}
 use Rattle.mm_schedule.specs.Grammar.{event_at}
 use Rattle.mm_schedule.specs.Machine.{Runs}
 use Rattle.mm_schedule.specs.Replies.{end_line}
 use Rattle.mm_schedule.specs.declared.reply.Reply.{Reply}
 use Rattle.mm_world.specs.Folds.{expected, replies_by_digests}
+use Rattle.mm_world.specs.Held.{world_of}
 use Rattle.mm_world.specs.Premises.{IsClearRun, IsGenuineRun}
 use Rattle.mm_replay.specs.Plays.{ForWhole}
 use Rattle.mm_replay.specs.Takes.{IsFrontOf}
@@ -32,39 +34,39 @@ IsContinuous i events =
     IsOneRun i events (replies_by_digests i events).replies (replies_by_digests i events).state.count
 
 -- The lines are a header and events. What is written is the replies to the events, by digests, and then the last line.
-pub record AnswersEvents (header : List ℕ → Option Instance) (lines : List (List ℕ)) (written : List ℕ) (last : ℕ → ℕ → List ℕ) : Type 0 where
+pub record AnswersEvents (header : List ℕ → Option AnyModule) (lines : List (List ℕ)) (written : List ℕ) (last : ℕ → ℕ → List ℕ) : Type 0 where
   pub first : List ℕ
   pub others : List (List ℕ)
-  pub instance : Instance
+  pub machine : AnyModule
   pub events : List Event
   pub split : lines ≡ first ∷ others
-  pub headed : header first ≡ Some instance
+  pub headed : header first ≡ Some machine
   pub read : map event_at others ≡ map Some events
-  pub told : written ≡ texts_of (replies_by_digests instance events).replies
-      ++ last (replies_by_digests instance events).state.count (length (replies_by_digests instance events).issued)
-  pub headline : IsContinuous instance events
+  pub told : written ≡ texts_of (replies_by_digests (world_of machine) events).replies
+      ++ last (replies_by_digests (world_of machine) events).state.count (length (replies_by_digests (world_of machine) events).issued)
+  pub headline : IsContinuous (world_of machine) events
 
 -- no last line
 abbrev pub unended : ℕ → ℕ → List ℕ
 unended committed issued = []
 
 -- Not even a header was answered; or a header and events were.
-abbrev pub AnswersLines : (List ℕ → Option Instance) → List (List ℕ) → List ℕ → Type 0
+abbrev pub AnswersLines : (List ℕ → Option AnyModule) → List (List ℕ) → List ℕ → Type 0
 AnswersLines header lines written = ((lines ≡ []) × (written ≡ [])) ⊎ AnswersEvents header lines written unended
 
 -- a schedule whole, with its last line
-abbrev pub AnswersAll : (List ℕ → Option Instance) → List (List ℕ) → List ℕ → Type 0
+abbrev pub AnswersAll : (List ℕ → Option AnyModule) → List (List ℕ) → List ℕ → Type 0
 AnswersAll header lines written = AnswersEvents header lines written end_line
 
 -- The answered lines are the first of these.
-pub record AnswersFirst (header : List ℕ → Option Instance) (lines : List (List ℕ)) (written : List ℕ) : Type 0 where
+pub record AnswersFirst (header : List ℕ → Option AnyModule) (lines : List (List ℕ)) (written : List ℕ) : Type 0 where
   pub done : List (List ℕ)
   pub rest : List (List ℕ)
   pub split : lines ≡ done ++ rest
   pub answers : AnswersLines header done written
 
 -- What is out, by how a replay ended, where these bytes of the input were taken and those written.
-abbrev pub Tells : {T : Type 0} → (List ℕ → Option Instance) → Option (List ℕ) → List ℕ → List ℕ → Result T ReplayFault → Type 0
+abbrev pub Tells : {T : Type 0} → (List ℕ → Option AnyModule) → Option (List ℕ) → List ℕ → List ℕ → Result T ReplayFault → Type 0
 -- the replies to all events, and the last line
 Tells header left taken sent (Ok _) = AnswersAll header (lines_of taken) sent
 -- the replies to the events of all whole lines

@@ -5,3 +5,8 @@ pub mod Turns
 pub mod Text
 pub mod Schedule
 pub mod Headline
+pub mod Counting
+pub mod Issues
+pub mod Progress
+pub mod Machines
+pub mod Replays

@@ -3,8 +3,13 @@
 
 mod lines;
 mod player;
+mod progress;
+mod report;
+mod schedules;
 mod write;
 
 pub use lines::play;
 pub use player::{Player, Refused, TakeFault};
+pub use report::Report;
+pub use schedules::replay;
 pub use write::{write_end, write_reply};

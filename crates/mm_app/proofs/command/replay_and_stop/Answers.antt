@@ -1,0 +1,8 @@
+use Rattle.mm_app.proofs.command.replay_and_stop.Goals as goal
+
+pub returns-clause-replays : goal.returns-clause-replays
+returns-clause-replays g c = record {
+  middle = g.K.Sink.received c.replayed-status.new.out;
+  replayed = c.replayed-status.ensures.replayed;
+  stops = record { result = c.write_stop.result; sends = c.write_stop.ensures.sent };
+}

@@ -1,0 +1,113 @@
+-- What an event leaves of a replay.
+use Rattle.std.proofs.Common.{◌≡◌, ◌∙◌, ◌+◌, ◌-◌, ◌*◌, ◌^◌, ◌≤◌, ◌<◌, ℕ, Bool, true, false, cond, List, [], ◌∷◌, ◌++◌, length, Option, Some, None, Result, Ok, Err, inl, inr, refl, sym, ap, subst, arith, length-append}
+use Rattle.std.specs.List.{sum_by, slice_get}
+use Rattle.std.proofs.lemmas.List.Sums.{sum_by-append}
+use Rattle.std.proofs.Math.Nat.{min-eq_left}
+use Rattle.std.proofs.lemmas.Option.{slice_get_past}
+use Rattle.mm_modules.specs.declared.any.AnyModule.{AnyModule}
+use Rattle.mm_schedule.specs.Events.{Event}
+use Rattle.mm_schedule.specs.declared.reply.Reply.{Reply}
+use Rattle.mm_world.specs.Levels.{Digests}
+use Rattle.mm_world.specs.Folds.{Outcome}
+use Rattle.mm_world.specs.Held.{Held, instance_of, within_bits, Follows}
+use Rattle.mm_world.specs.Held as held
+use Rattle.std.specs.Io.KnownBytes.{Appends}
+use Rattle.mm_base.specs.Streams.{Sends}
+use Rattle.mm_base.specs.declared.fault.WriteFault.{WriteFault}
+use Rattle.mm_replay.specs.declared.player.Refused.{Refused}
+use Rattle.mm_replay.specs.declared.player.Refused.TheVariants.{Much}
+use Rattle.mm_replay.specs.Issues.{Issues}
+use Rattle.mm_replay.specs.Takes.{IsFrontOf}
+use Rattle.mm_replay.specs.Text.{text_of}
+use Rattle.mm_replay.specs.Schedule.{Running, outcome_in, after_event, is_too_much, event_answer, Stage, InEvents}
+use Rattle.mm_replay.proofs.Issuing.{outcome_issues}
+
+-- a count of few requests is no greatest one
+within-small : (d : Digests) → d.count ≤ 2 ^ 64 - 1 → within_bits d ≡ d
+within-small d h = ap (λ (n : ℕ). record d { count = n }) (min-eq_left h)
+
+abbrev stands : AnyModule → Digests → List (List ℕ) → ℕ → ℕ → Running
+stands m d issued events read = record { machine = m; digests = d; issued = issued; events = events; read = read }
+
+-- what an event leaves
+pub record Leaves (old new : Held) (event : Event) : Type 0 where
+  pub machine : new.machine ≡ old.machine
+  pub digests : new.digests ≡ (held.outcome_in old event).state
+  pub issued : new.issued ≡ (held.outcome_in old event).issued
+  pub fits : new.digests.count ≤ old.digests.count + 64
+  pub issues : Issues old.issued new.issued
+
+pub leaves : (old new : Held) (event : Event) (said : Reply) → old.digests.count < 2 ^ 63 → (held.outcome_in old event).state.count ≤ old.digests.count + 64
+    → Follows (held.outcome_in old event) old new said → Leaves old new event
+leaves old new event said few more f =
+    let same : within_bits (held.outcome_in old event).state ≡ (held.outcome_in old event).state = within-small (held.outcome_in old event).state (omega (arith, few, more)) in
+    let is = f.digests ∙ same in
+    record {
+      machine = f.machine;
+      digests = is;
+      issued = f.issued;
+      fits = subst (λ (d : Digests). d.count ≤ old.digests.count + 64) (sym is) more;
+      issues = subst (λ (s : List (List ℕ)). Issues old.issued s) (sym f.issued) (outcome_issues (instance_of old) old.digests old.issued event);
+    }
+
+-- what stands after it
+pub stands_after : (old new : Held) (event : Event) (line : List ℕ) (events read : ℕ) → Leaves old new event
+    → (let now : Running = record { machine = new.machine; digests = new.digests; issued = new.issued; events = events + 1; read = read + length line } in
+    let before : Running = record { machine = old.machine; digests = old.digests; issued = old.issued; events = events; read = read } in
+    now ≡ after_event before line event)
+stands_after old new event line events read l =
+    ap (λ (m : AnyModule). stands m new.digests new.issued (events + 1) (read + length line)) l.machine
+    ∙ ap (λ (d : Digests). stands old.machine d new.issued (events + 1) (read + length line)) l.digests
+    ∙ ap (λ (s : List (List ℕ)). stands old.machine (held.outcome_in old event).state s (events + 1) (read + length line)) l.issued
+
+-- the bytes of the snapshots
+last_of : (xs : List (List ℕ)) (x : List ℕ) → slice_get (xs ++ x ∷ []) (length xs) ≡ Some x
+last_of [] x = refl
+last_of (y ∷ xs) x = last_of xs x
+
+-- what is counted, by what was issued
+pub counted_on : (old new : List (List ℕ)) (count n added : ℕ) → Issues old new → n ≡ length old
+    → ((snapshot : List ℕ) → slice_get new n ≡ Some snapshot → added ≡ length snapshot) → (slice_get new n ≡ None → added ≡ 0)
+    → count ≡ sum_by length old → count + added ≡ sum_by length new
+counted_on old new count n added w len some none is = elim w [
+  | inl same ↦ by_none same
+  | inr more ↦ by_more more.0 more.1
+]
+  where
+    by_none : new ≡ old → count + added ≡ sum_by length new
+    by_none same =
+        let at : slice_get new n ≡ None =
+        ap (slice_get new) len ∙ ap (λ (s : List (List ℕ)). slice_get s (length old)) same ∙ slice_get_past old (length old) (omega arith) in
+        let sums : sum_by length new ≡ sum_by length old = ap (sum_by length) same in
+        omega (arith, none at, is, sums)
+
+    by_more : (x : List ℕ) → new ≡ old ++ x ∷ [] → count + added ≡ sum_by length new
+    by_more x same =
+        let at : slice_get new n ≡ Some x = ap (slice_get new) len ∙ ap (λ (s : List (List ℕ)). slice_get s (length old)) same ∙ last_of old x in
+        let one : sum_by length (x ∷ []) ≡ length x = omega arith in
+        let sums : sum_by length new ≡ sum_by length old + sum_by length (x ∷ []) = ap (sum_by length) same ∙ sum_by-append length old (x ∷ []) in
+        omega (arith, some x at, is, sums, one)
+
+-- an event within the limits is answered
+pub answered : (r : Running) (line : List ℕ) (found : Option Event) (event : Event) → found ≡ Some event → is_too_much r line ≡ false
+    → event_answer r line found ≡ Ok (text_of (outcome_in r event).reply, InEvents (after_event r line event))
+answered r line found event is few = ap (event_answer r line) is ∙ by_room (is_too_much r line) few
+  where
+    answer : Bool → Result (List ℕ × Stage) Refused
+    answer much = cond much (Err Much) (Ok (text_of (outcome_in r event).reply, InEvents (after_event r line event)))
+
+    by_room : (much : Bool) → much ≡ false → answer much ≡ answer false
+    by_room much h = ap answer h
+
+-- the reply, or a front of it, went out
+pub cut_reply : (r : Running) (line : List ℕ) (found : Option Event) (event : Event) (said : Reply) (old new : Option (List ℕ)) (result : Result (Unit {0}) WriteFault)
+    → found ≡ Some event → is_too_much r line ≡ false → said ≡ (outcome_in r event).reply → Sends old new (text_of said) result
+    → (reply : List ℕ) × (after : Stage) × (sent : List ℕ) × (event_answer r line found ≡ Ok (reply, after)) × IsFrontOf sent reply × Appends old new sent
+cut_reply r line found event said old new result is few says s = (
+  text_of (outcome_in r event).reply,
+  InEvents (after_event r line event),
+  s.sent,
+  answered r line found event is few,
+  (s.unsent, sym s.parts ∙ ap text_of says),
+  s.appended,
+)

@@ -1,0 +1,53 @@
+-- A schedule ends: each answered line leaves fewer.
+use Rattle.std.specs.Prelude.{◌≡◌, ℕ, ◌+◌, ◌-◌, ◌<◌, ◌^◌, Bool, true, false, ◌||◌, nat_le, List, Option, None, Some, Result, Ok, Err, if◌then◌else◌}
+use Rattle.std.proofs.Common.{refl, sym, ap, subst, arith, ◌∙◌}
+use Rattle.std.proofs.lemmas.Bool.Decides.{nat_tests}
+use Rattle.mm_modules.specs.declared.any.AnyModule.{AnyModule}
+use Rattle.mm_schedule.specs.Events.{Event}
+use Rattle.mm_schedule.specs.Grammar.{event_at}
+use Rattle.mm_replay.specs.declared.player.Refused.{Refused}
+use Rattle.mm_replay.specs.declared.player.Refused.TheVariants.{Bad, Much}
+use Rattle.mm_replay.specs.Text.{text_of}
+use Rattle.mm_replay.specs.Schedule.{Running, begun, is_too_much, outcome_in, after_event, most_events, Stage, AtHeader, InEvents, event_answer, header_answer, schedule_answer, lines_left_at}
+
+-- no answer and an answer are two
+no_answer : (why : Refused) (reply : List ℕ) (next : Stage) → (let r : Result (List ℕ × Stage) Refused = Err why in r ≡ Ok (reply, next)) → ⊥
+no_answer why reply next h = cc
+
+same_next : (reply said : List ℕ) (next stage : Stage) → (let r : Result (List ℕ × Stage) Refused = Ok (said, stage) in r ≡ Ok (reply, next)) → stage ≡ next
+same_next reply said next stage h = let p : (said, stage) ≡ (reply, next) = cc in ap (λ (q : List ℕ × Stage). q.1) p
+
+header_counts : (found : Option AnyModule) (reply : List ℕ) (next : Stage) → header_answer found ≡ Ok (reply, next) → lines_left_at next < most_events + 1
+header_counts None reply next h = absurd (no_answer Bad reply next h)
+header_counts (Some i) reply next h =
+    subst (λ (s : Stage). lines_left_at s < most_events + 1) (same_next reply _ next (InEvents (begun i)) h) (omega arith)
+
+left_or : (a b : Bool) → (a || b) ≡ false → a ≡ false
+left_or true b h = h
+left_or false b h = refl
+
+few_events : (r : Running) (line : List ℕ) → is_too_much r line ≡ false → r.events < most_events
+few_events r line h = let a : nat_le most_events r.events ≡ false = left_or (nat_le most_events r.events) _ h in grind (arith, nat_tests)
+
+event_counts : (r : Running) (line : List ℕ) (event : Event) (much : Bool) (reply : List ℕ) (next : Stage) → is_too_much r line ≡ much
+    → (let a : Result (List ℕ × Stage) Refused = if much then Err Much else Ok (text_of (outcome_in r event).reply, InEvents (after_event r line event)) in a ≡ Ok (reply, next))
+    → lines_left_at next < most_events - r.events
+event_counts r line event true reply next is h = absurd (no_answer Much reply next h)
+event_counts r line event false reply next is h =
+    subst (λ (s : Stage). lines_left_at s < most_events - r.events) (same_next reply _ next (InEvents (after_event r line event)) h)
+    (omega (arith, few_events r line is))
+
+found_counts : (r : Running) (line : List ℕ) (found : Option Event) (reply : List ℕ) (next : Stage) → event_answer r line found ≡ Ok (reply, next)
+    → lines_left_at next < most_events - r.events
+found_counts r line None reply next h = absurd (no_answer Bad reply next h)
+found_counts r line (Some event) reply next h = event_counts r line event (is_too_much r line) reply next refl h
+
+-- an answered line leaves fewer
+pub schedule_counts_down : (header : List ℕ → Option AnyModule) (it next : Stage) (line reply : List ℕ) → schedule_answer header it line ≡ Ok (reply, next) → lines_left_at next < lines_left_at it
+schedule_counts_down header AtHeader next line reply h = header_counts (header line) reply next h
+schedule_counts_down header (InEvents r) next line reply h = found_counts r line (event_at line) reply next h
+
+-- and there are few at first
+pub schedule_is_short : (it : Stage) → lines_left_at it < 2 ^ 31
+schedule_is_short AtHeader = omega arith
+schedule_is_short (InEvents r) = omega arith

@@ -1,0 +1,152 @@
+//! A replay among its events.
+
+ghost use Rattle.std.specs.Prelude.{◌≡◌, ◌≤◌, ◌<◌, ◌+◌, ◌*◌, ◌^◌, length, IfOk, OnOk, false, ℕ, List, Some, None, slice_get};
+ghost use Rattle.std.specs.List.{sum_by};
+ghost use Rattle.mm_digest.specs.declared.variant.Variant.TheVariants.{Basic};
+
+use crate::player::{Refused, TakeFault};
+use crate::report::Report;
+use crate::write::{write_end, write_reply};
+use mm_base::{Memory, Sink, WriteFault};
+use mm_schedule::{Event, EventFault, Header, Reply, read_event};
+use mm_world::World;
+use std::alloc::Global;
+
+/// The most events of a schedule.
+const MOST_EVENTS: u32 = 20_000;
+
+/// The most bytes of event lines and issued snapshots together.
+const MOST_KEPT: u64 = 268_435_456;
+
+// The bytes of the issued snapshot with this number. None where it isn't issued.
+fn snapshot_length(world: &World, number: u32) -> u64
+    ensures some { (snapshot : List ℕ) → slice_get world.now.issued number ≡ Some snapshot → result ≡ length snapshot }
+    ensures none { slice_get world.now.issued number ≡ None → result ≡ 0 }
+    ensures bound { result < 2 ^ 63 }
+{
+    match world.snapshot(number) {
+        Some(snapshot) => snapshot.len() as u64,
+        None => 0,
+    }
+}
+
+/// A world, and what counts against the limits.
+#[derive(Drop)]
+pub struct Progress {
+    world: World,
+    /// The events answered.
+    events: u32,
+    /// The bytes of their lines, each without its LF.
+    read: u64,
+    /// The bytes of the snapshots issued.
+    issued: u64,
+    ghost few: { events ≤ 20000 },
+    ghost short: { read ≤ 8400 * events },
+    ghost counted: { issued ≡ sum_by length world.issued },
+    ghost small: { issued < 2 ^ 63 + 2 ^ 62 },
+    ghost one_each: { length world.issued ≤ events + 1 },
+    ghost fits: { world.digests.count ≤ 64 * events },
+}
+
+impl Progress {
+    ghost use Rattle.mm_replay.specs.Progress.{running};
+    ghost use Rattle.mm_replay.specs.Schedule.{begun, is_too_much, event_answer, InEvents, after_event, outcome_in};
+    ghost use Rattle.mm_schedule.specs.Events.{event_of};
+    ghost use Rattle.mm_schedule.specs.Grammar.{event_at};
+    ghost use Rattle.mm_schedule.specs.Replies.{IsPrintable, end_line};
+    ghost use Rattle.mm_base.specs.Streams.{Sends};
+    ghost use Rattle.mm_base.specs.Faults.{CountsFaults};
+    ghost use Rattle.mm_replay.specs.Takes.{Takes, CountsWrites};
+    ghost use Rattle.mm_replay.specs.Replays.{Reports};
+
+    /// A replay at its first event.
+    pub fn begin(alloc: Global, header: &Header) -> Result<Progress, Memory>
+        requires { header.now.variant ≡ Basic }
+        ensures { IfOk result (λ progress. running progress ≡ begun header.now.«module») }
+    {
+        let world = World::new(alloc, header)?;
+        let issued = match world.snapshot(0) {
+            Some(first) => first.len() as u64,
+            None => unreachable!(),
+        };
+        Ok(Progress {
+            world,
+            events: 0,
+            read: 0,
+            issued,
+        })
+    }
+
+    // Whether one more event would be too many, or its line and the snapshots too many bytes.
+    fn is_full(&self, line: &[u8]) -> bool
+        requires { length line.now ≤ 8400 }
+        ensures { result ≡ is_too_much (running self.now) line.now }
+    {
+        self.events >= MOST_EVENTS || self.read + line.len() as u64 + self.issued > MOST_KEPT
+    }
+
+    // Runs an event, and counts it and its line.
+    fn run(&mut self, line: &[u8], event: &Event) -> Result<Reply, Memory>
+        requires line { length line.now ≤ 8400 }
+        requires room { is_too_much (running self.old) line.now ≡ false }
+        ensures reply { IfOk result (λ reply. reply ≡ (outcome_in (running self.old) (event_of event.now)).reply) }
+        ensures printable { IfOk result IsPrintable }
+        ensures after { OnOk result (running self.new ≡ after_event (running self.old) line.now (event_of event.now)) }
+    {
+        let before = self.world.issued();
+        let reply = self.world.event(event)?;
+        self.issued += snapshot_length(&self.world, before);
+        self.events += 1;
+        self.read += line.len() as u64;
+        Ok(reply)
+    }
+
+    /// Answers an event line.
+    pub fn take<K: Sink>(
+        &mut self,
+        alloc: Global,
+        line: &[u8],
+        out: &mut K,
+    ) -> Result<(), TakeFault>
+        requires { length line.now ≤ 8400 }
+        ensures takes { Takes (event_answer (running self.old) line.now (event_at line.now)) (InEvents (running self.new))
+            (K.received out.old) (K.received out.new) result }
+        ensures counted { CountsWrites (K.faults out.old) (K.faults out.new) result }
+    {
+        let event = match read_event(alloc, line) {
+            Ok(event) => event,
+            Err(EventFault::Memory) => return Err(TakeFault::Memory),
+            Err(EventFault::Bad) => return Err(TakeFault::Refused(Refused::Bad)),
+        };
+        if self.is_full(line) {
+            return Err(TakeFault::Refused(Refused::Much));
+        }
+        let reply = match self.run(line, &event) {
+            Ok(reply) => reply,
+            Err(_) => return Err(TakeFault::Memory),
+        };
+        match write_reply(&reply, out) {
+            Ok(()) => Ok(()),
+            Err(_) => Err(TakeFault::WriteFault),
+        }
+    }
+
+    /// Writes the last line.
+    pub fn close<K: Sink>(&self, out: &mut K) -> Result<(), WriteFault>
+        ensures sent { Sends (K.received out.old) (K.received out.new)
+            (end_line (running self.now).digests.count (length (running self.now).issued)) result }
+        ensures counted { CountsFaults (K.faults out.old) (K.faults out.new) result }
+    {
+        write_end(self.world.committed(), self.world.issued(), out)
+    }
+
+    /// How many requests were committed and snapshots issued.
+    pub fn report(&self) -> Report
+        ensures { Reports (InEvents (running self.now)) result }
+    {
+        Report {
+            committed: self.world.committed(),
+            issued: self.world.issued(),
+        }
+    }
+}

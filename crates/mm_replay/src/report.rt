@@ -1,0 +1,8 @@
+//! What a replay comes to.
+
+/// How many requests were committed, and how many snapshots issued.
+#[derive(Clone, Copy, Debug, PartialEq, Eq)]
+pub struct Report {
+    pub committed: u64,
+    pub issued: u32,
+}

@@ -1,0 +1,133 @@
+//! Schedules, from the header to the last line.
+
+ghost use Rattle.std.specs.Prelude.{◌≡◌, ℕ, List, Some, Ok, OnOk};
+ghost use Rattle.mm_schedule.specs.Headers.{header_at};
+ghost use Rattle.mm_replay.specs.Play.{run_of};
+ghost use Rattle.mm_replay.specs.Plays.{IsBlamed, is_read_fault, is_write_fault};
+ghost use Rattle.mm_replay.specs.Schedule.{Stage, AtHeader, header_answer, schedule_answer, schedule_closing, lines_left_at};
+ghost use Rattle.mm_replay.specs.Counting.{schedule_counts_down, schedule_is_short};
+ghost use Rattle.mm_replay.specs.Machines.{machine_at};
+ghost use Rattle.mm_replay.specs.Progress.{stage_of, Begins};
+ghost use Rattle.mm_replay.specs.Replays.{Replays, Reports, IsUnrefused};
+
+use crate::lines::play;
+use crate::player::{Player, Refused, TakeFault};
+use crate::progress::Progress;
+use crate::report::Report;
+use mm_base::{ReplayFault, Sink, Source, WriteFault};
+use mm_digest::Variant;
+use mm_schedule::read_header;
+use mm_world::laws::{basic_is_expected, basic_runs};
+use std::alloc::Global;
+use std::marker::Model;
+
+/// Replays a schedule line by line. There is no progress before the header.
+#[derive(Drop)]
+pub struct SchedulePlayer {
+    progress: Option<Progress>,
+}
+
+impl Model for SchedulePlayer {
+    ghost Value = { Stage };
+
+    ghost view = { λ it. stage_of it.progress };
+}
+
+impl SchedulePlayer {
+    /// A replay before its header.
+    pub fn new() -> SchedulePlayer
+        ensures { result ≡ AtHeader }
+    {
+        SchedulePlayer { progress: None }
+    }
+
+    // What stands behind the last line.
+    fn report(&self) -> Report
+        ensures { Reports self.now result }
+    {
+        match &self.progress {
+            Some(progress) => progress.report(),
+            None => Report {
+                committed: 0,
+                issued: 0,
+            },
+        }
+    }
+}
+
+/// Begins a replay by its header line. Opt is not built yet, and refused as a line outside the grammar is.
+fn begin(alloc: Global, line: &[u8]) -> Result<Progress, TakeFault>
+    ensures { Begins (header_answer (machine_at line.now)) result }
+{
+    let header = match read_header(line) {
+        Some(header) => header,
+        None => return Err(TakeFault::Refused(Refused::Bad)),
+    };
+    match header.variant {
+        Variant::Basic => match Progress::begin(alloc, &header) {
+            Ok(progress) => Ok(progress),
+            Err(_) => Err(TakeFault::Memory),
+        },
+        Variant::Opt => Err(TakeFault::Refused(Refused::Bad)),
+    }
+}
+
+impl Player for SchedulePlayer {
+    ghost answer = { schedule_answer machine_at };
+
+    ghost closing = { schedule_closing };
+
+    ghost lines_left = { lines_left_at };
+
+    fn take<K: Sink>(&mut self, alloc: Global, line: &[u8], out: &mut K) -> Result<(), TakeFault> {
+        match &mut self.progress {
+            Some(progress) => progress.take(alloc, line, out),
+            None => {
+                self.progress = Some(begin(alloc, line)?);
+                Ok(())
+            }
+        }
+    }
+
+    fn close<K: Sink>(&self, out: &mut K) -> Result<bool, WriteFault> {
+        match &self.progress {
+            Some(progress) => {
+                progress.close(out)?;
+                Ok(true)
+            }
+            None => Ok(false),
+        }
+    }
+
+    ghost counts_down = { schedule_counts_down machine_at };
+
+    ghost few = { schedule_is_short };
+}
+
+/// Replays a schedule: its header line, and then its event lines. Each reply is written before the next line is
+/// read, and at the end of the input the line `end N K`: N requests committed, K snapshots issued.
+///
+/// `LineLong` comes exactly where a line has more than 8,400 bytes, `BadLine` where it is outside the grammar, has no
+/// LF, or is missing, and `TooMuch` where it is event 20,001, or where the event lines and the snapshots issued have
+/// more than 268,435,456 bytes: tried in this order. The line's event isn't run then, and all replies before it are out.
+pub fn replay<S: Source, K: Sink>(
+    alloc: Global,
+    input: &mut S,
+    out: &mut K,
+) -> Result<Report, ReplayFault>
+    ensures replays { Replays (S.left input.old) (S.left input.new) (K.received out.old) (K.received out.new) result }
+    ensures read { IsBlamed (is_read_fault result) (S.faults input.old) (S.faults input.new) }
+    ensures wrote { IsBlamed (is_write_fault result) (K.faults out.old) (K.faults out.new) }
+
+    // A schedule within the grammar and the limits is not refused.
+    ensures complete { (bytes : List ℕ) → (next : Stage) → S.left input.old ≡ Some bytes
+        → (run_of (schedule_answer machine_at) schedule_closing AtHeader bytes).outcome ≡ Ok next → IsUnrefused result }
+{
+    basic_is_expected();
+    basic_runs();
+    let mut player = SchedulePlayer::new();
+    match play(alloc, &mut player, input, out) {
+        Ok(()) => Ok(player.report()),
+        Err(fault) => Err(fault),
+    }
+}
