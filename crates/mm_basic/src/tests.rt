@@ -3,17 +3,101 @@
 ghost use Rattle.std.specs.Prelude.{◌≤◌, ◌^◌, length};
 
 use super::*;
-use mm_base::Bytes;
+use mm_base::{Bytes, read_decimal};
 use mm_digest::{Variant, start, zero};
 use mm_model::{Answer, BatchAnswer, Refusal};
 use mm_module::{Batch, Counter, Outputs};
 use mm_platform::{MemPlatform, Platform, Stop};
 use mm_seal::{Body, Place, seal};
 use std::alloc::Global;
-use std::process::Abort;
 use std::test::Fail;
 
 const KEY: [u8; 32] = [7; 32];
+
+/// Calls one after another: the stop that is planned, what is asked on which snapshot, and what comes; behind it how
+/// often the cell was to be written by then. At `new` there is another platform. A repeat is answered and written no
+/// more; a call that is stopped is committed where its write has its effect, and by nothing else.
+const CALLS: &str = "\
+new
+quiet ask 0 add 5 => ok 1 5, 1
+quiet ask 0 add 7 => no 11, 1
+new
+quiet ask 0 add 5 => ok 1 5, 1
+quiet ask 0 add 5 => again 1 5, 1
+quiet ask 1 add 5 => ok 2 10, 2
+quiet ask 2 add 1 => no 11, 2
+quiet ask 3 add 1 => ok 3 11, 3
+new
+cut-1 ask 0 add 5 => no 3, 0
+quiet ask 0 read => ok 1 0, 1
+cut-9 ask 1 add 5 => ok 2 5, 2
+cut-2 ask 2 add 5 => no 3, 3
+quiet ask 2 read => no 11, 3
+quiet ask 2 add 5 => again 3 10, 3
+new
+done-2 ask 0 add 5 => no 3, 1
+quiet ask 0 read => no 11, 1
+quiet ask 0 add 5 => again 1 5, 1
+new
+undone-2 ask 0 add 5 => no 3, 1
+quiet ask 0 read => ok 1 0, 2
+new
+quiet batch 0 add 1\tadd 1 => ok 2 1 2, 1
+quiet batch 0 add 1\tadd 1 => again 2 1 2, 1
+quiet ask 0 add 1 => no 11, 1
+quiet ask 0 add 1\tadd 1 => no 11, 1
+new
+quiet batch 0 add 5 => ok 1 5, 1
+quiet ask 0 add 5 => again 1 5, 1
+";
+
+/// A line of the table.
+#[derive(Drop)]
+struct Row<'a> {
+    stop: Stop,
+    number: usize,
+    batch: Batch<'a>,
+    said: &'a [u8],
+}
+
+fn row_of(line: &str) -> Option<Row<'_>> {
+    let (asked, said) = line.split_once(" => ")?;
+    let (stop, asked) = asked.split_once(' ')?;
+    let (word, asked) = asked.split_once(' ')?;
+    let (number, text) = asked.split_once(' ')?;
+    let number = read_decimal(number.as_bytes())? as usize;
+    let batch = batch_of(word, text.as_bytes());
+    Some(Row {
+        stop: stop_of(stop),
+        number,
+        batch,
+        said: said.as_bytes(),
+    })
+}
+
+fn batch_of<'a>(word: &str, text: &'a [u8]) -> Batch<'a> {
+    match word {
+        "batch" => Batch::Many(text),
+        _ => Batch::One(text),
+    }
+}
+
+fn stop_of(word: &str) -> Stop {
+    match word {
+        "cut-1" => Stop::Cut(1),
+        "cut-2" => Stop::Cut(2),
+        "cut-9" => Stop::Cut(9),
+        "done-2" => Stop::Fail {
+            step: 2,
+            done: true,
+        },
+        "undone-2" => Stop::Fail {
+            step: 2,
+            done: false,
+        },
+        _ => Stop::Quiet,
+    }
+}
 
 /// A platform, and the snapshots that were handed out, by number.
 #[derive(Drop)]
@@ -36,11 +120,42 @@ impl Host {
         })
     }
 
-    /// Asks for one request, offering the snapshot of this number, and says what came.
-    fn ask(&mut self, rt: &impl Abort, number: usize, request: &[u8]) -> Result<String, Fail> {
-        assert!(rt; number < self.snapshots.len());
-        let offer = self.snapshots[number].as_slice();
-        match ask_counter(self.alloc, &mut self.platform, offer, request) {
+    /// Makes the call of this row and gets the power back, and says what came. Where memory was wanting nothing has
+    /// changed, so the call is made once more.
+    fn call(&mut self, row: &Row<'_>) -> Result<String, Fail> {
+        let came = self.call_once(row)?;
+        if came.as_str() == "no 1" {
+            return self.call_once(row);
+        }
+        Ok(came)
+    }
+
+    fn call_once(&mut self, row: &Row<'_>) -> Result<String, Fail> {
+        self.platform.plan(row.stop, &[])?;
+        let came = self.ask(row.number, row.batch)?;
+        self.platform.end_plan();
+        self.platform.cycle()?;
+        Ok(came)
+    }
+
+    /// Asks for a batch, offering the snapshot of this number, and says what came.
+    fn ask(&mut self, number: usize, batch: Batch<'_>) -> Result<String, Fail> {
+        let offer = self.snapshots.get(number).ok_or("no snapshot")?.as_slice();
+        match batch {
+            Batch::One(request) => {
+                let came = ask_counter(self.alloc, &mut self.platform, offer, request);
+                self.one(came)
+            }
+            Batch::Many(_) => {
+                let came = ask_counter_batch(self.alloc, &mut self.platform, offer, batch);
+                self.many(came)
+            }
+        }
+    }
+
+    /// Says what came of one request, and keeps the snapshot.
+    fn one(&mut self, came: Result<Answer, Refusal>) -> Result<String, Fail> {
+        match came {
             Err(refusal) => Ok(format!(in self.alloc; "no {}", refusal.code())?),
             Ok(answer) => {
                 let line = line(self.alloc, answer.again, answer.position)?;
@@ -51,16 +166,9 @@ impl Host {
         }
     }
 
-    /// The same for a batch.
-    fn ask_batch(
-        &mut self,
-        rt: &impl Abort,
-        number: usize,
-        batch: Batch<'_>,
-    ) -> Result<String, Fail> {
-        assert!(rt; number < self.snapshots.len());
-        let offer = self.snapshots[number].as_slice();
-        match ask_counter_batch(self.alloc, &mut self.platform, offer, batch) {
+    /// The same of a batch.
+    fn many(&mut self, came: Result<BatchAnswer, Refusal>) -> Result<String, Fail> {
+        match came {
             Err(refusal) => Ok(format!(in self.alloc; "no {}", refusal.code())?),
             Ok(answer) => {
                 let line = line(self.alloc, answer.again, answer.position)?;
@@ -69,21 +177,6 @@ impl Host {
                 Ok(line)
             }
         }
-    }
-
-    /// Plans a stop for the next call, and after that call gets the power back.
-    fn ask_stopped(
-        &mut self,
-        rt: &impl Abort,
-        stop: Stop,
-        number: usize,
-        request: &[u8],
-    ) -> Result<String, Fail> {
-        self.platform.plan(stop, &[])?;
-        let line = self.ask(rt, number, request)?;
-        self.platform.end_plan();
-        self.platform.cycle()?;
-        Ok(line)
     }
 }
 
@@ -125,74 +218,20 @@ fn with_outputs(alloc: Global, line: String, outputs: &Outputs) -> Result<String
     Ok(line)
 }
 
-/// A repeat gives its earlier answer, another request from an old snapshot is stale, and a new one goes on.
 #[test]
-fn the_newest_snapshot_goes_on_and_the_last_request_is_answered_again(
-    rt: HostRuntime,
-) -> Result<(), Fail> {
-    let mut host = Host::new(rt.alloc())?;
-    let rows = [
-        (0, "add 5", "ok 1 5"),
-        (0, "add 7", "no 11"),
-        (0, "add 5", "again 1 5"),
-        (1, "add 5", "ok 2 10"),
-        (2, "add 1", "no 11"),
-        (3, "add 1", "ok 3 11"),
-    ];
-    for (number, request, said) in rows {
-        assert_eq!(rt; host.ask(&rt, number, request.as_bytes())?.as_str(), said);
+fn calls_go_on_from_the_newest_snapshot(rt: HostRuntime) -> Result<(), Fail> {
+    let alloc = rt.alloc();
+    let mut host = Host::new(alloc)?;
+    for line in CALLS.lines() {
+        if line == "new" {
+            host = Host::new(alloc)?;
+            continue;
+        }
+        let row = row_of(line).ok_or("no row")?;
+        let came = host.call(&row)?;
+        let came = format!(in alloc; "{came}, {}", host.platform.nv_writes())?;
+        assert_eq!(rt; came.as_bytes(), row.said);
     }
-    assert_eq!(rt; host.platform.nv_writes(), 3);
-    Ok(())
-}
-
-/// A stop at the read commits nothing; one at the write commits the request where the write has its effect.
-#[test]
-fn a_stopped_call_is_committed_by_its_write_alone(rt: HostRuntime) -> Result<(), Fail> {
-    let lost = Stop::Fail {
-        step: 2,
-        done: false,
-    };
-    let kept = Stop::Fail {
-        step: 2,
-        done: true,
-    };
-    let rows = [
-        (Stop::Cut(1), 0, "add 5", "no 3"),
-        (lost, 0, "add 9", "no 3"),
-        (Stop::Quiet, 0, "read", "ok 1 0"),
-        (Stop::Cut(9), 1, "add 5", "ok 2 5"),
-        (Stop::Cut(2), 2, "add 5", "no 3"),
-        (Stop::Quiet, 2, "read", "no 11"),
-        (Stop::Quiet, 2, "add 5", "again 3 10"),
-        (kept, 3, "add 1", "no 3"),
-        (Stop::Quiet, 3, "add 1", "again 4 11"),
-    ];
-    let mut host = Host::new(rt.alloc())?;
-    for (stop, number, request, said) in rows {
-        let came = host.ask_stopped(&rt, stop, number, request.as_bytes())?;
-        assert_eq!(rt; came.as_str(), said);
-    }
-    Ok(())
-}
-
-/// A batch is committed by one write, and is told from its requests one by one.
-#[test]
-fn a_batch_is_committed_whole(rt: HostRuntime) -> Result<(), Fail> {
-    let mut host = Host::new(rt.alloc())?;
-    let rows = [
-        (0, Batch::Many(b"add 1\tadd 1"), "ok 2 1 2"),
-        (0, Batch::Many(b"add 1\tadd 1"), "again 2 1 2"),
-        (0, Batch::One(b"add 1"), "no 11"),
-        (0, Batch::One(b"add 1\tadd 1"), "no 11"),
-        (1, Batch::Many(b"add 5"), "ok 3 7"),
-        (1, Batch::One(b"add 5"), "again 3 7"),
-        (1, Batch::Many(&[b'\t'; 64]), "no 2"),
-    ];
-    for (number, batch, said) in rows {
-        assert_eq!(rt; host.ask_batch(&rt, number, batch)?.as_str(), said);
-    }
-    assert_eq!(rt; host.platform.nv_writes(), 2);
     Ok(())
 }
 
@@ -253,11 +292,12 @@ fn offers_are_refused_in_order(rt: HostRuntime) -> Result<(), Fail> {
 fn a_long_request_a_blank_cell_and_another_cell_are_refused(rt: HostRuntime) -> Result<(), Fail> {
     let alloc = rt.alloc();
     let mut host = Host::new(alloc)?;
-    assert_eq!(rt; host.ask(&rt, 0, b"add 1\n")?.as_str(), "no 2");
+    assert_eq!(rt; host.ask(0, Batch::One(b"add 1\n"))?.as_str(), "no 2");
+    assert_eq!(rt; host.ask(0, Batch::Many(&[b'\t'; 64]))?.as_str(), "no 2");
     assert_eq!(rt; begin(Batch::One(&[b'a'; 4097])).err(), Some(Refusal::Long));
     for (byte, code) in [(0, "no 4"), (1, "no 5")] {
         host.platform = MemPlatform::new(alloc, &[byte; 104]);
-        assert_eq!(rt; host.ask(&rt, 0, b"read")?.as_str(), code);
+        assert_eq!(rt; host.ask(0, Batch::One(b"read"))?.as_str(), code);
     }
     Ok(())
 }
@@ -269,29 +309,19 @@ fn a_call_goes_on_by_one_step_at_a_time(rt: HostRuntime) -> Result<(), Fail> {
     let mut host = Host::new(alloc)?;
     let batch = Batch::One(b"add 1");
     let offer = host.snapshots.pop().ok_or("a first snapshot")?;
-    let call = begin(batch).ok().ok_or("not too long")?;
+    let call = begin(batch)?;
     assert_eq!(rt; call.next_step(), 1);
-    let Turn::Going(call) = call.advance(
-        alloc,
-        &Counter,
-        &mut host.platform,
-        offer.as_slice(),
-        batch,
-    ) else {
-        assert!(rt; false, "the call goes on");
-        return Ok(());
+    let call = match call.advance(alloc, &Counter, &mut host.platform, offer.as_slice(), batch) {
+        Turn::Going(call) => call,
+        Turn::Done(_) => Err("done at its first step")?,
+        Turn::Refused(refusal) => Err(refusal)?,
     };
     assert_eq!(rt; call.next_step(), 2);
     assert_eq!(rt; host.platform.nv_writes(), 0);
-    let Turn::Done(answer) = call.advance(
-        alloc,
-        &Counter,
-        &mut host.platform,
-        offer.as_slice(),
-        batch,
-    ) else {
-        assert!(rt; false, "the call is done");
-        return Ok(());
+    let answer = match call.advance(alloc, &Counter, &mut host.platform, offer.as_slice(), batch) {
+        Turn::Done(answer) => answer,
+        Turn::Going(_) => Err("a third step")?,
+        Turn::Refused(refusal) => Err(refusal)?,
     };
     assert_eq!(rt; host.platform.nv_writes(), 1);
     assert_eq!(rt; answer.position, 1);
