@@ -1,10 +1,8 @@
 -- A call with its plan, and a checkpoint of Basic, come to their outcomes by digests.
-use Rattle.std.proofs.Common.{◌≡◌, ℕ, ◌+◌, Bool, true, false, List, [], ◌∷◌, ◌++◌, map, Option, None, Some, Result, Ok, Err, inl, inr, refl, sym, ap, ◌∙◌, subst, arith}
-use Rattle.std.specs.Prelude.{if◌then◌else◌, MatchResult}
-use Rattle.std.specs.List.{fold}
+use Rattle.std.proofs.Common.{◌≡◌, ℕ, Bool, true, false, List, [], ◌∷◌, ◌++◌, map, Option, None, Some, Result, Ok, Err, inl, inr, refl, sym, ap, ◌∙◌, subst, arith}
+use Rattle.std.specs.Prelude.{if◌then◌else◌}
 use Rattle.std.proofs.lemmas.List.{append-nil}
 use Rattle.mm_base.specs.declared.fault.Memory.{Memory}
-use Rattle.mm_digest.specs.declared.variant.Variant.TheVariants.{Basic}
 use Rattle.mm_module.specs.Meaning.{Meaning}
 use Rattle.mm_module.specs.Batch.{Batch, normal}
 use Rattle.mm_platform.specs.declared.fault.StepFault.{StepFault}
@@ -12,22 +10,21 @@ use Rattle.mm_platform.specs.declared.plan.Meddle.{Meddle}
 use Rattle.mm_platform.specs.declared.plan.Stop.{Stop}
 use Rattle.mm_platform.specs.declared.plan.Stop.TheVariants.{Quiet, Cut, Drop, Fail}
 use Rattle.mm_platform.specs.Standing.{Plan, Standing, due}
-use Rattle.mm_platform.specs.Steps.{ReadCell, Goes, fault_at}
+use Rattle.mm_platform.specs.Steps.{ReadCell, fault_at}
 use Rattle.mm_platform.specs.Told.{quiet_plan}
-use Rattle.mm_model.specs.Instance.{Instance, basic}
-use Rattle.mm_model.specs.History.{Move, Commit, Foreign, Placed, Reset, Close, Power}
+use Rattle.mm_model.specs.Instance.{basic}
+use Rattle.mm_model.specs.History.{Move, Foreign}
 use Rattle.mm_model.specs.Long.{is_long}
 use Rattle.mm_model.specs.Steps.{Reads}
 use Rattle.mm_schedule.specs.declared.reply.Cause.{Cause}
 use Rattle.mm_schedule.specs.declared.reply.Cause.TheVariants as cause
-use Rattle.mm_schedule.specs.declared.reply.Reply.{Reply}
 use Rattle.mm_schedule.specs.declared.reply.Reply.TheVariants as reply
 use Rattle.mm_world.specs.declared.call.Called.{Called}
-use Rattle.mm_world.specs.Walk.{Walked, walk, after_stop, way_of, closes}
+use Rattle.mm_world.specs.Walk.{Walked, after_stop, way_of, closes}
 use Rattle.mm_world.specs.Levels.{Digests, by_digests}
 use Rattle.mm_world.specs.Folds.{Outcome, all_made, outcome, uncalled, called, asked, checkpointed, checkpoint_ended}
-use Rattle.mm_world.specs.Stands.{basic_digests, StandsAt, grown, IsPlanned, plan_at, counted_by}
-use Rattle.mm_world.specs.Calls.{refused_as, broken_as, is_cut, Restores, CameTo, Forgoes, RunsAs}
+use Rattle.mm_world.specs.Stands.{basic_digests, StandsAt, grown, plan_at}
+use Rattle.mm_world.specs.Calls.{refused_as, broken_as, is_cut, Restores, CameTo, RunsAs}
 use Rattle.mm_world.specs.Held.{IsQuiet}
 use Rattle.mm_world.specs.Asks.{Came, Lacks, EndsAs, AsksAs, ChecksAs, ReadsOnce}
 use Rattle.mm_world.proofs.Stepping.{GoesAt, goes_at, stands_read, stands_restored, register_kept, on_quiet, on_restored}

@@ -1,13 +1,11 @@
 -- What a call finds over the platform is what is found by digests, but for want of memory.
-use Rattle.std.proofs.Common.{◌≡◌, ◌≢◌, ℕ, ◌+◌, ◌^◌, Bool, true, false, List, [], ◌∷◌, ◌++◌, length, Result, Ok, Err, None, Some, ◌⊎◌, inl, inr, refl, sym, ap, ◌∙◌, subst, arith}
+use Rattle.std.proofs.Common.{◌≡◌, ℕ, ◌+◌, ◌^◌, Bool, true, false, List, length, Result, Ok, Err, Some, ◌⊎◌, inl, inr, refl, sym, ap, ◌∙◌, subst}
 use Rattle.std.specs.Prelude.{nat_le}
 use Rattle.std.specs.Str.{bytes_eq}
 use Rattle.std.proofs.lemmas.Slice.Eq.{bytes_eq-Decides}
-use Rattle.sha2.specs.Sha256.{sha256}
 use Rattle.sha2.proofs.Facts256.{length-sha256}
 use Rattle.mm_digest.specs.declared.variant.Variant.TheVariants.{Basic}
 use Rattle.mm_digest.specs.declared.digest.Digest.{Digest}
-use Rattle.mm_digest.specs.Messages.{zero_bytes}
 use Rattle.mm_digest.proofs.Lengths.{length-zero_bytes}
 use Rattle.mm_module.specs.Meaning.{Meaning, state_from, outputs_from}
 use Rattle.mm_module.specs.Batch.{Batch, members_of, size_of, normal}
@@ -31,14 +29,14 @@ use Rattle.mm_model.specs.declared.verdict.Verdict.TheVariants.{Fresh, Again, Lo
 use Rattle.mm_basic.specs.declared.found.Found.{Found}
 use Rattle.mm_basic.specs.declared.found.Found.TheVariants.{Repeat, Change}
 use Rattle.mm_basic.specs.Seen.{Seen}
-use Rattle.mm_basic.specs.Order.{admitted, weighed, examined}
+use Rattle.mm_basic.specs.Order.{weighed}
 use Rattle.mm_basic.specs.Answers.{found_in, found_from, answer_of, cell_after}
-use Rattle.mm_basic.specs.Steps.{OrMemory, FindsIn, Finds}
+use Rattle.mm_basic.specs.Steps.{OrMemory, Finds}
 use Rattle.mm_basic.proofs.Reading.{one_sight, seen_by}
 use Rattle.mm_world.specs.Offered.{parts_of}
 use Rattle.mm_world.specs.Levels.{Digests, by_digests, answer_by_digests}
 use Rattle.mm_world.specs.Folds as fold
-use Rattle.mm_world.specs.Stands.{basic_digests, cell_at, StandsAt}
+use Rattle.mm_world.specs.Stands.{basic_digests, cell_at}
 use Rattle.mm_world.proofs.Fields.{reads_parts}
 
 -- the answer to an offer that is found, by digests

@@ -1,10 +1,10 @@
 -- A call runs as it does by digests, whatever its turns come to.
-use Rattle.std.proofs.Common.{◌≡◌, ◌≢◌, ℕ, ◌+◌, ◌-◌, Bool, true, false, List, [], ◌∷◌, ◌++◌, length, Option, None, Some, IsSome, Result, Ok, Err, IsErr, ◌⊎◌, inl, inr, refl, sym, ap, ◌∙◌, subst, arith, rules}
-use Rattle.std.specs.Prelude.{MatchResult, option_to_list}
+use Rattle.std.proofs.Common.{◌≡◌, ◌≢◌, ℕ, ◌+◌, ◌-◌, Bool, true, false, List, length, Option, None, Some, IsSome, Result, Ok, Err, IsErr, inl, inr, refl, sym, ap, ◌∙◌, subst, arith}
+use Rattle.std.specs.Prelude.{MatchResult}
 use Rattle.std.proofs.lemmas.List.{append-nil}
 use Rattle.mm_base.specs.Faults.{counted}
 use Rattle.mm_base.specs.declared.fault.Memory.{Memory}
-use Rattle.mm_module.specs.Meaning.{Meaning, outputs_from}
+use Rattle.mm_module.specs.Meaning.{Meaning}
 use Rattle.mm_module.specs.Batch.{Batch, members_of, size_of, normal}
 use Rattle.mm_module.proofs.BatchLaws.{members_of-normal}
 use Rattle.mm_module.proofs.RunLaws.{length-outputs_from}
@@ -33,8 +33,8 @@ use Rattle.mm_world.specs.Levels.{Digests, by_digests}
 use Rattle.mm_world.specs.Folds as fold
 use Rattle.mm_world.specs.Folds.{Outcome, called, cause_of}
 use Rattle.mm_world.specs.Stands.{basic_digests, cell_at, StandsAt, grown, IsPlanned, plan_at, counted_by}
-use Rattle.mm_world.specs.Calls.{refused_as, told_as, broken_as, takes_effect, is_cut, Restores, Writes, CameTo, Forgoes, RunsAs}
-use Rattle.mm_world.proofs.Stepping.{GoesAt, goes_at, stands_read, stands_written, stands_unwritten, stands_restored, register_kept, on_quiet, made_quiet, on_restored, made_stopped}
+use Rattle.mm_world.specs.Calls.{refused_as, told_as, broken_as, takes_effect, Restores, Writes, CameTo, Forgoes, RunsAs}
+use Rattle.mm_world.proofs.Stepping.{GoesAt, goes_at, stands_read, stands_written, stands_unwritten, stands_restored, on_quiet, made_quiet, on_restored, made_stopped}
 use Rattle.mm_world.proofs.CallFinds.{IsFound, found_as, answer_as, found_here, length-link}
 use Rattle.mm_world.proofs.Outcomes.{found_then, called_by, called-found, called-refused, called-again, called-stopped, called-told, called-kept, called-lost}
 

@@ -1,5 +1,5 @@
 -- Basic: a call gives the same by digests as by lists.
-use Rattle.std.proofs.Common.{ℕ, ◌≡◌, ◌+◌, ◌-◌, Bool, true, false, List, [], ◌∷◌, ◌++◌, length, drop, refl, sym, ap, ◌∙◌, subst, arith, length-append}
+use Rattle.std.proofs.Common.{ℕ, ◌≡◌, ◌+◌, ◌-◌, Bool, true, false, List, [], ◌∷◌, ◌++◌, length, drop, refl, sym, ap, ◌∙◌, subst, arith}
 use Rattle.std.specs.Prelude.{if◌then◌else◌}
 use Rattle.std.specs.List.{Contains}
 use Rattle.std.proofs.lemmas.Grind.{flat_map-append}
@@ -19,6 +19,7 @@ use Rattle.mm_model.specs.Messages.{Within, history_messages, offer_messages}
 use Rattle.mm_model.specs.Places.{digest_of, IsPlaceOf}
 use Rattle.mm_model.proofs.Chains.{trail_push}
 use Rattle.mm_model.proofs.Digests.{summary-push}
+use Rattle.mm_model.proofs.MovedDigests.{total-push}
 use Rattle.mm_world.specs.Levels.{Answer, Digests, by_lists, by_digests, answer_by_lists, answer_by_digests}
 use Rattle.mm_world.specs.Folds.{Found}
 use Rattle.mm_world.specs.Laws.{Agrees}
@@ -29,9 +30,6 @@ requests-append bs cs = flat_map-append members_of bs cs
 
 pub requests-push : (bs : List Batch) (b : Batch) → requests_of (bs ++ b ∷ []) ≡ requests_of bs ++ members_of b
 requests-push bs b = requests-append bs (b ∷ []) ∙ ap (λ v. requests_of bs ++ v) (append-nil (members_of b))
-
-pub total-push : (bs : List Batch) (b : Batch) → total_of (bs ++ b ∷ []) ≡ total_of bs + size_of b
-total-push bs b = ap length (requests-push bs b) ∙ length-append (requests_of bs) (members_of b)
 
 drop-front : (xs ys : List (List ℕ)) → drop (length xs) (xs ++ ys) ≡ ys
 drop-front [] ys = refl

@@ -1,11 +1,11 @@
 -- An event commits at most 64 requests.
-use Rattle.std.proofs.Common.{◌≡◌, ℕ, ◌+◌, ◌≤◌, Bool, true, false, List, [], ◌∷◌, ◌++◌, length, map, Option, None, Some, Result, Ok, Err, refl, sym, ap, ◌∙◌, subst, arith}
+use Rattle.std.proofs.Common.{◌≡◌, ℕ, ◌+◌, ◌≤◌, Bool, true, false, List, [], ◌∷◌, ◌++◌, length, map, Option, None, Some, Result, Ok, Err, refl, ap, arith}
 use Rattle.std.specs.Prelude.{if◌then◌else◌, is_none, ◌||◌, nat_lt}
 use Rattle.std.specs.List.{list_any}
 use Rattle.std.proofs.lemmas.Bool.Decides.{nat_tests}
 use Rattle.mm_digest.specs.declared.variant.Variant.TheVariants.{Basic}
 use Rattle.mm_module.specs.Meaning.{Meaning}
-use Rattle.mm_module.specs.Batch.{Batch, members_of, size_of, text_of, normal}
+use Rattle.mm_module.specs.Batch.{Batch, size_of, text_of, normal}
 use Rattle.mm_module.proofs.BatchLaws.{members_of-normal}
 use Rattle.mm_platform.specs.declared.plan.Meddle.{Meddle}
 use Rattle.mm_platform.specs.declared.plan.Stop.{Stop}
@@ -24,7 +24,7 @@ use Rattle.mm_schedule.specs.Events.{Event, Ask, Checkpoint, Power, Extend}
 use Rattle.mm_world.specs.Offered.{offered_bytes}
 use Rattle.mm_world.specs.Walk.{Walked, walk, made_move, after_step, after_stop, stopped_at}
 use Rattle.mm_world.specs.Levels.{Digests, by_digests, digests_moved}
-use Rattle.mm_world.specs.Folds.{Found, Outcome, all_made, is_fresh, ended, called_with, called, asked, uncalled, outcome_of, found_at, seen_at, reading_steps}
+use Rattle.mm_world.specs.Folds.{Found, all_made, is_fresh, ended, called_with, called, asked, uncalled, outcome_of, found_at, seen_at, reading_steps}
 
 -- how many requests moves commit
 abbrev sizes_in : List Move → ℕ

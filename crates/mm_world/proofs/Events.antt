@@ -5,7 +5,7 @@ use Rattle.std.specs.List.{AllByRecursion, Contains}
 use Rattle.std.proofs.lemmas.List.{append-nil}
 use Rattle.std.proofs.lemmas.List.Elements.{Contains-append_right}
 use Rattle.mm_digest.specs.declared.variant.Variant.TheVariants.{Basic}
-use Rattle.mm_digest.specs.Messages.{start_message, start_of}
+use Rattle.mm_digest.specs.Messages.{start_message}
 use Rattle.mm_module.specs.Meaning.{Meaning}
 use Rattle.mm_module.specs.Batch.{Batch, normal}
 use Rattle.mm_seal.specs.Snapshot.{Content}
@@ -14,7 +14,6 @@ use Rattle.mm_seal.specs.declared.snapshot.Place.TheVariants.{Basic as InBasic, 
 use Rattle.mm_platform.specs.declared.plan.Meddle.{Meddle}
 use Rattle.mm_platform.specs.declared.plan.Stop.{Stop}
 use Rattle.mm_platform.specs.Standing.{due}
-use Rattle.mm_model.specs.Chains.{summary_of}
 use Rattle.mm_model.specs.Instance.{Instance, basic}
 use Rattle.mm_model.specs.History.{History, Move, Foreign, Power as PowerMove, first_history}
 use Rattle.mm_model.specs.Steps.{Reads, ask_steps, checkpoint_steps}
@@ -27,13 +26,14 @@ use Rattle.mm_schedule.specs.Events.{Event, Ask, Checkpoint, Power, Extend}
 use Rattle.mm_schedule.specs.declared.reply.Reply.{Reply}
 use Rattle.mm_schedule.specs.declared.reply.Reply.TheVariants as reply
 use Rattle.mm_schedule.specs.declared.reply.Cause.TheVariants as cause
+use Rattle.mm_model.proofs.Forms.{reads_zero}
 use Rattle.mm_world.specs.Offered.{offered_bytes, right_content}
 use Rattle.mm_world.specs.Walk.{Walked, walk, seen_in}
 use Rattle.mm_world.specs.Levels.{Digests, by_lists, by_digests, first_digests}
 use Rattle.mm_world.specs.Folds.{Outcome, all_made, Found, found_at, is_fresh, called_with, called, uncalled, asked, checkpointed, outcome_of, followed, first_issued, expected, replies_by_digests}
 use Rattle.mm_world.specs.Premises.{right_messages, asking_messages, event_messages, moves_messages, moves_of, messages_from, IsGenuineOffer, IsGenuineEvent, AreGenuine, IsClearRun, IsGenuineRun, run_messages}
 use Rattle.mm_world.specs.Laws.{AgreesThroughout}
-use Rattle.mm_world.proofs.Moving.{IsBasicMove, agrees-made, plain-made, committed_in, batches-made, register-nil}
+use Rattle.mm_world.proofs.Moving.{IsBasicMove, agrees-made, plain-made, committed_in, batches-made, summary-nil}
 use Rattle.mm_world.proofs.Walking.{walks_basic, checkpoint_reads, seen_basic, seen_commits}
 use Rattle.mm_world.proofs.Finding.{Holds, Asking, found_same, placed, right_of_found}
 use Rattle.mm_world.proofs.Calling.{listed_same, called_message}
@@ -225,10 +225,6 @@ follow_same meaning key all (event ∷ events) y d issued h clear listed genuine
       stands = later.stands;
     }
 
-summary-nil : (id : ℕ) → start_of Basic id ≡ summary_of id []
-unfolding summary_of
-summary-nil id = refl
-
 pub within_self : (front xs : List (List ℕ)) → Within xs (front ++ xs)
 within_self front [] = tt
 within_self front (x ∷ xs) =
@@ -240,7 +236,7 @@ within_self front (x ∷ xs) =
 starts : (meaning : Meaning) (key : List ℕ) (all : List (List ℕ)) → Contains all (start_message Basic meaning.id)
     → Holds all (basic meaning key) first_history (first_digests (basic meaning key))
 starts meaning key all first = record {
-  agrees = record { digest = summary-nil meaning.id; flag = refl; register = sym register-nil; count = refl };
+  agrees = record { digest = summary-nil meaning.id; flag = refl; register = sym reads_zero; count = refl };
   plain = record { closed = refl; shut = refl };
   listed = (first, tt);
 }

@@ -1,5 +1,5 @@
 -- Bytes that spell a snapshot have its fields at their places.
-use Rattle.std.proofs.Common.{ℕ, ◌≡◌, ◌+◌, ◌-◌, ◌<◌, ◌≤◌, ◌^◌, Bool, true, false, ◌&&◌, List, [], ◌∷◌, ◌++◌, length, take, drop, Result, Ok, Err, refl, sym, ap, ◌∙◌, subst, arith, length-append, append_assoc}
+use Rattle.std.proofs.Common.{ℕ, ◌≡◌, ◌+◌, ◌-◌, ◌≤◌, ◌^◌, Bool, true, false, ◌&&◌, List, ◌++◌, length, take, drop, Ok, Err, refl, sym, ap, ◌∙◌, subst, arith, length-append, append_assoc}
 use Rattle.std.specs.Prelude.{if◌then◌else◌, nat_le, ◌==◌, slice_index}
 use Rattle.std.specs.Int.{w64, from_be_bytes, to_be_bytes}
 use Rattle.std.specs.Str.{bytes_eq}
@@ -10,18 +10,16 @@ use Rattle.std.proofs.lemmas.Nat.{from_be_bytes-to_be_bytes_8}
 use Rattle.mm_base.specs.Limits.{limit_of}
 use Rattle.mm_digest.specs.declared.digest.Digest.{Digest}
 use Rattle.mm_digest.specs.declared.variant.Variant.{Variant}
-use Rattle.mm_digest.specs.declared.variant.Variant.TheVariants as variants
 use Rattle.mm_digest.specs.Messages.{variant_byte}
-use Rattle.mm_seal.specs.declared.snapshot.PartsFault.{PartsFault}
 use Rattle.mm_seal.specs.declared.snapshot.PartsFault.TheVariants.{Form, Kind}
 use Rattle.mm_seal.specs.declared.snapshot.Place.{Place}
 use Rattle.mm_seal.specs.declared.snapshot.Place.TheVariants.{Basic, Opt}
 use Rattle.mm_seal.specs.Fields.{eight_bytes, four_bytes}
 use Rattle.mm_seal.specs.Body.{place_length}
-use Rattle.mm_seal.specs.Snapshot.{Content, Snapshot, IsContent, IsSnapshot, IsPlace, Spells, IsOfKind, IsNoSnapshot, IsOtherKind, ReadsParts, place_spelling, front_head, snapshot_front, snapshot_spelling, variant_of}
+use Rattle.mm_seal.specs.Snapshot.{Content, Snapshot, IsContent, IsPlace, Spells, IsOfKind, IsNoSnapshot, ReadsParts, place_spelling, front_head, snapshot_front, snapshot_spelling, variant_of}
 use Rattle.mm_seal.proofs.FieldLaws.{length-eight_bytes, length-four_bytes}
-use Rattle.mm_seal.proofs.SnapshotLaws.{length-place_spelling, length-snapshot_front}
-use Rattle.mm_world.specs.Offered.{digest_at, place_in, fields_of, snapshot_with, is_bounded, is_spelled_by, same_variant, is_of_kind, read_as, parts_of}
+use Rattle.mm_seal.proofs.SnapshotLaws.{length-place_spelling}
+use Rattle.mm_world.specs.Offered.{fields_of, snapshot_with, is_bounded, is_spelled_by, same_variant, is_of_kind, parts_of}
 use Rattle.mm_world.proofs.Reading.{spells_read}
 
 pub take_front : (n : ℕ) (xs ys : List ℕ) → length xs ≡ n → take n (xs ++ ys) ≡ xs

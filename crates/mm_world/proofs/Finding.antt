@@ -22,6 +22,7 @@ use Rattle.mm_model.specs.declared.refusal.Refusal.TheVariants as refusal
 use Rattle.mm_model.proofs.Basic.{basic_is_judged}
 use Rattle.mm_model.proofs.Batches.{at_the_end, before_the_last}
 use Rattle.mm_basic.specs.Order.{admitted, weighed, examined}
+use Rattle.mm_basic.proofs.Verdicts.{weighed_alike}
 use Rattle.mm_world.specs.Offered.{parts_of, content_if_right, right_content}
 use Rattle.mm_world.specs.Levels.{Digests, by_lists, by_digests}
 use Rattle.mm_world.specs.Folds.{Found, found_with, found_from, found_at}
@@ -59,12 +60,6 @@ verdict_same meaning key all y d offered b clear h called names =
       foreign = no_counting zero_bytes y.closed y.is_open y.items (b ∷ y.batches) h.plain.closed h.plain.shut;
     }) names
 
-pub weighed_same : (spelled tagged : Bool) (v w : Verdict) (fits : Bool) → (spelled ≡ true → tagged ≡ true → v ≡ w)
-    → weighed spelled tagged v fits ≡ weighed spelled tagged w fits
-weighed_same false tagged v w fits e = refl
-weighed_same true false v w fits e = refl
-weighed_same true true v w fits e = ap (λ x. admitted x fits) (e refl refl)
-
 pub right_is : (i : Instance) (parts : Result Snapshot PartsFault) (snapshot : Snapshot) → parts ≡ Ok snapshot
     → i.meaning.is_spelled snapshot.content.state ≡ true → bytes_eq snapshot.tag (tag_of i.key snapshot.content) ≡ true
     → content_if_right i parts ≡ Some snapshot.content
@@ -94,7 +89,7 @@ found_from_same meaning key all y d bytes b (Err Form) e h asking = refl
 found_from_same meaning key all y d bytes b (Err Kind) e h asking = refl
 found_from_same meaning key all y d bytes b (Ok snapshot) e h asking =
     ap (found_with snapshot.content)
-    (weighed_same (meaning.is_spelled snapshot.content.state) (bytes_eq snapshot.tag (tag_of key snapshot.content)) _ _ _
+    (weighed_alike (meaning.is_spelled snapshot.content.state) (bytes_eq snapshot.tag (tag_of key snapshot.content)) _ _ _
     (λ state tagged. let named = right_named meaning key all y bytes b snapshot asking e state tagged in
     verdict_same meaning key all y d snapshot.content b asking.clear h named.1 named.0))
 

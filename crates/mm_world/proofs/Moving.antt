@@ -2,15 +2,17 @@
 use Rattle.std.proofs.Common.{ℕ, ◌≡◌, false, List, [], ◌∷◌, ◌++◌, refl, sym, ap, ◌∙◌, arith, append_assoc}
 use Rattle.std.proofs.lemmas.List.{append-nil}
 use Rattle.std.specs.List.{AllByRecursion}
-use Rattle.mm_digest.specs.Messages.{zero_bytes, extended_of}
+use Rattle.mm_digest.specs.Messages.{zero_bytes, extended_of, start_of}
 use Rattle.mm_module.specs.Meaning.{Meaning}
 use Rattle.mm_module.specs.Batch.{Batch}
-use Rattle.mm_model.specs.Chains.{link, register_of}
+use Rattle.mm_model.specs.Chains.{link, register_of, summary_of}
 use Rattle.mm_model.specs.Instance.{basic}
 use Rattle.mm_model.specs.History.{History, Value, Move, Commit, Foreign, Placed, Reset, Close, Power, moved, values_of}
 use Rattle.mm_model.proofs.Batches.{total-append, total-cons}
 use Rattle.mm_model.proofs.Digests.{summary-push, register-push}
 use Rattle.mm_model.proofs.Histories.{values_of-append}
+use Rattle.mm_model.proofs.Forms.{reads_zero}
+use Rattle.mm_digest.specs.declared.variant.Variant.TheVariants.{Basic}
 use Rattle.mm_world.specs.Levels.{Digests, by_lists, by_digests, digests_moved}
 use Rattle.mm_world.specs.Folds.{all_made}
 use Rattle.mm_world.specs.Laws.{Agrees}
@@ -29,9 +31,9 @@ pub record IsPlain (y : History) : Type 0 where
   pub closed : y.closed ≡ []
   pub shut : y.is_open ≡ false
 
-pub register-nil : register_of [] ≡ zero_bytes
-unfolding register_of
-register-nil = refl
+pub summary-nil : (id : ℕ) → start_of Basic id ≡ summary_of id []
+unfolding summary_of
+summary-nil id = refl
 
 pub agrees-moved : (meaning : Meaning) (key : List ℕ) (y : History) (d : Digests) (m : Move) → IsBasicMove m
     → Agrees (basic meaning key) y d → Agrees (basic meaning key) (moved (basic meaning key) y m) (digests_moved (basic meaning key) d m)
@@ -54,7 +56,7 @@ agrees-moved meaning key y d (Foreign v) is a =
       count = a.count;
     }
 agrees-moved meaning key y d Power is a =
-    record { digest = a.digest; flag = a.flag; register = sym register-nil; count = a.count }
+    record { digest = a.digest; flag = a.flag; register = sym reads_zero; count = a.count }
 agrees-moved meaning key y d (Placed b) is a = absurd is
 agrees-moved meaning key y d Reset is a = absurd is
 agrees-moved meaning key y d Close is a = absurd is

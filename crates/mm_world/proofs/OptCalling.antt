@@ -21,13 +21,15 @@ use Rattle.mm_model.specs.Steps.{Step, Reads, Changes, Writes, ask_steps}
 use Rattle.mm_model.specs.Places.{digest_of, issued_place}
 use Rattle.mm_model.proofs.Digests.{register-push}
 use Rattle.mm_model.proofs.Histories.{own_values-append, values_of-own}
+use Rattle.mm_model.proofs.Forms.{reads_zero}
+use Rattle.mm_model.proofs.MovedDigests.{total-push}
 use Rattle.mm_world.specs.Walk.{Walked, made_move, after_stop, after_step, stopped_at, walk}
 use Rattle.mm_world.specs.Levels.{Answer, Digests, by_lists, answer_by_lists, answer_by_digests, place_then}
 use Rattle.mm_world.specs.Folds.{all_made}
 use Rattle.mm_world.specs.Laws.{Agrees}
-use Rattle.mm_world.proofs.Moving.{committed_in, register-nil}
-use Rattle.mm_world.proofs.Walking.{Commits, nothing, batch, committed-append, foreign_first, committed-stop, made_unless}
-use Rattle.mm_world.proofs.Calling.{requests-push, total-push, drop-at}
+use Rattle.mm_world.proofs.Moving.{committed_in}
+use Rattle.mm_world.proofs.Walking.{Commits, nothing, batch, committed-append, foreign_first, committed-stop, made_unless, committed-foreign}
+use Rattle.mm_world.proofs.Calling.{requests-push, drop-at}
 use Rattle.mm_world.proofs.OptHolding.{committed_batches}
 use Rattle.mm_world.proofs.OptWalking.{taking, path_end}
 use Rattle.mm_world.proofs.OptFinding.{IsLive}
@@ -56,10 +58,6 @@ commit_last false true s stop front b one quiet h =
 commit_last false false s stop front b one quiet h =
     nothing (committed-append (front false) (after_stop stop) ∙ ap (λ v. v ++ committed_in (after_stop stop)) quiet ∙ committed-stop stop) (λ e. cc)
 
-quiet_values : (values : List (List ℕ)) → committed_in (map Foreign values) ≡ []
-quiet_values [] = refl
-quiet_values (v ∷ values) = quiet_values values
-
 quiet_reset : (made : Bool) (values : List (List ℕ)) → committed_in (map Foreign values ++ made_move made Reset) ≡ []
 quiet_reset true values = foreign_first values (Reset ∷ [])
 quiet_reset false values = foreign_first values []
@@ -72,23 +70,23 @@ quiet_placed false values b = foreign_first values []
 pub asks_commit : (stop : Stop) (meddles : List Meddle) (flag fresh : Bool) (b : Batch)
     → Commits b fresh (walk stop meddles 1 (ask_steps Opt flag fresh b))
 asks_commit stop meddles true false b =
-    quiet_step (is_none (fault_at stop 1)) Reads stop (map Foreign (due 1 meddles)) _ b false (quiet_values (due 1 meddles))
-    (quiet_step (is_none (fault_at stop 2)) Reads stop (map Foreign (due 2 meddles)) finished b false (quiet_values (due 2 meddles)) (nothing refl (λ _. refl)))
+    quiet_step (is_none (fault_at stop 1)) Reads stop (map Foreign (due 1 meddles)) _ b false (committed-foreign (due 1 meddles))
+    (quiet_step (is_none (fault_at stop 2)) Reads stop (map Foreign (due 2 meddles)) finished b false (committed-foreign (due 2 meddles)) (nothing refl (λ _. refl)))
 asks_commit stop meddles false false b =
-    quiet_step (is_none (fault_at stop 1)) Reads stop (map Foreign (due 1 meddles)) _ b false (quiet_values (due 1 meddles))
-    (quiet_step (is_none (fault_at stop 2)) Reads stop (map Foreign (due 2 meddles)) finished b false (quiet_values (due 2 meddles)) (nothing refl (λ _. refl)))
+    quiet_step (is_none (fault_at stop 1)) Reads stop (map Foreign (due 1 meddles)) _ b false (committed-foreign (due 1 meddles))
+    (quiet_step (is_none (fault_at stop 2)) Reads stop (map Foreign (due 2 meddles)) finished b false (committed-foreign (due 2 meddles)) (nothing refl (λ _. refl)))
 asks_commit stop meddles true true b =
-    quiet_step (is_none (fault_at stop 1)) Reads stop (map Foreign (due 1 meddles)) _ b true (quiet_values (due 1 meddles))
-    (quiet_step (is_none (fault_at stop 2)) Reads stop (map Foreign (due 2 meddles)) _ b true (quiet_values (due 2 meddles))
+    quiet_step (is_none (fault_at stop 1)) Reads stop (map Foreign (due 1 meddles)) _ b true (committed-foreign (due 1 meddles))
+    (quiet_step (is_none (fault_at stop 2)) Reads stop (map Foreign (due 2 meddles)) _ b true (committed-foreign (due 2 meddles))
     (commit_last (is_none (fault_at stop 3)) (is_made_at stop 3) (Changes (Commit b)) stop (λ made. map Foreign (due 3 meddles) ++ made_move made (Commit b)) b
     (foreign_first (due 3 meddles) (Commit b ∷ [])) (foreign_first (due 3 meddles) []) (made_unless stop 3)))
 asks_commit stop meddles false true b =
-    quiet_step (is_none (fault_at stop 1)) Reads stop (map Foreign (due 1 meddles)) _ b true (quiet_values (due 1 meddles))
-    (quiet_step (is_none (fault_at stop 2)) Reads stop (map Foreign (due 2 meddles)) _ b true (quiet_values (due 2 meddles))
+    quiet_step (is_none (fault_at stop 1)) Reads stop (map Foreign (due 1 meddles)) _ b true (committed-foreign (due 1 meddles))
+    (quiet_step (is_none (fault_at stop 2)) Reads stop (map Foreign (due 2 meddles)) _ b true (committed-foreign (due 2 meddles))
     (quiet_step (is_none (fault_at stop 3)) (Changes Reset) stop (map Foreign (due 3 meddles) ++ made_move (is_made_at stop 3) Reset) _ b true (quiet_reset (is_made_at stop 3) (due 3 meddles))
     (quiet_step (is_none (fault_at stop 4)) (Changes (PlacedMove b)) stop (map Foreign (due 4 meddles) ++ made_move (is_made_at stop 4) (PlacedMove b)) _ b true (quiet_placed (is_made_at stop 4) (due 4 meddles) b)
     (commit_last (is_none (fault_at stop 5)) (is_made_at stop 5) (Writes (Commit b)) stop (λ made. made_move made (Commit b) ++ map Foreign (due 5 meddles)) b
-    (ap (λ v. b ∷ v) (quiet_values (due 5 meddles))) (quiet_values (due 5 meddles)) (made_unless stop 5)))))
+    (ap (λ v. b ∷ v) (committed-foreign (due 5 meddles))) (committed-foreign (due 5 meddles)) (made_unless stop 5)))))
 
 pub batches-made : (meaning : Meaning) (key barrier : List ℕ) (moves : List Move) (y : History)
     → (all_made (by_lists (opt meaning key barrier)) y moves).batches ≡ y.batches ++ committed_in moves
@@ -143,7 +141,7 @@ end_place meaning key barrier meddles y d b false false f live a =
     let last : taking (moved i placed (Commit b)) (due 5 meddles) ≡ taking (committed Opt false placed b) (due 5 meddles) =
     ap (λ g. taking (committed Opt g placed b) (due 5 meddles)) f in
     let register : extended_of zero_bytes (guard barrier b) ≡ register_of (own_values barrier (b ∷ [])) =
-    ap (λ r. extended_of r (guard barrier b)) (sym register-nil) ∙ sym (register-push [] (guard barrier b)) in
+    ap (λ r. extended_of r (guard barrier b)) (sym reads_zero) ∙ sym (register-push [] (guard barrier b)) in
     ap (λ g. place_then Opt g false i d b) (a.flag ∙ f)
     ∙ (λ j. InOpt (digest_of (a.digest j)) (digest_of (register j)))
     ∙ ap (λ (x : History). issued_place Opt x.is_open i x) (sym last)

@@ -22,12 +22,13 @@ use Rattle.mm_model.specs.declared.refusal.Refusal.TheVariants as refusal
 use Rattle.mm_model.proofs.OptJudge.{opt_is_judged, lost_is_zero}
 use Rattle.mm_model.proofs.Batches.{at_the_end, before_the_last}
 use Rattle.mm_basic.specs.Order.{admitted, examined}
+use Rattle.mm_basic.proofs.Verdicts.{weighed_alike}
 use Rattle.mm_world.specs.Offered.{parts_of}
 use Rattle.mm_world.specs.Levels.{Digests, by_lists, by_digests, is_lost_life}
 use Rattle.mm_world.specs.Folds.{Found, found_with, found_from, found_at}
 use Rattle.mm_world.specs.Premises.{right_messages}
 use Rattle.mm_world.proofs.Reading.{is_right}
-use Rattle.mm_world.proofs.Finding.{Asking, weighed_same, right_is, weighed_tells, found_with_tells, admitted_tells}
+use Rattle.mm_world.proofs.Finding.{Asking, right_is, weighed_tells, found_with_tells, admitted_tells}
 use Rattle.mm_world.proofs.OptHolding.{Holds}
 
 -- what each element of a list is, an element of it is
@@ -89,7 +90,7 @@ found_from_same meaning key barrier all others asked y d bytes b (Err Form) e c 
 found_from_same meaning key barrier all others asked y d bytes b (Err Kind) e c is_asked h asking = refl
 found_from_same meaning key barrier all others asked y d bytes b (Ok snapshot) e c is_asked h asking =
     ap (found_with snapshot.content)
-    (weighed_same (meaning.is_spelled snapshot.content.state) (bytes_eq snapshot.tag (tag_of key snapshot.content)) _ _ _
+    (weighed_alike (meaning.is_spelled snapshot.content.state) (bytes_eq snapshot.tag (tag_of key snapshot.content)) _ _ _
     (λ state tagged. let named = right_named meaning key barrier all y bytes b snapshot asking e state tagged in
     verdict_same meaning key barrier all others asked y d snapshot.content b c h is_asked named.1 named.0))
 

@@ -20,6 +20,7 @@ use Rattle.mm_model.specs.declared.refusal.Refusal.{Refusal}
 use Rattle.mm_model.proofs.Lists.{each_left}
 use Rattle.mm_schedule.specs.declared.reply.Way.{Way}
 use Rattle.mm_schedule.specs.declared.reply.Reply.TheVariants as reply
+use Rattle.mm_model.proofs.MovedDigests.{total-push}
 use Rattle.mm_world.specs.Walk.{Walked, after_stop, after_step, stopped_at, walk, seen_in, commits}
 use Rattle.mm_world.specs.Levels.{Answer, Digests, by_lists, by_digests, place_then}
 use Rattle.mm_world.specs.Folds.{Outcome, all_made, Found, is_fresh, ended}
@@ -27,7 +28,7 @@ use Rattle.mm_world.specs.Premises.{moves_messages}
 use Rattle.mm_world.specs.Laws.{Agrees}
 use Rattle.mm_world.proofs.Moving.{committed_in}
 use Rattle.mm_world.proofs.Walking.{Commits, nothing, batch, commits-none}
-use Rattle.mm_world.proofs.Calling.{ended_batches, total-push}
+use Rattle.mm_world.proofs.Calling.{ended_batches}
 use Rattle.mm_world.proofs.Following.{broken_same, again_of, fresh_of}
 use Rattle.mm_world.proofs.OptHolding.{Holds}
 use Rattle.mm_world.proofs.OptWalking.{AllFine, AreOutside, walk_fine, taking, foreign_made, path_end, path_is}

@@ -25,8 +25,8 @@ use Rattle.mm_model.proofs.Moves.{open_current}
 use Rattle.mm_model.proofs.OptJudge.{shut_current}
 use Rattle.mm_model.proofs.Segments.{same_halves, joined-append, not_empty, true_not_false}
 use Rattle.mm_model.proofs.Histories.{length-batches_in}
+use Rattle.mm_model.proofs.Forms.{reads_zero}
 use Rattle.mm_world.specs.Folds.{Found}
-use Rattle.mm_world.proofs.Moving.{register-nil}
 use Rattle.mm_world.proofs.OptMessages.{Commits, clean_open, renamed-last}
 use Rattle.mm_world.proofs.OptWalking.{taking, Ready}
 use Rattle.mm_world.proofs.OptFinding.{Placed, IsLive}
@@ -84,7 +84,7 @@ commits_in meaning key barrier all y b named (InOpt a e) true f sound whole is l
 commits_in meaning key barrier all y b named (InOpt a e) false f sound whole is listed =
     let v = guard barrier b in
     let none : zero_bytes ≡ register_of (own_values barrier y.current) =
-    sym register-nil ∙ ap (λ c. register_of (own_values barrier c)) (sym (shut_current y sound f)) in record {
+    sym reads_zero ∙ ap (λ c. register_of (own_values barrier c)) (sym (shut_current y sound f)) in record {
       guards = listed.0;
       run = subst (λ (x : List ℕ). Contains all (extended_message x v)) none (zero_listed all a.bytes e.bytes v listed.1);
     }

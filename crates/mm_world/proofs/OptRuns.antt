@@ -25,13 +25,13 @@ use Rattle.mm_schedule.specs.declared.reply.Way.{Way}
 use Rattle.mm_schedule.specs.declared.reply.Reply.{Reply}
 use Rattle.mm_schedule.specs.declared.reply.Reply.TheVariants as reply
 use Rattle.mm_schedule.specs.declared.reply.Cause.TheVariants as cause
+use Rattle.mm_model.proofs.Forms.{reads_zero}
 use Rattle.mm_world.specs.Offered.{offered_bytes, right_content}
 use Rattle.mm_world.specs.Walk.{Walked, stopped_at, walk, way_of, closes}
 use Rattle.mm_world.specs.Levels.{Level, Digests, by_lists, by_digests, first_digests, is_lost_life}
 use Rattle.mm_world.specs.Folds.{Outcome, all_made, uncalled, asked as asked_outcome, outcome, checkpoint_reply, checkpoint_ended, checkpointed, outcome_of, followed, first_issued, expected, replies_by_digests}
 use Rattle.mm_world.specs.Premises.{moves_messages, moves_of, ask_moves, right_messages, asking_messages, event_messages, messages_from, foreign_in, foreign_values, batches_in, asked_batches, IsGenuineOffer, IsGenuineEvent, AreGenuine, IsClearRun, IsGenuineRun, run_messages}
 use Rattle.mm_world.specs.Laws.{AgreesThroughout}
-use Rattle.mm_world.proofs.Moving.{register-nil}
 use Rattle.mm_world.proofs.Events.{within_front, within_back, within_self, unless_long}
 use Rattle.mm_world.proofs.OptHolding.{Holds, foreign_fine, power_fine}
 use Rattle.mm_world.proofs.OptWalking.{AllFine, AreOutside, holds_made, walk_fine, taking}
@@ -326,7 +326,7 @@ anchor-nil id = refl
 starts : (meaning : Meaning) (key barrier : List ℕ) (all others : List (List ℕ)) (asked : List Batch) → Contains all (start_message Opt meaning.id)
     → Holds all others asked (opt meaning key barrier) first_history (first_digests (opt meaning key barrier))
 starts meaning key barrier all others asked first = record {
-  agrees = record { digest = anchor-nil meaning.id; flag = refl; register = sym register-nil; count = refl };
+  agrees = record { digest = anchor-nil meaning.id; flag = refl; register = sym reads_zero; count = refl };
   sound = first_sound;
   outside = first_outside others;
   listed = (first, tt);

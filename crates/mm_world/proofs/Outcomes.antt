@@ -1,8 +1,7 @@
 -- The outcomes of calls of Basic, by where the call is stopped and by what it finds.
-use Rattle.std.proofs.Common.{◌≡◌, ℕ, ◌+◌, Bool, true, false, List, [], ◌∷◌, ◌++◌, map, Option, None, Some, Result, Ok, Err, refl, sym, ap, ◌∙◌}
+use Rattle.std.proofs.Common.{◌≡◌, ℕ, ◌+◌, Bool, true, false, List, [], ◌∷◌, ◌++◌, map, Option, None, Some, Result, Ok, Err, refl, ap, ◌∙◌}
 use Rattle.std.specs.Prelude.{if◌then◌else◌, is_none}
 use Rattle.std.specs.List.{fold}
-use Rattle.mm_digest.specs.Messages.{zero_bytes}
 use Rattle.mm_module.specs.Meaning.{Meaning}
 use Rattle.mm_module.specs.Batch.{Batch, size_of}
 use Rattle.mm_platform.specs.declared.fault.StepFault.{StepFault}
@@ -14,8 +13,8 @@ use Rattle.mm_platform.specs.Steps.{fault_at, is_made_at}
 use Rattle.mm_seal.specs.Snapshot.{Content}
 use Rattle.mm_model.specs.Chains.{link}
 use Rattle.mm_model.specs.Instance.{Instance, basic}
-use Rattle.mm_model.specs.History.{Move, Commit, Foreign, Placed, Reset, Close, Power}
-use Rattle.mm_model.specs.Steps.{Step, Reads, Changes, Writes, ask_steps}
+use Rattle.mm_model.specs.History.{Move, Commit, Foreign}
+use Rattle.mm_model.specs.Steps.{Step, Reads, Writes, ask_steps}
 use Rattle.mm_model.specs.declared.refusal.Refusal.{Refusal}
 use Rattle.mm_schedule.specs.declared.reply.Way.{Way}
 use Rattle.mm_schedule.specs.declared.reply.Reply.{Reply}

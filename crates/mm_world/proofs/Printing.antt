@@ -1,7 +1,6 @@
 -- Each reply can be printed: an output is a line, and no position is past the last.
-use Rattle.std.proofs.Common.{◌≡◌, ℕ, ◌+◌, ◌≤◌, ◌^◌, Bool, true, false, List, [], ◌∷◌, length, IsTrue, ◌++◌, Option, None, Some, Result, Ok, Err, IfOk, OnErr, refl, sym, ap, ◌∙◌, subst, arith, length-append}
-use Rattle.std.specs.Prelude.{All, nat_le, if◌then◌else◌}
-use Rattle.std.proofs.lemmas.Bool.Decides.{nat_tests}
+use Rattle.std.proofs.Common.{◌≡◌, ℕ, ◌+◌, ◌≤◌, ◌^◌, Bool, true, false, List, [], ◌∷◌, length, IsTrue, ◌++◌, Option, None, Some, Result, Ok, Err, IfOk, OnErr, refl, sym, ap, subst, arith, length-append}
+use Rattle.std.specs.Prelude.{All, if◌then◌else◌}
 use Rattle.std.proofs.lemmas.List.Elements.{All-nil, All-cons}
 use Rattle.mm_digest.specs.declared.variant.Variant.TheVariants.{Basic}
 use Rattle.mm_module.specs.Meaning.{Meaning, IsLawful, outputs_from}
@@ -12,7 +11,7 @@ use Rattle.mm_platform.specs.declared.plan.Stop.{Stop}
 use Rattle.mm_seal.specs.declared.snapshot.PartsFault.{PartsFault}
 use Rattle.mm_seal.specs.declared.snapshot.PartsFault.TheVariants.{Form, Kind}
 use Rattle.mm_seal.specs.Snapshot.{Content, Snapshot}
-use Rattle.mm_model.specs.Instance.{Instance, basic}
+use Rattle.mm_model.specs.Instance.{basic}
 use Rattle.mm_model.specs.Long.{is_long}
 use Rattle.mm_model.specs.declared.refusal.Refusal.{Refusal}
 use Rattle.mm_model.specs.declared.verdict.Verdict.{Verdict}
@@ -25,12 +24,13 @@ use Rattle.mm_schedule.specs.Replies.{IsPrintable}
 use Rattle.mm_base.specs.declared.fault.Memory.{Memory}
 use Rattle.mm_modules.specs.Modules.{meaning_of}
 use Rattle.mm_modules.specs.ModulesLaws.{any_is_lawful}
+use Rattle.mm_world.proofs.Reading.{le_tells}
 use Rattle.mm_world.specs.Held.{Held, world_key, outcome_in, Follows, Lacked}
 use Rattle.mm_world.specs.Offered.{offered_bytes, parts_of}
 use Rattle.mm_model.specs.Steps.{ask_steps}
-use Rattle.mm_world.specs.Walk.{Walked, walk, closes}
+use Rattle.mm_world.specs.Walk.{Walked, walk}
 use Rattle.mm_world.specs.Levels.{Digests, by_digests}
-use Rattle.mm_world.specs.Folds.{Found, Outcome, all_made, is_fresh, found_with, found_from, found_at, broken_reply, ended, called_with, called, asked, checkpoint_ended, checkpointed, outcome_of, seen_at, reading_steps}
+use Rattle.mm_world.specs.Folds.{Found, all_made, is_fresh, found_with, found_from, found_at, broken_reply, ended, called_with, called, asked, checkpoint_ended, outcome_of, seen_at, reading_steps}
 use Rattle.mm_world.specs.Folds.{uncalled}
 use Rattle.mm_schedule.specs.declared.reply.Reply.TheVariants as reply
 use Rattle.mm_schedule.specs.declared.reply.Cause.TheVariants as cause
@@ -52,9 +52,6 @@ record IsAccepted (meaning : Meaning) (offered : Content) (b : Batch) : Type 0 w
 -- what is found, where it isn't refused
 IsFoundWell : Meaning → Batch → Result Found Refusal → Type 0
 IsFoundWell meaning b found = (it : Found) → found ≡ Ok it → IsAccepted meaning it.offered b
-
-le_true : (a b : ℕ) → nat_le a b ≡ true → a ≤ b
-le_true a b e = grind (arith, nat_tests)
 
 accepted : (s t : Bool) (v : Verdict) (fits : Bool) (again : Bool) → weighed s t v fits ≡ Ok again → (s ≡ true) × (fits ≡ true)
 accepted false t v fits again e = absurd (cc)
@@ -83,7 +80,7 @@ well_from meaning key seen b (Ok snapshot) =
     well_with meaning b snapshot.content (examined meaning key snapshot b ((by_digests (basic meaning key)).verdict seen snapshot.content b))
     (λ (again : Bool) e.
     let a = accepted _ _ _ _ again e in
-    record { spelled = a.0; fits = le_true (snapshot.content.position + size_of b) (2 ^ 48) a.1 })
+    record { spelled = a.0; fits = le_tells (snapshot.content.position + size_of b) (2 ^ 48) a.1 })
 
 well_by : (meaning : Meaning) (b : Batch) (lost : Bool) (why : Refusal) (found : Result Found Refusal) → IsFoundWell meaning b found
     → IsFoundWell meaning b (if lost then Err why else found)

@@ -40,7 +40,7 @@ parts_tell variant id bytes snapshot e =
       kind = ap (is_of_kind variant id) t.0 ∙ t.2;
     }
 
-le_tells : (a b : ℕ) → nat_le a b ≡ true → a ≤ b
+pub le_tells : (a b : ℕ) → nat_le a b ≡ true → a ≤ b
 le_tells a b e = grind (arith, nat_tests)
 
 eq_tells : (a b : ℕ) → (a == b) ≡ true → a ≡ b

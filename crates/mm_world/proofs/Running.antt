@@ -28,6 +28,7 @@ use Rattle.mm_schedule.specs.declared.reply.Cause.TheVariants as cause
 use Rattle.mm_schedule.specs.declared.reply.Way.{Way}
 use Rattle.mm_schedule.specs.declared.reply.Reply.{Reply}
 use Rattle.mm_schedule.specs.declared.reply.Reply.TheVariants.{Told, No, Kept, Nothing, Closed, Checkpointed, Power as PowerReply, Extended}
+use Rattle.mm_model.proofs.MovedDigests.{total-push}
 use Rattle.mm_world.specs.Offered.{offered_bytes, parts_of}
 use Rattle.mm_world.specs.Walk.{Walked, walk, seen_in, commits, closes}
 use Rattle.mm_world.specs.Levels.{Answer, by_lists, answer_by_lists}
@@ -35,7 +36,7 @@ use Rattle.mm_world.specs.Folds.{Outcome, all_made, Found, found_from, found_at,
 use Rattle.mm_world.proofs.Moving.{committed_in, batches-made}
 use Rattle.mm_world.proofs.Walking.{Commits, nothing, batch, walks_basic, commits-none, seen_commits, checkpoint_reads}
 use Rattle.mm_world.proofs.Finding.{admitted_tells, weighed_tells, found_with_tells}
-use Rattle.mm_world.proofs.Calling.{requests-push, total-push, answer-lists}
+use Rattle.mm_world.proofs.Calling.{requests-push, answer-lists}
 use Rattle.mm_world.proofs.Following.{again_of, fresh_of}
 
 -- a repeat is asked of the last batch

@@ -38,7 +38,7 @@ committed-append (Reset ∷ xs) ys = committed-append xs ys
 committed-append (Close ∷ xs) ys = committed-append xs ys
 committed-append (Power ∷ xs) ys = committed-append xs ys
 
-committed-foreign : (values : List (List ℕ)) → committed_in (map Foreign values) ≡ []
+pub committed-foreign : (values : List (List ℕ)) → committed_in (map Foreign values) ≡ []
 committed-foreign [] = refl
 committed-foreign (v ∷ values) = committed-foreign values
 

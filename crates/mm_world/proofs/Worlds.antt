@@ -1,5 +1,5 @@
 -- A world goes on as its platform does.
-use Rattle.std.proofs.Common.{◌≡◌, ℕ, ◌+◌, ◌-◌, ◌<◌, ◌≤◌, ◌^◌, Bool, true, false, List, [], ◌∷◌, ◌++◌, length, take, drop, Option, None, Some, Result, Ok, Err, IfOk, OnErr, inl, inr, refl, sym, ap, ◌∙◌, subst, arith, length-append}
+use Rattle.std.proofs.Common.{◌≡◌, ℕ, ◌+◌, ◌-◌, ◌<◌, ◌≤◌, ◌^◌, Bool, true, false, List, [], ◌∷◌, ◌++◌, length, take, drop, Option, None, Some, Result, Ok, Err, IfOk, OnErr, inl, refl, sym, ap, ◌∙◌, subst, arith, length-append}
 use Rattle.std.specs.Prelude.{option_to_list, min, is_some}
 use Rattle.mm_base.specs.declared.fault.Memory.{Memory}
 use Rattle.mm_digest.specs.Messages.{zero_bytes, extended_of, start_of}
@@ -11,27 +11,25 @@ use Rattle.mm_seal.specs.Cell.{cell_spelling}
 use Rattle.mm_platform.specs.declared.fault.StepFault.{StepFault}
 use Rattle.mm_platform.specs.declared.plan.Meddle.{Meddle}
 use Rattle.mm_platform.specs.declared.plan.Stop.{Stop}
-use Rattle.mm_platform.specs.Standing.{Item, Standing}
+use Rattle.mm_platform.specs.Standing.{Standing}
 use Rattle.mm_platform.specs.Steps.{beside, Cycles, EndsCycle, items_cycled}
 use Rattle.mm_platform.specs.Memory.{fresh}
-use Rattle.mm_platform.specs.Told.{quiet_plan}
-use Rattle.mm_model.specs.Chains.{summary_of}
 use Rattle.mm_model.specs.History.{first_history}
-use Rattle.mm_model.specs.Instance.{basic}
 use Rattle.mm_model.specs.Standing.{cell_of, issued_bytes, register_reads}
 use Rattle.mm_modules.specs.declared.any.AnyModule.{AnyModule}
 use Rattle.mm_modules.specs.Modules.{meaning_of}
 use Rattle.mm_schedule.specs.declared.event.Offer.{Offer}
 use Rattle.mm_schedule.specs.declared.reply.Reply.{Reply}
 use Rattle.mm_schedule.specs.declared.reply.Reply.TheVariants as reply
-use Rattle.mm_schedule.specs.Events.{Event, Ask, Checkpoint, Power, Extend}
+use Rattle.mm_schedule.specs.Events.{Ask, Checkpoint, Power, Extend}
+use Rattle.mm_world.proofs.Moving.{summary-nil}
 use Rattle.mm_world.specs.declared.call.Called.{Called}
-use Rattle.mm_world.specs.Levels.{Digests, by_digests, first_digests}
+use Rattle.mm_world.specs.Levels.{Digests}
 use Rattle.mm_world.specs.Folds.{Outcome, first_issued}
 use Rattle.mm_world.specs.Offered.{offered_bytes}
-use Rattle.mm_world.specs.Stands.{basic_digests, cell_at, StandsAt, grown}
+use Rattle.mm_world.specs.Stands.{cell_at, StandsAt, grown}
 use Rattle.mm_world.specs.Asks.{Came, Lacks, AsksAs, ChecksAs, quiet_as, called_by}
-use Rattle.mm_world.specs.Held.{Held, world_key, world_of, instance_of, first_held, summary_in, value_in, digests_in, held_in, outcome_in, IsQuiet, HoldsWorld, IsSettled, within_bits, Follows, Lacked}
+use Rattle.mm_world.specs.Held.{Held, rising_from, world_key, world_of, first_held, summary_in, value_in, held_in, outcome_in, IsQuiet, IsSettled, Follows, Lacked}
 use Rattle.mm_world.proofs.Fields.{take_front}
 use Rattle.mm_world.proofs.Stepping.{reads_of, reads-beside, cycled}
 
@@ -291,12 +289,8 @@ follows_extend machine old new issued committed value world is s e =
     (sym e) (follows_extended machine old issued committed value s))
 
 -- a new world
-summary-first : (id : ℕ) → summary_of id [] ≡ start_of Basic id
-unfolding summary_of
-summary-first id = refl
-
 length-world_key : length world_key ≡ 32
-unfolding world_key
+unfolding world_key rising_from
 length-world_key = refl
 
 pub stands_first : (machine : AnyModule) (cell : List ℕ) → cell ≡ cell_spelling (cell_of (world_of machine) first_history)
@@ -306,7 +300,7 @@ stands_first machine cell e =
     record {
       key_size = length-world_key;
       size = length-start_of Basic id;
-      cell = ap Some (e ∙ ap (λ (s : List ℕ). cell_spelling (cell_at id world_key s)) (summary-first id));
+      cell = ap Some (e ∙ ap (λ (s : List ℕ). cell_spelling (cell_at id world_key s)) (sym (summary-nil id)));
       reads = refl;
     }
 

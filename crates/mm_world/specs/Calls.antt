@@ -1,14 +1,13 @@
 -- What a call over the platform of a world comes to.
-use Rattle.std.specs.Prelude.{◌≡◌, ◌≢◌, ℕ, ◌+◌, ◌-◌, Bool, true, false, List, [], ◌++◌, length, Option, None, Some, IsSome, Result, Ok, Err, MatchResult, option_to_list, if◌then◌else◌}
+use Rattle.std.specs.Prelude.{◌≡◌, ℕ, ◌+◌, ◌-◌, Bool, true, false, List, ◌++◌, length, Option, None, Some, IsSome, Result, MatchResult, option_to_list, if◌then◌else◌}
 use Rattle.mm_base.specs.declared.fault.Memory.{Memory}
-use Rattle.mm_digest.specs.Messages.{zero_bytes}
 use Rattle.mm_module.specs.Meaning.{Meaning}
 use Rattle.mm_module.specs.Batch.{Batch, normal}
 use Rattle.mm_platform.specs.declared.fault.StepFault.{StepFault}
 use Rattle.mm_platform.specs.declared.plan.Meddle.{Meddle}
 use Rattle.mm_platform.specs.declared.plan.Stop.{Stop}
 use Rattle.mm_platform.specs.declared.plan.Stop.TheVariants as stop
-use Rattle.mm_platform.specs.Standing.{Item, Standing, due}
+use Rattle.mm_platform.specs.Standing.{Standing, due}
 use Rattle.mm_platform.specs.Steps.{WriteCell, Goes, items_cycled}
 use Rattle.mm_model.specs.declared.answer.BatchAnswer.{BatchAnswer}
 use Rattle.mm_model.specs.Instance.{basic}

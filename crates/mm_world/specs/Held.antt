@@ -1,6 +1,6 @@
 -- A world as contracts see it.
-use Rattle.std.specs.Prelude.{◌≡◌, ℕ, ◌-◌, ◌^◌, ◌≤◌, true, List, [], ◌∷◌, length, take, drop, min, Option, None, Some, ◌⊎◌}
-use Rattle.std.specs.Option.{option_map_or}
+use Rattle.std.specs.Prelude.{◌≡◌, ℕ, ◌-◌, ◌^◌, ◌≤◌, true, List, [], length, take, drop, min, Option, None, Some, ◌⊎◌}
+use Rattle.std.specs.List.{range_with_len}
 use Rattle.mm_base.specs.Faults.{counted}
 use Rattle.mm_platform.specs.Standing.{Standing}
 use Rattle.mm_platform.specs.Told.{quiet_plan}
@@ -14,11 +14,16 @@ use Rattle.mm_world.specs.Levels.{Digests, first_digests, by_digests}
 use Rattle.mm_world.specs.Folds.{Outcome, outcome_of, first_issued}
 use Rattle.mm_world.specs.Stands.{basic_digests, StandsAt, grown, counted_by}
 
--- the key of each world: the bytes 0 to 31
+-- 32 bytes in rising order, from this one on
+unfoldable pub rising_from : ℕ → List ℕ
+rising_from first = range_with_len first 32
+
+-- the key of each world, and its barrier
 unfoldable pub world_key : List ℕ
-world_key =
-    0 ∷ 1 ∷ 2 ∷ 3 ∷ 4 ∷ 5 ∷ 6 ∷ 7 ∷ 8 ∷ 9 ∷ 10 ∷ 11 ∷ 12 ∷ 13 ∷ 14 ∷ 15 ∷ 16 ∷ 17 ∷ 18 ∷ 19 ∷ 20 ∷ 21 ∷ 22 ∷ 23 ∷ 24
-    ∷ 25 ∷ 26 ∷ 27 ∷ 28 ∷ 29 ∷ 30 ∷ 31 ∷ []
+world_key = rising_from 0x00
+
+unfoldable pub world_barrier : List ℕ
+world_barrier = rising_from 0x20
 
 -- the instance of Basic that a world of this module is
 abbrev pub world_of : AnyModule → Instance

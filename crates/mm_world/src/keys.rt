@@ -1,10 +1,10 @@
 //! The key and the barrier of each world.
 
 ghost use Rattle.std.specs.Prelude.{◌≡◌};
-ghost use Rattle.mm_world.specs.Held.{world_key};
+ghost use Rattle.mm_world.specs.Held.{world_key, world_barrier};
 
-/// The key: the bytes 0 to 31.
-#[tactic(auto, unfolding(crate::specs::Held::world_key))]
+/// The key: the bytes 00 to 1f.
+#[tactic(auto, unfolding(crate::specs::Held::world_key, crate::specs::Held::rising_from))]
 pub fn key() -> [u8; 32]
     ensures { result ≡ world_key }
 {
@@ -14,8 +14,11 @@ pub fn key() -> [u8; 32]
     ]
 }
 
-/// The barrier: the bytes 32 to 63.
-pub fn barrier() -> [u8; 32] {
+/// The barrier: the bytes 20 to 3f.
+#[tactic(auto, unfolding(crate::specs::Held::world_barrier, crate::specs::Held::rising_from))]
+pub fn barrier() -> [u8; 32]
+    ensures { result ≡ world_barrier }
+{
     [
         32, 33, 34, 35, 36, 37, 38, 39, 40, 41, 42, 43, 44, 45, 46, 47, 48, 49, 50, 51, 52, 53, 54,
         55, 56, 57, 58, 59, 60, 61, 62, 63,

@@ -28,9 +28,9 @@ impl Model for World {
 
     ghost Value = { Held };
 
-    ghost view = { λ w. held_in w.module w.platform w.issued.items w.committed };
+    ghost view = { λ w. held_in w.«module» w.platform w.issued.items w.committed };
 
-    ghost invariant = { λ w. IsSettled w.module w.platform w.issued.items w.committed };
+    ghost invariant = { λ w. IsSettled w.«module» w.platform w.issued.items w.committed };
 }
 
 impl World {
@@ -48,7 +48,7 @@ impl World {
     /// is not built yet.
     pub fn new(alloc: Global, header: &Header) -> Result<World, Memory>
         requires { header.now.variant ≡ Basic }
-        ensures { IfOk result (λ world. world ≡ first_held header.now.module) }
+        ensures { IfOk result (λ world. world ≡ first_held header.now.«module») }
     {
         let module = header.module;
         match provision(alloc, &module, &key(), &barrier()) {
