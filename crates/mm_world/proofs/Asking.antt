@@ -56,8 +56,9 @@ uncalled_there id key summary register count issued old why s q = record {
   quiet = q;
 }
 
-pub lacks_there : (id : ℕ) (key summary register : List ℕ) (old : Standing) → StandsAt id key old summary register → IsQuiet old → Lacks id key summary register old old
-lacks_there id key summary register old s q = record { values = []; stands = s; quiet = q; steps = inl refl; writes = refl }
+pub lacks_there : (id : ℕ) (key summary register : List ℕ) (meddles : List Meddle) (old : Standing) → StandsAt id key old summary register → IsQuiet old
+    → Lacks id key summary register meddles old old
+lacks_there id key summary register meddles old s q = record { values = []; stands = s; quiet = q; called = inl (refl, refl); writes = refl }
 
 asked_long : (meaning : Meaning) (key : List ℕ) (d : Digests) (issued : List (List ℕ)) (meddles : List Meddle) (stop : Stop) (offer : List ℕ) (b : Batch) (long : Bool)
     → is_long b ≡ long → asked (basic meaning key) (by_digests (basic meaning key)) d issued meddles stop (Some offer) b
@@ -81,10 +82,10 @@ asks_none meaning old issued meddles stop b it e = λ (key summary register : Li
     subst (λ (x : Called). Came meaning.id key (uncalled (basic_digests summary register count) issued (reply.No cause.Snapshot)) count issued old old x) (sym e)
     (uncalled_there meaning.id key summary register count issued old cause.Snapshot s q)
 
-pub ends_lacking : (meaning : Meaning) (old new : Standing) (issued : List (List ℕ)) (o : List ℕ → Digests → Outcome Digests) (memory : Memory)
-    → new ≡ old → EndsAs meaning old new issued o (Err memory)
-ends_lacking meaning old new issued o memory e = λ (key summary register : List ℕ) (count : ℕ) s q.
-    subst (λ (x : Standing). Lacks meaning.id key summary register old x) (sym e) (lacks_there meaning.id key summary register old s q)
+pub ends_lacking : (meaning : Meaning) (old new : Standing) (issued : List (List ℕ)) (meddles : List Meddle) (o : List ℕ → Digests → Outcome Digests) (memory : Memory)
+    → new ≡ old → EndsAs meaning old new issued meddles o (Err memory)
+ends_lacking meaning old new issued meddles o memory e = λ (key summary register : List ℕ) (count : ℕ) s q.
+    subst (λ (x : Standing). Lacks meaning.id key summary register meddles old x) (sym e) (lacks_there meaning.id key summary register meddles old s q)
 
 -- a planned call
 ran_there : (meaning : Meaning) (old mid : Standing) (issued : List (List ℕ)) (meddles : List Meddle) (stop : Stop) (offer : List ℕ) (b : Batch) (result : Result Called Memory)
@@ -117,7 +118,7 @@ ran_there meaning old mid issued meddles stop offer b (Err memory) short runs = 
       values = due 1 meddles;
       stands = stands_with meaning.id key summary (grown register (due 1 meddles)) mid quiet_plan f.stands;
       quiet = record { is_on = f.is_on; plan = refl };
-      steps = inr f.steps;
+      called = inr (refl, f.steps);
       writes = f.writes;
     }
 

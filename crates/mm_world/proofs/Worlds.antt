@@ -1,6 +1,6 @@
 -- A world goes on as its platform does.
-use Rattle.std.proofs.Common.{◌≡◌, ℕ, ◌+◌, ◌-◌, ◌<◌, ◌≤◌, ◌^◌, Bool, true, false, List, [], ◌∷◌, ◌++◌, length, take, drop, Option, None, Some, Result, Ok, Err, IfOk, OnErr, inl, refl, sym, ap, ◌∙◌, subst, arith, length-append}
-use Rattle.std.specs.Prelude.{option_to_list, min, is_some}
+use Rattle.std.proofs.Common.{◌≡◌, ℕ, ◌+◌, ◌-◌, ◌<◌, ◌≤◌, ◌^◌, Bool, true, false, List, [], ◌∷◌, ◌++◌, length, take, drop, Option, None, Some, Result, Ok, Err, IfOk, OnErr, inl, inr, refl, sym, ap, ◌∙◌, subst, arith, length-append}
+use Rattle.std.specs.Prelude.{◌⊎◌, option_to_list, min, is_some}
 use Rattle.mm_base.specs.declared.fault.Memory.{Memory}
 use Rattle.mm_digest.specs.Messages.{zero_bytes, extended_of, start_of}
 use Rattle.mm_digest.specs.declared.variant.Variant.TheVariants.{Basic}
@@ -11,7 +11,7 @@ use Rattle.mm_seal.specs.Cell.{cell_spelling}
 use Rattle.mm_platform.specs.declared.fault.StepFault.{StepFault}
 use Rattle.mm_platform.specs.declared.plan.Meddle.{Meddle}
 use Rattle.mm_platform.specs.declared.plan.Stop.{Stop}
-use Rattle.mm_platform.specs.Standing.{Standing}
+use Rattle.mm_platform.specs.Standing.{Standing, due}
 use Rattle.mm_platform.specs.Steps.{beside, Cycles, EndsCycle, items_cycled}
 use Rattle.mm_platform.specs.Memory.{fresh}
 use Rattle.mm_model.specs.History.{first_history}
@@ -21,7 +21,7 @@ use Rattle.mm_modules.specs.Modules.{meaning_of}
 use Rattle.mm_schedule.specs.declared.event.Offer.{Offer}
 use Rattle.mm_schedule.specs.declared.reply.Reply.{Reply}
 use Rattle.mm_schedule.specs.declared.reply.Reply.TheVariants as reply
-use Rattle.mm_schedule.specs.Events.{Ask, Checkpoint, Power, Extend}
+use Rattle.mm_schedule.specs.Events.{Ask, Checkpoint, Power, Extend, Event}
 use Rattle.mm_world.proofs.Moving.{summary-nil}
 use Rattle.mm_world.specs.declared.call.Called.{Called}
 use Rattle.mm_world.specs.Levels.{Digests}
@@ -29,7 +29,7 @@ use Rattle.mm_world.specs.Folds.{Outcome, first_issued}
 use Rattle.mm_world.specs.Offered.{offered_bytes}
 use Rattle.mm_world.specs.Stands.{cell_at, StandsAt, grown}
 use Rattle.mm_world.specs.Asks.{Came, Lacks, AsksAs, ChecksAs, quiet_as, called_by}
-use Rattle.mm_world.specs.Held.{Held, rising_from, world_key, world_of, first_held, summary_in, value_in, held_in, outcome_in, IsQuiet, IsSettled, Follows, Lacked}
+use Rattle.mm_world.specs.Held.{Held, rising_from, world_key, world_of, first_held, summary_in, value_in, held_in, outcome_in, IsQuiet, IsSettled, Follows, Lacked, read_once, Wants}
 use Rattle.mm_world.proofs.Fields.{take_front}
 use Rattle.mm_world.proofs.Stepping.{reads_of, reads-beside, cycled}
 
@@ -79,25 +79,30 @@ follows machine o old new issued issued' committed committed' it c i n =
       writes = c.came.writes;
     }
 
-lacked : (machine : AnyModule) (old new : Standing) (issued issued' : List (List ℕ)) (committed : ℕ)
-    → Lacks (meaning_of machine).id world_key (summary_in old.cell) (value_in (register_reads old)) old new → issued' ≡ issued
-    → Lacked (held_in machine old issued committed) (held_in machine new issued' committed)
-lacked machine old new issued issued' committed l i =
+-- memory was wanting: the world is as before, or its reading step was called
+wants : (machine : AnyModule) (old new : Standing) (issued issued' : List (List ℕ)) (committed : ℕ) (meddles : List Meddle)
+    → Lacks (meaning_of machine).id world_key (summary_in old.cell) (value_in (register_reads old)) meddles old new → issued' ≡ issued
+    → (held_in machine new issued' committed ≡ held_in machine old issued committed)
+    ⊎ (held_in machine new issued' committed ≡ read_once (due 1 meddles) (held_in machine old issued committed))
+wants machine old new issued issued' committed meddles l i =
     let id : ℕ = (meaning_of machine).id in
-    let a : summary_in new.cell ≡ summary_in old.cell = summary-read id world_key (summary_in old.cell) (grown (value_in (register_reads old)) l.values) new l.stands in
-    let b : value_in (register_reads new) ≡ grown (value_in (register_reads old)) l.values =
-    value-read id world_key (summary_in old.cell) (grown (value_in (register_reads old)) l.values) new l.stands in
-    record {
-      values = l.values;
-      machine = refl;
-      digests = λ j. record { digest = a j; flag = false; register = b j; count = committed };
-      issued = i;
-      steps = l.steps;
-      writes = l.writes;
-    }
+    let value : List ℕ = value_in (register_reads old) in
+    let a : summary_in new.cell ≡ summary_in old.cell = summary-read id world_key (summary_in old.cell) (grown value l.values) new l.stands in
+    let b : value_in (register_reads new) ≡ grown value l.values = value-read id world_key (summary_in old.cell) (grown value l.values) new l.stands in
+    let w = l.writes in
+    elim l.called [
+      | inl e ↦
+          let r : value_in (register_reads new) ≡ value = b ∙ ap (grown value) e.0 in
+          let n = e.1 in
+          inl (λ j. record { machine = machine; digests = record { digest = a j; flag = false; register = r j; count = committed }; issued = i j; steps = n j; writes = w j })
+      | inr e ↦
+          let r : value_in (register_reads new) ≡ grown value (due 1 meddles) = b ∙ ap (grown value) e.0 in
+          let n = e.1 in
+          inr (λ j. record { machine = machine; digests = record { digest = a j; flag = false; register = r j; count = committed }; issued = i j; steps = n j; writes = w j })
+    ]
 
 -- nothing has changed
-pub lacked_same : (old new : Held) → new ≡ old → Lacked old new
+lacked_same : (old new : Held) → new ≡ old → Lacked old new
 lacked_same old new e = record {
   values = [];
   machine = ap (λ (w : Held). w.machine) e;
@@ -106,6 +111,26 @@ lacked_same old new e = record {
   steps = inl (ap (λ (w : Held). w.steps) e);
   writes = ap (λ (w : Held). w.writes) e;
 }
+
+lacked_read : (values : List (List ℕ)) (old new : Held) → new ≡ read_once values old → Lacked old new
+lacked_read values old new e = record {
+  values = values;
+  machine = ap (λ (w : Held). w.machine) e;
+  digests = ap (λ (w : Held). w.digests) e;
+  issued = ap (λ (w : Held). w.issued) e;
+  steps = inr (ap (λ (w : Held). w.steps) e);
+  writes = ap (λ (w : Held). w.writes) e;
+}
+
+lacked_wanting : (event : Event) (old new : Held) → Wants event old new → Lacked old new
+lacked_wanting (Ask meddles stop offer b) old new w = elim w [ inl e ↦ lacked_same old new e | inr e ↦ lacked_read (due 1 meddles) old new e ]
+lacked_wanting (Checkpoint meddles stop) old new e = lacked_same old new e
+lacked_wanting Power old new e = absurd e
+lacked_wanting (Extend value) old new e = lacked_same old new e
+
+pub lacked_event : (event : Event) (old new : Held) (result : Result Reply Memory) → OnErr result (Wants event old new) → OnErr result (Lacked old new)
+lacked_event event old new (Ok said) w = tt
+lacked_event event old new (Err memory) w = lacked_wanting event old new w
 
 -- an ask that is answered, over the fields of a world
 pub follows_ask : (machine : AnyModule) (old new : Standing) (issued lent issued' : List (List ℕ)) (committed committed' : ℕ) (meddles : List Meddle) (stop : Stop) (offer : Offer) (b : Batch) (it : Called) (world : Held)
@@ -129,13 +154,13 @@ settled_ask machine old new issued lent issued' committed committed' meddles sto
     subst (λ (x : List (List ℕ)). IsSettled machine new x committed') (sym i)
     (settles machine new _ _ (issued ++ option_to_list it.snapshot) committed' c.came.stands c.quiet (few_more issued it.snapshot room) (omega (arith, n)))
 
-pub lacked_ask : (machine : AnyModule) (old new : Standing) (issued lent issued' : List (List ℕ)) (committed : ℕ) (meddles : List Meddle) (stop : Stop) (offer : Offer) (b : Batch) (memory : Memory) (world : Held)
+pub wants_ask : (machine : AnyModule) (old new : Standing) (issued lent issued' : List (List ℕ)) (committed : ℕ) (meddles : List Meddle) (stop : Stop) (offer : Offer) (b : Batch) (memory : Memory) (world : Held)
     → held_in machine old issued committed ≡ world → IsSettled machine old issued committed
     → AsksAs (meaning_of machine) old new lent meddles stop (offered_bytes lent offer) b (Err memory) → issued' ≡ issued
-    → Lacked world (held_in machine new issued' committed)
-lacked_ask machine old new issued lent issued' committed meddles stop offer b memory world is s asks i =
-    subst (λ (w : Held). Lacked w (held_in machine new issued' committed)) is
-    (lacked machine old new issued issued' committed (asks world_key (summary_in old.cell) (value_in (register_reads old)) committed s.stands s.quiet) i)
+    → Wants (Ask meddles stop offer b) world (held_in machine new issued' committed)
+wants_ask machine old new issued lent issued' committed meddles stop offer b memory world is s asks i =
+    subst (λ (w : Held). Wants (Ask meddles stop offer b) w (held_in machine new issued' committed)) is
+    (wants machine old new issued issued' committed meddles (asks world_key (summary_in old.cell) (value_in (register_reads old)) committed s.stands s.quiet) i)
 
 pub settled_lacking : (machine : AnyModule) (old new : Standing) (issued lent issued' : List (List ℕ)) (committed : ℕ) (meddles : List Meddle) (stop : Stop) (offer : Offer) (b : Batch) (memory : Memory)
     → IsSettled machine old issued committed
@@ -163,13 +188,6 @@ settled_checkpoint machine old new issued committed meddles stop it s checks =
     let c = checks world_key (summary_in old.cell) (value_in (register_reads old)) 0 s.stands s.quiet in
     settles machine new _ _ issued committed c.came.stands c.quiet s.few s.fits
 
-pub lacked_checkpoint : (machine : AnyModule) (old new : Standing) (issued : List (List ℕ)) (committed : ℕ) (meddles : List Meddle) (stop : Stop) (memory : Memory) (world : Held)
-    → held_in machine old issued committed ≡ world → IsSettled machine old issued committed
-    → ChecksAs (meaning_of machine) old new issued meddles stop (Err memory) → Lacked world (held_in machine new issued committed)
-lacked_checkpoint machine old new issued committed meddles stop memory world is s checks =
-    subst (λ (w : Held). Lacked w (held_in machine new issued committed)) is
-    (lacked machine old new issued issued committed (checks world_key (summary_in old.cell) (value_in (register_reads old)) committed s.stands s.quiet) refl)
-
 pub settled_unchecked : (machine : AnyModule) (old new : Standing) (issued : List (List ℕ)) (committed : ℕ) (meddles : List Meddle) (stop : Stop) (memory : Memory)
     → IsSettled machine old issued committed → ChecksAs (meaning_of machine) old new issued meddles stop (Err memory) → IsSettled machine new issued committed
 settled_unchecked machine old new issued committed meddles stop memory s checks =
@@ -190,13 +208,10 @@ follows_checked machine old new issued committed meddles stop (Ok said) world is
     follows_checkpoint machine old new issued committed meddles stop (quiet_as said) world is s checks refl
 follows_checked machine old new issued committed meddles stop (Err memory) world is s checks = tt
 
-pub lacked_checked : (machine : AnyModule) (old new : Standing) (issued : List (List ℕ)) (committed : ℕ) (meddles : List Meddle) (stop : Stop) (result : Result Reply Memory) (world : Held)
-    → held_in machine old issued committed ≡ world → IsSettled machine old issued committed
-    → ChecksAs (meaning_of machine) old new issued meddles stop (called_by result)
-    → OnErr result (Lacked world (held_in machine new issued committed))
-lacked_checked machine old new issued committed meddles stop (Ok said) world is s checks = tt
-lacked_checked machine old new issued committed meddles stop (Err memory) world is s checks =
-    lacked_checkpoint machine old new issued committed meddles stop memory world is s checks
+pub same_checked : (machine : AnyModule) (old new : Standing) (issued : List (List ℕ)) (committed : ℕ) (result : Result Reply Memory) (world : Held)
+    → held_in machine old issued committed ≡ world → OnErr result (new ≡ old) → OnErr result (held_in machine new issued committed ≡ world)
+same_checked machine old new issued committed (Ok said) world is e = tt
+same_checked machine old new issued committed (Err memory) world is e = ap (λ (x : Standing). held_in machine x issued committed) e ∙ is
 
 -- power
 cycled_all : (fault : Option StepFault) (old new : Standing) (emptied : Bool) → fault ≡ None → EndsCycle fault old new emptied → (emptied ≡ true) × (new.is_on ≡ true)

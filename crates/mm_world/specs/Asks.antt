@@ -1,5 +1,5 @@
 -- What a call with its plan comes to, over the platform of a world.
-use Rattle.std.specs.Prelude.{◌≡◌, ℕ, List, Option, None, Some, Result, Ok, Err, MatchResult, ◌⊎◌, false}
+use Rattle.std.specs.Prelude.{◌≡◌, ℕ, List, [], Option, None, Some, Result, Ok, Err, MatchResult, ◌⊎◌, false}
 use Rattle.mm_base.specs.Faults.{counted}
 use Rattle.mm_base.specs.declared.fault.Memory.{Memory}
 use Rattle.mm_module.specs.Meaning.{Meaning}
@@ -7,7 +7,7 @@ use Rattle.mm_module.specs.Batch.{Batch}
 use Rattle.mm_platform.specs.declared.fault.StepFault.{StepFault}
 use Rattle.mm_platform.specs.declared.plan.Meddle.{Meddle}
 use Rattle.mm_platform.specs.declared.plan.Stop.{Stop}
-use Rattle.mm_platform.specs.Standing.{Standing}
+use Rattle.mm_platform.specs.Standing.{Standing, due}
 use Rattle.mm_platform.specs.Steps.{ReadCell, Goes}
 use Rattle.mm_model.specs.Instance.{basic}
 use Rattle.mm_schedule.specs.declared.reply.Reply.{Reply}
@@ -24,29 +24,30 @@ pub record Came (id : ℕ) (key : List ℕ) (o : Outcome Digests) (count : ℕ) 
   pub came : CameTo id key o count issued old new it
   pub quiet : IsQuiet new
 
--- memory was wanting: nothing has changed but for a step, and what others put into the register before it
-pub record Lacks (id : ℕ) (key summary register : List ℕ) (old new : Standing) : Type 0 where
+-- Memory was wanting: nothing has changed, but that the reading step may have been called, just before which others
+-- put into the register what is due there.
+pub record Lacks (id : ℕ) (key summary register : List ℕ) (meddles : List Meddle) (old new : Standing) : Type 0 where
   pub values : List (List ℕ)
   pub stands : StandsAt id key new summary (grown register values)
   pub quiet : IsQuiet new
-  pub steps : (new.steps ≡ old.steps) ⊎ (new.steps ≡ counted old.steps)
+  pub called : ((values ≡ []) × (new.steps ≡ old.steps)) ⊎ ((values ≡ due 1 meddles) × (new.steps ≡ counted old.steps))
   pub writes : new.writes ≡ old.writes
 
 -- a call over a quiet platform comes to an outcome by digests
-abbrev pub EndsAs : Meaning → Standing → Standing → List (List ℕ) → (List ℕ → Digests → Outcome Digests) → Result Called Memory → Type 0
-EndsAs meaning old new issued outcome result =
+abbrev pub EndsAs : Meaning → Standing → Standing → List (List ℕ) → List Meddle → (List ℕ → Digests → Outcome Digests) → Result Called Memory → Type 0
+EndsAs meaning old new issued meddles outcome result =
     (key summary register : List ℕ) (count : ℕ) → StandsAt meaning.id key old summary register → IsQuiet old
     → MatchResult result (Came meaning.id key (outcome key (basic_digests summary register count)) count issued old new)
-    (λ _. Lacks meaning.id key summary register old new)
+    (λ _. Lacks meaning.id key summary register meddles old new)
 
 -- the batch is asked of these bytes, if any are offered
 abbrev pub AsksAs : Meaning → Standing → Standing → List (List ℕ) → List Meddle → Stop → Option (List ℕ) → Batch → Result Called Memory → Type 0
 AsksAs meaning old new issued meddles stop bytes b result =
-    EndsAs meaning old new issued (λ key d. asked (basic meaning key) (by_digests (basic meaning key)) d issued meddles stop bytes b) result
+    EndsAs meaning old new issued meddles (λ key d. asked (basic meaning key) (by_digests (basic meaning key)) d issued meddles stop bytes b) result
 
 abbrev pub ChecksAs : Meaning → Standing → Standing → List (List ℕ) → List Meddle → Stop → Result Called Memory → Type 0
 ChecksAs meaning old new issued meddles stop result =
-    EndsAs meaning old new issued (λ key d. checkpointed (basic meaning key) (by_digests (basic meaning key)) d issued meddles stop) result
+    EndsAs meaning old new issued meddles (λ key d. checkpointed (basic meaning key) (by_digests (basic meaning key)) d issued meddles stop) result
 
 -- a call that hands out no snapshot and commits nothing
 abbrev pub quiet_as : Reply → Called

@@ -2,14 +2,14 @@
 use Rattle.std.specs.Prelude.{◌≡◌, ℕ, ◌-◌, ◌^◌, ◌≤◌, true, List, [], length, take, drop, min, Option, None, Some, ◌⊎◌}
 use Rattle.std.specs.List.{range_with_len}
 use Rattle.mm_base.specs.Faults.{counted}
-use Rattle.mm_platform.specs.Standing.{Standing}
+use Rattle.mm_platform.specs.Standing.{Standing, due}
 use Rattle.mm_platform.specs.Told.{quiet_plan}
 use Rattle.mm_model.specs.Instance.{Instance, basic}
 use Rattle.mm_model.specs.Standing.{register_reads}
 use Rattle.mm_modules.specs.declared.any.AnyModule.{AnyModule}
 use Rattle.mm_modules.specs.Modules.{meaning_of}
 use Rattle.mm_schedule.specs.declared.reply.Reply.{Reply}
-use Rattle.mm_schedule.specs.Events.{Event}
+use Rattle.mm_schedule.specs.Events.{Event, Ask, Checkpoint, Power, Extend}
 use Rattle.mm_world.specs.Levels.{Digests, first_digests, by_digests}
 use Rattle.mm_world.specs.Folds.{Outcome, outcome_of, first_issued}
 use Rattle.mm_world.specs.Stands.{basic_digests, StandsAt, grown, counted_by}
@@ -118,3 +118,17 @@ pub record Lacked (old new : Held) : Type 0 where
   pub issued : new.issued ≡ old.issued
   pub steps : (new.steps ≡ old.steps) ⊎ (new.steps ≡ counted old.steps)
   pub writes : new.writes ≡ old.writes
+
+-- a world whose reading step was called, just before which others put these values into the register
+abbrev pub read_once : List (List ℕ) → Held → Held
+read_once values world = record world {
+  digests = record world.digests { register = grown world.digests.register values };
+  steps = counted world.steps;
+}
+
+-- Memory was wanting for this event: nothing has changed, but that a call may have made its reading step.
+abbrev pub Wants : Event → Held → Held → Type 0
+Wants (Ask meddles stop offer b) old new = (new ≡ old) ⊎ (new ≡ read_once (due 1 meddles) old)
+Wants (Checkpoint meddles stop) old new = new ≡ old
+Wants Power old new = ⊥
+Wants (Extend value) old new = new ≡ old

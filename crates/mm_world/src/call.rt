@@ -1,6 +1,6 @@
 //! The calls of a world, each moved step by step over its platform in memory.
 
-ghost use Rattle.std.specs.Prelude.{◌≡◌, ◌≢◌, ℕ, List, None, Some, false, Ok, IsSome, IsErr};
+ghost use Rattle.std.specs.Prelude.{◌≡◌, ◌≢◌, ℕ, List, None, Some, false, Ok, IsSome, IsErr, OnErr};
 ghost use Rattle.mm_module.specs.Batch.{size_of};
 ghost use Rattle.mm_module.specs.Batches.{batch_of};
 ghost use Rattle.mm_platform.specs.declared.fault.StepFault.{StepFault};
@@ -262,7 +262,8 @@ pub fn checkpoint(
     meddles: &[Meddle],
     stop: Stop,
 ) -> Result<Reply, Memory>
-    ensures { (meaning : Meaning) (issued : List (List ℕ)) → ChecksAs meaning platform.old platform.new issued meddles.now stop (called_by result) }
+    ensures ends { (meaning : Meaning) (issued : List (List ℕ)) → ChecksAs meaning platform.old platform.new issued meddles.now stop (called_by result) }
+    ensures memory { OnErr result (platform.new ≡ platform.old) }
 {
     match platform.plan(stop, meddles) {
         Err(memory) => Err(memory),

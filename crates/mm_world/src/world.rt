@@ -42,7 +42,7 @@ impl World {
     ghost use Rattle.mm_seal.specs.Cell.{cell_spelling};
     ghost use Rattle.mm_model.specs.History.{first_history};
     ghost use Rattle.mm_model.specs.Standing.{cell_of, issued_bytes};
-    ghost use Rattle.mm_world.specs.Held.{first_held, world_of, HoldsWorld, outcome_in, Follows, Lacked};
+    ghost use Rattle.mm_world.specs.Held.{first_held, world_of, HoldsWorld, outcome_in, Follows, Lacked, Wants};
 
     /// A new world: the platform is provisioned for the header's module, and its first snapshot has number 0. Opt
     /// is not built yet.
@@ -81,6 +81,7 @@ impl World {
         requires { length self.old.issued < 2 ^ 32 - 1 }
         ensures ok { IfOk result (Follows (outcome_in self.old (event_of event.now)) self.old self.new) }
         ensures memory { OnErr result (Lacked self.old self.new) }
+        ensures wants { OnErr result (Wants (event_of event.now) self.old self.new) }
 
         // The reply can be printed; at most one snapshot is issued, and at most 64 requests are committed.
         ensures printable { IfOk result IsPrintable }
@@ -93,7 +94,7 @@ impl World {
     fn run(&mut self, event: &Event) -> Result<Reply, Memory>
         requires { length self.old.issued < 2 ^ 32 - 1 }
         ensures ok { IfOk result (Follows (outcome_in self.old (event_of event.now)) self.old self.new) }
-        ensures memory { OnErr result (Lacked self.old self.new) }
+        ensures memory { OnErr result (Wants (event_of event.now) self.old self.new) }
     {
         match event {
             Event::Ask {
@@ -162,7 +163,7 @@ impl World {
     ) -> Result<Reply, Memory>
         requires { length self.old.issued < 2 ^ 32 - 1 }
         ensures ok { IfOk result (Follows (outcome_in self.old (Ask meddles.now stop offer.now (batch_of batch.entry))) self.old self.new) }
-        ensures memory { OnErr result (Lacked self.old self.new) }
+        ensures memory { OnErr result (Wants (Ask meddles.now stop offer.now (batch_of batch.entry)) self.old self.new) }
     {
         self.issued.reserve(1)?;
         let alloc = *self.issued.allocator();
@@ -193,7 +194,7 @@ impl World {
     // Closes the open segment.
     fn checkpoint(&mut self, meddles: &[Meddle], stop: Stop) -> Result<Reply, Memory>
         ensures ok { IfOk result (Follows (outcome_in self.old (Checkpoint meddles.now stop)) self.old self.new) }
-        ensures memory { OnErr result (Lacked self.old self.new) }
+        ensures memory { OnErr result (self.new ≡ self.old) }
     {
         checkpoint(&mut self.platform, meddles, stop)
     }
@@ -209,7 +210,7 @@ impl World {
     // Others extend the register.
     fn extend(&mut self, value: &Digest) -> Result<Reply, Memory>
         ensures ok { IfOk result (Follows (outcome_in self.old (Extend value.now.bytes)) self.old self.new) }
-        ensures memory { OnErr result (Lacked self.old self.new) }
+        ensures memory { OnErr result (self.new ≡ self.old) }
     {
         self.platform.foreign(value)?;
         Ok(Reply::Extended)

@@ -1,7 +1,7 @@
 use Rattle.std.proofs.Common.{ℕ, List, ◌++◌, ap, ◌∙◌}
 use Rattle.std.specs.Prelude.{option_to_list}
 use Rattle.mm_module.specs.Batches.{batch_of}
-use Rattle.mm_world.proofs.Worlds.{follows_ask, settled_ask, lacked_ask, settled_lacking, room_in}
+use Rattle.mm_world.proofs.Worlds.{follows_ask, settled_ask, wants_ask, settled_lacking, room_in}
 use Rattle.mm_world.proofs.world.World.ask.Goals as goal
 
 pub invariant_of-self-in-Err : goal.invariant_of-self-in-Err
@@ -11,7 +11,7 @@ invariant_of-self-in-Err c =
 
 pub returns-in-Err-clause-memory : goal.returns-in-Err-clause-memory
 returns-in-Err-clause-memory c =
-    lacked_ask c.self.inside.module c.self.inside.platform c.asked.new.platform c.self.inside.issued.items c.as_slice.result.now c.reserve.new.self.items
+    wants_ask c.self.inside.module c.self.inside.platform c.asked.new.platform c.self.inside.issued.items c.as_slice.result.now c.reserve.new.self.items
     c.self.inside.committed c.args.meddles.now c.args.stop c.args.offer.now (batch_of c.args.batch) c.in-Err.memory c.args.self.now c.self.view_is c.self.invariant
     c.in-Err.ensures c.reserve.ensures.items
 

@@ -1,18 +1,18 @@
 use Rattle.mm_modules.specs.Modules.{meaning_of}
-use Rattle.mm_world.proofs.Worlds.{settled_checked, follows_checked, lacked_checked}
+use Rattle.mm_world.proofs.Worlds.{settled_checked, follows_checked, same_checked}
 use Rattle.mm_world.proofs.world.World.checkpoint.Goals as goal
 
 pub invariant_of-self : goal.invariant_of-self
 invariant_of-self c =
     settled_checked c.self.inside.module c.self.inside.platform c.checkpoint.new.platform c.self.inside.issued.items c.self.inside.committed c.args.meddles.now c.args.stop
-    c.checkpoint.result c.self.invariant (c.checkpoint.ensures (meaning_of c.self.inside.module) c.self.inside.issued.items)
+    c.checkpoint.result c.self.invariant (c.checkpoint.ensures.ends (meaning_of c.self.inside.module) c.self.inside.issued.items)
 
 pub returns-clause-ok : goal.returns-clause-ok
 returns-clause-ok c =
     follows_checked c.self.inside.module c.self.inside.platform c.checkpoint.new.platform c.self.inside.issued.items c.self.inside.committed c.args.meddles.now c.args.stop
-    c.checkpoint.result c.args.self.now c.self.view_is c.self.invariant (c.checkpoint.ensures (meaning_of c.self.inside.module) c.self.inside.issued.items)
+    c.checkpoint.result c.args.self.now c.self.view_is c.self.invariant (c.checkpoint.ensures.ends (meaning_of c.self.inside.module) c.self.inside.issued.items)
 
 pub returns-clause-memory : goal.returns-clause-memory
 returns-clause-memory c =
-    lacked_checked c.self.inside.module c.self.inside.platform c.checkpoint.new.platform c.self.inside.issued.items c.self.inside.committed c.args.meddles.now c.args.stop
-    c.checkpoint.result c.args.self.now c.self.view_is c.self.invariant (c.checkpoint.ensures (meaning_of c.self.inside.module) c.self.inside.issued.items)
+    same_checked c.self.inside.module c.self.inside.platform c.checkpoint.new.platform c.self.inside.issued.items c.self.inside.committed
+    c.checkpoint.result c.args.self.now c.self.view_is c.checkpoint.ensures.memory
