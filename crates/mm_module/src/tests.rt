@@ -20,25 +20,36 @@ fn says(
     Ok(())
 }
 
-/// Requests in order, and what the counter says of each.
+/// Requests in order, and what the counter says of each; a line `first` goes back to the first state.
 const REQUESTS: &str = "\
 read => 0
 add 0 => 0
+add 18446744073709551615 => 18446744073709551615
+add 1 => full
+add 18446744073709551616 => bad
+ => bad
+read => 18446744073709551615
+first
 add 5 => 5
 add 05 => bad
+add 00 => bad
 add  5 => bad
  add 5 => bad
 add 5  => bad
+add 5 5 => bad
 add => bad
 add  => bad
 add -1 => bad
 add +1 => bad
- => bad
+add 5\t => bad
 read  => bad
+ read => bad
+read 1 => bad
 Read => bad
 add 18446744073709551616 => bad
+add 18446744073709551611 => full
 add 18446744073709551610 => 18446744073709551615
-add 1 => full
+add 0 => 18446744073709551615
 add 18446744073709551615 => full
 read => 18446744073709551615
 ";
@@ -49,10 +60,23 @@ fn counts_to_the_greatest_value_and_no_further(rt: HostRuntime) -> Result<(), Fa
     let mut state = Counter.first_state(alloc)?;
     assert_eq!(rt; state.as_slice(), [0; 8].as_slice());
     for line in REQUESTS.lines() {
+        if line == "first" {
+            state = Counter.first_state(alloc)?;
+            continue;
+        }
         let (request, said) = line.split_once(" => ").ok_or("no arrow")?;
         says(&rt, alloc, &mut state, request.as_bytes(), said.as_bytes())?;
     }
     assert_eq!(rt; state.as_slice(), [255; 8].as_slice());
+    assert!(rt; !Counter.state_is_spelled(&[0; 7]) && !Counter.state_is_spelled(&[0; 9]));
+    Ok(())
+}
+
+#[test]
+fn a_line_has_at_most_4096_bytes_and_no_lf(rt: HostRuntime) -> Result<(), Fail> {
+    let text = vec![in rt.alloc(); b'a'; 4097]?;
+    assert!(rt; is_line(b"") && is_line(b"read\r\t") && !is_line(b"read\n"));
+    assert!(rt; is_line(&text[1..]) && !is_line(&text));
     Ok(())
 }
 

@@ -18,8 +18,12 @@ sum => sum 60
 use tape 1 => none
 free tape 0 => none
 open disk 1 => exists
+open disk 281474976710657 => bad
 open a 281474976710656 => opened
 open b 281474976710657 => bad
+open b 18446744073709551615 => bad
+open b 18446744073709551616 => bad
+open b 00 => bad
 open zero 0 => opened
 use zero 0 => used 0
 use zero 1 => over 0
@@ -27,24 +31,35 @@ use a 281474976710656 => used 281474976710656
 use a 18446744073709551615 => over 0
 use a 18446744073709551616 => bad
 free a 18446744073709551615 => under 281474976710656
+free a 18446744073709551616 => bad
 free a 0 => used 281474976710656
 sum => sum 281474976710716
 free disk 60 => used 0
 use disk 05 => bad
+free disk 00 => bad
 use  disk 5 => bad
 use disk  5 => bad
+ use disk 5 => bad
+use disk 5  => bad
 use disk 5 5 => bad
 use disk => bad
 open c d => bad
 open  1 => bad
 open e\x7f 1 => bad
+open \u{e9} 1 => bad
+open !~ 1 => opened
 open xxxxxxxxxxxxxxxxxxxxxxxxxxxxxxxx 1 => opened
 open xxxxxxxxxxxxxxxxxxxxxxxxxxxxxxxxx 1 => bad
-left xxxxxxxxxxxxxxxxxxxxxxxxxxxxxxxx => left 1
+use xxxxxxxxxxxxxxxxxxxxxxxxxxxxxxxx 1 => used 1
+use xxxxxxxxxxxxxxxxxxxxxxxxxxxxxxxxx 1 => bad
+left xxxxxxxxxxxxxxxxxxxxxxxxxxxxxxxx => left 0
+left xxxxxxxxxxxxxxxxxxxxxxxxxxxxxxxxx => bad
 left => bad
 left  => bad
+left disk 1 => bad
 sum  => bad
  sum => bad
+sum disk => bad
  => bad
 close disk 1 => bad
 ";
@@ -78,7 +93,7 @@ fn uses_and_frees_within_the_limit(rt: HostRuntime) -> Result<(), Fail> {
     Ok(())
 }
 
-/// Opens 256 accounts, and says what one more is told.
+/// Opens 256 accounts, says what one more is told, and goes on with the first.
 fn opens<M: Module>(rt: &impl Abort, alloc: Global, ledger: &M, last: &[u8]) -> Result<(), Fail> {
     let mut state = ledger.first_state(alloc)?;
     for number in 0..257u16 {
@@ -86,7 +101,8 @@ fn opens<M: Module>(rt: &impl Abort, alloc: Global, ledger: &M, last: &[u8]) -> 
         let said = if number < 256 { b"opened" } else { last };
         says(rt, alloc, ledger, &mut state, request.as_bytes(), said)?;
     }
-    Ok(())
+    says(rt, alloc, ledger, &mut state, b"open n0 1", b"exists")?;
+    says(rt, alloc, ledger, &mut state, b"use n0 1", b"used 1")
 }
 
 #[test]
