@@ -94,7 +94,12 @@ fn uses_and_frees_within_the_limit(rt: HostRuntime) -> Result<(), Fail> {
 }
 
 /// Opens 256 accounts, says what one more is told, and goes on with the first.
-fn opens<M: Module>(rt: &impl Abort, alloc: Global, ledger: &M, last: &[u8]) -> Result<(), Fail> {
+fn opens<M: Module>(
+    rt: &impl Abort,
+    alloc: Global,
+    ledger: &M,
+    last: &[u8],
+) -> Result<Bytes, Fail> {
     let mut state = ledger.first_state(alloc)?;
     for number in 0..257u16 {
         let request = format!(in alloc; "open n{number} 1")?;
@@ -102,13 +107,70 @@ fn opens<M: Module>(rt: &impl Abort, alloc: Global, ledger: &M, last: &[u8]) -> 
         says(rt, alloc, ledger, &mut state, request.as_bytes(), said)?;
     }
     says(rt, alloc, ledger, &mut state, b"open n0 1", b"exists")?;
-    says(rt, alloc, ledger, &mut state, b"use n0 1", b"used 1")
+    says(rt, alloc, ledger, &mut state, b"use n0 1", b"used 1")?;
+    Ok(state)
 }
 
 #[test]
 fn only_the_small_ledger_is_full_at_256_accounts(rt: HostRuntime) -> Result<(), Fail> {
-    opens(&rt, rt.alloc(), &Accounts::<256>, b"full")?;
-    opens(&rt, rt.alloc(), &Accounts::<16384>, b"opened")
+    let small = opens(&rt, rt.alloc(), &Accounts::<256>, b"full")?;
+    assert!(rt; Accounts::<16384>.state_is_spelled(small.as_slice()));
+    let wide = opens(&rt, rt.alloc(), &Accounts::<16384>, b"opened")?;
+    assert!(rt; !Accounts::<256>.state_is_spelled(wide.as_slice()));
+    Ok(())
+}
+
+/// Puts an account at the end of a state.
+fn put(state: &mut Bytes, name: &[u8], limit: u64, used: u64) -> Result<(), Fail> {
+    state.push(u8::try_from(name.len())?)?;
+    state.append(name)?;
+    state.append(&limit.to_be_bytes())?;
+    state.append(&used.to_be_bytes())?;
+    Ok(())
+}
+
+/// Whether bytes are a state: a number of accounts, and for each its name, its limit and what is used.
+const STATES: &str = "\
+yes 1 a 0 0
+yes 1 a 281474976710656 281474976710656
+no 1 a 281474976710657 0
+no 1 a 1 2
+no 0 a 1 1
+no 2 a 1 1
+yes 2 a 1 1,b 1 0
+no 1 a 1 1,b 1 0
+no 2 b 1 0,a 1 1
+no 2 a 1 0,a 1 0
+yes 2 B 1 0,a 1 0
+yes 3 a 1 0,aa 1 0,ab 1 0
+yes 1 !~ 1 0
+no 1  1 0
+no 1 \x7f 1 0
+no 1 \u{e9} 1 0
+yes 1 xxxxxxxxxxxxxxxxxxxxxxxxxxxxxxxx 1 0
+no 1 xxxxxxxxxxxxxxxxxxxxxxxxxxxxxxxxx 1 0
+";
+
+#[test]
+fn a_state_has_accounts_in_the_order_of_their_names(rt: HostRuntime) -> Result<(), Fail> {
+    for line in STATES.lines() {
+        let (is, rest) = line.split_once(' ').ok_or("no count")?;
+        let (count, accounts) = rest.split_once(' ').ok_or("no accounts")?;
+        let mut state = Bytes::copy_of(rt.alloc(), &count.parse::<u16>()?.to_be_bytes())?;
+        for account in accounts.split(',') {
+            let (name, numbers) = account.split_once(' ').ok_or("no limit")?;
+            let (limit, used) = numbers.split_once(' ').ok_or("no use")?;
+            put(
+                &mut state,
+                name.as_bytes(),
+                limit.parse::<u64>()?,
+                used.parse::<u64>()?,
+            )?;
+        }
+        let is_spelled = Accounts::<256>.state_is_spelled(state.as_slice());
+        assert_eq!(rt; is_spelled, is == "yes", "{line}");
+    }
+    Ok(())
 }
 
 /// A state of 16,384 accounts, each with a limit of 3 of which 1 is used.
@@ -117,10 +179,7 @@ fn full_state(alloc: Global) -> Result<Bytes, Fail> {
     state.append(&16384u16.to_be_bytes())?;
     for number in 0..16384u16 {
         let name = format!(in alloc; "{number:05}")?;
-        state.push(5)?;
-        state.append(name.as_bytes())?;
-        state.append(&3u64.to_be_bytes())?;
-        state.append(&1u64.to_be_bytes())?;
+        put(&mut state, name.as_bytes(), 3, 1)?;
     }
     Ok(state)
 }
