@@ -17,7 +17,7 @@ ghost use Rattle.mm_basic.specs.Steps.{FindsIn, OrMemory, fault_in};
 
 use crate::found::{Found, Ready};
 use crate::run::answer;
-use mm_digest::{Digest, Variant, successor, successor_batch};
+use mm_digest::{Digest, HmacKey, Variant, successor, successor_batch};
 use mm_model::{Refusal, Verdict};
 use mm_module::{Batch, Module};
 use mm_seal::{Cell, CellFault, Offered, PartsFault, Place, cell_bytes, parts, read_cell};
@@ -83,11 +83,12 @@ fn weigh<M: Module>(
     let here = summary_in(&body.place);
     let next = link(&here, batch);
     let verdict = verdict(&cell.summary, &here, &next);
-    let again = match examine(module, &cell.key, offered, batch, verdict) {
+    let key = HmacKey::new(&cell.key);
+    let again = match examine(module, &key, offered, batch, verdict) {
         Err(refusal) => return Err(refusal),
         Ok(again) => again,
     };
-    let answer = match answer(alloc, module, &cell.key, &body, next, batch, again) {
+    let answer = match answer(alloc, module, &key, &body, next, batch, again) {
         Err(_) => return Err(Refusal::Memory),
         Ok(answer) => answer,
     };
@@ -157,7 +158,7 @@ fn verdict(summary: &Digest, offered: &Digest, next: &Digest) -> Verdict
 // Whether the offer is accepted, and as a repeat, by the verdict on it.
 fn examine<M: Module>(
     module: &M,
-    key: &[u8; 32],
+    key: &HmacKey,
     offered: &Offered<'_>,
     batch: Batch<'_>,
     verdict: Verdict,
@@ -172,7 +173,7 @@ fn examine<M: Module>(
     if !module.state_is_spelled(body.state) {
         return Err(Refusal::State);
     }
-    if !offered.tag_right(key) {
+    if !offered.tag_right_under(key) {
         return Err(Refusal::Tag);
     }
     let fits = body.position + batch.len() as u64 <= LAST_POSITION;

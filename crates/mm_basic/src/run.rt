@@ -10,17 +10,17 @@ ghost use Rattle.mm_basic.specs.Answers.{answer_at};
 ghost use Rattle.mm_basic.specs.Ran.{RanSome};
 
 use mm_base::{Bytes, Memory};
-use mm_digest::Digest;
+use mm_digest::{Digest, HmacKey};
 use mm_model::BatchAnswer;
 use mm_module::{Batch, Module, Outputs, Stepped};
-use mm_seal::{Body, Place, seal};
+use mm_seal::{Body, Place, seal_under};
 use std::alloc::Global;
 
 /// The answer to a batch that runs from an offered state, with the summary that it leads to.
 pub fn answer<M: Module>(
     alloc: Global,
     module: &M,
-    key: &[u8; 32],
+    key: &HmacKey,
     offered: &Body<'_>,
     summary: Digest,
     batch: Batch<'_>,
@@ -40,7 +40,7 @@ pub fn answer<M: Module>(
         position,
         state: state.as_slice(),
     };
-    let snapshot = seal(alloc, key, &body)?;
+    let snapshot = seal_under(alloc, key, &body)?;
     Ok(BatchAnswer {
         again,
         position,

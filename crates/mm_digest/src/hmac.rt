@@ -1,11 +1,57 @@
 //! HMAC-SHA-256 (RFC 2104).
 
-ghost use Rattle.std.specs.Prelude.{◌≡◌, ◌≤◌, ◌++◌, length};
+ghost use Rattle.std.specs.Prelude.{◌≡◌, ◌≤◌, ◌++◌, List, ℕ, length};
 ghost use Rattle.sha2.specs.Sha256.{sha256};
+ghost use Rattle.sha2.specs.Hashers.{Holds256};
 ghost use Rattle.mm_digest.specs.Hmac.{zero_padded, key_block, masked, hmac_of};
 
 use crate::digest::Digest;
 use sha2::{Digest as _, Sha256};
+use std::marker::Model;
+
+/// A key of 32 bytes for many tags, absorbed once: what is hashed in front of each text is kept. Contracts see
+/// the key.
+#[derive(Drop)]
+pub struct HmacKey {
+    key: [u8; 32],
+    inner: Sha256,
+    outer: Sha256,
+    ghost inner_key: { ∥ Holds256 inner (masked 0x36 (key_block key)) ∥₁ },
+    ghost outer_key: { ∥ Holds256 outer (masked 0x5c (key_block key)) ∥₁ },
+}
+
+impl Model for HmacKey {
+    ghost use Rattle.std.specs.Prelude.{List, ℕ};
+
+    ghost Value = { List ℕ };
+
+    ghost view = { λ it. it.key };
+}
+
+impl HmacKey {
+    /// The key, absorbed.
+    pub fn new(key: &[u8; 32]) -> HmacKey
+        ensures { result ≡ key.now }
+    {
+        let block = block_of(key);
+        HmacKey {
+            key: *key,
+            inner: Sha256::new_with_prefix(&masked_by(0x36, &block)),
+            outer: Sha256::new_with_prefix(&masked_by(0x5c, &block)),
+        }
+    }
+
+    /// The tag of a text of any length under this key, as [`hmac_sha256`] gives it.
+    #[tactic(auto, unfolding(crate::specs::Hmac::hmac_of))]
+    pub fn tag(&self, text: &[u8]) -> Digest
+        ensures { result.bytes ≡ hmac_of self.now text.now }
+    {
+        let inner = digest_after(&self.inner, text);
+        Digest {
+            bytes: digest_after(&self.outer, &inner),
+        }
+    }
+}
 
 /// The tag of a text under a key, of any lengths: HMAC of RFC 2104 over SHA-256, with blocks of
 /// 64 bytes. A key of more than 64 bytes is replaced by its SHA-256.
@@ -14,18 +60,17 @@ pub fn hmac_sha256(key: &[u8], text: &[u8]) -> Digest
     ensures { result.bytes ≡ hmac_of key.now text.now }
 {
     let block = block_of(key);
-    let inner = digest_after(&masked_by(0x36, &block), text);
+    let inner = digest_after(&Sha256::new_with_prefix(&masked_by(0x36, &block)), text);
     Digest {
-        bytes: digest_after(&masked_by(0x5c, &block), &inner),
+        bytes: digest_after(&Sha256::new_with_prefix(&masked_by(0x5c, &block)), &inner),
     }
 }
 
-// SHA-256 of the block and the text.
-fn digest_after(block: &[u8; 64], text: &[u8]) -> [u8; 32]
-    ensures { result ≡ sha256 (block.now ++ text.now) }
+// SHA-256 of what was hashed and the text.
+fn digest_after(hashed: &Sha256, text: &[u8]) -> [u8; 32]
+    ensures { (before : List ℕ) → ∥ Holds256 hashed.now before ∥₁ → result ≡ sha256 (before ++ text.now) }
 {
-    let mut hasher = Sha256::new();
-    hasher.update(block);
+    let mut hasher = hashed.clone().unwrap();
     hasher.update(text);
     hasher.finalize()
 }

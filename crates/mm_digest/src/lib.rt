@@ -9,7 +9,7 @@ mod variant;
 pub use digest::{
     Digest, anchored, extended, secured, secured_batch, start, successor, successor_batch, zero,
 };
-pub use hmac::hmac_sha256;
+pub use hmac::{HmacKey, hmac_sha256};
 pub use variant::Variant;
 
 #[cfg(test)]

@@ -9,7 +9,7 @@ use Rattle.mm_digest.specs.Messages.{variant_byte}
 use Rattle.mm_seal.specs.declared.snapshot.Place.{Place}
 use Rattle.mm_seal.specs.declared.snapshot.Place.TheVariants.{Basic, Opt}
 use Rattle.mm_seal.specs.Fields.{version_of, eight_bytes, four_bytes}
-use Rattle.mm_seal.specs.Snapshot.{Content, IsContent, IsPlace, Snapshot, IsSnapshot, snapshot_spelling, OneSpelling, variant_of, place_spelling, front_head, snapshot_front, Spells, IsOfKind, ReadsParts, tag_of, sealed_of}
+use Rattle.mm_seal.specs.Snapshot.{Content, IsContent, IsPlace, Snapshot, snapshot_spelling, OneSpelling, variant_of, place_spelling, front_head, snapshot_front, Spells, IsOfKind, ReadsParts, tag_of, sealed_of}
 use Rattle.mm_digest.proofs.Lengths.{length-hmac_of}
 use Rattle.mm_seal.specs.declared.snapshot.PartsFault.{PartsFault}
 use Rattle.mm_seal.specs.declared.snapshot.PartsFault.TheVariants.{Form, Kind}

@@ -8,7 +8,7 @@ ghost use Rattle.mm_seal.specs.Body.{content_of, IsNoFront, IsFrontOf, HasFields
 
 use crate::field::{bytes_of_u32, bytes_of_u64, split_digest, split_u32, split_u64, version};
 use mm_base::{Bytes, Memory};
-use mm_digest::{Digest, Variant, hmac_sha256};
+use mm_digest::{Digest, HmacKey, Variant};
 use std::alloc::Global;
 use std::marker::Model;
 use thiserror::Error;
@@ -109,22 +109,38 @@ impl<'a> Offered<'a> {
     pub fn tag_right(&self, key: &[u8; 32]) -> bool
         ensures { IsTrue result ↔ (self.now.tag ≡ tag_of key.now self.now.content) }
     {
-        let tag = hmac_sha256(key, self.signed);
+        self.tag_right_under(&HmacKey::new(key))
+    }
+
+    /// The same, under a key that is absorbed.
+    pub fn tag_right_under(&self, key: &HmacKey) -> bool
+        ensures { IsTrue result ↔ (self.now.tag ≡ tag_of key.now self.now.content) }
+    {
+        let tag = key.tag(self.signed);
         self.tag == tag.bytes
     }
 }
 
 /// The snapshot of this content, sealed under the key. The position is at most 2^48, and the state
 /// has at most as many bytes as its module's id allows.
-#[tactic(auto, unfolding(crate::specs::Snapshot::sealed_of))]
 pub fn seal(alloc: Global, key: &[u8; 32], body: &Body<'_>) -> Result<Bytes, Memory>
+    requires position { body.now.position ≤ 2 ^ 48 }
+    requires state { length body.now.state.now ≤ limit_of body.now.module }
+    ensures { IfOk result (λ bytes. bytes ≡ sealed_of key.now (content_of body.now)) }
+{
+    seal_under(alloc, &HmacKey::new(key), body)
+}
+
+/// The same, under a key that is absorbed.
+#[tactic(auto, unfolding(crate::specs::Snapshot::sealed_of))]
+pub fn seal_under(alloc: Global, key: &HmacKey, body: &Body<'_>) -> Result<Bytes, Memory>
     requires position { body.now.position ≤ 2 ^ 48 }
     requires state { length body.now.state.now ≤ limit_of body.now.module }
     ensures { IfOk result (λ bytes. bytes ≡ sealed_of key.now (content_of body.now)) }
 {
     let mut bytes = Bytes::with_capacity(alloc, sealed_len(body))?;
     put_front(&mut bytes, body)?;
-    let tag = hmac_sha256(key, bytes.as_slice());
+    let tag = key.tag(bytes.as_slice());
     bytes.append(&tag.bytes)?;
     Ok(bytes)
 }
