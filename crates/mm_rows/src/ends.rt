@@ -1,0 +1,261 @@
+//! Replays that stop early.
+
+use crate::run::{ROOM, check, check_all, lines_of, replay};
+use mm_app::memoir;
+use mm_base::{Bytes, Failed, MemSink, MemSource, Source};
+use std::alloc::Global;
+use std::process::Abort;
+use std::test::Fail;
+
+/// Inputs that stop at a line.
+const BAD_LINES: &str = "\
+=> stop line 1
+
+memoir 1 opt counter
+=> stop line 1
+
+memoir 1 basic clock
+=> stop line 1
+
+memoir 1 basic counter
+ask 0 add 5
+=> ok 1 5
+ask 1 add 5
+=> ok 2 10
+Power
+=> stop line 4
+
+memoir 1 basic counter
+ask 00 read
+=> stop line 2
+
+memoir 1 basic counter
+ask raw 0 read
+=> stop line 2
+
+memoir 1 basic counter
+cut 0 ask 0 read
+=> stop line 2
+
+memoir 1 basic counter
+power\x20
+=> stop line 2
+
+memoir 1 basic counter
+meddle 2 ffffffffffffffffffffffffffffffffffffffffffffffffffffffffffffffff \
+meddle 1 ffffffffffffffffffffffffffffffffffffffffffffffffffffffffffffffff ask 0 read
+=> stop line 2
+";
+
+#[test]
+fn a_line_outside_the_grammar_stops_a_replay(rt: HostRuntime) -> Result<(), Fail> {
+    check_all(&rt, rt.alloc(), BAD_LINES, 13)?;
+    let cut_off = b"memoir 1 basic counter\nask 0 add 5\nask 1 add 5\nask 2";
+    check(&rt, rt.alloc(), cut_off, b"ok 1 5\nok 2 10\nstop line 4\n", 13)
+}
+
+/// Words that are no command, and what they write.
+#[test]
+fn other_words_are_refused(rt: HostRuntime) -> Result<(), Fail> {
+    let lists: [&[&str]; 5] = [&[], &["replay", "x"], &["-v"], &["help"], &[""]];
+    for words in lists {
+        let mut input = MemSource::new(rt.alloc(), b"memoir 1 basic counter\n", &[])?;
+        let mut out = MemSink::new(rt.alloc(), ROOM, &[])?;
+        let status = memoir(rt.alloc(), words, &mut input, &mut out);
+        assert!(&rt; out.content() == b"stop usage\n".as_slice());
+        assert!(&rt; status.code() == 2);
+    }
+    Ok(())
+}
+
+/// Two schedules, with their replies.
+const LIMITER: &str = "\
+memoir 1 basic limiter
+ask 0 set pw 2
+=> ok 1 set
+ask 1 guess a
+=> ok 2 wrong 1
+ask 1 guess b
+=> no stale
+ask 2 guess b
+=> ok 3 wrong 0
+ask 3 guess pw
+=> ok 4 locked
+ask flip 0 50 left
+=> no state
+=> end 4 5
+";
+const QUOTA: &str = "\
+memoir 1 basic quota
+ask last open disk 100
+=> ok 1 opened
+ask last use disk 60
+=> ok 2 used 60
+ask last use disk 50
+=> ok 3 over 40
+ask last free disk 70
+=> ok 4 under 60
+ask last left disk
+=> ok 5 left 40
+ask last sum
+=> ok 6 sum 60
+ask last use tape 1
+=> ok 7 none
+=> end 7 8
+";
+
+#[test]
+fn the_pieces_of_an_input_make_no_difference(rt: HostRuntime) -> Result<(), Fail> {
+    for table in [LIMITER, QUOTA] {
+        let schedule = lines_of(rt.alloc(), table, false)?;
+        let replies = lines_of(rt.alloc(), table, true)?;
+        for piece in [1, 2, 7, 4096] {
+            let mut input = MemSource::in_pieces(rt.alloc(), schedule.as_slice(), &[], piece)?;
+            let mut out = MemSink::new(rt.alloc(), ROOM, &[])?;
+            assert!(&rt; replay(rt.alloc(), &mut input, &mut out) == 0);
+            assert!(&rt; out.content() == replies.as_slice());
+        }
+    }
+    Ok(())
+}
+
+// The first lines of a text.
+fn first_lines(text: &[u8], count: usize) -> &[u8] {
+    let mut rest = text;
+    for _ in 0..count {
+        rest = match rest.iter().position(|byte| *byte == b'\n') {
+            Some(end) => rest.split_at(end + 1).1,
+            None => &[],
+        };
+    }
+    text.split_at(text.len() - rest.len()).0
+}
+
+// Replays an input that may be cut off, of a schedule with one reply for each event.
+fn check_cut(rt: &impl Abort, alloc: Global, input: &[u8], replies: &[u8]) -> Result<(), Fail> {
+    let whole = input.iter().filter(|byte| **byte == b'\n').count();
+    let answered = first_lines(replies, whole.saturating_sub(1));
+    let mut source = MemSource::new(alloc, input, &[])?;
+    let mut out = MemSink::new(alloc, ROOM, &[])?;
+    let status = replay(alloc, &mut source, &mut out);
+    let last = out.content().strip_prefix(answered).ok_or("the replies before it")?;
+    if input.last() == Some(&b'\n') {
+        assert!(rt; status == 0);
+        assert!(rt; last.starts_with(b"end "));
+    } else {
+        let stop = format!(in alloc; "stop line {}\n", whole.saturating_add(1))?;
+        assert!(rt; status == 13);
+        assert!(rt; last == stop.as_bytes());
+    }
+    Ok(())
+}
+
+#[test]
+fn an_input_that_is_cut_off_is_replayed_to_its_last_whole_line(rt: HostRuntime) -> Result<(), Fail> {
+    for table in [LIMITER, QUOTA] {
+        let schedule = lines_of(rt.alloc(), table, false)?;
+        let replies = lines_of(rt.alloc(), table, true)?;
+        for length in 0..schedule.as_slice().len() {
+            let (input, _) = schedule.as_slice().split_at(length);
+            check_cut(&rt, rt.alloc(), input, replies.as_slice())?;
+        }
+    }
+    Ok(())
+}
+
+// Replays a schedule whose input fails at a call, and says whether that call was made.
+fn fails_to_read(
+    rt: &impl Abort,
+    alloc: Global,
+    call: u64,
+    schedule: &[u8],
+    replies: &[u8],
+) -> Result<bool, Fail> {
+    let mut input = MemSource::in_pieces(alloc, schedule, &[call], 7)?;
+    let mut out = MemSink::new(alloc, ROOM, &[])?;
+    let status = replay(alloc, &mut input, &mut out);
+    if status == 0 {
+        assert!(rt; out.content() == replies);
+        return Ok(false);
+    }
+    let told = out.content().strip_suffix(b"stop read\n").ok_or("a stop line")?;
+    assert!(rt; status == 3);
+    assert!(rt; replies.starts_with(told));
+    Ok(true)
+}
+
+// Replays a schedule whose output fails at a call, and says whether that call was made.
+fn fails_to_write(
+    rt: &impl Abort,
+    alloc: Global,
+    call: u64,
+    schedule: &[u8],
+    replies: &[u8],
+) -> Result<bool, Fail> {
+    let mut input = MemSource::new(alloc, schedule, &[])?;
+    let mut out = MemSink::new(alloc, ROOM, &[call])?;
+    let status = replay(alloc, &mut input, &mut out);
+    if status == 0 {
+        assert!(rt; out.content() == replies);
+        return Ok(false);
+    }
+    assert!(rt; status == 4);
+    assert!(rt; out.content() != replies);
+    assert!(rt; replies.starts_with(out.content()));
+    Ok(true)
+}
+
+#[test]
+fn a_failing_input_or_output_stops_a_replay(rt: HostRuntime) -> Result<(), Fail> {
+    let mut reads = 0u64;
+    let mut writes = 0u64;
+    for table in [LIMITER, QUOTA] {
+        let schedule = lines_of(rt.alloc(), table, false)?;
+        let replies = lines_of(rt.alloc(), table, true)?;
+        for call in 1..100 {
+            if fails_to_read(&rt, rt.alloc(), call, schedule.as_slice(), replies.as_slice())? {
+                reads = reads.saturating_add(1);
+            }
+            if fails_to_write(&rt, rt.alloc(), call, schedule.as_slice(), replies.as_slice())? {
+                writes = writes.saturating_add(1);
+            }
+        }
+    }
+    assert!(&rt; reads > 40 && reads < 100);
+    assert!(&rt; writes > 14 && writes < 100);
+    Ok(())
+}
+
+/// The stop line can't be written: the status stays that of the first cause.
+#[test]
+fn an_output_that_fails_at_the_stop_line_changes_no_status(rt: HostRuntime) -> Result<(), Fail> {
+    let long = [b'a'; 8401];
+    let cases: [(&[u8], &[u64], u8); 4] = [
+        (b"", &[], 13),
+        (b"memoir 1 basic counter\nPower\n", &[], 13),
+        (b"", &[1], 3),
+        (&long, &[], 14),
+    ];
+    for (schedule, failing, code) in cases {
+        let mut input = MemSource::new(rt.alloc(), schedule, failing)?;
+        let mut out = MemSink::new(rt.alloc(), 3, &[])?;
+        assert!(&rt; replay(rt.alloc(), &mut input, &mut out) == code);
+        assert!(&rt; out.content() == b"sto".as_slice());
+    }
+    Ok(())
+}
+
+/// The first call fails: the input's is told, and after the output's nothing is.
+#[test]
+fn a_first_call_that_fails_is_the_end(rt: HostRuntime) -> Result<(), Fail> {
+    let schedule = b"memoir 1 basic counter\nask last add 5\n";
+    let mut input = MemSource::new(rt.alloc(), schedule, &[1])?;
+    let mut out = MemSink::new(rt.alloc(), ROOM, &[])?;
+    assert!(&rt; replay(rt.alloc(), &mut input, &mut out) == 3);
+    assert!(&rt; out.content() == b"stop read\n".as_slice());
+    let mut input = MemSource::new(rt.alloc(), schedule, &[])?;
+    let mut out = MemSink::new(rt.alloc(), ROOM, &[1])?;
+    assert!(&rt; replay(rt.alloc(), &mut input, &mut out) == 4);
+    assert!(&rt; out.content().is_empty());
+    Ok(())
+}

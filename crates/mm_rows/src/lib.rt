@@ -1,0 +1,11 @@
+//! Whole schedules through the top call, over devices in memory: tests only.
+#![tactic(auto)]
+
+#[cfg(test)]
+mod ends;
+#[cfg(test)]
+mod limits;
+#[cfg(test)]
+mod run;
+#[cfg(test)]
+mod schedules;

@@ -1,0 +1,296 @@
+//! Schedules that are replayed to their end.
+
+use crate::run::{check, check_all};
+use mm_base::Bytes;
+use mm_digest::zero;
+use mm_seal::{Body, Place, seal};
+use std::test::Fail;
+
+/// Snapshots that are new, old and repeated.
+const SNAPSHOTS: &str = "\
+memoir 1 basic counter
+=> end 0 1
+
+memoir 1 basic counter
+ask last add 5
+=> ok 1 5
+=> end 1 2
+
+memoir 1 basic counter
+ask 0 add 5
+=> ok 1 5
+ask 0 add 7
+=> no stale
+=> end 1 2
+
+memoir 1 basic counter
+ask 0 add 5
+=> ok 1 5
+ask 0 add 5
+=> again 1 5
+ask 1 add 5
+=> ok 2 10
+=> end 2 4
+
+memoir 1 basic counter
+ask 0 add 1
+=> ok 1 1
+ask 1 add 1
+=> ok 2 2
+ask 0 add 1
+=> no stale
+ask 1 add 1
+=> again 2 2
+=> end 2 4
+";
+
+/// Power cuts, and devices that fail.
+const STOPS: &str = "\
+memoir 1 basic counter
+cut 2 ask 0 add 5
+=> cut kept 1
+ask 0 read
+=> no stale
+ask 0 add 5
+=> again 1 5
+=> end 1 2
+
+memoir 1 basic counter
+cut 1 ask 0 add 5
+=> cut lost
+ask 0 read
+=> ok 1 0
+cut 9 ask 1 add 5
+=> ok 2 5
+=> end 2 3
+
+memoir 1 basic counter
+fail 2 done ask 0 add 5
+=> fault kept 1
+=> end 1 1
+
+memoir 1 basic counter
+fail 2 undone ask 0 add 5
+=> fault lost
+=> end 0 1
+
+memoir 1 basic counter
+drop 1 ask raw - read
+=> drop lost
+cut 1 checkpoint
+=> cut lost
+cut 2 checkpoint
+=> no kind
+power
+=> power
+=> end 0 1
+";
+
+/// Snapshots that were altered or made up.
+const OFFERS: &str = "\
+memoir 1 basic counter
+ask flip 0 89 read
+=> no tag
+ask flip 0 0 read
+=> no form
+ask flip 0 5 read
+=> no kind
+ask flip 0 46 read
+=> no form
+ask flip 0 30 read
+=> no tag
+ask flip 0 90 read
+=> no form
+ask raw - read
+=> no form
+ask 9 read
+=> no snapshot
+=> end 0 1
+
+memoir 1 basic counter
+ask raw 4d4d53310101\
+0000000000000000000000000000000000000000000000000000000000000000\
+00000000000000000000000700000000000000\
+0000000000000000000000000000000000000000000000000000000000000000 read
+=> no state
+=> end 0 1
+
+memoir 1 basic counter
+ask raw 4D4d53310101\
+0000000000000000000000000000000000000000000000000000000000000000\
+0000000000000000000000080000000000000000\
+0000000000000000000000000000000000000000000000000000000000000000 read
+=> no tag
+=> end 0 1
+
+memoir 1 basic ledger
+ask flip 0 3 sum
+=> no form
+ask flip 0 5 sum
+=> no kind
+ask 0 sum
+=> ok 1 sum 0
+=> end 1 2
+";
+
+/// The modules.
+const MODULES: &str = "\
+memoir 1 basic limiter
+ask 0 set pw 2
+=> ok 1 set
+ask 1 guess a
+=> ok 2 wrong 1
+ask 1 guess b
+=> no stale
+ask 2 guess b
+=> ok 3 wrong 0
+ask 3 guess pw
+=> ok 4 locked
+ask flip 0 50 left
+=> no state
+=> end 4 5
+
+memoir 1 basic counter
+ask 0 add 18446744073709551615
+=> ok 1 18446744073709551615
+ask 1 add 1
+=> ok 2 full
+ask 2 add 18446744073709551616
+=> ok 3 bad
+ask 3\x20
+=> ok 4 bad
+ask 4 read
+=> ok 5 18446744073709551615
+checkpoint
+=> no kind
+=> end 5 6
+
+memoir 1 basic quota
+ask last open disk 100
+=> ok 1 opened
+ask last use disk 60
+=> ok 2 used 60
+ask last use disk 50
+=> ok 3 over 40
+ask last free disk 70
+=> ok 4 under 60
+ask last left disk
+=> ok 5 left 40
+ask last sum
+=> ok 6 sum 60
+ask last use tape 1
+=> ok 7 none
+=> end 7 8
+";
+
+/// Batches.
+const BATCHES: &str = "\
+memoir 1 basic counter
+batch last add 5\tadd 7
+=> ok 1 5
+=> ok 2 12
+batch 0 add 5\tadd 7
+=> again 1 5
+=> again 2 12
+ask 0 add 5
+=> no stale
+ask 1 read
+=> ok 3 12
+=> end 3 4
+
+memoir 1 basic counter
+cut 2 batch 0 add 5\t
+=> cut kept 2
+batch 0 add 5\t
+=> again 1 5
+=> again 2 bad
+=> end 2 2
+
+memoir 1 basic counter
+batch 0 \
+\t\t\t\t\t\t\t\t\t\t\t\t\t\t\t\t\t\t\t\t\t\t\t\t\t\t\t\t\t\t\t\t\
+\t\t\t\t\t\t\t\t\t\t\t\t\t\t\t\t\t\t\t\t\t\t\t\t\t\t\t\t\t\t\t\t
+=> no long
+=> end 0 1
+
+memoir 1 basic counter
+batch 0 add 5
+=> ok 1 5
+ask 0 add 5
+=> again 1 5
+ask last add 5\tadd 7
+=> ok 2 bad
+=> end 2 4
+";
+
+#[test]
+fn only_the_newest_snapshot_goes_on(rt: HostRuntime) -> Result<(), Fail> {
+    check_all(&rt, rt.alloc(), SNAPSHOTS, 0)
+}
+
+#[test]
+fn a_request_is_kept_where_its_write_had_its_effect(rt: HostRuntime) -> Result<(), Fail> {
+    check_all(&rt, rt.alloc(), STOPS, 0)
+}
+
+#[test]
+fn what_was_altered_or_made_up_is_refused(rt: HostRuntime) -> Result<(), Fail> {
+    check_all(&rt, rt.alloc(), OFFERS, 0)
+}
+
+#[test]
+fn each_module_answers_by_its_table(rt: HostRuntime) -> Result<(), Fail> {
+    check_all(&rt, rt.alloc(), MODULES, 0)
+}
+
+#[test]
+fn a_batch_is_kept_whole(rt: HostRuntime) -> Result<(), Fail> {
+    check_all(&rt, rt.alloc(), BATCHES, 0)
+}
+
+/// A stop before a request that is asked again, what is written for both, and the requests committed at last.
+const STOPPED: &str = "\
+cut 1 => cut lost => ok 1 5
+drop 1 => drop lost => ok 1 5
+fail 1 done => fault lost => ok 1 5
+fail 1 undone => fault lost => ok 1 5
+fail 2 undone => fault lost => ok 1 5
+cut 2 => cut kept 1 => again 1 5
+drop 2 => drop kept 1 => again 1 5
+fail 2 done => fault kept 1 => again 1 5
+cut 3 => ok 1 5 => again 1 5
+meddle 1 ffffffffffffffffffffffffffffffffffffffffffffffffffffffffffffffff drop 2 => drop kept 1 => again 1 5
+";
+
+#[test]
+fn a_stopped_request_is_asked_again(rt: HostRuntime) -> Result<(), Fail> {
+    for line in STOPPED.lines() {
+        let (stop, replies) = line.split_once(" => ").ok_or("a stop")?;
+        let (first, second) = replies.split_once(" => ").ok_or("two replies")?;
+        let issued = if first == "ok 1 5" { 3 } else { 2 };
+        let schedule = format!(in rt.alloc(); "memoir 1 basic counter\n{stop} ask 0 add 5\nask 0 add 5\n")?;
+        let written = format!(in rt.alloc(); "{first}\n{second}\nend 1 {issued}\n")?;
+        check(&rt, rt.alloc(), schedule.as_bytes(), written.as_bytes(), 0)?;
+    }
+    Ok(())
+}
+
+/// Sealed under the key of a replay, 00 to 1f, at a place where its platform never stood.
+#[test]
+fn a_sealed_snapshot_of_another_place_is_stale(rt: HostRuntime) -> Result<(), Fail> {
+    let mut key = [0; 32];
+    for (i, byte) in key.iter_mut().enumerate() {
+        *byte = i as u8;
+    }
+    let body = Body {
+        module: 1,
+        place: Place::Basic(zero()),
+        position: 0,
+        state: &[0; 8],
+    };
+    let offer = seal(rt.alloc(), &key, &body)?;
+    let mut schedule = Bytes::copy_of(rt.alloc(), b"memoir 1 basic counter\nask raw ")?;
+    schedule.append(hex::encode(rt.alloc(), offer.as_slice())?.as_bytes())?;
+    schedule.append(b" add 5\n")?;
+    check(&rt, rt.alloc(), schedule.as_slice(), b"no stale\nend 0 1\n", 0)
+}
