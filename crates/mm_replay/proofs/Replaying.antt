@@ -9,7 +9,7 @@ use Rattle.mm_replay.specs.Progress.{stage_of}
 use Rattle.mm_replay.specs.Takes.{IsFrontOf}
 use Rattle.mm_base.specs.declared.replay_fault.ReplayFault.{ReplayFault}
 use Rattle.mm_base.specs.declared.replay_fault.ReplayFault.TheVariants.{Memory, ReadFault, WriteFault, BadLine, LineLong, TooMuch}
-use Rattle.mm_world.specs.Laws.{BasicIsExpected, BasicRuns}
+use Rattle.mm_world.specs.Laws.{BasicIsExpected, ExpectedRuns}
 use Rattle.mm_replay.specs.declared.report.Report.{Report}
 use Rattle.mm_replay.specs.Play.{Told, told, run, run_of}
 use Rattle.mm_replay.specs.Plays.{ForWhole, Settles, Plays}
@@ -36,7 +36,7 @@ lines_run lines = run (schedule_answer machine_at) 1 AtHeader lines
 abbrev whole_run : List ℕ → Told Stage
 whole_run input = run_of (schedule_answer machine_at) schedule_closing AtHeader input
 
-pub replays_ok : (law : BasicIsExpected) (runs : BasicRuns) (first : Stage) → first ≡ AtHeader → (left left' received received' : Option (List ℕ)) (next : Stage) (report : Report)
+pub replays_ok : (law : BasicIsExpected) (runs : ExpectedRuns) (first : Stage) → first ≡ AtHeader → (left left' received received' : Option (List ℕ)) (next : Stage) (report : Report)
     (result : Result (Unit {0}) ReplayFault) (done : Unit {0})
     → Plays (schedule_answer machine_at) schedule_closing first next left left' received received' result → result ≡ Ok done
     → Reports next report → Replays left left' received received' (Ok report)
@@ -55,7 +55,7 @@ replays_ok law runs first is_first left left' received received' next report res
       reported = reported;
     }
 
-pub replays_err : (law : BasicIsExpected) (runs : BasicRuns) (first : Stage) → first ≡ AtHeader → (left left' received received' : Option (List ℕ)) (next : Stage)
+pub replays_err : (law : BasicIsExpected) (runs : ExpectedRuns) (first : Stage) → first ≡ AtHeader → (left left' received received' : Option (List ℕ)) (next : Stage)
     (result : Result (Unit {0}) ReplayFault) (fault : ReplayFault)
     → Plays (schedule_answer machine_at) schedule_closing first next left left' received received' result → result ≡ Err fault
     → Replays left left' received received' (Err fault)

@@ -12,7 +12,7 @@ use Rattle.mm_schedule.specs.Machine.{Runs}
 use Rattle.mm_schedule.specs.Replies.{end_line}
 use Rattle.mm_world.specs.Folds.{expected, replies_by_digests}
 use Rattle.mm_world.specs.Held.{world_key, world_of}
-use Rattle.mm_world.specs.Laws.{BasicIsExpected, BasicRuns}
+use Rattle.mm_world.specs.Laws.{BasicIsExpected, ExpectedRuns}
 use Rattle.mm_world.specs.Premises.{IsClearRun, IsGenuineRun}
 use Rattle.mm_replay.specs.declared.player.Refused.TheVariants.{Bad, Much}
 use Rattle.mm_replay.specs.Play.{Told, told, stopped, after_writing, line_limit, refusal_at, answered, run, closed, ended, goes_on, and_then, run_from, run_of}
@@ -24,12 +24,12 @@ use Rattle.mm_replay.specs.Headline.{IsOneRun, IsContinuous, AnswersEvents, unen
 use Rattle.mm_replay.proofs.Answering.{AnswersFrom, answers_from, not_ok, ok_same}
 
 -- the laws of whole runs give the headline
-continuous : BasicIsExpected → BasicRuns → (machine : AnyModule) (events : List Event) → IsContinuous (world_of machine) events
+continuous : BasicIsExpected → ExpectedRuns → (machine : AnyModule) (events : List Event) → IsContinuous (world_of machine) events
 continuous law runs machine events = λ clear genuine.
     let a = law (meaning_of machine) world_key events clear genuine in
     record {
       requests = requests_of (expected (world_of machine) events).state.batches;
-      runs = subst (λ rs. Runs (meaning_of machine) [] events rs (requests_of (expected (world_of machine) events).state.batches)) (sym a.replies) (runs (meaning_of machine) world_key events);
+      runs = subst (λ rs. Runs (meaning_of machine) [] events rs (requests_of (expected (world_of machine) events).state.batches)) (sym a.replies) (runs (world_of machine) events);
       judged = a.replies;
       count = a.stands.count;
     }
@@ -56,7 +56,7 @@ starts_none header lines fault = record {
   whole = λ p h. absurd (not_ok fault p h);
 }
 
-starts_events : BasicIsExpected → BasicRuns → (header : List ℕ → Option AnyModule) (first : List ℕ) (others : List (List ℕ)) (i : AnyModule) (t : Told Stage)
+starts_events : BasicIsExpected → ExpectedRuns → (header : List ℕ → Option AnyModule) (first : List ℕ) (others : List (List ℕ)) (i : AnyModule) (t : Told Stage)
     → header first ≡ Some i → AnswersFrom (begun i) others t → StartsOut header (first ∷ others) t
 starts_events law runs header first others i t is a = record {
   done = first ∷ a.done;
@@ -91,20 +91,20 @@ starts_events law runs header first others i t is a = record {
   );
 }
 
-starts_found : BasicIsExpected → BasicRuns → (header : List ℕ → Option AnyModule) (first : List ℕ) (others : List (List ℕ)) (found : Option AnyModule)
+starts_found : BasicIsExpected → ExpectedRuns → (header : List ℕ → Option AnyModule) (first : List ℕ) (others : List (List ℕ)) (found : Option AnyModule)
     → header first ≡ found
     → StartsOut header (first ∷ others) (answered (λ next. run (schedule_answer header) (1 + 1) next others) 1 (header_answer found))
 starts_found law runs header first others None is = starts_none header (first ∷ others) (refusal_at 1 Bad)
 starts_found law runs header first others (Some i) is =
     starts_events law runs header first others i (run (schedule_answer header) (1 + 1) (InEvents (begun i)) others) is (answers_from header others (1 + 1) (begun i))
 
-starts_line : BasicIsExpected → BasicRuns → (header : List ℕ → Option AnyModule) (first : List ℕ) (others : List (List ℕ)) (long : Bool)
+starts_line : BasicIsExpected → ExpectedRuns → (header : List ℕ → Option AnyModule) (first : List ℕ) (others : List (List ℕ)) (long : Bool)
     → StartsOut header (first ∷ others) (cond long (stopped (LineLong 1)) (answered (λ next. run (schedule_answer header) (1 + 1) next others) 1 (header_answer (header first))))
 starts_line law runs header first others true = starts_none header (first ∷ others) (LineLong 1)
 starts_line law runs header first others false = starts_found law runs header first others (header first) refl
 
 -- the run over the lines of a schedule
-starts_out : BasicIsExpected → BasicRuns → (header : List ℕ → Option AnyModule) (lines : List (List ℕ))
+starts_out : BasicIsExpected → ExpectedRuns → (header : List ℕ → Option AnyModule) (lines : List (List ℕ))
     → StartsOut header lines (run (schedule_answer header) 1 AtHeader lines)
 starts_out law runs header [] = record {
   done = [];
@@ -144,7 +144,7 @@ told_then header lines t number tail (Ok p) s is = told_end header lines t numbe
 told_then header lines t number tail (Err fault) s is = told_first header lines t fault s
 
 -- the run over a whole input
-told_whole : BasicIsExpected → BasicRuns → (header : List ℕ → Option AnyModule) (input : List ℕ)
+told_whole : BasicIsExpected → ExpectedRuns → (header : List ℕ → Option AnyModule) (input : List ℕ)
     → (let e = run_of (schedule_answer header) schedule_closing AtHeader input in ToldOf header (lines_of input) e.written e.outcome)
 told_whole law runs header input =
     let t = run (schedule_answer header) 1 AtHeader (lines_of input) in
@@ -155,7 +155,7 @@ for_whole : (left : Option (List ℕ)) (taken : List ℕ) (P Q : List ℕ → Ty
 for_whole left taken P Q lift w = elim w [ inl h ↦ inl (λ rest. lift (taken ++ rest) (h rest)) | inr h ↦ inr (h.0, lift taken h.1) ]
 
 -- the lines were all answered
-told_lines : (law : BasicIsExpected) (runs : BasicRuns) (header : List ℕ → Option AnyModule) (lines : List (List ℕ)) (sent : List ℕ) (after : Stage)
+told_lines : (law : BasicIsExpected) (runs : ExpectedRuns) (header : List ℕ → Option AnyModule) (lines : List (List ℕ)) (sent : List ℕ) (after : Stage)
     → run (schedule_answer header) 1 AtHeader lines ≡ told sent (Ok after) → AnswersLines header lines sent
 told_lines law runs header lines sent after ran =
     let s = starts_out law runs header lines in
@@ -170,13 +170,13 @@ told_front : (header : List ℕ → Option AnyModule) (lines : List (List ℕ)) 
 told_front header lines sent written (Ok p) told front = (written, front, inr told)
 told_front header lines sent written (Err fault) told front = (written, front, inl told)
 
-told_at : (law : BasicIsExpected) (runs : BasicRuns) (header : List ℕ → Option AnyModule) (input sent : List ℕ) (outcome : Result Stage ReplayFault)
+told_at : (law : BasicIsExpected) (runs : ExpectedRuns) (header : List ℕ → Option AnyModule) (input sent : List ℕ) (outcome : Result Stage ReplayFault)
     → run_of (schedule_answer header) schedule_closing AtHeader input ≡ told sent outcome → ToldOf header (lines_of input) sent outcome
 told_at law runs header input sent outcome is =
     subst (λ (t : Told Stage). ToldOf header (lines_of input) t.written t.outcome) is (told_whole law runs header input)
 
 -- What is out tells the events.
-pub tells : {T : Type 0} (law : BasicIsExpected) (runs : BasicRuns) (header : List ℕ → Option AnyModule) (next : Stage) (left : Option (List ℕ)) (taken sent : List ℕ) (result : Result T ReplayFault)
+pub tells : {T : Type 0} (law : BasicIsExpected) (runs : ExpectedRuns) (header : List ℕ → Option AnyModule) (next : Stage) (left : Option (List ℕ)) (taken sent : List ℕ) (result : Result T ReplayFault)
     → Settles (run (schedule_answer header) 1 AtHeader) (run_of (schedule_answer header) schedule_closing AtHeader) next left taken sent result
     → Tells header left taken sent result
 tells law runs header next left taken sent (Ok _) s = told_at law runs header taken sent (Ok next) s.1

@@ -17,7 +17,7 @@ use crate::report::Report;
 use mm_base::{ReplayFault, Sink, Source, WriteFault};
 use mm_digest::Variant;
 use mm_schedule::read_header;
-use mm_world::laws::{basic_is_expected, basic_runs};
+use mm_world::laws::{basic_is_expected, expected_runs};
 use std::alloc::Global;
 use std::marker::Model;
 
@@ -124,7 +124,7 @@ pub fn replay<S: Source, K: Sink>(
         → (run_of (schedule_answer machine_at) schedule_closing AtHeader bytes).outcome ≡ Ok next → IsUnrefused result }
 {
     basic_is_expected();
-    basic_runs();
+    expected_runs();
     let mut player = SchedulePlayer::new();
     match play(alloc, &mut player, input, out) {
         Ok(()) => Ok(player.report()),

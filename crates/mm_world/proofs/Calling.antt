@@ -51,23 +51,35 @@ answer_after i named b = record {
   });
 }
 
+-- the position before the last batch, and what is said to it
+pub before_last : (batches named : List Batch) (b : Batch) → batches ≡ named ++ b ∷ [] → total_of batches - size_of b ≡ total_of named
+before_last batches named b e =
+    let total : total_of batches ≡ total_of named + size_of b = ap total_of e ∙ total-push named b in omega arith
+
+pub said_last : (meaning : Meaning) (batches named : List Batch) (b : Batch) → batches ≡ named ++ b ∷ []
+    → drop (total_of batches - size_of b) (outputs_from meaning meaning.first (requests_of batches))
+    ≡ outputs_from meaning (state_after meaning (requests_of named)) (members_of b)
+said_last meaning batches named b e =
+    let requests : requests_of batches ≡ requests_of named ++ members_of b = ap requests_of e ∙ requests-push named b in
+    let outputs : outputs_from meaning meaning.first (requests_of batches)
+    ≡ outputs_from meaning meaning.first (requests_of named) ++ outputs_from meaning (state_after meaning (requests_of named)) (members_of b) =
+    ap (outputs_from meaning meaning.first) requests ∙ outputs_from-append meaning meaning.first (requests_of named) (members_of b) in
+    ap (λ n. drop n (outputs_from meaning meaning.first (requests_of batches))) (before_last batches named b e)
+    ∙ ap (drop (total_of named)) outputs
+    ∙ drop-at (total_of named) (outputs_from meaning meaning.first (requests_of named)) _ (sym (length-outputs_from meaning meaning.first (requests_of named)))
+
 pub answer-lists : (meaning : Meaning) (key : List ℕ) (y : History) (named : List Batch) (b : Batch) → y.batches ≡ named ++ b ∷ []
     → answer_by_lists (basic meaning key) y b ≡ answer_after (basic meaning key) named b
 answer-lists meaning key y named b e =
     let total : total_of y.batches ≡ total_of named + size_of b = ap total_of e ∙ total-push named b in
-    let before : total_of y.batches - size_of b ≡ total_of named = omega arith in
-    let requests : requests_of y.batches ≡ requests_of named ++ members_of b = ap requests_of e ∙ requests-push named b in
-    let outputs : outputs_from meaning meaning.first (requests_of y.batches)
-    ≡ outputs_from meaning meaning.first (requests_of named) ++ outputs_from meaning (state_after meaning (requests_of named)) (members_of b) =
-    ap (outputs_from meaning meaning.first) requests ∙ outputs_from-append meaning meaning.first (requests_of named) (members_of b) in
-    let dropped = ap (λ n. drop n (outputs_from meaning meaning.first (requests_of y.batches))) before
-    ∙ ap (drop (total_of named)) outputs
-    ∙ drop-at (total_of named) (outputs_from meaning meaning.first (requests_of named)) _ (sym (length-outputs_from meaning meaning.first (requests_of named))) in
+    let before = before_last y.batches named b e in
+    let said = said_last meaning y.batches named b e in
     let place = ap (λ v. InBasic (digest_of (summary_of meaning.id v))) e in
-    let state = ap (state_after meaning) requests ∙ state_after-append meaning (requests_of named) (members_of b) in
+    let state = ap (λ v. state_after meaning (requests_of v)) e ∙ ap (state_after meaning) (requests-push named b)
+    ∙ state_after-append meaning (requests_of named) (members_of b) in
     λ j. record {
       before = before j;
-      outputs = dropped j;
+      outputs = said j;
       snapshot = sealed_of key (record { id = meaning.id; place = place j; position = total j; state = state j });
     }
 

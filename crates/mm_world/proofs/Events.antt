@@ -33,7 +33,7 @@ use Rattle.mm_world.specs.Levels.{Digests, by_lists, by_digests, first_digests}
 use Rattle.mm_world.specs.Folds.{Outcome, all_made, Found, found_at, is_fresh, called_with, called, uncalled, asked, checkpointed, outcome_of, followed, first_issued, expected, replies_by_digests}
 use Rattle.mm_world.specs.Premises.{right_messages, asking_messages, event_messages, moves_messages, moves_of, messages_from, IsGenuineOffer, IsGenuineEvent, AreGenuine, IsClearRun, IsGenuineRun, run_messages}
 use Rattle.mm_world.specs.Laws.{AgreesThroughout}
-use Rattle.mm_world.proofs.Moving.{IsBasicMove, agrees-made, plain-made, committed_in, batches-made, summary-nil}
+use Rattle.mm_world.proofs.Moving.{IsBasicMove, agrees-made, plain-made, committed_in, batches-made, same_batches, more_batches, summary-nil}
 use Rattle.mm_world.proofs.Walking.{walks_basic, checkpoint_reads, seen_basic, seen_commits}
 use Rattle.mm_world.proofs.Finding.{Holds, Asking, found_same, placed, right_of_found}
 use Rattle.mm_world.proofs.Calling.{listed_same, called_message}
@@ -63,7 +63,7 @@ pub record Sees (all : List (List ℕ)) (i : Instance) (y : History) (d : Digest
 quiet_moves : (meaning : Meaning) (key : List ℕ) (all : List (List ℕ)) (y : History) (d : Digests) (moves : List Move)
     → AllByRecursion IsBasicMove moves → committed_in moves ≡ [] → Holds all (basic meaning key) y d → Sees all (basic meaning key) y d moves
 quiet_moves meaning key all y d moves basic_moves none h =
-    let same = batches-made meaning key moves y ∙ ap (λ v. y.batches ++ v) none ∙ append-nil y.batches in record {
+    let same = same_batches (basic meaning key) moves y none in record {
       holds = record {
         agrees = agrees-made meaning key moves y d basic_moves h.agrees;
         plain = plain-made meaning key moves y basic_moves h.plain;

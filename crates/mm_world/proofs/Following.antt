@@ -15,7 +15,7 @@ use Rattle.mm_world.specs.Walk.{Walked, commits}
 use Rattle.mm_world.specs.Levels.{Answer, Digests, by_lists, by_digests}
 use Rattle.mm_world.specs.Folds.{Outcome, all_made, Found, is_fresh, broken_reply, ended}
 use Rattle.mm_world.specs.Laws.{Agrees}
-use Rattle.mm_world.proofs.Moving.{IsBasicMove, agrees-made, plain-made, committed_in, batches-made}
+use Rattle.mm_world.proofs.Moving.{IsBasicMove, agrees-made, plain-made, committed_in, batches-made, same_batches, more_batches}
 use Rattle.mm_world.proofs.Walking.{Commits, nothing, batch, commits-none}
 use Rattle.mm_world.proofs.Finding.{Holds, Placed}
 use Rattle.mm_world.proofs.Calling.{answers_same, ended_batches, listed_push, listed_same}
@@ -58,7 +58,7 @@ after_walk meaning key all y seen d seen' b walked found c basic_moves (nothing 
       agrees = agrees-made meaning key walked.moves y d basic_moves c.holds.agrees;
       plain = plain-made meaning key walked.moves y basic_moves c.holds.plain;
       listed = listed_same meaning key all y (all_made (by_lists (basic meaning key)) y walked.moves) c.holds.listed
-          (batches-made meaning key walked.moves y ∙ ap (λ v. y.batches ++ v) none ∙ append-nil y.batches);
+          (same_batches (basic meaning key) walked.moves y none);
     }
 after_walk meaning key all y seen d seen' b walked (Ok f) c basic_moves (batch one fresh) =
     record {
@@ -66,7 +66,7 @@ after_walk meaning key all y seen d seen' b walked (Ok f) c basic_moves (batch o
       plain = plain-made meaning key walked.moves y basic_moves c.holds.plain;
       listed = listed_push meaning key all y (all_made (by_lists (basic meaning key)) y walked.moves) b c.holds.listed
           (c.message f refl (fresh_of f.again fresh))
-          (batches-made meaning key walked.moves y ∙ ap (λ v. y.batches ++ v) one);
+          (more_batches (basic meaning key) walked.moves y b one);
     }
 after_walk meaning key all y seen d seen' b walked (Err why) c basic_moves (batch one fresh) = cc
 
@@ -79,7 +79,7 @@ end_answers : (meaning : Meaning) (key : List ℕ) (all : List (List ℕ)) (y se
 end_answers meaning key all y seen d seen' b walked f c none one =
     let p = c.placed f refl in
     answers_same meaning key seen seen' (all_made (by_lists (basic meaning key)) y walked.moves) (all_made (by_digests (basic meaning key)) d walked.moves) b f c.sees p
-    (batches-made meaning key walked.moves y ∙ ap (λ v. v ++ committed_in walked.moves) (sym c.batches)
+    (batches-made (basic meaning key) walked.moves y ∙ ap (λ v. v ++ committed_in walked.moves) (sym c.batches)
     ∙ ended_batches seen.batches p.named (committed_in walked.moves) b f.again p.fresh p.repeat none one)
 
 pub ended_same : (meaning : Meaning) (key : List ℕ) (all : List (List ℕ)) (y seen : History) (d seen' : Digests) (issued : List (List ℕ)) (b : Batch)

@@ -1,13 +1,15 @@
--- Basic: moves keep the agreement of a history and its digests.
-use Rattle.std.proofs.Common.{ℕ, ◌≡◌, false, List, [], ◌∷◌, ◌++◌, refl, sym, ap, ◌∙◌, arith, append_assoc}
+-- Basic: moves keep the agreement of a history and its digests. And the batches that moves commit, in each variant.
+use Rattle.std.proofs.Common.{ℕ, ◌≡◌, Bool, true, false, List, [], ◌∷◌, ◌++◌, refl, sym, ap, ◌∙◌, arith, append_assoc}
 use Rattle.std.proofs.lemmas.List.{append-nil}
 use Rattle.std.specs.List.{AllByRecursion}
+use Rattle.mm_digest.specs.declared.variant.Variant.{Variant}
+use Rattle.mm_digest.specs.declared.variant.Variant.TheVariants.{Basic, Opt}
 use Rattle.mm_digest.specs.Messages.{zero_bytes, extended_of, start_of}
 use Rattle.mm_module.specs.Meaning.{Meaning}
 use Rattle.mm_module.specs.Batch.{Batch}
 use Rattle.mm_model.specs.Chains.{link, register_of, summary_of}
-use Rattle.mm_model.specs.Instance.{basic}
-use Rattle.mm_model.specs.History.{History, Value, Move, Commit, Foreign, Placed, Reset, Close, Power, moved, values_of}
+use Rattle.mm_model.specs.Instance.{Instance, basic}
+use Rattle.mm_model.specs.History.{History, Value, Move, Commit, Foreign, Placed, Reset, Close, Power, committed, moved, values_of}
 use Rattle.mm_model.proofs.Batches.{total-append, total-cons}
 use Rattle.mm_model.proofs.Digests.{summary-push, register-push}
 use Rattle.mm_model.proofs.Histories.{values_of-append}
@@ -92,13 +94,27 @@ committed_in (Reset ∷ moves) = committed_in moves
 committed_in (Close ∷ moves) = committed_in moves
 committed_in (Power ∷ moves) = committed_in moves
 
-pub batches-made : (meaning : Meaning) (key : List ℕ) (moves : List Move) (y : History)
-    → (all_made (by_lists (basic meaning key)) y moves).batches ≡ y.batches ++ committed_in moves
-batches-made meaning key [] y = sym (append-nil y.batches)
-batches-made meaning key (Commit b ∷ moves) y =
-    batches-made meaning key moves (moved (basic meaning key) y (Commit b)) ∙ append_assoc y.batches (b ∷ []) (committed_in moves)
-batches-made meaning key (Foreign v ∷ moves) y = batches-made meaning key moves (moved (basic meaning key) y (Foreign v))
-batches-made meaning key (Placed b ∷ moves) y = batches-made meaning key moves (moved (basic meaning key) y (Placed b))
-batches-made meaning key (Reset ∷ moves) y = batches-made meaning key moves (moved (basic meaning key) y Reset)
-batches-made meaning key (Close ∷ moves) y = batches-made meaning key moves (moved (basic meaning key) y Close)
-batches-made meaning key (Power ∷ moves) y = batches-made meaning key moves (moved (basic meaning key) y Power)
+-- what a commit adds, in each variant
+pub commit_adds : (variant : Variant) (is_open : Bool) (y : History) (b : Batch) → (committed variant is_open y b).batches ≡ y.batches ++ b ∷ []
+commit_adds Basic is_open y b = refl
+commit_adds Opt true y b = refl
+commit_adds Opt false y b = refl
+
+pub batches-made : (i : Instance) (moves : List Move) (y : History) → (all_made (by_lists i) y moves).batches ≡ y.batches ++ committed_in moves
+batches-made i [] y = sym (append-nil y.batches)
+batches-made i (Commit b ∷ moves) y =
+    batches-made i moves (moved i y (Commit b)) ∙ ap (λ v. v ++ committed_in moves) (commit_adds i.variant y.is_open y b)
+    ∙ append_assoc y.batches (b ∷ []) (committed_in moves)
+batches-made i (Foreign v ∷ moves) y = batches-made i moves (moved i y (Foreign v))
+batches-made i (Placed b ∷ moves) y = batches-made i moves (moved i y (Placed b))
+batches-made i (Reset ∷ moves) y = batches-made i moves (moved i y Reset)
+batches-made i (Close ∷ moves) y = batches-made i moves (moved i y Close)
+batches-made i (Power ∷ moves) y = batches-made i moves (moved i y Power)
+
+-- moves that commit nothing, and moves that commit a batch
+pub same_batches : (i : Instance) (moves : List Move) (y : History) → committed_in moves ≡ [] → (all_made (by_lists i) y moves).batches ≡ y.batches
+same_batches i moves y none = batches-made i moves y ∙ ap (λ v. y.batches ++ v) none ∙ append-nil y.batches
+
+pub more_batches : (i : Instance) (moves : List Move) (y : History) (b : Batch) → committed_in moves ≡ b ∷ []
+    → (all_made (by_lists i) y moves).batches ≡ y.batches ++ b ∷ []
+more_batches i moves y b one = batches-made i moves y ∙ ap (λ v. y.batches ++ v) one

@@ -29,8 +29,7 @@ use Rattle.mm_world.specs.Folds.{all_made}
 use Rattle.mm_world.specs.Laws.{Agrees}
 use Rattle.mm_world.proofs.Moving.{committed_in}
 use Rattle.mm_world.proofs.Walking.{Commits, nothing, batch, committed-append, foreign_first, committed-stop, made_unless, committed-foreign}
-use Rattle.mm_world.proofs.Calling.{requests-push, drop-at}
-use Rattle.mm_world.proofs.OptHolding.{committed_batches}
+use Rattle.mm_world.proofs.Calling.{requests-push, before_last, said_last}
 use Rattle.mm_world.proofs.OptWalking.{taking, path_end}
 use Rattle.mm_world.proofs.OptFinding.{IsLive}
 
@@ -87,18 +86,6 @@ asks_commit stop meddles false true b =
     (quiet_step (is_none (fault_at stop 4)) (Changes (PlacedMove b)) stop (map Foreign (due 4 meddles) ++ made_move (is_made_at stop 4) (PlacedMove b)) _ b true (quiet_placed (is_made_at stop 4) (due 4 meddles) b)
     (commit_last (is_none (fault_at stop 5)) (is_made_at stop 5) (Writes (Commit b)) stop (λ made. made_move made (Commit b) ++ map Foreign (due 5 meddles)) b
     (ap (λ v. b ∷ v) (committed-foreign (due 5 meddles))) (committed-foreign (due 5 meddles)) (made_unless stop 5)))))
-
-pub batches-made : (meaning : Meaning) (key barrier : List ℕ) (moves : List Move) (y : History)
-    → (all_made (by_lists (opt meaning key barrier)) y moves).batches ≡ y.batches ++ committed_in moves
-batches-made meaning key barrier [] y = sym (append-nil y.batches)
-batches-made meaning key barrier (Commit b ∷ moves) y =
-    batches-made meaning key barrier moves (moved (opt meaning key barrier) y (Commit b))
-    ∙ ap (λ v. v ++ committed_in moves) (committed_batches y.is_open y b) ∙ append_assoc y.batches (b ∷ []) (committed_in moves)
-batches-made meaning key barrier (Foreign v ∷ moves) y = batches-made meaning key barrier moves (moved (opt meaning key barrier) y (Foreign v))
-batches-made meaning key barrier (PlacedMove b ∷ moves) y = batches-made meaning key barrier moves (moved (opt meaning key barrier) y (PlacedMove b))
-batches-made meaning key barrier (Reset ∷ moves) y = batches-made meaning key barrier moves (moved (opt meaning key barrier) y Reset)
-batches-made meaning key barrier (Close ∷ moves) y = batches-made meaning key barrier moves (moved (opt meaning key barrier) y Close)
-batches-made meaning key barrier (Power ∷ moves) y = batches-made meaning key barrier moves (moved (opt meaning key barrier) y Power)
 
 -- the place of an answer, at the end of a call that isn't broken off
 pub end_place : (meaning : Meaning) (key barrier : List ℕ) (meddles : List Meddle) (y : History) (d : Digests) (b : Batch) (flag again : Bool)
@@ -164,18 +151,13 @@ pub answer-lists : (meaning : Meaning) (key barrier : List ℕ) (y : History) (n
     ≡ answer_after (opt meaning key barrier) named b (issued_place Opt y.is_open (opt meaning key barrier) y)
 answer-lists meaning key barrier y named b e =
     let total : total_of y.batches ≡ total_of named + size_of b = ap total_of e ∙ total-push named b in
-    let before : total_of y.batches - size_of b ≡ total_of named = omega arith in
-    let requests : requests_of y.batches ≡ requests_of named ++ members_of b = ap requests_of e ∙ requests-push named b in
-    let outputs : outputs_from meaning meaning.first (requests_of y.batches)
-    ≡ outputs_from meaning meaning.first (requests_of named) ++ outputs_from meaning (state_after meaning (requests_of named)) (members_of b) =
-    ap (outputs_from meaning meaning.first) requests ∙ outputs_from-append meaning meaning.first (requests_of named) (members_of b) in
-    let dropped = ap (λ n. drop n (outputs_from meaning meaning.first (requests_of y.batches))) before
-    ∙ ap (drop (total_of named)) outputs
-    ∙ drop-at (total_of named) (outputs_from meaning meaning.first (requests_of named)) _ (sym (length-outputs_from meaning meaning.first (requests_of named))) in
-    let state = ap (state_after meaning) requests ∙ state_after-append meaning (requests_of named) (members_of b) in
+    let before = before_last y.batches named b e in
+    let said = said_last meaning y.batches named b e in
+    let state = ap (λ v. state_after meaning (requests_of v)) e ∙ ap (state_after meaning) (requests-push named b)
+    ∙ state_after-append meaning (requests_of named) (members_of b) in
     λ j. record {
       before = before j;
-      outputs = dropped j;
+      outputs = said j;
       snapshot = sealed_of key (record {
         id = meaning.id;
         place = issued_place Opt y.is_open (opt meaning key barrier) y;

@@ -26,14 +26,14 @@ use Rattle.mm_world.specs.Levels.{Answer, Digests, by_lists, by_digests, place_t
 use Rattle.mm_world.specs.Folds.{Outcome, all_made, Found, is_fresh, ended}
 use Rattle.mm_world.specs.Premises.{moves_messages}
 use Rattle.mm_world.specs.Laws.{Agrees}
-use Rattle.mm_world.proofs.Moving.{committed_in}
+use Rattle.mm_world.proofs.Moving.{committed_in, batches-made, more_batches}
 use Rattle.mm_world.proofs.Walking.{Commits, nothing, batch, commits-none}
 use Rattle.mm_world.proofs.Calling.{ended_batches}
 use Rattle.mm_world.proofs.Following.{broken_same, again_of, fresh_of}
 use Rattle.mm_world.proofs.OptHolding.{Holds}
 use Rattle.mm_world.proofs.OptWalking.{AllFine, AreOutside, walk_fine, taking, foreign_made, path_end, path_is}
 use Rattle.mm_world.proofs.OptFinding.{Placed, IsLive, lives}
-use Rattle.mm_world.proofs.OptCalling.{batches-made, end_place, answer-lists, answer-digests}
+use Rattle.mm_world.proofs.OptCalling.{end_place, answer-lists, answer-digests}
 
 -- two outcomes are the same, and what holds before holds after
 pub record Same (all others : List (List ℕ)) (asked : List Batch) (i : Instance) (lists : Outcome History) (digests : Outcome Digests) : Type 0 where
@@ -141,7 +141,7 @@ end_answers meaning key barrier all others asked stop meddles y d seen' b flag f
     let path = path_is i stop meddles (ask_steps Opt flag (is_fresh (Ok f)) b) 1 y whole in
     let place = end_placed meaning key barrier meddles y seen' b flag f open_is (lives _ p.live) c.sees
     ∙ ap (λ (x : History). issued_place Opt x.is_open i x) (sym path) in
-    let batches = batches-made meaning key barrier w.moves y ∙ ended_batches y.batches p.named (committed_in w.moves) b f.again p.fresh p.repeat none one in
+    let batches = batches-made (opt meaning key barrier) w.moves y ∙ ended_batches y.batches p.named (committed_in w.moves) b f.again p.fresh p.repeat none one in
     answer-digests meaning key barrier seen' p.named b f.again f.offered (issued_place Opt end.is_open i end) p.position p.state place
     ∙ sym (answer-lists meaning key barrier end p.named b batches)
 
@@ -150,7 +150,7 @@ kept_same : (meaning : Meaning) (key barrier : List ℕ) (all : List (List ℕ))
     → Placed all (opt meaning key barrier) seen b f → f.again ≡ false → committed_in moves ≡ b ∷ []
     → f.offered.position + size_of b ≡ total_of (all_made (by_lists (opt meaning key barrier)) y moves).batches - size_of b + size_of b
 kept_same meaning key barrier all y seen b f moves same p fresh one =
-    let total = ap total_of (batches-made meaning key barrier moves y ∙ ap (λ v. y.batches ++ v) one) ∙ total-push y.batches b in
+    let total = ap total_of (more_batches (opt meaning key barrier) moves y b one) ∙ total-push y.batches b in
     let named = p.position ∙ ap total_of (p.fresh fresh ∙ same) in
     omega arith
 

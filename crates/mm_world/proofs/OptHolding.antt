@@ -17,6 +17,7 @@ use Rattle.mm_model.proofs.Lists.{each_append}
 use Rattle.mm_world.specs.Levels.{Digests, digests_moved, digests_committed}
 use Rattle.mm_world.specs.Laws.{Agrees}
 use Rattle.mm_world.proofs.OptMessages.{Listing, listing_of, listed_of, Commits, listed_open, listed_opening, listed_closed, items_push}
+use Rattle.mm_world.proofs.Moving.{commit_adds}
 
 abbrev pub as_digests : ModelDigests → Digests
 as_digests d = record { digest = d.digest; flag = d.flag; register = d.register; count = d.count }
@@ -148,15 +149,11 @@ listing_moved meaning key barrier all others asked y Power sound fine message l 
   closings = l.closings;
 }
 
-pub committed_batches : (flag : Bool) (y : History) (b : Batch) → (committed Opt flag y b).batches ≡ y.batches ++ b ∷ []
-committed_batches true y b = refl
-committed_batches false y b = refl
-
 batches_moved : (meaning : Meaning) (key barrier : List ℕ) (all : List (List ℕ)) (asked : List Batch) (y : History) (m : Move)
     → IsListed all barrier asked y m → AllByRecursion (Contains asked) y.batches
     → AllByRecursion (Contains asked) (moved (opt meaning key barrier) y m).batches
 batches_moved meaning key barrier all asked y (Commit b) is h =
-    subst (λ (v : List Batch). AllByRecursion (Contains asked) v) (sym (committed_batches y.is_open y b))
+    subst (λ (v : List Batch). AllByRecursion (Contains asked) v) (sym (commit_adds Opt y.is_open y b))
     (each_append (Contains asked) y.batches (b ∷ []) h (is.1, tt))
 batches_moved meaning key barrier all asked y (Foreign v) is h = h
 batches_moved meaning key barrier all asked y (Placed b) is h = h

@@ -33,11 +33,11 @@ BasicIsExpected = (meaning : Meaning) (key : List ℕ) (events : List Event) →
     IsClearRun (basic meaning key) events → IsGenuineRun (basic meaning key) events →
     AgreesThroughout (basic meaning key) (expected (basic meaning key) events) (replies_by_digests (basic meaning key) events)
 
--- Without a premise, what is expected is one run of the machine, on one list of requests.
-abbrev pub BasicRuns : Type 0
-BasicRuns = (meaning : Meaning) (key : List ℕ) (events : List Event) →
-    let lists : Followed History = expected (basic meaning key) events in
-    Runs meaning [] events lists.replies (requests_of lists.state.batches)
+-- In both variants, and without a premise, what is expected is one run of the machine, on one list of requests.
+abbrev pub ExpectedRuns : Type 0
+ExpectedRuns = (i : Instance) (events : List Event) →
+    let lists : Followed History = expected i events in
+    Runs i.meaning [] events lists.replies (requests_of lists.state.batches)
 
 -- What stands after some events and then more.
 abbrev pub continued : {S : Type 0} → Followed S → Followed S → Followed S

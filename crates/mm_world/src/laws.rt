@@ -1,6 +1,6 @@
 //! The laws of whole runs, each the contract of a function that does nothing.
 
-ghost use Rattle.mm_world.specs.Laws.{BasicIsExpected, BasicRuns, GoesOn, OptIsExpected};
+ghost use Rattle.mm_world.specs.Laws.{BasicIsExpected, ExpectedRuns, GoesOn, OptIsExpected};
 
 /// A schedule of Basic is told as expected, where no two messages of the run share a digest and each right offer
 /// names a position.
@@ -8,9 +8,9 @@ pub fn basic_is_expected()
     ensures { BasicIsExpected }
 {}
 
-/// What is expected of a schedule of Basic is one run of the machine on one list of requests.
-pub fn basic_runs()
-    ensures { BasicRuns }
+/// What is expected of a schedule is one run of the machine on one list of requests.
+pub fn expected_runs()
+    ensures { ExpectedRuns }
 {}
 
 /// A schedule goes on from what stands after its first events.

@@ -1,8 +1,0 @@
-use Rattle.mm_model.specs.Instance.{basic}
-use Rattle.mm_model.specs.History.{first_history}
-use Rattle.mm_world.specs.Folds.{first_issued}
-use Rattle.mm_world.proofs.Running.{runs}
-use Rattle.mm_world.proofs.laws.basic_runs.Goals as goal
-
-pub returns : goal.returns
-returns c = λ meaning key events. runs meaning key events first_history (first_issued (basic meaning key))
