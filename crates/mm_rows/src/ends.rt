@@ -51,7 +51,13 @@ meddle 1 ffffffffffffffffffffffffffffffffffffffffffffffffffffffffffffffff ask 0 
 fn a_line_outside_the_grammar_stops_a_replay(rt: HostRuntime) -> Result<(), Fail> {
     check_all(&rt, rt.alloc(), BAD_LINES, 13)?;
     let cut_off = b"memoir 1 basic counter\nask 0 add 5\nask 1 add 5\nask 2";
-    check(&rt, rt.alloc(), cut_off, b"ok 1 5\nok 2 10\nstop line 4\n", 13)
+    check(
+        &rt,
+        rt.alloc(),
+        cut_off,
+        b"ok 1 5\nok 2 10\nstop line 4\n",
+        13,
+    )
 }
 
 /// Words that are no command, and what they write.
@@ -85,6 +91,7 @@ ask flip 0 50 left
 => no state
 => end 4 5
 ";
+
 const QUOTA: &str = "\
 memoir 1 basic quota
 ask last open disk 100
@@ -128,7 +135,7 @@ fn first_lines(text: &[u8], count: usize) -> &[u8] {
             None => &[],
         };
     }
-    text.split_at(text.len() - rest.len()).0
+    text.split_at(text.len().saturating_sub(rest.len())).0
 }
 
 // Replays an input that may be cut off, of a schedule with one reply for each event.
@@ -138,7 +145,10 @@ fn check_cut(rt: &impl Abort, alloc: Global, input: &[u8], replies: &[u8]) -> Re
     let mut source = MemSource::new(alloc, input, &[])?;
     let mut out = MemSink::new(alloc, ROOM, &[])?;
     let status = replay(alloc, &mut source, &mut out);
-    let last = out.content().strip_prefix(answered).ok_or("the replies before it")?;
+    let last = out
+        .content()
+        .strip_prefix(answered)
+        .ok_or("the replies before it")?;
     if input.last() == Some(&b'\n') {
         assert!(rt; status == 0);
         assert!(rt; last.starts_with(b"end "));
@@ -151,7 +161,9 @@ fn check_cut(rt: &impl Abort, alloc: Global, input: &[u8], replies: &[u8]) -> Re
 }
 
 #[test]
-fn an_input_that_is_cut_off_is_replayed_to_its_last_whole_line(rt: HostRuntime) -> Result<(), Fail> {
+fn an_input_that_is_cut_off_is_replayed_to_its_last_whole_line(
+    rt: HostRuntime,
+) -> Result<(), Fail> {
     for table in [LIMITER, QUOTA] {
         let schedule = lines_of(rt.alloc(), table, false)?;
         let replies = lines_of(rt.alloc(), table, true)?;
@@ -178,7 +190,10 @@ fn fails_to_read(
         assert!(rt; out.content() == replies);
         return Ok(false);
     }
-    let told = out.content().strip_suffix(b"stop read\n").ok_or("a stop line")?;
+    let told = out
+        .content()
+        .strip_suffix(b"stop read\n")
+        .ok_or("a stop line")?;
     assert!(rt; status == 3);
     assert!(rt; replies.starts_with(told));
     Ok(true)
@@ -213,10 +228,22 @@ fn a_failing_input_or_output_stops_a_replay(rt: HostRuntime) -> Result<(), Fail>
         let schedule = lines_of(rt.alloc(), table, false)?;
         let replies = lines_of(rt.alloc(), table, true)?;
         for call in 1..100 {
-            if fails_to_read(&rt, rt.alloc(), call, schedule.as_slice(), replies.as_slice())? {
+            if fails_to_read(
+                &rt,
+                rt.alloc(),
+                call,
+                schedule.as_slice(),
+                replies.as_slice(),
+            )? {
                 reads = reads.saturating_add(1);
             }
-            if fails_to_write(&rt, rt.alloc(), call, schedule.as_slice(), replies.as_slice())? {
+            if fails_to_write(
+                &rt,
+                rt.alloc(),
+                call,
+                schedule.as_slice(),
+                replies.as_slice(),
+            )? {
                 writes = writes.saturating_add(1);
             }
         }

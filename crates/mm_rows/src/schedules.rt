@@ -267,10 +267,15 @@ fn a_stopped_request_is_asked_again(rt: HostRuntime) -> Result<(), Fail> {
     for line in STOPPED.lines() {
         let (stop, replies) = line.split_once(" => ").ok_or("a stop")?;
         let (first, second) = replies.split_once(" => ").ok_or("two replies")?;
-        let issued = if first == "ok 1 5" { 3 } else { 2 };
-        let schedule = format!(in rt.alloc(); "memoir 1 basic counter\n{stop} ask 0 add 5\nask 0 add 5\n")?;
-        let written = format!(in rt.alloc(); "{first}\n{second}\nend 1 {issued}\n")?;
-        check(&rt, rt.alloc(), schedule.as_bytes(), written.as_bytes(), 0)?;
+        let mut schedule = Bytes::copy_of(rt.alloc(), b"memoir 1 basic counter\n")?;
+        schedule.append(stop.as_bytes())?;
+        schedule.append(b" ask 0 add 5\nask 0 add 5\n")?;
+        let mut written = Bytes::copy_of(rt.alloc(), first.as_bytes())?;
+        written.push(b'\n')?;
+        written.append(second.as_bytes())?;
+        let issued = if first == "ok 1 5" { b'3' } else { b'2' };
+        written.append(&[b'\n', b'e', b'n', b'd', b' ', b'1', b' ', issued, b'\n'])?;
+        check(&rt, rt.alloc(), schedule.as_slice(), written.as_slice(), 0)?;
     }
     Ok(())
 }
@@ -292,5 +297,11 @@ fn a_sealed_snapshot_of_another_place_is_stale(rt: HostRuntime) -> Result<(), Fa
     let mut schedule = Bytes::copy_of(rt.alloc(), b"memoir 1 basic counter\nask raw ")?;
     schedule.append(hex::encode(rt.alloc(), offer.as_slice())?.as_bytes())?;
     schedule.append(b" add 5\n")?;
-    check(&rt, rt.alloc(), schedule.as_slice(), b"no stale\nend 0 1\n", 0)
+    check(
+        &rt,
+        rt.alloc(),
+        schedule.as_slice(),
+        b"no stale\nend 0 1\n",
+        0,
+    )
 }
