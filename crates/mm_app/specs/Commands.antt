@@ -1,5 +1,5 @@
 -- What the words of the command line do.
-use Rattle.std.specs.Prelude.{◌≡◌, ℕ, Bool, true, false, List, [], ◌∷◌, length, slice_index_or, codes, ◌≤◌, Option, Result, Ok, Err}
+use Rattle.std.specs.Prelude.{◌≡◌, ℕ, Bool, true, false, List, [], length, slice_index_or, codes, ◌≤◌, Option, Result, Ok, Err}
 use Rattle.std.specs.Borrow.{Bor}
 use Rattle.mm_base.specs.Faults.{Rose}
 use Rattle.mm_base.specs.Streams.{Sends}

@@ -1,19 +1,17 @@
 -- A run over the lines of a schedule is the run of its events.
-use Rattle.std.proofs.Common.{◌≡◌, ◌∙◌, ◌+◌, ℕ, Bool, true, false, cond, List, [], ◌∷◌, ◌++◌, length, map, nat_lt, Result, Ok, Err, Option, None, Some, refl, sym, ap, subst, append_assoc, arith, inl, inr}
+use Rattle.std.proofs.Common.{◌≡◌, ◌∙◌, ◌+◌, ℕ, Bool, true, false, cond, List, [], ◌∷◌, ◌++◌, length, map, nat_lt, Result, Ok, Err, Option, None, Some, refl, sym, ap}
 use Rattle.mm_base.specs.declared.replay_fault.ReplayFault.{ReplayFault}
 use Rattle.mm_base.specs.declared.replay_fault.ReplayFault.TheVariants.{LineLong}
 use Rattle.mm_modules.specs.declared.any.AnyModule.{AnyModule}
 use Rattle.mm_schedule.specs.Events.{Event}
 use Rattle.mm_schedule.specs.Grammar.{event_at}
-use Rattle.mm_world.specs.Levels.{Digests, by_digests, first_digests}
-use Rattle.mm_world.specs.Folds.{Followed, followed, first_issued}
+use Rattle.mm_world.specs.Levels.{Digests, by_digests}
+use Rattle.mm_world.specs.Folds.{Followed, followed}
 use Rattle.mm_world.specs.Held.{world_of}
-use Rattle.mm_replay.specs.declared.player.Refused.{Refused}
 use Rattle.mm_replay.specs.declared.player.Refused.TheVariants.{Bad, Much}
-use Rattle.mm_replay.specs.Play.{Told, told, stopped, after_writing, line_limit, refusal_at, answered, run}
-use Rattle.mm_replay.specs.Schedule.{Running, begun, is_too_much, outcome_in, after_event, Stage, AtHeader, InEvents, event_answer, header_answer, schedule_answer}
+use Rattle.mm_replay.specs.Play.{Told, stopped, after_writing, line_limit, refusal_at, answered, run}
+use Rattle.mm_replay.specs.Schedule.{Running, is_too_much, outcome_in, after_event, Stage, InEvents, event_answer, schedule_answer}
 use Rattle.mm_replay.specs.Text.{text_of, texts_of}
-use Rattle.mm_replay.specs.Headline.{AnswersEvents, AnswersLines}
 
 abbrev followed_in : Running → List Event → Followed Digests
 followed_in r events = followed (world_of r.machine) (by_digests (world_of r.machine)) r.digests r.issued events

@@ -1,6 +1,6 @@
 -- A replay of a whole schedule, from what the loop over its lines did.
-use Rattle.std.proofs.Common.{◌≡◌, ◌∙◌, ℕ, List, [], ◌++◌, length, Option, Some, None, Result, Ok, Err, inl, inr, refl, sym, ap, subst, append-nil}
-use Rattle.std.specs.Io.KnownBytes.{Appends, Consumes, IsAtEnd}
+use Rattle.std.proofs.Common.{◌≡◌, ◌∙◌, ℕ, List, ◌++◌, length, Option, Some, None, Result, Ok, Err, inl, inr, sym, ap, subst, append-nil}
+use Rattle.std.specs.Io.KnownBytes.{Appends, Consumes}
 use Rattle.mm_base.specs.Streams.{Sends}
 use Rattle.mm_base.specs.declared.fault.WriteFault as write
 use Rattle.mm_schedule.specs.Replies.{end_line}

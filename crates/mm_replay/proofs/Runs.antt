@@ -1,13 +1,13 @@
 -- How a run goes on over more lines, and where it stops.
-use Rattle.std.proofs.Common.{◌≡◌, ◌∙◌, ◌<◌, ◌≤◌, ◌+◌, ℕ, Bool, true, false, cond, List, [], ◌∷◌, ◌++◌, length, Result, Ok, Err, Option, None, Some, refl, sym, ap, subst, append_assoc, append-nil, arith, nat_lt, length-append}
+use Rattle.std.proofs.Common.{◌≡◌, ◌∙◌, ◌<◌, ◌≤◌, ◌+◌, ℕ, Bool, true, false, cond, List, [], ◌∷◌, ◌++◌, length, Result, Ok, Err, Option, refl, sym, ap, append_assoc, append-nil, arith, nat_lt, length-append}
 use Rattle.std.proofs.lemmas.Bool.Decides.{nat_tests}
 use Rattle.std.specs.List.{AllByRecursion}
 use Rattle.mm_base.specs.Input.{IsUnbroken, lines_of, tail_of, joined, onto_first, onto_tail}
 use Rattle.mm_base.proofs.Input.{lines_of-append, tail_of-append, lines_of-line, tail_of-line, lines_of-joined, tail_of-joined, lines_of-unbroken, tail_of-unbroken}
 use Rattle.mm_base.specs.declared.replay_fault.ReplayFault.{ReplayFault}
-use Rattle.mm_base.specs.declared.replay_fault.ReplayFault.TheVariants.{BadLine, LineLong, TooMuch}
+use Rattle.mm_base.specs.declared.replay_fault.ReplayFault.TheVariants.{BadLine, LineLong}
 use Rattle.mm_replay.specs.declared.player.Refused.{Refused}
-use Rattle.mm_replay.specs.Play.{line_limit, Told, told, stopped, after_writing, refusal_at, answered, turn, run, closed, ended, goes_on, and_then, run_from, run_of}
+use Rattle.mm_replay.specs.Play.{line_limit, Told, told, stopped, after_writing, refusal_at, answered, run, closed, ended, goes_on, and_then, run_from, run_of}
 
 is_long : {n : ℕ} → line_limit < n → nat_lt line_limit n ≡ true
 is_long h = grind (arith, nat_tests)

@@ -1,6 +1,6 @@
 -- Where a run stands between two lines, and how it goes on from there.
-use Rattle.std.proofs.Common.{◌≡◌, ◌∙◌, ◌+◌, ℕ, Bool, true, false, List, [], ◌∷◌, ◌++◌, length, Result, Ok, Err, Option, None, Some, refl, sym, ap, subst, append_assoc, append-nil, arith, inl, inr, length-append}
-use Rattle.std.specs.Io.KnownBytes.{Appends, Consumes, IsAtEnd, Keeps}
+use Rattle.std.proofs.Common.{◌≡◌, ◌∙◌, ◌+◌, ℕ, Bool, true, false, List, [], ◌∷◌, ◌++◌, length, Result, Ok, Err, Option, refl, sym, ap, subst, append_assoc, append-nil, arith, inl, inr, length-append}
+use Rattle.std.specs.Io.KnownBytes.{Appends, Consumes}
 use Rattle.std.specs.List.{AllByRecursion}
 use Rattle.std.proofs.KnownBytes.{Appends-nil, Appends-trans, Consumes-nil, Consumes-trans}
 use Rattle.mm_base.specs.Input.{IsUnbroken, lines_of, joined}
@@ -11,7 +11,7 @@ use Rattle.mm_replay.specs.declared.player.Refused.{Refused}
 use Rattle.mm_replay.specs.Play.{Told, told, stopped, after_writing, run, run_from, run_of}
 use Rattle.mm_replay.specs.Takes.{IsFrontOf}
 use Rattle.mm_replay.specs.Plays.{ForWhole, Settles, Plays}
-use Rattle.mm_replay.specs.Turns.{AnswersLine, Went, Turns}
+use Rattle.mm_replay.specs.Turns.{Went, Turns}
 use Rattle.mm_replay.proofs.Runs.{run-more, run_from-joined}
 
 -- These lines were answered, and some bytes are held.

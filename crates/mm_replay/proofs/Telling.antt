@@ -1,5 +1,5 @@
 -- From a run over lines to what the whole schedule is answered.
-use Rattle.std.proofs.Common.{◌≡◌, ◌∙◌, ◌+◌, ℕ, Bool, true, false, cond, List, [], ◌∷◌, ◌++◌, length, map, nat_lt, Result, Ok, Err, Option, None, Some, refl, sym, ap, subst, append_assoc, append-nil, arith, inl, inr, ◌⊎◌}
+use Rattle.std.proofs.Common.{◌≡◌, ◌∙◌, ◌+◌, ℕ, Bool, true, false, cond, List, [], ◌∷◌, ◌++◌, length, map, nat_lt, Result, Ok, Err, Option, None, Some, refl, sym, ap, subst, append-nil, inl, inr, ◌⊎◌}
 use Rattle.mm_base.specs.Input.{lines_of, tail_of}
 use Rattle.mm_base.specs.declared.replay_fault.ReplayFault.{ReplayFault}
 use Rattle.mm_base.specs.declared.replay_fault.ReplayFault.TheVariants.{Memory, ReadFault, WriteFault, BadLine, LineLong, TooMuch}
@@ -13,14 +13,13 @@ use Rattle.mm_schedule.specs.Replies.{end_line}
 use Rattle.mm_world.specs.Folds.{expected, replies_by_digests}
 use Rattle.mm_world.specs.Held.{world_key, world_of}
 use Rattle.mm_world.specs.Laws.{BasicIsExpected, ExpectedRuns}
-use Rattle.mm_world.specs.Premises.{IsClearRun, IsGenuineRun}
-use Rattle.mm_replay.specs.declared.player.Refused.TheVariants.{Bad, Much}
-use Rattle.mm_replay.specs.Play.{Told, told, stopped, after_writing, line_limit, refusal_at, answered, run, closed, ended, goes_on, and_then, run_from, run_of}
+use Rattle.mm_replay.specs.declared.player.Refused.TheVariants.{Bad}
+use Rattle.mm_replay.specs.Play.{Told, told, stopped, after_writing, line_limit, refusal_at, answered, run, ended, goes_on, run_of}
 use Rattle.mm_replay.specs.Plays.{ForWhole, Settles}
-use Rattle.mm_replay.specs.Schedule.{Running, begun, Stage, AtHeader, InEvents, header_answer, schedule_answer, schedule_closing}
+use Rattle.mm_replay.specs.Schedule.{begun, Stage, AtHeader, InEvents, header_answer, schedule_answer, schedule_closing}
 use Rattle.mm_replay.specs.Takes.{IsFrontOf}
 use Rattle.mm_replay.specs.Text.{texts_of}
-use Rattle.mm_replay.specs.Headline.{IsOneRun, IsContinuous, AnswersEvents, unended, AnswersLines, AnswersAll, AnswersFirst, Tells}
+use Rattle.mm_replay.specs.Headline.{IsContinuous, AnswersEvents, AnswersLines, AnswersAll, AnswersFirst, Tells}
 use Rattle.mm_replay.proofs.Answering.{AnswersFrom, answers_from, not_ok, ok_same}
 
 -- the laws of whole runs give the headline

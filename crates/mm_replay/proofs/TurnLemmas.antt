@@ -1,10 +1,9 @@
 -- A turn, from what the reader read and what the player did.
-use Rattle.std.proofs.Common.{◌≡◌, ◌∙◌, ◌<◌, ◌≤◌, ◌+◌, ℕ, Bool, true, false, List, [], ◌∷◌, ◌++◌, length, take, drop, Result, Ok, Err, Option, None, Some, refl, sym, ap, subst, append_assoc, arith, inl, inr, length-append, length-take, take-append-drop}
-use Rattle.std.specs.Io.KnownBytes.{Appends, Consumes, IsAtEnd}
+use Rattle.std.proofs.Common.{◌≡◌, ◌∙◌, ◌<◌, ◌+◌, ℕ, Bool, true, false, List, [], ◌∷◌, ◌++◌, length, take, drop, Result, Ok, Err, Option, refl, sym, ap, subst, append_assoc, arith, inl, inr, length-take, take-append-drop}
+use Rattle.std.specs.Io.KnownBytes.{Appends, IsAtEnd}
 use Rattle.std.proofs.KnownBytes.{Appends-nil}
-use Rattle.mm_base.specs.Input.{IsUnbroken, lines_of, tail_of}
-use Rattle.mm_base.specs.Lines.{IsLong, IsWithin, Takes}
-use Rattle.mm_base.specs.Next.{NextLine, said_by}
+use Rattle.mm_base.specs.Lines.{IsWithin}
+use Rattle.mm_base.specs.Next.{NextLine}
 use Rattle.mm_base.specs.declared.lines.LineFault.{LineFault}
 use Rattle.mm_base.specs.declared.lines.LineFault.TheVariants as fault
 use Rattle.mm_base.specs.declared.lines.Read.{Read}
@@ -12,10 +11,9 @@ use Rattle.mm_base.specs.declared.lines.Read.TheVariants.{Line, Tail, End}
 use Rattle.mm_base.specs.declared.replay_fault.ReplayFault.{ReplayFault}
 use Rattle.mm_base.specs.declared.replay_fault.ReplayFault.TheVariants.{Memory, ReadFault, WriteFault, BadLine, LineLong, TooMuch}
 use Rattle.mm_replay.specs.declared.player.Refused.{Refused}
-use Rattle.mm_replay.specs.Play.{Told, told, stopped, after_writing, line_limit, refusal_at, closed, run_from}
+use Rattle.mm_replay.specs.Play.{Told, told, stopped, line_limit, closed, run_from}
 use Rattle.mm_replay.specs.Takes.{IsFrontOf}
-use Rattle.mm_replay.specs.Plays.{ForWhole}
-use Rattle.mm_replay.specs.Turns.{Answers, Ends, AnswersLine, Went, Turns}
+use Rattle.mm_replay.specs.Turns.{Answers, Ends, Went, Turns}
 use Rattle.mm_replay.proofs.Runs.{run_from-answered, run_from-refused, run_from-long, run_from-end, run_from-tail}
 
 -- a line and what follows it, in one grouping

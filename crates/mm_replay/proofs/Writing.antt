@@ -1,5 +1,5 @@
 -- Lines that go out one after another.
-use Rattle.std.proofs.Common.{◌≡◌, ◌∙◌, ◌+◌, ◌<◌, ℕ, suc, List, [], ◌∷◌, ◌++◌, length, drop, Option, Some, Result, Ok, Err, OnOk, refl, sym, ap, subst, append_assoc, append-nil, drop-cons, add-one}
+use Rattle.std.proofs.Common.{◌≡◌, ◌∙◌, ◌+◌, ◌<◌, ℕ, suc, List, [], ◌++◌, length, drop, Option, Some, Result, Ok, Err, OnOk, sym, ap, subst, append_assoc, append-nil, drop-cons, add-one}
 use Rattle.std.specs.List.{concat, slice_get}
 use Rattle.std.specs.Io.KnownBytes.{Appends}
 use Rattle.std.proofs.KnownBytes.{Appends-trans}

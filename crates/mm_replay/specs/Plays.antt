@@ -1,5 +1,5 @@
 -- What a call that answers the lines of an input took, wrote and answers.
-use Rattle.std.specs.Prelude.{◌≡◌, ℕ, List, [], ◌++◌, Option, Result, Ok, Err, Bool, true, false, ◌⊎◌}
+use Rattle.std.specs.Prelude.{◌≡◌, ℕ, List, ◌++◌, Option, Result, Ok, Err, Bool, true, false, ◌⊎◌}
 use Rattle.std.specs.Io.KnownBytes.{Appends, Consumes, IsAtEnd}
 use Rattle.mm_base.specs.Faults.{Rose}
 use Rattle.mm_base.specs.Input.{lines_of}

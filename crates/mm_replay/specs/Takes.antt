@@ -1,5 +1,5 @@
 -- What a player did with a line, and with the end of an input.
-use Rattle.std.specs.Prelude.{◌≡◌, ℕ, List, [], ◌++◌, Option, Some, None, Result, Ok, Err, Bool, true, false}
+use Rattle.std.specs.Prelude.{◌≡◌, ℕ, List, ◌++◌, Option, Some, None, Result, Ok, Err, Bool, true, false}
 use Rattle.std.specs.Io.KnownBytes.{Appends, Keeps}
 use Rattle.mm_base.specs.Faults.{Rose}
 use Rattle.mm_base.specs.declared.fault.WriteFault.{WriteFault}

@@ -1,8 +1,7 @@
 -- Basic: each event, and so a whole schedule, gives the same by digests as by lists.
-use Rattle.std.proofs.Common.{ℕ, ◌≡◌, ◌+◌, Bool, true, false, List, [], ◌∷◌, ◌++◌, Option, None, Some, Result, refl, sym, ap, ◌∙◌, subst, arith, append_assoc}
+use Rattle.std.proofs.Common.{ℕ, ◌≡◌, ◌+◌, Bool, true, false, List, [], ◌∷◌, ◌++◌, Option, None, Some, Result, refl, sym, ◌∙◌, subst, arith, append_assoc}
 use Rattle.std.specs.Prelude.{if◌then◌else◌}
 use Rattle.std.specs.List.{AllByRecursion, Contains}
-use Rattle.std.proofs.lemmas.List.{append-nil}
 use Rattle.std.proofs.lemmas.List.Elements.{Contains-append_right}
 use Rattle.mm_digest.specs.declared.variant.Variant.TheVariants.{Basic}
 use Rattle.mm_digest.specs.Messages.{start_message}
@@ -33,7 +32,7 @@ use Rattle.mm_world.specs.Levels.{Digests, by_lists, by_digests, first_digests}
 use Rattle.mm_world.specs.Folds.{Outcome, all_made, Found, found_at, is_fresh, called_with, called, uncalled, asked, checkpointed, outcome_of, followed, first_issued, expected, replies_by_digests}
 use Rattle.mm_world.specs.Premises.{right_messages, asking_messages, event_messages, moves_messages, moves_of, messages_from, IsGenuineOffer, IsGenuineEvent, AreGenuine, IsClearRun, IsGenuineRun, run_messages}
 use Rattle.mm_world.specs.Laws.{AgreesThroughout}
-use Rattle.mm_world.proofs.Moving.{IsBasicMove, agrees-made, plain-made, committed_in, batches-made, same_batches, more_batches, summary-nil}
+use Rattle.mm_world.proofs.Moving.{IsBasicMove, agrees-made, plain-made, committed_in, same_batches, summary-nil}
 use Rattle.mm_world.proofs.Walking.{walks_basic, checkpoint_reads, seen_basic, seen_commits}
 use Rattle.mm_world.proofs.Finding.{Holds, Asking, found_same, placed, right_of_found}
 use Rattle.mm_world.proofs.Calling.{listed_same, called_message}

@@ -1,12 +1,11 @@
 -- Opt: what a call commits, and what it answers.
-use Rattle.std.proofs.Common.{ℕ, ◌≡◌, ◌+◌, ◌-◌, Bool, true, false, List, [], ◌∷◌, ◌++◌, map, drop, None, refl, sym, ap, ◌∙◌, arith, append_assoc}
+use Rattle.std.proofs.Common.{ℕ, ◌≡◌, ◌+◌, Bool, true, false, List, [], ◌∷◌, ◌++◌, map, None, refl, sym, ap, ◌∙◌}
 use Rattle.std.specs.Prelude.{is_none, not, if◌then◌else◌}
-use Rattle.std.proofs.lemmas.List.{append-nil}
 use Rattle.mm_digest.specs.declared.variant.Variant.TheVariants.{Opt}
 use Rattle.mm_digest.specs.Messages.{zero_bytes, extended_of}
 use Rattle.mm_module.specs.Meaning.{Meaning, state_from, state_after, outputs_from}
 use Rattle.mm_module.specs.Batch.{Batch, members_of, size_of}
-use Rattle.mm_module.proofs.RunLaws.{state_after-append, outputs_from-append, length-outputs_from}
+use Rattle.mm_module.proofs.RunLaws.{state_after-append}
 use Rattle.mm_seal.specs.Snapshot.{Content, sealed_of}
 use Rattle.mm_seal.specs.declared.snapshot.Place.{Place}
 use Rattle.mm_seal.specs.declared.snapshot.Place.TheVariants.{Opt as InOpt}
@@ -16,7 +15,7 @@ use Rattle.mm_platform.specs.Standing.{due}
 use Rattle.mm_platform.specs.Steps.{fault_at, is_made_at}
 use Rattle.mm_model.specs.Chains.{guard, register_of, own_values}
 use Rattle.mm_model.specs.Instance.{Instance, opt}
-use Rattle.mm_model.specs.History.{History, Move, Commit, Foreign, Placed as PlacedMove, Reset, Close, Power, moved, committed, requests_of, total_of}
+use Rattle.mm_model.specs.History.{History, Move, Commit, Foreign, Placed as PlacedMove, Reset, moved, committed, requests_of, total_of}
 use Rattle.mm_model.specs.Steps.{Step, Reads, Changes, Writes, ask_steps}
 use Rattle.mm_model.specs.Places.{digest_of, issued_place}
 use Rattle.mm_model.proofs.Digests.{register-push}
@@ -24,8 +23,7 @@ use Rattle.mm_model.proofs.Histories.{own_values-append, values_of-own}
 use Rattle.mm_model.proofs.Forms.{reads_zero}
 use Rattle.mm_model.proofs.MovedDigests.{total-push}
 use Rattle.mm_world.specs.Walk.{Walked, made_move, after_stop, after_step, stopped_at, walk}
-use Rattle.mm_world.specs.Levels.{Answer, Digests, by_lists, answer_by_lists, answer_by_digests, place_then}
-use Rattle.mm_world.specs.Folds.{all_made}
+use Rattle.mm_world.specs.Levels.{Answer, Digests, answer_by_lists, answer_by_digests, place_then}
 use Rattle.mm_world.specs.Laws.{Agrees}
 use Rattle.mm_world.proofs.Moving.{committed_in}
 use Rattle.mm_world.proofs.Walking.{Commits, nothing, batch, committed-append, foreign_first, committed-stop, made_unless, committed-foreign}

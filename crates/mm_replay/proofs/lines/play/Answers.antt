@@ -1,6 +1,5 @@
-use Rattle.std.proofs.Common.{◌≡◌, ◌<◌, ◌∙◌, sym, ap, Result, Ok, Err, arith}
+use Rattle.std.proofs.Common.{◌<◌, ◌∙◌, ap, Ok, arith}
 use Rattle.std.proofs.lemmas.Result.{err_from_is_err_and}
-use Rattle.mm_replay.specs.Plays.{Plays}
 use Rattle.mm_replay.proofs.Stands.{stands_on, plays_stopped, plays_ended, plays_nothing, answered_line}
 use Rattle.mm_replay.proofs.lines.play.Goals as goal
 

@@ -1,4 +1,4 @@
-use Rattle.std.proofs.Common.{◌≡◌, ◌≤◌, ◌<◌, ◌+◌, ◌*◌, ◌^◌, ℕ, List, length, arith}
+use Rattle.std.proofs.Common.{arith}
 use Rattle.mm_schedule.specs.Events.{event_of}
 use Rattle.mm_replay.proofs.Progressing.{leaves, stands_after, counted_on}
 use Rattle.mm_replay.proofs.progress.Progress.run.Goals as goal
