@@ -136,7 +136,8 @@ fn link_text(summary: &Digest, text: &[u8]) -> Digest
     }
 }
 
-fn has_tab(text: &[u8]) -> bool
+/// Whether a text is several requests.
+pub fn has_tab(text: &[u8]) -> bool
     ensures { result ≡ has_tab text.now }
 {
     text.iter().any(|byte| *byte == b'\t')
@@ -155,8 +156,9 @@ fn verdict(summary: &Digest, offered: &Digest, next: &Digest) -> Verdict
     Verdict::Stale
 }
 
-// Whether the offer is accepted, and as a repeat, by the verdict on it.
-fn examine<M: Module>(
+/// Whether an offer is accepted, and as a repeat, by the verdict on it. State, Tag, Stale and Full come in this order.
+/// Takes no memory.
+pub fn examine<M: Module>(
     module: &M,
     key: &HmacKey,
     offered: &Offered<'_>,

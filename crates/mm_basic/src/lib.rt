@@ -11,7 +11,9 @@ mod step;
 mod whole;
 
 pub use call::{Call, Turn, begin};
+pub use find::{examine, has_tab};
 pub use first::{Provisioned, provision};
+pub use run::{Ran, run_batch};
 pub use whole::{Committed, Prepared, ask, ask_batch, prepare};
 
 #[cfg(test)]

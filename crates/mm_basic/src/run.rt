@@ -32,7 +32,7 @@ pub fn answer<M: Module>(
     ensures { IfOk result (λ answer. answer ≡ answer_at (M.meaning «module».now) key.now
         (content_of offered.now) summary (batch_of batch.entry) again) }
 {
-    let Ran { state, outputs } = run(alloc, module, offered.state, batch)?;
+    let Ran { state, outputs } = run_batch(alloc, module, offered.state, batch)?;
     let position = offered.position + batch.len() as u64;
     let body = Body {
         module: module.id(),
@@ -49,15 +49,20 @@ pub fn answer<M: Module>(
     })
 }
 
-/// What a batch came to.
+/// What a batch came to: the state after it, and what the module says to each request.
 #[derive(Drop)]
-struct Ran {
-    state: Bytes,
-    outputs: Outputs,
+pub struct Ran {
+    pub state: Bytes,
+    pub outputs: Outputs,
 }
 
-// Runs the members of a batch one after another.
-fn run<M: Module>(alloc: Global, module: &M, state: &[u8], batch: Batch<'_>) -> Result<Ran, Memory>
+/// Runs the requests of a batch one after another, from a state.
+pub fn run_batch<M: Module>(
+    alloc: Global,
+    module: &M,
+    state: &[u8],
+    batch: Batch<'_>,
+) -> Result<Ran, Memory>
     requires spelled { IsTrue ((M.meaning «module».now).is_spelled state.now) }
     requires short { is_long (batch_of batch) ≡ false }
     ensures state { IfOk result (λ ran.

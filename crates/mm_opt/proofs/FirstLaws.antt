@@ -1,0 +1,42 @@
+-- The first cell and snapshot.
+use Rattle.std.proofs.Common.{◌≡◌, ℕ, false, List, [], refl, sym, ap, ◌∙◌}
+use Rattle.mm_digest.specs.declared.digest.Digest.{Digest}
+use Rattle.mm_digest.specs.declared.variant.Variant.TheVariants.{Opt}
+use Rattle.mm_digest.specs.Messages.{zero_bytes, start_of}
+use Rattle.mm_module.specs.Meaning.{Meaning}
+use Rattle.mm_seal.specs.declared.cell.Cell.{Cell}
+use Rattle.mm_seal.specs.declared.snapshot.Place.TheVariants.{Opt as InOpt}
+use Rattle.mm_seal.specs.Cell.{cell_spelling}
+use Rattle.mm_seal.specs.Snapshot.{Content, sealed_of}
+use Rattle.mm_model.specs.Chains.{anchor_of}
+use Rattle.mm_model.specs.Instance.{opt}
+use Rattle.mm_model.specs.History.{first_history}
+use Rattle.mm_model.specs.Places.{digest_of}
+use Rattle.mm_model.specs.Standing.{cell_of, issued_bytes}
+
+no_segments : (id : ℕ) → anchor_of id [] ≡ start_of Opt id
+unfolding anchor_of
+no_segments id = refl
+
+first_digest : (id said : ℕ) (anchor : Digest) → said ≡ id → anchor.bytes ≡ start_of Opt said → anchor ≡ digest_of (anchor_of id [])
+first_digest id said anchor id_is start_is = ap digest_of (start_is ∙ ap (start_of Opt) id_is ∙ sym (no_segments id))
+
+abbrev pub made_cell : ℕ → Digest → List ℕ → List ℕ → Cell
+made_cell id anchor key barrier = record { variant = Opt; «module» = id; flag = false; summary = anchor; key = key; barrier = barrier }
+
+abbrev pub made_content : ℕ → Digest → Digest → List ℕ → Content
+made_content id anchor extension state = record { id = id; place = InOpt anchor extension; position = 0; state = state }
+
+pub first_cell : (meaning : Meaning) (said : ℕ) (anchor : Digest) (key barrier : List ℕ) → said ≡ meaning.id → anchor.bytes ≡ start_of Opt said → cell_spelling (made_cell said anchor key barrier) ≡ cell_spelling (cell_of (opt meaning key barrier) first_history)
+first_cell meaning said anchor key barrier id_is start_is =
+    let d : anchor ≡ digest_of (anchor_of meaning.id []) = first_digest meaning.id said anchor id_is start_is in
+    ap (λ (id : ℕ). cell_spelling (made_cell id anchor key barrier)) id_is
+    ∙ ap (λ (a : Digest). cell_spelling (made_cell meaning.id a key barrier)) d
+
+pub first_snapshot : (meaning : Meaning) (said : ℕ) (anchor extension : Digest) (key barrier state : List ℕ) → said ≡ meaning.id → anchor.bytes ≡ start_of Opt said → extension.bytes ≡ zero_bytes → state ≡ meaning.first → sealed_of key (made_content said anchor extension state) ≡ issued_bytes (opt meaning key barrier) first_history
+first_snapshot meaning said anchor extension key barrier state id_is start_is extension_is state_is =
+    let d : anchor ≡ digest_of (anchor_of meaning.id []) = first_digest meaning.id said anchor id_is start_is in
+    ap (λ (id : ℕ). sealed_of key (made_content id anchor extension state)) id_is
+    ∙ ap (λ (a : Digest). sealed_of key (made_content meaning.id a extension state)) d
+    ∙ ap (λ (e : List ℕ). sealed_of key (made_content meaning.id (digest_of (anchor_of meaning.id [])) (digest_of e) state)) extension_is
+    ∙ ap (λ (v : List ℕ). sealed_of key (made_content meaning.id (digest_of (anchor_of meaning.id [])) (digest_of zero_bytes) v)) state_is

@@ -1,0 +1,108 @@
+-- What a call answers, and what it writes.
+use Rattle.std.specs.Prelude.{◌≡◌, ℕ, ◌+◌, Bool, true, false, List, Result, Ok, Err, ◌⊎◌}
+use Rattle.mm_digest.specs.declared.digest.Digest.{Digest}
+use Rattle.mm_digest.specs.declared.variant.Variant.TheVariants as variants
+use Rattle.mm_digest.specs.Messages.{zero_bytes, extended_of}
+use Rattle.mm_module.specs.Meaning.{Meaning, state_from, outputs_from}
+use Rattle.mm_module.specs.Batch.{Batch, members_of, size_of}
+use Rattle.mm_seal.specs.declared.cell.Cell.{Cell}
+use Rattle.mm_seal.specs.declared.snapshot.PartsFault.{PartsFault}
+use Rattle.mm_seal.specs.declared.snapshot.PartsFault.TheVariants.{Form, Kind}
+use Rattle.mm_seal.specs.declared.snapshot.Place.{Place}
+use Rattle.mm_seal.specs.declared.snapshot.Place.TheVariants.{Opt}
+use Rattle.mm_seal.specs.Cell.{cell_spelling}
+use Rattle.mm_seal.specs.Snapshot.{Content, Snapshot, sealed_of}
+use Rattle.mm_model.specs.declared.answer.BatchAnswer.{BatchAnswer}
+use Rattle.mm_model.specs.declared.refusal.Refusal.{Refusal}
+use Rattle.mm_model.specs.declared.refusal.Refusal.TheVariants as refusal
+use Rattle.mm_basic.specs.Order.{examined}
+use Rattle.mm_opt.specs.declared.found.Found.{Found}
+use Rattle.mm_opt.specs.declared.found.Found.TheVariants.{Repeat, Inside, Opens}
+use Rattle.mm_opt.specs.Order.{value_of, has_lost_power, verdict_of}
+
+abbrev pub digest : List ℕ → Digest
+digest bytes = record { bytes = bytes }
+
+-- the extension at which the open segment stands: the register's value, or zero where none is open
+abbrev pub extension_at : Bool → List ℕ → List ℕ
+extension_at true register = register
+extension_at false register = zero_bytes
+
+-- the extension once the batch with this value is committed, by whether it had been before
+abbrev pub extension_after : Bool → List ℕ → List ℕ → List ℕ
+extension_after true extension value = extension
+extension_after false extension value = extended_of extension value
+
+-- the place of an answer: where the platform stands once the batch is committed, if nobody else extends the register
+abbrev pub place_after : Cell → List ℕ → List ℕ → Bool → Place
+place_after cell register value again =
+    Opt cell.summary (digest (extension_after again (extension_at cell.flag register) value))
+
+-- what the new snapshot says, at this place: the batch was run from the offered state
+abbrev pub content_at : Meaning → Content → Place → Batch → Content
+content_at meaning offered place b = record {
+  id = meaning.id;
+  place = place;
+  position = offered.position + size_of b;
+  state = state_from meaning offered.state (members_of b);
+}
+
+-- the answer, at this place, by whether it is a repeat
+abbrev pub answer_at : Meaning → List ℕ → Content → Place → Batch → Bool → BatchAnswer
+answer_at meaning key offered place b again = record {
+  again = again;
+  position = offered.position + size_of b;
+  outputs = outputs_from meaning offered.state (members_of b);
+  snapshot = sealed_of key (content_at meaning offered place b);
+}
+
+abbrev pub answer_of : Meaning → Cell → List ℕ → Content → Batch → Bool → BatchAnswer
+answer_of meaning cell register offered b again =
+    answer_at meaning cell.key offered (place_after cell register (value_of cell b) again) b again
+
+-- the cell once a segment is open
+abbrev pub opened_cell : Cell → List ℕ
+opened_cell cell = cell_spelling (record cell { variant = variants.Opt; flag = true })
+
+-- a new batch is to be committed in the open segment, or to open one
+abbrev pub change_by : Bool → List ℕ → List ℕ → BatchAnswer → Found
+change_by true value next answer = Inside (record { value = digest value; answer = answer })
+change_by false value next answer = Opens (record { value = digest value; next = next; answer = answer })
+
+abbrev pub change_of : Cell → List ℕ → BatchAnswer → Found
+change_of cell value answer = change_by cell.flag value (opened_cell cell) answer
+
+-- A repeat is answered, and a new batch is ready to be committed.
+abbrev pub found_from : Result Bool Refusal → Cell → List ℕ → (Bool → BatchAnswer) → Result Found Refusal
+found_from (Err why) cell value answer = Err why
+found_from (Ok true) cell value answer = Ok (Repeat (answer true))
+found_from (Ok false) cell value answer = Ok (change_of cell value (answer false))
+
+-- what a call finds in an offer, where power wasn't lost
+abbrev pub found_at : Meaning → Cell → List ℕ → Result Snapshot PartsFault → Batch → Result Found Refusal
+found_at meaning cell register (Err Form) b = Err refusal.Form
+found_at meaning cell register (Err Kind) b = Err refusal.Kind
+found_at meaning cell register (Ok offered) b =
+    found_from (examined meaning cell.key offered b (verdict_of cell register offered b)) cell (value_of cell b)
+    (answer_of meaning cell register offered.content b)
+
+abbrev pub found_unless : Bool → Result Found Refusal → Result Found Refusal
+found_unless true found = Err refusal.Lost
+found_unless false found = found
+
+-- what a call finds, in the order of the refusals; but for want of memory: from the cell and the register's value, as
+-- they were read, and the offer as it is taken apart
+abbrev pub found_in : Meaning → Cell → List ℕ → Result Snapshot PartsFault → Batch → Result Found Refusal
+found_in meaning cell register taken b =
+    found_unless (has_lost_power cell register) (found_at meaning cell register taken b)
+
+-- the register is to be extended
+abbrev pub extends : Found → Bool
+extends (Repeat answer) = false
+extends (Inside ready) = true
+extends (Opens opening) = true
+
+-- Want of memory may come in place of what is not refused.
+abbrev pub OrMemory : Result Found Refusal → Result Found Refusal → Type 0
+OrMemory (Err why) found = found ≡ Err why
+OrMemory (Ok it) found = (found ≡ Ok it) ⊎ (found ≡ Err refusal.Memory)

@@ -1,0 +1,133 @@
+-- The device steps of a checkpoint: what each does to the platform, and what it gives.
+use Rattle.std.specs.Prelude.{◌≡◌, ℕ, Bool, true, false, List, Option, None, Some, Result, Ok, Err, IfOk}
+use Rattle.std.specs.Str.{bytes_eq}
+use Rattle.mm_digest.specs.declared.variant.Variant.{Variant}
+use Rattle.mm_digest.specs.declared.variant.Variant.TheVariants.{Basic, Opt}
+use Rattle.mm_digest.specs.Messages.{zero_bytes, anchored_of}
+use Rattle.mm_platform.specs.declared.fault.StepFault.{StepFault}
+use Rattle.mm_platform.specs.Standing.{Item, Standing, values_of, register_of}
+use Rattle.mm_platform.specs.Steps.{Act, ReadCell, WriteCell, ReadRegister, Goes}
+use Rattle.mm_seal.specs.declared.cell.Cell.{Cell}
+use Rattle.mm_seal.specs.declared.cell.CellFault.{CellFault}
+use Rattle.mm_seal.specs.declared.cell.CellFault.TheVariants as fault
+use Rattle.mm_seal.specs.Cell.{ReadsCell, cell_spelling}
+use Rattle.mm_basic.specs.Asks.{IsUntouched}
+use Rattle.mm_opt.specs.declared.segment.Checkpointed.{Checkpointed}
+use Rattle.mm_opt.specs.declared.segment.Checkpointed.TheVariants.{Done, NoSegment}
+use Rattle.mm_opt.specs.declared.segment.CheckpointRefusal.{CheckpointRefusal}
+use Rattle.mm_opt.specs.declared.segment.CheckpointRefusal.TheVariants as refusal
+use Rattle.mm_opt.specs.declared.segment.Segment.{Segment}
+use Rattle.mm_opt.specs.declared.segment.Segment.TheVariants.{Open, Shut}
+use Rattle.mm_opt.specs.declared.stage.CheckpointStage.{CheckpointStage}
+use Rattle.mm_opt.specs.declared.stage.CheckpointStage.TheVariants as stage
+use Rattle.mm_opt.specs.Answers.{digest}
+
+-- the device step that a checkpoint makes next, and its number
+abbrev pub closing_act_of : CheckpointStage → Act
+closing_act_of stage.Begun = ReadCell
+closing_act_of (stage.Seen cell) = ReadRegister
+closing_act_of (stage.Closing next) = WriteCell next
+
+abbrev pub closing_number_of : CheckpointStage → ℕ
+closing_number_of stage.Begun = 1
+closing_number_of (stage.Seen cell) = 2
+closing_number_of (stage.Closing next) = 3
+
+-- the fault of a device step that a refusal hands on
+abbrev pub closing_fault_of : CheckpointRefusal → Option StepFault
+closing_fault_of (refusal.Device fault) = Some fault
+closing_fault_of refusal.Blank = None
+closing_fault_of refusal.Cell = None
+closing_fault_of refusal.Kind = None
+closing_fault_of refusal.Lost = None
+
+abbrev pub closing_fault_in : {A : Type 0} → Result A CheckpointRefusal → Option StepFault
+closing_fault_in (Ok it) = None
+closing_fault_in (Err why) = closing_fault_of why
+
+-- the segment of a cell, by its variant and flag
+abbrev pub segment_by : Variant → Bool → Cell → Result Segment CheckpointRefusal
+segment_by Basic flag cell = Err refusal.Kind
+segment_by Opt false cell = Ok Shut
+segment_by Opt true cell = Ok (Open cell)
+
+-- the segment, by what the cell's bytes read as
+abbrev pub segment_in : Result Cell CellFault → Result Segment CheckpointRefusal
+segment_in (Err fault.Blank) = Err refusal.Blank
+segment_in (Err fault.Cell) = Err refusal.Cell
+segment_in (Ok cell) = segment_by cell.variant cell.flag cell
+
+-- What is found in the bytes of a cell. There is one way for each.
+pub record SeesSegment (bytes : List ℕ) (found : Result Segment CheckpointRefusal) : Type 0 where
+  pub read : Result Cell CellFault
+  pub reads : ReadsCell bytes read
+  pub found_is : found ≡ segment_in read
+
+-- What is found on a platform, whose cell is read; it is the platform's, where that tells its cell.
+pub record FindsSegment (old : Standing) (found : Result Segment CheckpointRefusal) : Type 0 where
+  pub bytes : List ℕ
+  pub told : (cell : List ℕ) → old.cell ≡ Some cell → bytes ≡ cell
+  pub sees : SeesSegment bytes found
+
+-- The first step, and what is found where it doesn't fail.
+pub record Looks (old new : Standing) (found : Result Segment CheckpointRefusal) : Type 0 where
+  pub goes : Goes ReadCell old new (closing_fault_in found)
+  pub finds : closing_fault_in found ≡ None → FindsSegment old found
+
+-- the cell once its segment is closed, where the register has this value
+abbrev pub closed_cell : Cell → List ℕ → List ℕ
+closed_cell cell register =
+    cell_spelling (record cell { variant = Opt; flag = false; summary = digest (anchored_of cell.summary.bytes register) })
+
+-- the bytes that close the segment, by whether the register reads zero
+abbrev pub closing_by : Bool → Cell → List ℕ → Result (List ℕ) CheckpointRefusal
+closing_by true cell register = Err refusal.Lost
+closing_by false cell register = Ok (closed_cell cell register)
+
+abbrev pub closing_in : Cell → List ℕ → Result (List ℕ) CheckpointRefusal
+closing_in cell register = closing_by (bytes_eq register zero_bytes) cell register
+
+-- What is found on a platform, whose register is read; it is the platform's, where that tells its items.
+pub record FindsClosing (cell : Cell) (new : Standing) (found : Result (List ℕ) CheckpointRefusal) : Type 0 where
+  pub register : List ℕ
+  pub told : (items : List Item) → new.items ≡ Some items → register ≡ register_of (values_of items)
+  pub found_is : found ≡ closing_in cell register
+
+-- The second step, and what is found where it doesn't fail.
+pub record Weighs (cell : Cell) (old new : Standing) (found : Result (List ℕ) CheckpointRefusal) : Type 0 where
+  pub goes : Goes ReadRegister old new (closing_fault_in found)
+  pub finds : closing_fault_in found ≡ None → FindsClosing cell new found
+
+-- The last step, which closes the segment.
+pub record Closes (next : List ℕ) (old new : Standing) (result : Result Checkpointed CheckpointRefusal) : Type 0 where
+  pub goes : Goes (WriteCell next) old new (closing_fault_in result)
+  pub gives : IfOk result (λ it. it ≡ Done)
+
+-- The rest of a checkpoint, by what was found.
+abbrev pub EndsClosing : Result (List ℕ) CheckpointRefusal → Standing → Standing → Result Checkpointed CheckpointRefusal → Type 0
+EndsClosing (Err why) old new result = (new ≡ old) × (result ≡ Err why)
+EndsClosing (Ok next) old new result = Closes next old new result
+
+pub record WeighsAndCloses (cell : Cell) (old new : Standing) (result : Result Checkpointed CheckpointRefusal) : Type 0 where
+  pub middle : Standing
+  pub found : Result (List ℕ) CheckpointRefusal
+  pub weighs : Weighs cell old middle found
+  pub ends : EndsClosing found middle new result
+
+abbrev pub EndsLooking : Result Segment CheckpointRefusal → Standing → Standing → Result Checkpointed CheckpointRefusal → Type 0
+EndsLooking (Err why) old new result = (new ≡ old) × (result ≡ Err why)
+EndsLooking (Ok Shut) old new result = (new ≡ old) × (result ≡ Ok NoSegment)
+EndsLooking (Ok (Open cell)) old new result = WeighsAndCloses cell old new result
+
+-- A checkpoint: it reads the cell, and goes on by what it finds.
+pub record ClosesSegment (old new : Standing) (result : Result Checkpointed CheckpointRefusal) : Type 0 where
+  pub middle : Standing
+  pub found : Result Segment CheckpointRefusal
+  pub looks : Looks old middle found
+  pub ends : EndsLooking found middle new result
+
+-- what a refused checkpoint leaves, unless it hands on a device's fault; and one that found no segment
+abbrev pub LeavesStill : Result Checkpointed CheckpointRefusal → Standing → Standing → Type 0
+LeavesStill (Ok Done) old new = Unit {0}
+LeavesStill (Ok NoSegment) old new = IsUntouched old new
+LeavesStill (Err why) old new = closing_fault_of why ≡ None → IsUntouched old new

@@ -1,0 +1,8 @@
+pub mod Seen
+pub mod Order
+pub mod Answers
+pub mod Steps
+pub mod Turns
+pub mod Asks
+pub mod Checkpoints
+pub mod CheckpointTurns

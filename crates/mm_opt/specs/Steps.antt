@@ -1,0 +1,121 @@
+-- The device steps of a call: what each does to the platform, and what it gives.
+use Rattle.std.specs.Prelude.{◌≡◌, ℕ, ◌≤◌, List, Option, None, Some, Result, Ok, Err, IfOk}
+use Rattle.std.specs.Result.{result_err}
+use Rattle.mm_digest.specs.declared.variant.Variant.TheVariants.{Opt}
+use Rattle.mm_platform.specs.declared.fault.StepFault.{StepFault}
+use Rattle.mm_platform.specs.Standing.{Item, Standing, values_of, register_of}
+use Rattle.mm_platform.specs.Steps.{Act, ReadCell, WriteCell, ReadRegister, ResetRegister, ExtendRegister, Goes, Readies}
+use Rattle.mm_module.specs.Meaning.{Meaning}
+use Rattle.mm_module.specs.Batch.{Batch}
+use Rattle.mm_seal.specs.declared.cell.Cell.{Cell}
+use Rattle.mm_seal.specs.declared.snapshot.PartsFault.{PartsFault}
+use Rattle.mm_seal.specs.Snapshot.{Snapshot, ReadsParts}
+use Rattle.mm_model.specs.declared.answer.BatchAnswer.{BatchAnswer}
+use Rattle.mm_model.specs.declared.refusal.Refusal.{Refusal}
+use Rattle.mm_basic.specs.Steps.{fault_in}
+use Rattle.mm_opt.specs.declared.found.Ready.{Ready}
+use Rattle.mm_opt.specs.declared.found.Opening.{Opening}
+use Rattle.mm_opt.specs.declared.found.Found.{Found}
+use Rattle.mm_opt.specs.declared.found.Found.TheVariants.{Repeat, Inside, Opens}
+use Rattle.mm_opt.specs.declared.stage.Stage.{Stage}
+use Rattle.mm_opt.specs.declared.stage.Stage.TheVariants as stage
+use Rattle.mm_opt.specs.Seen.{SeesCell}
+use Rattle.mm_opt.specs.Answers.{found_in, OrMemory}
+
+-- The device step that a call makes next. It reads the cell, and then the register. In an open segment it extends the
+-- register, which commits the batch. Otherwise it resets the register, extends it, and writes the cell with the flag
+-- set, which commits the batch.
+abbrev pub act_of : Stage → Act
+act_of stage.Begun = ReadCell
+act_of (stage.Seen cell) = ReadRegister
+act_of (stage.Inside ready) = ExtendRegister ready.value.bytes
+act_of (stage.Emptying opening) = ResetRegister
+act_of (stage.Placing opening) = ExtendRegister opening.value.bytes
+act_of (stage.Writing opening) = WriteCell opening.next
+
+-- the number of that step
+abbrev pub number_of : Stage → ℕ
+number_of stage.Begun = 1
+number_of (stage.Seen cell) = 2
+number_of (stage.Inside ready) = 3
+number_of (stage.Emptying opening) = 3
+number_of (stage.Placing opening) = 4
+number_of (stage.Writing opening) = 5
+
+-- there is room to record one own extension
+abbrev pub IsReady : Standing → Type 0
+IsReady standing = 1 ≤ standing.spare
+
+-- the room that the next step takes: for one own extension, where it extends the register
+abbrev pub MayStep : Stage → Standing → Type 0
+MayStep stage.Begun standing = Unit {0}
+MayStep (stage.Seen cell) standing = Unit {0}
+MayStep (stage.Inside ready) standing = IsReady standing
+MayStep (stage.Emptying opening) standing = Unit {0}
+MayStep (stage.Placing opening) standing = IsReady standing
+MayStep (stage.Writing opening) standing = Unit {0}
+
+-- the room that the rest of the call takes
+abbrev pub MayGoOn : Stage → Standing → Type 0
+MayGoOn stage.Begun standing = Unit {0}
+MayGoOn (stage.Seen cell) standing = Unit {0}
+MayGoOn (stage.Inside ready) standing = IsReady standing
+MayGoOn (stage.Emptying opening) standing = IsReady standing
+MayGoOn (stage.Placing opening) standing = IsReady standing
+MayGoOn (stage.Writing opening) standing = Unit {0}
+
+-- What is found on a platform, whose cell is read; it is the platform's, where that tells its cell.
+pub record FindsCell (id : ℕ) (old : Standing) (found : Result Cell Refusal) : Type 0 where
+  pub bytes : List ℕ
+  pub told : (cell : List ℕ) → old.cell ≡ Some cell → bytes ≡ cell
+  pub sees : SeesCell id bytes found
+
+-- The first step, and what is found where it doesn't fail.
+pub record ReadsCell (id : ℕ) (old new : Standing) (found : Result Cell Refusal) : Type 0 where
+  pub goes : Goes ReadCell old new (fault_in found)
+  pub finds : fault_in found ≡ None → FindsCell id old found
+
+-- What is found in this cell, with this value of the register, and in the offered bytes.
+pub record FindsIn (meaning : Meaning) (cell : Cell) (register offer : List ℕ) (b : Batch) (found : Result Found Refusal) : Type 0 where
+  pub taken : Result Snapshot PartsFault
+  pub reads : ReadsParts offer Opt meaning.id taken
+  pub found_is : OrMemory (found_in meaning cell register taken b) found
+
+-- The same, on a platform whose register is read; it is the platform's, where that tells its items.
+pub record Finds (meaning : Meaning) (cell : Cell) (middle : Standing) (offer : List ℕ) (b : Batch) (found : Result Found Refusal) : Type 0 where
+  pub register : List ℕ
+  pub told : (items : List Item) → middle.items ≡ Some items → register ≡ register_of (values_of items)
+  pub finds : FindsIn meaning cell register offer b found
+
+-- The room that is made after what was found: for one own extension, where the batch is to be committed.
+abbrev pub MakesRoom : Result Found Refusal → Standing → Standing → Type 0
+MakesRoom (Err why) old new = new ≡ old
+MakesRoom (Ok (Repeat answer)) old new = new ≡ old
+MakesRoom (Ok (Inside ready)) old new = Readies old new
+MakesRoom (Ok (Opens opening)) old new = Readies old new
+
+-- The second step, and what is found where it doesn't fail; then room is made. Nothing after it takes memory.
+pub record ReadsRegister (meaning : Meaning) (cell : Cell) (old new : Standing) (offer : List ℕ) (b : Batch) (found : Result Found Refusal) : Type 0 where
+  pub middle : Standing
+  pub goes : Goes ReadRegister old middle (fault_in found)
+  pub finds : fault_in found ≡ None → Finds meaning cell middle offer b found
+  pub room : MakesRoom found middle new
+
+-- a device step that is handed what comes next, and gives it where the step doesn't fail
+pub record Makes {A : Type 0} (act : Act) (it : A) (old new : Standing) (made : Result A StepFault) : Type 0 where
+  pub goes : Goes act old new (result_err made)
+  pub gives : IfOk made (λ given. given ≡ it)
+
+-- The step that commits a batch in the open segment.
+abbrev pub Extends : Ready → Standing → Standing → Result BatchAnswer StepFault → Type 0
+Extends ready old new made = Makes (ExtendRegister ready.value.bytes) ready.answer old new made
+
+-- The steps that open a segment: the last commits the batch.
+abbrev pub Empties : Opening → Standing → Standing → Result Opening StepFault → Type 0
+Empties opening old new made = Makes ResetRegister opening old new made
+
+abbrev pub Places : Opening → Standing → Standing → Result Opening StepFault → Type 0
+Places opening old new made = Makes (ExtendRegister opening.value.bytes) opening old new made
+
+abbrev pub Writes : Opening → Standing → Standing → Result BatchAnswer StepFault → Type 0
+Writes opening old new made = Makes (WriteCell opening.next) opening.answer old new made

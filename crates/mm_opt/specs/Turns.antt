@@ -1,0 +1,76 @@
+-- What each turn of a call does and gives.
+use Rattle.std.specs.Prelude.{◌≡◌, ℕ, List, Option, None, Some, Result, Ok, Err}
+use Rattle.mm_platform.specs.declared.fault.StepFault.{StepFault}
+use Rattle.mm_platform.specs.Standing.{Standing}
+use Rattle.mm_module.specs.Meaning.{Meaning}
+use Rattle.mm_module.specs.Batch.{Batch}
+use Rattle.mm_seal.specs.declared.cell.Cell.{Cell}
+use Rattle.mm_model.specs.declared.answer.BatchAnswer.{BatchAnswer}
+use Rattle.mm_model.specs.declared.refusal.Refusal.{Refusal}
+use Rattle.mm_model.specs.declared.refusal.Refusal.TheVariants.{Device}
+use Rattle.mm_opt.specs.declared.found.Ready.{Ready}
+use Rattle.mm_opt.specs.declared.found.Opening.{Opening}
+use Rattle.mm_opt.specs.declared.found.Found.{Found}
+use Rattle.mm_opt.specs.declared.found.Found.TheVariants.{Repeat, Inside, Opens}
+use Rattle.mm_opt.specs.declared.stage.Stage.{Stage}
+use Rattle.mm_opt.specs.declared.stage.Stage.TheVariants as stage
+use Rattle.mm_opt.specs.declared.call.Turn.{Turn}
+use Rattle.mm_opt.specs.declared.call.Turn.TheVariants.{Going, Done, Refused}
+use Rattle.mm_opt.specs.Steps.{MayGoOn, ReadsCell, ReadsRegister, Extends, Empties, Places, Writes}
+
+-- the position after the batch, once it has run in memory
+abbrev pub position_of : Stage → Option ℕ
+position_of stage.Begun = None
+position_of (stage.Seen cell) = None
+position_of (stage.Inside ready) = Some ready.answer.position
+position_of (stage.Emptying opening) = Some opening.answer.position
+position_of (stage.Placing opening) = Some opening.answer.position
+position_of (stage.Writing opening) = Some opening.answer.position
+
+-- what the first turn gives, by the cell that it finds
+abbrev pub seen_turn : Result Cell Refusal → Turn
+seen_turn (Err why) = Refused why
+seen_turn (Ok cell) = Going (stage.Seen cell)
+
+-- what the second turn gives, by what it finds
+abbrev pub found_turn : Result Found Refusal → Turn
+found_turn (Err why) = Refused why
+found_turn (Ok (Repeat answer)) = Done answer
+found_turn (Ok (Inside ready)) = Going (stage.Inside ready)
+found_turn (Ok (Opens opening)) = Going (stage.Emptying opening)
+
+-- what the turns of an opening give
+abbrev pub emptied_turn : Result Opening StepFault → Turn
+emptied_turn (Err fault) = Refused (Device fault)
+emptied_turn (Ok opening) = Going (stage.Placing opening)
+
+abbrev pub placed_turn : Result Opening StepFault → Turn
+placed_turn (Err fault) = Refused (Device fault)
+placed_turn (Ok opening) = Going (stage.Writing opening)
+
+-- what the last turn gives
+abbrev pub last_turn : Result BatchAnswer StepFault → Turn
+last_turn (Err fault) = Refused (Device fault)
+last_turn (Ok answer) = Done answer
+
+-- a turn gives what is drawn from the outcome of its step
+pub record TurnsBy {A : Type 0} (steps : A → Type 0) (given : A → Turn) (turn : Turn) : Type 0 where
+  pub outcome : A
+  pub step : steps outcome
+  pub gives : turn ≡ given outcome
+
+-- one turn of a call
+abbrev pub Turns : Meaning → Stage → Standing → Standing → List ℕ → Batch → Turn → Type 0
+Turns meaning stage.Begun old new offer b turn = TurnsBy (ReadsCell meaning.id old new) seen_turn turn
+Turns meaning (stage.Seen cell) old new offer b turn =
+    TurnsBy (ReadsRegister meaning cell old new offer b) found_turn turn
+Turns meaning (stage.Inside ready) old new offer b turn = TurnsBy (Extends ready old new) last_turn turn
+Turns meaning (stage.Emptying opening) old new offer b turn = TurnsBy (Empties opening old new) emptied_turn turn
+Turns meaning (stage.Placing opening) old new offer b turn = TurnsBy (Places opening old new) placed_turn turn
+Turns meaning (stage.Writing opening) old new offer b turn = TurnsBy (Writes opening old new) last_turn turn
+
+-- the room that the rest of a call takes, if it goes on
+abbrev pub TurnMayGoOn : Turn → Standing → Type 0
+TurnMayGoOn (Going stage) standing = MayGoOn stage standing
+TurnMayGoOn (Done answer) standing = Unit {0}
+TurnMayGoOn (Refused why) standing = Unit {0}

@@ -1,0 +1,199 @@
+//! A call that is moved one device step at a time.
+
+ghost use Rattle.std.specs.Prelude.{◌≡◌, true, false, IfOk, IfErr};
+ghost use Rattle.mm_module.specs.Batches.{batch_of};
+ghost use Rattle.mm_model.specs.Long.{is_long};
+ghost use Rattle.mm_opt.specs.declared.stage.Stage.TheVariants.{Begun};
+
+use crate::found::{Found, Opening};
+use crate::stage::Stage;
+use crate::step::{empty, extend, place, read_cell, read_register, write};
+use mm_model::{BatchAnswer, Refusal};
+use mm_module::{Batch, Module};
+use mm_platform::{Platform, StepFault};
+use mm_seal::Cell;
+use std::alloc::Global;
+use std::marker::Model;
+
+/// A call between two of its device steps. Contracts see where it stands.
+#[derive(Drop)]
+pub struct Call {
+    stage: Stage,
+}
+
+impl Model for Call {
+    ghost use Rattle.mm_opt.specs.declared.stage.Stage.{Stage};
+
+    ghost Value = { Stage };
+
+    ghost view = { λ call. call.stage };
+}
+
+/// What one step of a call came to.
+#[derive(Drop)]
+pub enum Turn {
+    /// The call goes on, with its next step.
+    Going(Call),
+    /// The call is over: its last step was made.
+    Done(BatchAnswer),
+    /// The call is over: it was refused.
+    Refused(Refusal),
+}
+
+/// Begins a call. Long exactly where the batch is too long to be asked. Takes no memory.
+pub fn begin(batch: Batch<'_>) -> Result<Call, Refusal>
+    ensures ok { IfOk result (λ call. (call ≡ Begun) × (is_long (batch_of batch.entry) ≡ false)) }
+    ensures long { IfErr result (λ refusal. (refusal ≡ Refusal.Long) × (is_long (batch_of batch.entry) ≡ true)) }
+{
+    if mm_model::is_long(&batch) {
+        return Err(Refusal::Long);
+    }
+    Ok(Call {
+        stage: Stage::Begun,
+    })
+}
+
+impl Call {
+    ghost use Rattle.std.specs.Prelude.{◌≡◌, false};
+    ghost use Rattle.mm_module.specs.Batches.{batch_of};
+    ghost use Rattle.mm_model.specs.Long.{is_long};
+    ghost use Rattle.mm_opt.specs.Steps.{number_of, MayStep, MayGoOn};
+    ghost use Rattle.mm_opt.specs.Turns.{Turns, TurnMayGoOn, position_of};
+
+    /// The number of the next device step, from 1.
+    pub fn next_step(&self) -> u8
+        ensures { result ≡ number_of self.now }
+    {
+        match &self.stage {
+            Stage::Begun => 1,
+            Stage::Seen(_) => 2,
+            Stage::Inside(_) => 3,
+            Stage::Emptying(_) => 3,
+            Stage::Placing(_) => 4,
+            Stage::Writing(_) => 5,
+        }
+    }
+
+    /// The position after the batch, once it has run in memory.
+    pub fn position(&self) -> Option<u64>
+        ensures { result ≡ position_of self.now }
+    {
+        match &self.stage {
+            Stage::Begun => None,
+            Stage::Seen(_) => None,
+            Stage::Inside(ready) => Some(ready.answer.position),
+            Stage::Emptying(opening) => Some(opening.answer.position),
+            Stage::Placing(opening) => Some(opening.answer.position),
+            Stage::Writing(opening) => Some(opening.answer.position),
+        }
+    }
+
+    /// Makes the next device step. The first reads the cell. The second reads the register, runs the batch in memory
+    /// and makes room for an extension; the steps after it change something, and take no memory. The offer and the
+    /// batch are read by the second alone, the module by the first two. An own extension needs room for it, which the
+    /// second step leaves.
+    pub fn advance<M: Module, P: Platform>(
+        self,
+        alloc: Global,
+        module: &M,
+        platform: &mut P,
+        offer: &[u8],
+        batch: Batch<'_>,
+    ) -> Turn
+        requires short { is_long (batch_of batch) ≡ false }
+        requires room { MayStep self (P.standing platform.old) }
+        ensures turns { Turns (M.meaning «module».now) self (P.standing platform.old) (P.standing platform.new) offer.now
+            (batch_of batch.entry) result }
+        ensures room { MayGoOn self (P.standing platform.old) → TurnMayGoOn result (P.standing platform.new) }
+    {
+        self.turn(alloc, module, platform, offer, batch)
+    }
+
+    fn turn<M: Module, P: Platform>(
+        self,
+        alloc: Global,
+        module: &M,
+        platform: &mut P,
+        offer: &[u8],
+        batch: Batch<'_>,
+    ) -> Turn
+        requires short { is_long (batch_of batch) ≡ false }
+        requires room { MayStep self (P.standing platform.old) }
+        ensures { Turns (M.meaning «module».now) self (P.standing platform.old) (P.standing platform.new) offer.now
+            (batch_of batch.entry) result }
+    {
+        match self.stage {
+            Stage::Begun => Turn::seen(read_cell(module.id(), platform)),
+            Stage::Seen(cell) => {
+                Turn::found(read_register(alloc, module, &cell, platform, offer, batch))
+            }
+            Stage::Inside(ready) => Turn::last(extend(ready, platform)),
+            Stage::Emptying(opening) => Turn::emptied(empty(opening, platform)),
+            Stage::Placing(opening) => Turn::placed(place(opening, platform)),
+            Stage::Writing(opening) => Turn::last(write(opening, platform)),
+        }
+    }
+}
+
+impl Turn {
+    ghost use Rattle.std.specs.Prelude.{◌≡◌};
+    ghost use Rattle.mm_opt.specs.Turns.{seen_turn, found_turn, emptied_turn, placed_turn, last_turn};
+
+    // What the first step comes to.
+    fn seen(cell: Result<Cell, Refusal>) -> Turn
+        ensures { result ≡ seen_turn cell }
+    {
+        match cell {
+            Ok(cell) => Turn::going(Stage::Seen(cell)),
+            Err(refusal) => Turn::Refused(refusal),
+        }
+    }
+
+    // What the second step comes to.
+    fn found(found: Result<Found, Refusal>) -> Turn
+        ensures { result ≡ found_turn found }
+    {
+        match found {
+            Ok(Found::Repeat(answer)) => Turn::Done(answer),
+            Ok(Found::Inside(ready)) => Turn::going(Stage::Inside(ready)),
+            Ok(Found::Opens(opening)) => Turn::going(Stage::Emptying(opening)),
+            Err(refusal) => Turn::Refused(refusal),
+        }
+    }
+
+    // What a reset comes to.
+    fn emptied(emptied: Result<Opening, StepFault>) -> Turn
+        ensures { result ≡ emptied_turn emptied }
+    {
+        match emptied {
+            Ok(opening) => Turn::going(Stage::Placing(opening)),
+            Err(fault) => Turn::Refused(Refusal::Device(fault)),
+        }
+    }
+
+    // What the extension of an opening comes to.
+    fn placed(placed: Result<Opening, StepFault>) -> Turn
+        ensures { result ≡ placed_turn placed }
+    {
+        match placed {
+            Ok(opening) => Turn::going(Stage::Writing(opening)),
+            Err(fault) => Turn::Refused(Refusal::Device(fault)),
+        }
+    }
+
+    // What the last step comes to.
+    fn last(written: Result<BatchAnswer, StepFault>) -> Turn
+        ensures { result ≡ last_turn written }
+    {
+        match written {
+            Ok(answer) => Turn::Done(answer),
+            Err(fault) => Turn::Refused(Refusal::Device(fault)),
+        }
+    }
+
+    fn going(stage: Stage) -> Turn
+        ensures { result ≡ Turn.Going stage }
+    {
+        Turn::Going(Call { stage })
+    }
+}

@@ -1,0 +1,53 @@
+//! The first cell and snapshot of a platform.
+
+ghost use Rattle.std.specs.Prelude.{◌≡◌, IfOk};
+ghost use Rattle.mm_seal.specs.Cell.{cell_spelling};
+ghost use Rattle.mm_model.specs.History.{first_history};
+ghost use Rattle.mm_model.specs.Instance.{opt};
+ghost use Rattle.mm_model.specs.Standing.{cell_of, issued_bytes};
+
+use mm_base::Memory;
+use mm_basic::Provisioned;
+use mm_digest::{Variant, start, zero};
+use mm_module::Module;
+use mm_seal::{Body, Cell, Place, cell_bytes, seal};
+use std::alloc::Global;
+
+/// The first cell and snapshot of a module under a key and a barrier. No segment is open.
+pub fn provision<M: Module>(
+    alloc: Global,
+    module: &M,
+    key: &[u8; 32],
+    barrier: &[u8; 32],
+) -> Result<Provisioned, Memory>
+    ensures cell { IfOk result (λ made.
+        made.cell ≡ cell_spelling (cell_of (opt (M.meaning «module».now) key.now barrier.now) first_history)) }
+    ensures snapshot { IfOk result (λ made.
+        made.snapshot ≡ issued_bytes (opt (M.meaning «module».now) key.now barrier.now) first_history) }
+{
+    let id = module.id();
+    let anchor = start(Variant::Opt, id);
+    let extension = zero();
+    let state = module.first_state(alloc)?;
+    let snapshot = seal(
+        alloc,
+        key,
+        &Body {
+            module: id,
+            place: Place::Opt { anchor, extension },
+            position: 0,
+            state: state.as_slice(),
+        },
+    )?;
+    let key = *key;
+    let barrier = *barrier;
+    let cell = cell_bytes(&Cell {
+        variant: Variant::Opt,
+        module: id,
+        flag: false,
+        summary: anchor,
+        key,
+        barrier,
+    });
+    Ok(Provisioned { cell, snapshot })
+}

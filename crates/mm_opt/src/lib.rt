@@ -1,0 +1,24 @@
+//! The core of Opt: one call takes a batch of requests from the offer of a snapshot to its answer, and a checkpoint
+//! closes the open segment, over any module and any platform, one device step at a time.
+#![tactic(auto)]
+
+mod call;
+mod closing;
+mod find;
+mod first;
+mod found;
+mod segment;
+mod stage;
+mod step;
+mod verdicts;
+mod whole;
+
+pub use call::{Call, Turn, begin};
+pub use closing::{CheckpointCall, CheckpointTurn, begin_checkpoint, checkpoint};
+pub use first::provision;
+pub use mm_basic::Provisioned;
+pub use segment::{CheckpointRefusal, Checkpointed};
+pub use whole::{Committed, Prepared, ask, ask_batch, prepare};
+
+#[cfg(test)]
+mod tests;

@@ -1,0 +1,271 @@
+//! Whole calls.
+
+ghost use Rattle.std.specs.Prelude.{◌≡◌, true, false, Err, IfOk, length};
+ghost use Rattle.mm_module.specs.Batch.{One};
+ghost use Rattle.mm_module.specs.Batches.{batch_of};
+ghost use Rattle.mm_model.specs.Long.{is_long};
+ghost use Rattle.mm_basic.specs.Steps.{fault_in};
+ghost use Rattle.mm_basic.specs.Asks.{LeavesUntouched, Blames, whole_in};
+ghost use Rattle.mm_opt.specs.Steps.{IsReady};
+ghost use Rattle.mm_opt.specs.Asks.{Reads, ReadsOn, MayCommit, LeavesRoom, PlacesAndWrites, OpensSegment, CommitsFound, Commits, Calls};
+
+use crate::found::{Found, Opening};
+use crate::step::{empty, extend, place, read_cell, read_register, write};
+use mm_model::{Answer, BatchAnswer, Refusal};
+use mm_module::{Batch, Module};
+use mm_platform::{Platform, StepFault};
+use mm_seal::Cell;
+use std::alloc::Global;
+use std::marker::Model;
+
+/// A call whose reading steps were made: its batch has run in memory, and there is room for its extension. Contracts
+/// see what was found.
+#[derive(Drop)]
+pub struct Prepared {
+    found: Found,
+}
+
+impl Model for Prepared {
+    ghost use Rattle.mm_opt.specs.declared.found.Found.{Found};
+
+    ghost Value = { Found };
+
+    ghost view = { λ prepared. prepared.found };
+}
+
+/// A call whose batch is committed. Contracts see its answer.
+#[derive(Drop)]
+pub struct Committed {
+    answer: BatchAnswer,
+}
+
+impl Model for Committed {
+    ghost use Rattle.mm_model.specs.declared.answer.BatchAnswer.{BatchAnswer};
+
+    ghost Value = { BatchAnswer };
+
+    ghost view = { λ committed. committed.answer };
+}
+
+/// Makes the reading steps of a call that asks for one request, and runs the request in memory.
+pub fn prepare<M: Module, P: Platform>(
+    alloc: Global,
+    module: &M,
+    platform: &mut P,
+    offer: &[u8],
+    request: &[u8],
+) -> Result<Prepared, Refusal>
+    ensures long { is_long (One request.now) ≡ true →
+        (result ≡ Err Refusal.Long) × (P.standing platform.new ≡ P.standing platform.old) }
+    ensures reads { is_long (One request.now) ≡ false →
+        Reads (M.meaning «module».now) (P.standing platform.old) (P.standing platform.new)
+        offer.now (One request.now) result }
+    ensures room { LeavesRoom result (P.standing platform.new) }
+{
+    prepare_batch(alloc, module, platform, offer, Batch::One(request))
+}
+
+fn prepare_batch<M: Module, P: Platform>(
+    alloc: Global,
+    module: &M,
+    platform: &mut P,
+    offer: &[u8],
+    batch: Batch<'_>,
+) -> Result<Prepared, Refusal>
+    ensures long { is_long (batch_of batch.entry) ≡ true →
+        (result ≡ Err Refusal.Long) × (P.standing platform.new ≡ P.standing platform.old) }
+    ensures reads { is_long (batch_of batch.entry) ≡ false →
+        Reads (M.meaning «module».now) (P.standing platform.old) (P.standing platform.new)
+        offer.now (batch_of batch.entry) result }
+    ensures room { LeavesRoom result (P.standing platform.new) }
+{
+    if mm_model::is_long(&batch) {
+        return Err(Refusal::Long);
+    }
+    match read(alloc, module, platform, offer, batch) {
+        Err(refusal) => Err(refusal),
+        Ok(found) => Ok(Prepared { found }),
+    }
+}
+
+// Makes the reading steps.
+fn read<M: Module, P: Platform>(
+    alloc: Global,
+    module: &M,
+    platform: &mut P,
+    offer: &[u8],
+    batch: Batch<'_>,
+) -> Result<Found, Refusal>
+    requires { is_long (batch_of batch) ≡ false }
+    ensures reads { Reads (M.meaning «module».now) (P.standing platform.old) (P.standing platform.new)
+        offer.now (batch_of batch.entry) result }
+    ensures room { LeavesRoom result (P.standing platform.new) }
+{
+    let cell = read_cell(module.id(), platform);
+    read_on(alloc, module, cell, platform, offer, batch)
+}
+
+// Makes the second reading step, where the first found a cell.
+fn read_on<M: Module, P: Platform>(
+    alloc: Global,
+    module: &M,
+    cell: Result<Cell, Refusal>,
+    platform: &mut P,
+    offer: &[u8],
+    batch: Batch<'_>,
+) -> Result<Found, Refusal>
+    requires { is_long (batch_of batch) ≡ false }
+    ensures on { ReadsOn (M.meaning «module».now) cell (P.standing platform.old) (P.standing platform.new)
+        offer.now (batch_of batch.entry) result }
+    ensures room { LeavesRoom result (P.standing platform.new) }
+{
+    match cell {
+        Err(refusal) => Err(refusal),
+        Ok(cell) => read_register(alloc, module, &cell, platform, offer, batch),
+    }
+}
+
+impl Prepared {
+    /// Makes the changing steps, which commit the request; a repeat has none. Takes no memory, but the room that
+    /// `prepare` left.
+    pub fn commit<P: Platform>(self, platform: &mut P) -> Result<Committed, StepFault>
+        requires { MayCommit self (P.standing platform.old) }
+        ensures commits { CommitsFound self (P.standing platform.old) (P.standing platform.new) result }
+    {
+        self.write(platform)
+    }
+
+    fn write<P: Platform>(self, platform: &mut P) -> Result<Committed, StepFault>
+        requires { MayCommit self (P.standing platform.old) }
+        ensures { CommitsFound self (P.standing platform.old) (P.standing platform.new) result }
+    {
+        match self.found {
+            Found::Repeat(answer) => Ok(Committed { answer }),
+            Found::Inside(ready) => as_committed(extend(ready, platform)),
+            Found::Opens(opening) => as_committed(open(opening, platform)),
+        }
+    }
+}
+
+fn as_committed(written: Result<BatchAnswer, StepFault>) -> Result<Committed, StepFault>
+    ensures { result ≡ written }
+{
+    match written {
+        Err(fault) => Err(fault),
+        Ok(answer) => Ok(Committed { answer }),
+    }
+}
+
+// Makes the steps that open a segment.
+fn open<P: Platform>(opening: Opening, platform: &mut P) -> Result<BatchAnswer, StepFault>
+    requires { IsReady (P.standing platform.old) }
+    ensures { OpensSegment opening (P.standing platform.old) (P.standing platform.new) result }
+{
+    match empty(opening, platform) {
+        Err(fault) => Err(fault),
+        Ok(opening) => place_and_write(opening, platform),
+    }
+}
+
+// Makes the steps of an opening that come after the reset.
+fn place_and_write<P: Platform>(
+    opening: Opening,
+    platform: &mut P,
+) -> Result<BatchAnswer, StepFault>
+    requires { IsReady (P.standing platform.old) }
+    ensures { PlacesAndWrites opening (P.standing platform.old) (P.standing platform.new) result }
+{
+    match place(opening, platform) {
+        Err(fault) => Err(fault),
+        Ok(opening) => write(opening, platform),
+    }
+}
+
+impl Committed {
+    /// The answer. Takes no memory.
+    pub fn answer(self) -> BatchAnswer
+        ensures { result ≡ self }
+    {
+        self.answer
+    }
+}
+
+// One call, from the offer to the answer.
+fn call<M: Module, P: Platform>(
+    alloc: Global,
+    module: &M,
+    platform: &mut P,
+    offer: &[u8],
+    batch: Batch<'_>,
+) -> Result<BatchAnswer, Refusal>
+    ensures { Calls (M.meaning «module».now) (P.standing platform.old) (P.standing platform.new)
+        offer.now (batch_of batch.entry) result }
+{
+    match prepare_batch(alloc, module, platform, offer, batch) {
+        Err(refusal) => Err(refusal),
+        Ok(prepared) => finish(prepared, platform),
+    }
+}
+
+// The rest of a call whose reading steps were made.
+fn finish<P: Platform>(prepared: Prepared, platform: &mut P) -> Result<BatchAnswer, Refusal>
+    requires { MayCommit prepared (P.standing platform.old) }
+    ensures { Commits prepared (P.standing platform.old) (P.standing platform.new) result }
+{
+    match prepared.commit(platform) {
+        Err(fault) => Err(Refusal::Device(fault)),
+        Ok(committed) => Ok(committed.answer()),
+    }
+}
+
+/// One call: asks for a batch of requests, offering a snapshot. A new batch is committed whole or not at all, and
+/// answered by what the module says to each request; the batch committed last is answered again. After every
+/// refusal but Device nothing has changed, but for the count of steps and what others put into the register.
+pub fn ask_batch<M: Module, P: Platform>(
+    alloc: Global,
+    module: &M,
+    platform: &mut P,
+    offer: &[u8],
+    batch: Batch<'_>,
+) -> Result<BatchAnswer, Refusal>
+    ensures calls { Calls (M.meaning «module».now) (P.standing platform.old) (P.standing platform.new)
+        offer.now (batch_of batch.entry) result }
+    ensures untouched { LeavesUntouched result (P.standing platform.old) (P.standing platform.new) }
+    ensures faults { Blames (fault_in result) (P.standing platform.old).faults (P.standing platform.new).faults }
+{
+    call(alloc, module, platform, offer, batch)
+}
+
+/// One call that asks for one request: `prepare`, `commit` and `answer` in one.
+pub fn ask<M: Module, P: Platform>(
+    alloc: Global,
+    module: &M,
+    platform: &mut P,
+    offer: &[u8],
+    request: &[u8],
+) -> Result<Answer, Refusal>
+    ensures calls { Calls (M.meaning «module».now) (P.standing platform.old) (P.standing platform.new)
+        offer.now (One request.now) (whole_in result) }
+    ensures untouched { LeavesUntouched (whole_in result) (P.standing platform.old) (P.standing platform.new) }
+    ensures faults { Blames (fault_in result) (P.standing platform.old).faults (P.standing platform.new).faults }
+{
+    match call_one(alloc, module, platform, offer, request) {
+        Err(refusal) => Err(refusal),
+        Ok(answer) => Ok(answer.into_one()),
+    }
+}
+
+// One call that asks for one request.
+fn call_one<M: Module, P: Platform>(
+    alloc: Global,
+    module: &M,
+    platform: &mut P,
+    offer: &[u8],
+    request: &[u8],
+) -> Result<BatchAnswer, Refusal>
+    ensures calls { Calls (M.meaning «module».now) (P.standing platform.old) (P.standing platform.new)
+        offer.now (One request.now) result }
+    ensures one { IfOk result (λ answer. length answer.outputs ≡ 1) }
+{
+    call(alloc, module, platform, offer, Batch::One(request))
+}
