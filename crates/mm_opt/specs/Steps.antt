@@ -46,16 +46,7 @@ number_of (stage.Writing opening) = 5
 abbrev pub IsReady : Standing → Type 0
 IsReady standing = 1 ≤ standing.spare
 
--- the room that the next step takes: for one own extension, where it extends the register
-abbrev pub MayStep : Stage → Standing → Type 0
-MayStep stage.Begun standing = Unit {0}
-MayStep (stage.Seen cell) standing = Unit {0}
-MayStep (stage.Inside ready) standing = IsReady standing
-MayStep (stage.Emptying opening) standing = Unit {0}
-MayStep (stage.Placing opening) standing = IsReady standing
-MayStep (stage.Writing opening) standing = Unit {0}
-
--- the room that the rest of the call takes
+-- the room that the rest of the call takes: for one own extension, until it is made
 abbrev pub MayGoOn : Stage → Standing → Type 0
 MayGoOn stage.Begun standing = Unit {0}
 MayGoOn (stage.Seen cell) standing = Unit {0}

@@ -57,7 +57,7 @@ impl Call {
     ghost use Rattle.std.specs.Prelude.{◌≡◌, false};
     ghost use Rattle.mm_module.specs.Batches.{batch_of};
     ghost use Rattle.mm_model.specs.Long.{is_long};
-    ghost use Rattle.mm_opt.specs.Steps.{number_of, MayStep, MayGoOn};
+    ghost use Rattle.mm_opt.specs.Steps.{number_of, MayGoOn};
     ghost use Rattle.mm_opt.specs.Turns.{Turns, TurnMayGoOn, position_of};
 
     /// The number of the next device step, from 1.
@@ -101,10 +101,10 @@ impl Call {
         batch: Batch<'_>,
     ) -> Turn
         requires short { is_long (batch_of batch) ≡ false }
-        requires room { MayStep self (P.standing platform.old) }
+        requires room { MayGoOn self (P.standing platform.old) }
         ensures turns { Turns (M.meaning «module».now) self (P.standing platform.old) (P.standing platform.new) offer.now
             (batch_of batch.entry) result }
-        ensures room { MayGoOn self (P.standing platform.old) → TurnMayGoOn result (P.standing platform.new) }
+        ensures room { TurnMayGoOn result (P.standing platform.new) }
     {
         self.turn(alloc, module, platform, offer, batch)
     }
@@ -118,7 +118,7 @@ impl Call {
         batch: Batch<'_>,
     ) -> Turn
         requires short { is_long (batch_of batch) ≡ false }
-        requires room { MayStep self (P.standing platform.old) }
+        requires room { MayGoOn self (P.standing platform.old) }
         ensures { Turns (M.meaning «module».now) self (P.standing platform.old) (P.standing platform.new) offer.now
             (batch_of batch.entry) result }
     {
