@@ -1,2 +1,4 @@
 pub mod Guards
 pub mod FirstLaws
+pub mod Findings
+pub mod Asking

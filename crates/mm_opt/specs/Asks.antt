@@ -85,3 +85,52 @@ pub record Calls (meaning : Meaning) (old new : Standing) (offer : List ℕ) (b 
 abbrev pub LeavesRoom : Result Found Refusal → Standing → Type 0
 LeavesRoom (Err why) standing = Unit {0}
 LeavesRoom (Ok found) standing = MayCommit found standing
+
+-- how many steps a call made; the fifth is the one that writes the cell
+abbrev pub OneStep : Standing → Standing → Type 0
+OneStep old new = (new.steps ≡ counted old.steps) × (new.writes ≡ old.writes)
+
+abbrev pub TwoSteps : Standing → Standing → Type 0
+TwoSteps old new = (new.steps ≡ counted (counted old.steps)) × (new.writes ≡ old.writes)
+
+abbrev pub ThreeSteps : Standing → Standing → Type 0
+ThreeSteps old new = (new.steps ≡ counted (counted (counted old.steps))) × (new.writes ≡ old.writes)
+
+abbrev pub FourSteps : Standing → Standing → Type 0
+FourSteps old new = (new.steps ≡ counted (counted (counted (counted old.steps)))) × (new.writes ≡ old.writes)
+
+abbrev pub FiveSteps : Standing → Standing → Type 0
+FiveSteps old new =
+    (new.steps ≡ counted (counted (counted (counted (counted old.steps))))) × (new.writes ≡ counted old.writes)
+
+pub data StepsMade (old new : Standing) : Type 0 where
+  one_step : OneStep old new → StepsMade old new
+  two_steps : TwoSteps old new → StepsMade old new
+  three_steps : ThreeSteps old new → StepsMade old new
+  four_steps : FourSteps old new → StepsMade old new
+  five_steps : FiveSteps old new → StepsMade old new
+
+-- a repeat makes two steps, and a new batch three, or five where it opens a segment
+abbrev pub StepsAnswered : Bool → Standing → Standing → Type 0
+StepsAnswered true old new = TwoSteps old new
+StepsAnswered false old new = ThreeSteps old new ⊎ FiveSteps old new
+
+-- a refusal makes the step that it rests on, and those before it
+abbrev pub StepsRefused : Refusal → Standing → Standing → Type 0
+StepsRefused Memory old new = TwoSteps old new
+StepsRefused Long old new = ⊥
+StepsRefused (Device fault) old new = StepsMade old new
+StepsRefused Blank old new = OneStep old new
+StepsRefused OtherCell old new = OneStep old new
+StepsRefused Lost old new = TwoSteps old new
+StepsRefused Form old new = TwoSteps old new
+StepsRefused Kind old new = TwoSteps old new
+StepsRefused State old new = TwoSteps old new
+StepsRefused Tag old new = TwoSteps old new
+StepsRefused Stale old new = TwoSteps old new
+StepsRefused Full old new = TwoSteps old new
+
+-- The steps that a call makes: only the last one of an opening writes the cell.
+abbrev pub StepsBy : Result BatchAnswer Refusal → Standing → Standing → Type 0
+StepsBy (Ok answer) old new = StepsAnswered answer.again old new
+StepsBy (Err why) old new = StepsRefused why old new

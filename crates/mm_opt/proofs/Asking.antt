@@ -1,0 +1,164 @@
+-- What a whole call leaves and counts.
+use Rattle.std.proofs.Common.{◌≡◌, ℕ, Bool, true, false, List, [], ◌∷◌, ◌++◌, length, Option, None, Some, Result, Ok, Err, IfOk, refl, sym, ap, ◌∙◌, subst, arith, inl, inr, ◌⊎◌}
+use Rattle.std.specs.Result.{result_err}
+use Rattle.mm_base.specs.Faults.{counted}
+use Rattle.mm_platform.specs.declared.fault.StepFault.{StepFault}
+use Rattle.mm_platform.specs.declared.fault.StepFault.TheVariants.{Failed, Off}
+use Rattle.mm_platform.specs.Standing.{Standing}
+use Rattle.mm_platform.specs.Steps.{Act, ReadCell, WriteCell, ReadRegister, ResetRegister, ExtendRegister, EndsBy, Goes, beside, Readies}
+use Rattle.mm_platform.proofs.Calling.{beside-none, beside-beside}
+use Rattle.mm_module.specs.Meaning.{Meaning}
+use Rattle.mm_module.specs.Batch.{Batch, size_of}
+use Rattle.mm_seal.specs.declared.cell.Cell.{Cell}
+use Rattle.mm_model.specs.Long.{is_long}
+use Rattle.mm_model.specs.declared.answer.BatchAnswer.{BatchAnswer}
+use Rattle.mm_model.specs.declared.refusal.Refusal.{Refusal}
+use Rattle.mm_model.specs.declared.refusal.Refusal.TheVariants as refusal
+use Rattle.mm_model.specs.declared.refusal.Refusal.TheVariants.{Long}
+use Rattle.mm_basic.specs.Steps.{fault_of, fault_in, handed_on}
+use Rattle.mm_basic.specs.Asks.{IsUntouched, LeavesUntouched}
+use Rattle.mm_opt.specs.declared.found.Found.{Found}
+use Rattle.mm_opt.specs.declared.found.Found.TheVariants.{Repeat, Inside, Opens}
+use Rattle.mm_opt.specs.declared.found.Ready.{Ready}
+use Rattle.mm_opt.specs.declared.found.Opening.{Opening}
+use Rattle.mm_opt.specs.Steps.{ReadsCell, ReadsRegister, MakesRoom, Extends, Empties, Places, Writes}
+use Rattle.mm_opt.specs.Asks.{ReadsOn, Reads, PlacedOn, PlacesAndWrites, EmptiedOn, OpensSegment, CommitsFound, Commits, Ends, Calls, OneStep, TwoSteps, ThreeSteps, FourSteps, FiveSteps, StepsMade, one_step, two_steps, three_steps, four_steps, five_steps, StepsAnswered, StepsRefused, StepsBy}
+use Rattle.mm_opt.proofs.Findings.{IsFirst, IsSecond, IsAnswerTo, IsShaped, first_refused, shaped}
+
+pub same_untouched : (old : Standing) → IsUntouched old old
+same_untouched old = record {
+  others = [];
+  cell = refl;
+  items = sym (beside-none old.items);
+  is_on = refl;
+  writes = refl;
+  room = omega arith;
+  faults = refl;
+}
+
+pub cell_untouched : (old new : Standing) → Goes ReadCell old new None → IsUntouched old new
+cell_untouched old new g = record {
+  others = g.others;
+  cell = g.cell;
+  items = g.items;
+  is_on = g.ends.is_on ∙ sym g.ends.was_on;
+  writes = g.writes;
+  room = omega (arith, g.room);
+  faults = g.ends.faults;
+}
+
+pub register_untouched : (old new : Standing) → Goes ReadRegister old new None → IsUntouched old new
+register_untouched old new g = record {
+  others = g.others;
+  cell = g.cell;
+  items = g.items;
+  is_on = g.ends.is_on ∙ sym g.ends.was_on;
+  writes = g.writes;
+  room = omega (arith, g.room);
+  faults = g.ends.faults;
+}
+
+pub then_untouched : (old middle new : Standing) → IsUntouched old middle → IsUntouched middle new → IsUntouched old new
+then_untouched old middle new u v = record {
+  others = u.others ++ v.others;
+  cell = v.cell ∙ u.cell;
+  items = v.items ∙ ap (beside v.others) u.items ∙ beside-beside u.others v.others old.items;
+  is_on = v.is_on ∙ u.is_on;
+  writes = v.writes ∙ u.writes;
+  room = omega (arith, u.room, v.room);
+  faults = v.faults ∙ u.faults;
+}
+
+pub goes_quietly : (act : Act) (old new : Standing) (fault : Option StepFault) → fault ≡ None → Goes act old new fault → Goes act old new None
+goes_quietly act old new fault e g = subst (λ (f : Option StepFault). Goes act old new f) e g
+
+-- what the second step leaves where it is refused
+register_refused : (meaning : Meaning) (cell : Cell) (old new : Standing) (offer : List ℕ) (b : Batch) (why : Refusal) → ReadsRegister meaning cell old new offer b (Err why) → fault_of why ≡ None → IsUntouched old new
+register_refused meaning cell old new offer b why r h =
+    subst (λ (s : Standing). IsUntouched old s) (sym r.room)
+    (register_untouched old r.middle (goes_quietly ReadRegister old r.middle (fault_of why) h r.goes))
+
+same_refusal : (why other : Refusal) (found : Result Found Refusal) → found ≡ Err why → found ≡ Err other → why ≡ other
+same_refusal why other found e f = cc
+
+-- what the reading steps leave where they are refused
+reads_refused : (cell : Result Cell Refusal) (meaning : Meaning) (old middle new : Standing) (offer : List ℕ) (b : Batch) (why : Refusal) → Goes ReadCell old middle (fault_in cell) → ReadsOn meaning cell middle new offer b (Err why) → fault_of why ≡ None → IsUntouched old new
+reads_refused (Err other) meaning old middle new offer b why g on h =
+    let e : why ≡ other = same_refusal why other (Err why) refl on.1 in
+    subst (λ (s : Standing). IsUntouched old s) (sym on.0)
+    (cell_untouched old middle (goes_quietly ReadCell old middle (fault_of other) (sym (ap fault_of e) ∙ h) g))
+reads_refused (Ok cell) meaning old middle new offer b why g on h =
+    then_untouched old middle new (cell_untouched old middle g) (register_refused meaning cell middle new offer b why on h)
+
+written_untouched : (written : Result BatchAnswer StepFault) (old new : Standing) → LeavesUntouched (handed_on written) old new
+written_untouched (Ok answer) old new = tt
+written_untouched (Err fault) old new = λ (h : Some fault ≡ None). absurd (cc)
+
+ends_untouched : (found : Result Found Refusal) (meaning : Meaning) (offer : List ℕ) (b : Batch) (old middle new : Standing) (result : Result BatchAnswer Refusal) → Reads meaning old middle offer b found → Ends found middle new result → LeavesUntouched result old new
+ends_untouched (Err why) meaning offer b old middle new result r e =
+    subst (λ (x : Result BatchAnswer Refusal). LeavesUntouched x old new) (sym e.1)
+    (λ (h : fault_of why ≡ None). subst (λ (s : Standing). IsUntouched old s) (sym e.0)
+    (reads_refused r.cell meaning old r.middle middle offer b why r.reads.goes r.on h))
+ends_untouched (Ok found) meaning offer b old middle new result r e =
+    subst (λ (x : Result BatchAnswer Refusal). LeavesUntouched x old new) (sym e.gives) (written_untouched e.written old new)
+
+calls_untouched : (t : Bool) (meaning : Meaning) (old new : Standing) (offer : List ℕ) (b : Batch) (result : Result BatchAnswer Refusal) → is_long b ≡ t → Calls meaning old new offer b result → LeavesUntouched result old new
+calls_untouched true meaning old new offer b result is c =
+    let l = c.long is in
+    subst (λ (r : Result BatchAnswer Refusal). LeavesUntouched r old new) (sym l.1)
+    (λ (h : fault_of Long ≡ None). subst (λ (s : Standing). IsUntouched old s) (sym l.0) (same_untouched old))
+calls_untouched false meaning old new offer b result is c =
+    let a = c.asks is in ends_untouched a.found meaning offer b old a.middle new result a.reads a.ends
+
+pub untouched : (meaning : Meaning) (old new : Standing) (offer : List ℕ) (b : Batch) (result : Result BatchAnswer Refusal) → Calls meaning old new offer b result → LeavesUntouched result old new
+untouched meaning old new offer b result c = calls_untouched (is_long b) meaning old new offer b result refl c
+
+-- an answer has as many outputs as the batch has requests
+abbrev pub IsCounted : Batch → Result BatchAnswer Refusal → Type 0
+IsCounted b result = IfOk result (λ answer. length answer.outputs ≡ size_of b)
+
+abbrev IsCountedIn : Batch → Result BatchAnswer StepFault → Type 0
+IsCountedIn b written = IfOk written (λ answer. length answer.outputs ≡ size_of b)
+
+handed_counted : (b : Batch) (written : Result BatchAnswer StepFault) → IsCountedIn b written → IsCounted b (handed_on written)
+handed_counted b (Ok answer) is = is
+handed_counted b (Err fault) is = tt
+
+given_counted : (b : Batch) (written : Result BatchAnswer StepFault) (it : BatchAnswer) → IfOk written (λ given. given ≡ it) → length it.outputs ≡ size_of b → IsCountedIn b written
+given_counted b (Ok answer) it gives e = ap (λ (a : BatchAnswer). length a.outputs) gives ∙ e
+given_counted b (Err fault) it gives e = tt
+
+placed_counted : (placed : Result Opening StepFault) (b : Batch) (opening : Opening) (old new : Standing) (written : Result BatchAnswer StepFault) → IfOk placed (λ given. given ≡ opening) → PlacedOn placed old new written → length opening.answer.outputs ≡ size_of b → IsCountedIn b written
+placed_counted (Err fault) b opening old new written gives on e = subst (λ (w : Result BatchAnswer StepFault). IsCountedIn b w) (sym on.1) tt
+placed_counted (Ok it) b opening old new written gives on e =
+    given_counted b written it.answer on.gives (ap (λ (o : Opening). length o.answer.outputs) gives ∙ e)
+
+emptied_counted : (emptied : Result Opening StepFault) (b : Batch) (opening : Opening) (old new : Standing) (written : Result BatchAnswer StepFault) → IfOk emptied (λ given. given ≡ opening) → EmptiedOn emptied old new written → length opening.answer.outputs ≡ size_of b → IsCountedIn b written
+emptied_counted (Err fault) b opening old new written gives on e = subst (λ (w : Result BatchAnswer StepFault). IsCountedIn b w) (sym on.1) tt
+emptied_counted (Ok it) b opening old new written gives on e =
+    placed_counted on.placed b it on.middle new written on.places.gives on.on (ap (λ (o : Opening). length o.answer.outputs) gives ∙ e)
+
+commits_counted : (found : Found) (b : Batch) (old new : Standing) (written : Result BatchAnswer StepFault) → IsShaped b (Ok found) → CommitsFound found old new written → IsCountedIn b written
+commits_counted (Repeat answer) b old new written shape c = subst (λ (w : Result BatchAnswer StepFault). IsCountedIn b w) (sym c.1) shape.1
+commits_counted (Inside ready) b old new written shape c = given_counted b written ready.answer c.gives shape.1
+commits_counted (Opens opening) b old new written shape c =
+    emptied_counted c.emptied b opening c.middle new written c.empties.gives c.on shape.1
+
+-- what was found, once the register was read
+reads_shaped : (cell : Result Cell Refusal) (meaning : Meaning) (old new : Standing) (offer : List ℕ) (b : Batch) (found : Found) → ReadsOn meaning cell old new offer b (Ok found) → IsShaped b (Ok found)
+reads_shaped (Err why) meaning old new offer b found on = let e : Ok found ≡ Err why = on.1 in absurd (cc)
+reads_shaped (Ok cell) meaning old new offer b found on = shaped meaning cell old new offer b (Ok found) on
+
+ends_counted : (found : Result Found Refusal) (meaning : Meaning) (offer : List ℕ) (b : Batch) (old middle new : Standing) (result : Result BatchAnswer Refusal) → Reads meaning old middle offer b found → Ends found middle new result → IsCounted b result
+ends_counted (Err why) meaning offer b old middle new result r e = subst (λ (x : Result BatchAnswer Refusal). IsCounted b x) (sym e.1) tt
+ends_counted (Ok found) meaning offer b old middle new result r e =
+    subst (λ (x : Result BatchAnswer Refusal). IsCounted b x) (sym e.gives)
+    (handed_counted b e.written (commits_counted found b middle new e.written (reads_shaped r.cell meaning r.middle middle offer b found r.on) e.commits))
+
+calls_counted : (t : Bool) (meaning : Meaning) (old new : Standing) (offer : List ℕ) (b : Batch) (result : Result BatchAnswer Refusal) → is_long b ≡ t → Calls meaning old new offer b result → IsCounted b result
+calls_counted true meaning old new offer b result is c = subst (λ (r : Result BatchAnswer Refusal). IsCounted b r) (sym (c.long is).1) tt
+calls_counted false meaning old new offer b result is c =
+    let a = c.asks is in ends_counted a.found meaning offer b old a.middle new result a.reads a.ends
+
+pub counted_outputs : (meaning : Meaning) (old new : Standing) (offer : List ℕ) (b : Batch) (result : Result BatchAnswer Refusal) → Calls meaning old new offer b result → IsCounted b result
+counted_outputs meaning old new offer b result c = calls_counted (is_long b) meaning old new offer b result refl c

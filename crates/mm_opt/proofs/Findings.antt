@@ -1,0 +1,209 @@
+-- What is found, and the room that is made after it.
+use Rattle.std.proofs.Common.{◌≡◌, ℕ, Bool, true, false, List, length, Option, None, Some, Result, Ok, Err, refl, sym, ap, ◌∙◌, subst, inl, inr, ◌⊎◌}
+use Rattle.mm_digest.specs.declared.variant.Variant.TheVariants.{Opt}
+use Rattle.mm_platform.specs.declared.fault.StepFault.{StepFault}
+use Rattle.mm_platform.specs.Standing.{Item, Standing, values_of, register_of}
+use Rattle.mm_platform.specs.Steps.{ReadRegister, Goes}
+use Rattle.mm_module.specs.Meaning.{Meaning}
+use Rattle.mm_module.specs.Batch.{Batch, size_of, members_of}
+use Rattle.mm_module.proofs.RunLaws.{length-outputs_from}
+use Rattle.mm_seal.specs.declared.cell.Cell.{Cell}
+use Rattle.mm_seal.specs.declared.cell.CellFault.{CellFault}
+use Rattle.mm_seal.specs.declared.cell.CellFault.TheVariants.{Blank, Cell as Unspelled}
+use Rattle.mm_seal.specs.declared.snapshot.PartsFault.{PartsFault}
+use Rattle.mm_seal.specs.declared.snapshot.PartsFault.TheVariants.{Form, Kind}
+use Rattle.mm_seal.specs.Snapshot.{Content, Snapshot, ReadsParts}
+use Rattle.mm_model.specs.declared.answer.BatchAnswer.{BatchAnswer}
+use Rattle.mm_model.specs.declared.refusal.Refusal.{Refusal}
+use Rattle.mm_model.specs.declared.refusal.Refusal.TheVariants as refusal
+use Rattle.mm_model.specs.declared.refusal.Refusal.TheVariants.{Memory}
+use Rattle.mm_model.specs.declared.verdict.Verdict.{Verdict}
+use Rattle.mm_model.specs.declared.verdict.Verdict.TheVariants.{Fresh, Again, Lost, Stale}
+use Rattle.mm_basic.specs.Order.{admitted, weighed, examined}
+use Rattle.mm_basic.specs.Steps.{fault_of, fault_in}
+use Rattle.mm_opt.specs.declared.found.Found.{Found}
+use Rattle.mm_opt.specs.declared.found.Found.TheVariants.{Repeat, Inside, Opens}
+use Rattle.mm_opt.specs.Seen.{is_cell_of, own_cell, cell_in}
+use Rattle.mm_opt.specs.Order.{value_of, has_lost_power, verdict_of}
+use Rattle.mm_opt.specs.Answers.{answer_of, change_of, change_by, found_from, found_at, found_unless, found_in, opened_cell, OrMemory}
+use Rattle.mm_opt.specs.Steps.{FindsCell, ReadsCell, FindsIn, Finds, MakesRoom, ReadsRegister}
+
+-- want of memory, twice
+or_then : (x : Result Found Refusal) (found : Found) (result : Result Found Refusal) → OrMemory x (Ok found) → OrMemory (Ok found) result → OrMemory x result
+or_then (Err why) found result o p = cc
+or_then (Ok it) found result o p =
+    elim o [
+      | inl e ↦ elim p [ inl f ↦ inl (f ∙ e) | inr f ↦ inr f ]
+      | inr e ↦ cc
+    ]
+
+no_fault_or : (found : Found) (result : Result Found Refusal) → OrMemory (Ok found) result → fault_in result ≡ None
+no_fault_or found result o =
+    elim o [ inl e ↦ ap (λ (r : Result Found Refusal). fault_in r) e | inr e ↦ ap (λ (r : Result Found Refusal). fault_in r) e ]
+
+-- the second step, by what it found and the room that was made
+pub reads_register : (meaning : Meaning) (cell : Cell) (old middle new : Standing) (offer : List ℕ) (b : Batch) (register : List ℕ) (found : Found) (result : Result Found Refusal)
+    → Goes ReadRegister old middle None → ((items : List Item) → middle.items ≡ Some items → register ≡ register_of (values_of items))
+    → FindsIn meaning cell register offer b (Ok found) → OrMemory (Ok found) result → MakesRoom result middle new
+    → ReadsRegister meaning cell old new offer b result
+reads_register meaning cell old middle new offer b register found result goes told finds or room = record {
+  middle = middle;
+  goes = subst (λ (f : Option StepFault). Goes ReadRegister old middle f) (sym (no_fault_or found result or)) goes;
+  finds = λ (h : fault_in result ≡ None). record {
+    register = register;
+    told = told;
+    finds = record {
+      taken = finds.taken;
+      reads = finds.reads;
+      found_is = or_then (found_in meaning cell register finds.taken b) found result finds.found_is or;
+    };
+  };
+  room = room;
+}
+
+-- what the first step refuses, and what the second does
+abbrev pub IsFirst : Refusal → Type 0
+IsFirst refusal.Memory = ⊥
+IsFirst refusal.Long = ⊥
+IsFirst (refusal.Device fault) = Unit {0}
+IsFirst refusal.Blank = Unit {0}
+IsFirst refusal.Cell = Unit {0}
+IsFirst refusal.Lost = ⊥
+IsFirst refusal.Form = ⊥
+IsFirst refusal.Kind = ⊥
+IsFirst refusal.State = ⊥
+IsFirst refusal.Tag = ⊥
+IsFirst refusal.Stale = ⊥
+IsFirst refusal.Full = ⊥
+
+abbrev pub IsSecond : Refusal → Type 0
+IsSecond refusal.Memory = Unit {0}
+IsSecond refusal.Long = ⊥
+IsSecond (refusal.Device fault) = Unit {0}
+IsSecond refusal.Blank = ⊥
+IsSecond refusal.Cell = ⊥
+IsSecond refusal.Lost = Unit {0}
+IsSecond refusal.Form = Unit {0}
+IsSecond refusal.Kind = Unit {0}
+IsSecond refusal.State = Unit {0}
+IsSecond refusal.Tag = Unit {0}
+IsSecond refusal.Stale = Unit {0}
+IsSecond refusal.Full = Unit {0}
+
+abbrev IsFirstIn : Result Cell Refusal → Type 0
+IsFirstIn (Ok cell) = Unit {0}
+IsFirstIn (Err why) = IsFirst why
+
+first_own : (t : Bool) (cell : Cell) → IsFirstIn (own_cell t cell)
+first_own true cell = tt
+first_own false cell = tt
+
+first_cell_in : (id : ℕ) (read : Result Cell CellFault) → IsFirstIn (cell_in id read)
+first_cell_in id (Err Blank) = tt
+first_cell_in id (Err Unspelled) = tt
+first_cell_in id (Ok cell) = first_own (is_cell_of id cell) cell
+
+first_unless : (why : Refusal) → (fault_of why ≡ None → IsFirst why) → IsFirst why
+first_unless refusal.Memory h = h refl
+first_unless refusal.Long h = h refl
+first_unless (refusal.Device fault) h = tt
+first_unless refusal.Blank h = tt
+first_unless refusal.Cell h = tt
+first_unless refusal.Lost h = h refl
+first_unless refusal.Form h = h refl
+first_unless refusal.Kind h = h refl
+first_unless refusal.State h = h refl
+first_unless refusal.Tag h = h refl
+first_unless refusal.Stale h = h refl
+first_unless refusal.Full h = h refl
+
+second_unless : (why : Refusal) → (fault_of why ≡ None → IsSecond why) → IsSecond why
+second_unless refusal.Memory h = tt
+second_unless refusal.Long h = h refl
+second_unless (refusal.Device fault) h = tt
+second_unless refusal.Blank h = h refl
+second_unless refusal.Cell h = h refl
+second_unless refusal.Lost h = tt
+second_unless refusal.Form h = tt
+second_unless refusal.Kind h = tt
+second_unless refusal.State h = tt
+second_unless refusal.Tag h = tt
+second_unless refusal.Stale h = tt
+second_unless refusal.Full h = tt
+
+-- what the first step refuses
+pub first_refused : (id : ℕ) (old new : Standing) (why : Refusal) → ReadsCell id old new (Err why) → IsFirst why
+first_refused id old new why r =
+    first_unless why (λ (h : fault_of why ≡ None).
+    let f = r.finds h in
+    subst (λ (c : Result Cell Refusal). IsFirstIn c) (sym f.sees.found_is) (first_cell_in id f.sees.read))
+
+-- an answer found says whether it is a repeat's, and has an output for each request
+abbrev pub IsAnswerTo : Batch → Bool → BatchAnswer → Type 0
+IsAnswerTo b again answer = (answer.again ≡ again) × (length answer.outputs ≡ size_of b)
+
+abbrev pub IsShaped : Batch → Result Found Refusal → Type 0
+IsShaped b (Err why) = IsSecond why
+IsShaped b (Ok (Repeat answer)) = IsAnswerTo b true answer
+IsShaped b (Ok (Inside ready)) = IsAnswerTo b false ready.answer
+IsShaped b (Ok (Opens opening)) = IsAnswerTo b false opening.answer
+
+abbrev IsSecondIn : Result Bool Refusal → Type 0
+IsSecondIn (Ok again) = Unit {0}
+IsSecondIn (Err why) = IsSecond why
+
+second_admitted : (v : Verdict) (fits : Bool) → IsSecondIn (admitted v fits)
+second_admitted Fresh true = tt
+second_admitted Fresh false = tt
+second_admitted Again true = tt
+second_admitted Again false = tt
+second_admitted Lost fits = tt
+second_admitted Stale fits = tt
+
+second_weighed : (s t : Bool) (v : Verdict) (fits : Bool) → IsSecondIn (weighed s t v fits)
+second_weighed false t v fits = tt
+second_weighed true false v fits = tt
+second_weighed true true v fits = second_admitted v fits
+
+shaped_change : (flag : Bool) (value next : List ℕ) (answer : BatchAnswer) (b : Batch) → IsAnswerTo b false answer → IsShaped b (Ok (change_by flag value next answer))
+shaped_change true value next answer b is = is
+shaped_change false value next answer b is = is
+
+shaped_from : (e : Result Bool Refusal) (meaning : Meaning) (cell : Cell) (register : List ℕ) (offered : Content) (b : Batch) → IsSecondIn e → IsShaped b (found_from e cell (value_of cell b) (answer_of meaning cell register offered b))
+shaped_from (Err why) meaning cell register offered b is = is
+shaped_from (Ok true) meaning cell register offered b is = (refl, length-outputs_from meaning offered.state (members_of b))
+shaped_from (Ok false) meaning cell register offered b is =
+    shaped_change cell.flag (value_of cell b) (opened_cell cell) (answer_of meaning cell register offered b false) b
+    (refl, length-outputs_from meaning offered.state (members_of b))
+
+shaped_at : (meaning : Meaning) (cell : Cell) (register : List ℕ) (taken : Result Snapshot PartsFault) (b : Batch) → IsShaped b (found_at meaning cell register taken b)
+shaped_at meaning cell register (Err Form) b = tt
+shaped_at meaning cell register (Err Kind) b = tt
+shaped_at meaning cell register (Ok offered) b =
+    shaped_from (examined meaning cell.key offered b (verdict_of cell register offered b)) meaning cell register offered.content b
+    (second_weighed _ _ _ _)
+
+shaped_found_unless : (t : Bool) (b : Batch) (found : Result Found Refusal) → IsShaped b found → IsShaped b (found_unless t found)
+shaped_found_unless true b found is = tt
+shaped_found_unless false b found is = is
+
+shaped_or : (b : Batch) (x found : Result Found Refusal) → IsShaped b x → OrMemory x found → IsShaped b found
+shaped_or b (Err why) found h o = subst (λ (r : Result Found Refusal). IsShaped b r) (sym o) h
+shaped_or b (Ok it) found h o =
+    elim o [ inl e ↦ subst (λ (r : Result Found Refusal). IsShaped b r) (sym e) h | inr e ↦ subst (λ (r : Result Found Refusal). IsShaped b r) (sym e) tt ]
+
+shaped_in : (meaning : Meaning) (cell : Cell) (register offer : List ℕ) (b : Batch) (found : Result Found Refusal) → FindsIn meaning cell register offer b found → IsShaped b found
+shaped_in meaning cell register offer b found f =
+    shaped_or b (found_in meaning cell register f.taken b) found
+    (shaped_found_unless (has_lost_power cell register) b (found_at meaning cell register f.taken b) (shaped_at meaning cell register f.taken b))
+    f.found_is
+
+shaped_unless : (found : Result Found Refusal) (b : Batch) → (fault_in found ≡ None → IsShaped b found) → IsShaped b found
+shaped_unless (Err why) b h = second_unless why h
+shaped_unless (Ok found) b h = h refl
+
+-- what the second step finds
+pub shaped : (meaning : Meaning) (cell : Cell) (old new : Standing) (offer : List ℕ) (b : Batch) (found : Result Found Refusal) → ReadsRegister meaning cell old new offer b found → IsShaped b found
+shaped meaning cell old new offer b found r =
+    shaped_unless found b (λ (h : fault_in found ≡ None).
+    let f = r.finds h in shaped_in meaning cell f.register offer b found f.finds)

@@ -1,0 +1,21 @@
+use Rattle.std.proofs.Common.{Ok, Err, subst}
+use Rattle.mm_module.specs.Batch.{One}
+use Rattle.mm_model.specs.declared.answer.BatchAnswer.{BatchAnswer}
+use Rattle.mm_basic.specs.Asks.{whole}
+use Rattle.mm_basic.proofs.Asking.{wholly}
+use Rattle.mm_opt.specs.Asks.{Calls}
+use Rattle.mm_opt.proofs.Asking.{untouched}
+use Rattle.mm_opt.proofs.whole.ask.Goals as goal
+
+pub returns-in-Err-clause-untouched : goal.returns-in-Err-clause-untouched
+returns-in-Err-clause-untouched g c =
+    untouched (g.M.Module.meaning c.args.module.now) (g.P.Device.standing c.args.platform.now)
+    (g.P.Device.standing c.call_one.new.platform) c.args.offer.now (One c.args.request.now) (Err c.in-Err.refusal) c.in-Err.ensures.calls
+
+pub returns-in-Ok-clause-calls : goal.returns-in-Ok-clause-calls
+returns-in-Ok-clause-calls g c =
+    subst
+    (λ (a : BatchAnswer). Calls (g.M.Module.meaning c.args.module.now) (g.P.Device.standing c.args.platform.now)
+    (g.P.Device.standing c.call_one.new.platform) c.args.offer.now (One c.args.request.now) (Ok a))
+    (wholly c.in-Ok.answer c.into_one.result c.into_one.ensures.again c.into_one.ensures.position c.into_one.ensures.output c.into_one.ensures.snapshot)
+    c.in-Ok.ensures.calls
