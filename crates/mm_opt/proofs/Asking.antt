@@ -162,3 +162,114 @@ calls_counted false meaning old new offer b result is c =
 
 pub counted_outputs : (meaning : Meaning) (old new : Standing) (offer : List ℕ) (b : Batch) (result : Result BatchAnswer Refusal) → Calls meaning old new offer b result → IsCounted b result
 counted_outputs meaning old new offer b result c = calls_counted (is_long b) meaning old new offer b result refl c
+
+-- what a step counts
+first_counted : (fault : Option StepFault) (old new : Standing) → Goes ReadCell old new fault → OneStep old new
+first_counted fault old new g = (g.steps, g.writes)
+
+room_counted : (found : Result Found Refusal) (old new : Standing) → MakesRoom found old new → (new.steps ≡ old.steps) × (new.writes ≡ old.writes)
+room_counted (Err why) old new r = (ap (λ (s : Standing). s.steps) r, ap (λ (s : Standing). s.writes) r)
+room_counted (Ok (Repeat answer)) old new r = (ap (λ (s : Standing). s.steps) r, ap (λ (s : Standing). s.writes) r)
+room_counted (Ok (Inside ready)) old new r = (ap (λ (s : Standing). s.steps) r.same, ap (λ (s : Standing). s.writes) r.same)
+room_counted (Ok (Opens opening)) old new r = (ap (λ (s : Standing). s.steps) r.same, ap (λ (s : Standing). s.writes) r.same)
+
+second_counted : (meaning : Meaning) (cell : Cell) (offer : List ℕ) (b : Batch) (found : Result Found Refusal) (old middle new : Standing) → OneStep old middle → ReadsRegister meaning cell middle new offer b found → TwoSteps old new
+second_counted meaning cell offer b found old middle new one r =
+    let c = room_counted found r.middle new r.room in
+    (c.0 ∙ r.goes.steps ∙ ap counted one.0, c.1 ∙ r.goes.writes ∙ one.1)
+
+once_refused : (why : Refusal) (old new : Standing) → IsFirst why → OneStep old new → StepsRefused why old new
+once_refused refusal.Memory old new is one = absurd is
+once_refused refusal.Long old new is one = is
+once_refused (refusal.Device fault) old new is one = one_step one
+once_refused refusal.Blank old new is one = one
+once_refused refusal.Cell old new is one = one
+once_refused refusal.Lost old new is one = absurd is
+once_refused refusal.Form old new is one = absurd is
+once_refused refusal.Kind old new is one = absurd is
+once_refused refusal.State old new is one = absurd is
+once_refused refusal.Tag old new is one = absurd is
+once_refused refusal.Stale old new is one = absurd is
+once_refused refusal.Full old new is one = absurd is
+
+twice_refused : (why : Refusal) (old new : Standing) → IsSecond why → TwoSteps old new → StepsRefused why old new
+twice_refused refusal.Memory old new is two = two
+twice_refused refusal.Long old new is two = is
+twice_refused (refusal.Device fault) old new is two = two_steps two
+twice_refused refusal.Blank old new is two = absurd is
+twice_refused refusal.Cell old new is two = absurd is
+twice_refused refusal.Lost old new is two = two
+twice_refused refusal.Form old new is two = two
+twice_refused refusal.Kind old new is two = two
+twice_refused refusal.State old new is two = two
+twice_refused refusal.Tag old new is two = two
+twice_refused refusal.Stale old new is two = two
+twice_refused refusal.Full old new is two = two
+
+-- the reading steps, where they are refused and where they aren't
+reads_stepped : (cell : Result Cell Refusal) (meaning : Meaning) (old middle new : Standing) (offer : List ℕ) (b : Batch) (why : Refusal) → ReadsCell meaning.id old middle cell → ReadsOn meaning cell middle new offer b (Err why) → StepsRefused why old new
+reads_stepped (Err other) meaning old middle new offer b why r on =
+    let e : why ≡ other = same_refusal why other (Err why) refl on.1 in
+    subst (λ (w : Refusal). StepsRefused w old new) (sym e)
+    (subst (λ (s : Standing). StepsRefused other old s) (sym on.0)
+    (once_refused other old middle (first_refused meaning.id old middle other r) (first_counted (fault_of other) old middle r.goes)))
+reads_stepped (Ok cell) meaning old middle new offer b why r on =
+    twice_refused why old new (shaped meaning cell middle new offer b (Err why) on)
+    (second_counted meaning cell offer b (Err why) old middle new (first_counted None old middle r.goes) on)
+
+reads_counted : (cell : Result Cell Refusal) (meaning : Meaning) (old middle new : Standing) (offer : List ℕ) (b : Batch) (found : Found) → ReadsCell meaning.id old middle cell → ReadsOn meaning cell middle new offer b (Ok found) → TwoSteps old new
+reads_counted (Err why) meaning old middle new offer b found r on = let e : Ok found ≡ Err why = on.1 in absurd (cc)
+reads_counted (Ok cell) meaning old middle new offer b found r on =
+    second_counted meaning cell offer b (Ok found) old middle new (first_counted None old middle r.goes) on
+
+-- the changing steps
+extended_stepped : (written : Result BatchAnswer StepFault) (ready : Ready) (old middle new : Standing) → TwoSteps old middle → ready.answer.again ≡ false → Extends ready middle new written → StepsBy (handed_on written) old new
+extended_stepped (Ok answer) ready old middle new two e x =
+    subst (λ (t : Bool). StepsAnswered t old new) (sym (ap (λ (a : BatchAnswer). a.again) x.gives ∙ e))
+    (inl (x.goes.steps ∙ ap counted two.0, x.goes.writes ∙ two.1))
+extended_stepped (Err fault) ready old middle new two e x = three_steps (x.goes.steps ∙ ap counted two.0, x.goes.writes ∙ two.1)
+
+written_stepped : (written : Result BatchAnswer StepFault) (opening : Opening) (old middle new : Standing) → FourSteps old middle → opening.answer.again ≡ false → Writes opening middle new written → StepsBy (handed_on written) old new
+written_stepped (Ok answer) opening old middle new four e w =
+    subst (λ (t : Bool). StepsAnswered t old new) (sym (ap (λ (a : BatchAnswer). a.again) w.gives ∙ e))
+    (inr (w.goes.steps ∙ ap counted four.0, w.goes.writes ∙ ap counted four.1))
+written_stepped (Err fault) opening old middle new four e w = five_steps (w.goes.steps ∙ ap counted four.0, w.goes.writes ∙ ap counted four.1)
+
+placed_stepped : (placed : Result Opening StepFault) (written : Result BatchAnswer StepFault) (opening : Opening) (old middle next new : Standing) → ThreeSteps old middle → opening.answer.again ≡ false → Places opening middle next placed → PlacedOn placed next new written → StepsBy (handed_on written) old new
+placed_stepped (Err fault) written opening old middle next new three e p on =
+    subst (λ (w : Result BatchAnswer StepFault). StepsBy (handed_on w) old new) (sym on.1)
+    (four_steps (ap (λ (s : Standing). s.steps) on.0 ∙ p.goes.steps ∙ ap counted three.0, ap (λ (s : Standing). s.writes) on.0 ∙ p.goes.writes ∙ three.1))
+placed_stepped (Ok it) written opening old middle next new three e p on =
+    written_stepped written it old next new (p.goes.steps ∙ ap counted three.0, p.goes.writes ∙ three.1)
+    (ap (λ (o : Opening). o.answer.again) p.gives ∙ e) on
+
+emptied_stepped : (emptied : Result Opening StepFault) (written : Result BatchAnswer StepFault) (opening : Opening) (old middle next new : Standing) → TwoSteps old middle → opening.answer.again ≡ false → Empties opening middle next emptied → EmptiedOn emptied next new written → StepsBy (handed_on written) old new
+emptied_stepped (Err fault) written opening old middle next new two e p on =
+    subst (λ (w : Result BatchAnswer StepFault). StepsBy (handed_on w) old new) (sym on.1)
+    (three_steps (ap (λ (s : Standing). s.steps) on.0 ∙ p.goes.steps ∙ ap counted two.0, ap (λ (s : Standing). s.writes) on.0 ∙ p.goes.writes ∙ two.1))
+emptied_stepped (Ok it) written opening old middle next new two e p on =
+    placed_stepped on.placed written it old next on.middle new (p.goes.steps ∙ ap counted two.0, p.goes.writes ∙ two.1)
+    (ap (λ (o : Opening). o.answer.again) p.gives ∙ e) on.places on.on
+
+commits_stepped : (found : Found) (written : Result BatchAnswer StepFault) (b : Batch) (old middle new : Standing) → TwoSteps old middle → IsShaped b (Ok found) → CommitsFound found middle new written → StepsBy (handed_on written) old new
+commits_stepped (Repeat answer) written b old middle new two shape c =
+    subst (λ (w : Result BatchAnswer StepFault). StepsBy (handed_on w) old new) (sym c.1)
+    (subst (λ (t : Bool). StepsAnswered t old new) (sym shape.0)
+    (subst (λ (s : Standing). TwoSteps old s) (sym c.0) two))
+commits_stepped (Inside ready) written b old middle new two shape c = extended_stepped written ready old middle new two shape.0 c
+commits_stepped (Opens opening) written b old middle new two shape c =
+    emptied_stepped c.emptied written opening old middle c.middle new two shape.0 c.empties c.on
+
+ends_stepped : (found : Result Found Refusal) (meaning : Meaning) (offer : List ℕ) (b : Batch) (old middle new : Standing) (result : Result BatchAnswer Refusal) → Reads meaning old middle offer b found → Ends found middle new result → StepsBy result old new
+ends_stepped (Err why) meaning offer b old middle new result r e =
+    subst (λ (x : Result BatchAnswer Refusal). StepsBy x old new) (sym e.1)
+    (subst (λ (s : Standing). StepsRefused why old s) (sym e.0)
+    (reads_stepped r.cell meaning old r.middle middle offer b why r.reads r.on))
+ends_stepped (Ok found) meaning offer b old middle new result r e =
+    subst (λ (x : Result BatchAnswer Refusal). StepsBy x old new) (sym e.gives)
+    (commits_stepped found e.written b old middle new (reads_counted r.cell meaning old r.middle middle offer b found r.reads r.on)
+    (reads_shaped r.cell meaning r.middle middle offer b found r.on) e.commits)
+
+pub steps : (meaning : Meaning) (old new : Standing) (offer : List ℕ) (b : Batch) (result : Result BatchAnswer Refusal) → Calls meaning old new offer b result → is_long b ≡ false → StepsBy result old new
+steps meaning old new offer b result c is =
+    let a = c.asks is in ends_stepped a.found meaning offer b old a.middle new result a.reads a.ends

@@ -1,9 +1,11 @@
 -- What each turn of a checkpoint does and gives.
 use Rattle.std.specs.Prelude.{◌≡◌, ℕ, List, Result, Ok, Err}
+use Rattle.mm_platform.specs.declared.fault.StepFault.{StepFault}
 use Rattle.mm_platform.specs.Standing.{Standing}
 use Rattle.mm_opt.specs.declared.segment.Checkpointed.{Checkpointed}
 use Rattle.mm_opt.specs.declared.segment.Checkpointed.TheVariants as checkpointed
 use Rattle.mm_opt.specs.declared.segment.CheckpointRefusal.{CheckpointRefusal}
+use Rattle.mm_opt.specs.declared.segment.CheckpointRefusal.TheVariants.{Device}
 use Rattle.mm_opt.specs.declared.segment.Segment.{Segment}
 use Rattle.mm_opt.specs.declared.segment.Segment.TheVariants.{Open, Shut}
 use Rattle.mm_opt.specs.declared.stage.CheckpointStage.{CheckpointStage}
@@ -24,18 +26,18 @@ weighed_turn (Err why) = Refused why
 weighed_turn (Ok next) = Going (stage.Closing next)
 
 -- what the last turn gives
-abbrev pub closed_turn : Result Checkpointed CheckpointRefusal → CheckpointTurn
-closed_turn (Err why) = Refused why
+abbrev pub closed_turn : Result Checkpointed StepFault → CheckpointTurn
+closed_turn (Err fault) = Refused (Device fault)
 closed_turn (Ok it) = Done it
 
 -- a turn gives what is drawn from the outcome of its step
-pub record ClosesBy {A : Type 0} (steps : A → Type 0) (given : A → CheckpointTurn) (turn : CheckpointTurn) : Type 0 where
+pub record TurnsClosingBy {A : Type 0} (steps : A → Type 0) (given : A → CheckpointTurn) (turn : CheckpointTurn) : Type 0 where
   pub outcome : A
   pub step : steps outcome
   pub gives : turn ≡ given outcome
 
 -- one turn of a checkpoint
 abbrev pub ClosingTurns : CheckpointStage → Standing → Standing → CheckpointTurn → Type 0
-ClosingTurns stage.Begun old new turn = ClosesBy (Looks old new) looked_turn turn
-ClosingTurns (stage.Seen cell) old new turn = ClosesBy (Weighs cell old new) weighed_turn turn
-ClosingTurns (stage.Closing next) old new turn = ClosesBy (Closes next old new) closed_turn turn
+ClosingTurns stage.Begun old new turn = TurnsClosingBy (Looks old new) looked_turn turn
+ClosingTurns (stage.Seen cell) old new turn = TurnsClosingBy (Weighs cell old new) weighed_turn turn
+ClosingTurns (stage.Closing next) old new turn = TurnsClosingBy (Closes next old new) closed_turn turn

@@ -20,7 +20,10 @@ use Rattle.mm_opt.specs.declared.segment.Segment.{Segment}
 use Rattle.mm_opt.specs.declared.segment.Segment.TheVariants.{Open, Shut}
 use Rattle.mm_opt.specs.declared.stage.CheckpointStage.{CheckpointStage}
 use Rattle.mm_opt.specs.declared.stage.CheckpointStage.TheVariants as stage
+use Rattle.mm_base.specs.Faults.{counted}
 use Rattle.mm_opt.specs.Answers.{digest}
+use Rattle.mm_opt.specs.Steps.{Makes}
+use Rattle.mm_opt.specs.Asks.{OneStep, TwoSteps}
 
 -- the device step that a checkpoint makes next, and its number
 abbrev pub closing_act_of : CheckpointStage → Act
@@ -99,14 +102,23 @@ pub record Weighs (cell : Cell) (old new : Standing) (found : Result (List ℕ) 
   pub finds : closing_fault_in found ≡ None → FindsClosing cell new found
 
 -- The last step, which closes the segment.
-pub record Closes (next : List ℕ) (old new : Standing) (result : Result Checkpointed CheckpointRefusal) : Type 0 where
-  pub goes : Goes (WriteCell next) old new (closing_fault_in result)
-  pub gives : IfOk result (λ it. it ≡ Done)
+abbrev pub Closes : List ℕ → Standing → Standing → Result Checkpointed StepFault → Type 0
+Closes next old new written = Makes (WriteCell next) Done old new written
+
+-- a device's fault is handed on as it is
+abbrev pub closing_handed_on : Result Checkpointed StepFault → Result Checkpointed CheckpointRefusal
+closing_handed_on (Ok it) = Ok it
+closing_handed_on (Err fault) = Err (refusal.Device fault)
+
+pub record ClosesBy (next : List ℕ) (old new : Standing) (result : Result Checkpointed CheckpointRefusal) : Type 0 where
+  pub written : Result Checkpointed StepFault
+  pub closes : Closes next old new written
+  pub gives : result ≡ closing_handed_on written
 
 -- The rest of a checkpoint, by what was found.
 abbrev pub EndsClosing : Result (List ℕ) CheckpointRefusal → Standing → Standing → Result Checkpointed CheckpointRefusal → Type 0
 EndsClosing (Err why) old new result = (new ≡ old) × (result ≡ Err why)
-EndsClosing (Ok next) old new result = Closes next old new result
+EndsClosing (Ok next) old new result = ClosesBy next old new result
 
 pub record WeighsAndCloses (cell : Cell) (old new : Standing) (result : Result Checkpointed CheckpointRefusal) : Type 0 where
   pub middle : Standing
@@ -131,3 +143,26 @@ abbrev pub LeavesStill : Result Checkpointed CheckpointRefusal → Standing → 
 LeavesStill (Ok Done) old new = Unit {0}
 LeavesStill (Ok NoSegment) old new = IsUntouched old new
 LeavesStill (Err why) old new = closing_fault_of why ≡ None → IsUntouched old new
+
+-- the third step of a checkpoint writes the cell
+abbrev pub ThreeStepsAndWrite : Standing → Standing → Type 0
+ThreeStepsAndWrite old new =
+    (new.steps ≡ counted (counted (counted old.steps))) × (new.writes ≡ counted old.writes)
+
+pub data ClosingStepsMade (old new : Standing) : Type 0 where
+  one_step : OneStep old new → ClosingStepsMade old new
+  two_steps : TwoSteps old new → ClosingStepsMade old new
+  three_steps : ThreeStepsAndWrite old new → ClosingStepsMade old new
+
+abbrev pub ClosingStepsRefused : CheckpointRefusal → Standing → Standing → Type 0
+ClosingStepsRefused (refusal.Device fault) old new = ClosingStepsMade old new
+ClosingStepsRefused refusal.Blank old new = OneStep old new
+ClosingStepsRefused refusal.Cell old new = OneStep old new
+ClosingStepsRefused refusal.Kind old new = OneStep old new
+ClosingStepsRefused refusal.Lost old new = TwoSteps old new
+
+-- The steps that a checkpoint makes: one where no segment is open, and three where one is closed.
+abbrev pub ClosingStepsBy : Result Checkpointed CheckpointRefusal → Standing → Standing → Type 0
+ClosingStepsBy (Ok Done) old new = ThreeStepsAndWrite old new
+ClosingStepsBy (Ok NoSegment) old new = OneStep old new
+ClosingStepsBy (Err why) old new = ClosingStepsRefused why old new

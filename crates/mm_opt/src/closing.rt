@@ -3,13 +3,13 @@
 ghost use Rattle.std.specs.Prelude.{◌≡◌, None};
 ghost use Rattle.mm_basic.specs.Asks.{Blames};
 ghost use Rattle.mm_opt.specs.declared.stage.CheckpointStage.TheVariants.{Begun};
-ghost use Rattle.mm_opt.specs.Checkpoints.{SeesSegment, segment_by, closing_fault_in, closing_in, Looks, Weighs, Closes, WeighsAndCloses, ClosesSegment, LeavesStill};
+ghost use Rattle.mm_opt.specs.Checkpoints.{SeesSegment, segment_by, closing_fault_in, closing_in, Looks, Weighs, Closes, ClosesBy, WeighsAndCloses, ClosesSegment, LeavesStill, ClosingStepsBy};
 
 use crate::segment::{CheckpointRefusal, Checkpointed, Segment};
 use crate::stage::CheckpointStage;
 use crate::verdicts::is_zero;
 use mm_digest::{Digest, Variant, anchored};
-use mm_platform::Platform;
+use mm_platform::{Platform, StepFault};
 use mm_seal::{Cell, CellFault, cell_bytes, read_cell};
 use std::marker::Model;
 
@@ -102,12 +102,12 @@ impl CheckpointTurn {
     }
 
     // What the last step comes to.
-    fn closed(closed: Result<Checkpointed, CheckpointRefusal>) -> CheckpointTurn
+    fn closed(closed: Result<Checkpointed, StepFault>) -> CheckpointTurn
         ensures { result ≡ closed_turn closed }
     {
         match closed {
             Ok(checkpointed) => CheckpointTurn::Done(checkpointed),
-            Err(refusal) => CheckpointTurn::Refused(refusal),
+            Err(fault) => CheckpointTurn::Refused(CheckpointRefusal::Device(fault)),
         }
     }
 
@@ -124,6 +124,7 @@ pub fn checkpoint<P: Platform>(platform: &mut P) -> Result<Checkpointed, Checkpo
     ensures closes { ClosesSegment (P.standing platform.old) (P.standing platform.new) result }
     ensures untouched { LeavesStill result (P.standing platform.old) (P.standing platform.new) }
     ensures faults { Blames (closing_fault_in result) (P.standing platform.old).faults (P.standing platform.new).faults }
+    ensures steps { ClosingStepsBy result (P.standing platform.old) (P.standing platform.new) }
 {
     look_and_close(platform)
 }
@@ -147,7 +148,20 @@ fn weigh_and_close<P: Platform>(
 {
     match weigh(cell, platform) {
         Err(refusal) => Err(refusal),
-        Ok(next) => close(&next, platform),
+        Ok(next) => finish(&next, platform),
+    }
+}
+
+// The last step of a checkpoint, whose fault is handed on.
+fn finish<P: Platform>(
+    next: &[u8; 104],
+    platform: &mut P,
+) -> Result<Checkpointed, CheckpointRefusal>
+    ensures { ClosesBy next.now (P.standing platform.old) (P.standing platform.new) result }
+{
+    match close(next, platform) {
+        Err(fault) => Err(CheckpointRefusal::Device(fault)),
+        Ok(checkpointed) => Ok(checkpointed),
     }
 }
 
@@ -214,14 +228,11 @@ fn closed_cell(cell: &Cell, register: &Digest) -> Result<[u8; 104], CheckpointRe
 }
 
 // The last step: writes the cell, which closes the segment.
-fn close<P: Platform>(
-    next: &[u8; 104],
-    platform: &mut P,
-) -> Result<Checkpointed, CheckpointRefusal>
+fn close<P: Platform>(next: &[u8; 104], platform: &mut P) -> Result<Checkpointed, StepFault>
     ensures { Closes next.now (P.standing platform.old) (P.standing platform.new) result }
 {
     match platform.nv_write(next) {
-        Err(fault) => Err(CheckpointRefusal::Device(fault)),
+        Err(fault) => Err(fault),
         Ok(()) => Ok(Checkpointed::Done),
     }
 }

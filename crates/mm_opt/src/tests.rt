@@ -309,7 +309,7 @@ fn segments_are_opened_gone_on_with_closed_and_lost(rt: HostRuntime) -> Result<(
         let row = row_of(line).ok_or("no row")?;
         let came = host.call(&row)?;
         let came = format!(in alloc; "{came}, {}", host.platform.nv_writes())?;
-        assert_eq!(rt; came.as_bytes(), row.said, "at {line}");
+        assert_eq!(rt; came.as_bytes(), row.said);
     }
     Ok(())
 }

@@ -7,7 +7,7 @@ ghost use Rattle.mm_model.specs.Long.{is_long};
 ghost use Rattle.mm_basic.specs.Steps.{fault_in};
 ghost use Rattle.mm_basic.specs.Asks.{LeavesUntouched, Blames, whole_in};
 ghost use Rattle.mm_opt.specs.Steps.{IsReady};
-ghost use Rattle.mm_opt.specs.Asks.{Reads, ReadsOn, MayCommit, LeavesRoom, PlacesAndWrites, OpensSegment, CommitsFound, Commits, Calls};
+ghost use Rattle.mm_opt.specs.Asks.{Reads, ReadsOn, MayCommit, LeavesRoom, PlacesAndWrites, OpensSegment, CommitsFound, Commits, Calls, StepsBy};
 
 use crate::found::{Found, Opening};
 use crate::step::{empty, extend, place, read_cell, read_register, write};
@@ -232,6 +232,8 @@ pub fn ask_batch<M: Module, P: Platform>(
         offer.now (batch_of batch.entry) result }
     ensures untouched { LeavesUntouched result (P.standing platform.old) (P.standing platform.new) }
     ensures faults { Blames (fault_in result) (P.standing platform.old).faults (P.standing platform.new).faults }
+    ensures steps { is_long (batch_of batch.entry) ≡ false →
+        StepsBy result (P.standing platform.old) (P.standing platform.new) }
 {
     call(alloc, module, platform, offer, batch)
 }
@@ -248,6 +250,8 @@ pub fn ask<M: Module, P: Platform>(
         offer.now (One request.now) (whole_in result) }
     ensures untouched { LeavesUntouched (whole_in result) (P.standing platform.old) (P.standing platform.new) }
     ensures faults { Blames (fault_in result) (P.standing platform.old).faults (P.standing platform.new).faults }
+    ensures steps { is_long (One request.now) ≡ false →
+        StepsBy (whole_in result) (P.standing platform.old) (P.standing platform.new) }
 {
     match call_one(alloc, module, platform, offer, request) {
         Err(refusal) => Err(refusal),

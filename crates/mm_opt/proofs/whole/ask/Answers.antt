@@ -1,10 +1,11 @@
-use Rattle.std.proofs.Common.{Ok, Err, subst}
+use Rattle.std.proofs.Common.{◌≡◌, Bool, false, Ok, Err, sym, subst}
 use Rattle.mm_module.specs.Batch.{One}
 use Rattle.mm_model.specs.declared.answer.BatchAnswer.{BatchAnswer}
 use Rattle.mm_basic.specs.Asks.{whole}
 use Rattle.mm_basic.proofs.Asking.{wholly}
-use Rattle.mm_opt.specs.Asks.{Calls}
-use Rattle.mm_opt.proofs.Asking.{untouched}
+use Rattle.mm_model.specs.Long.{is_long}
+use Rattle.mm_opt.specs.Asks.{Calls, StepsAnswered}
+use Rattle.mm_opt.proofs.Asking.{untouched, steps}
 use Rattle.mm_opt.proofs.whole.ask.Goals as goal
 
 pub returns-in-Err-clause-untouched : goal.returns-in-Err-clause-untouched
@@ -19,3 +20,17 @@ returns-in-Ok-clause-calls g c =
     (g.P.Device.standing c.call_one.new.platform) c.args.offer.now (One c.args.request.now) (Ok a))
     (wholly c.in-Ok.answer c.into_one.result c.into_one.ensures.again c.into_one.ensures.position c.into_one.ensures.output c.into_one.ensures.snapshot)
     c.in-Ok.ensures.calls
+
+pub returns-in-Err-clause-steps : goal.returns-in-Err-clause-steps
+returns-in-Err-clause-steps g c =
+    steps (g.M.Module.meaning c.args.module.now) (g.P.Device.standing c.args.platform.now)
+    (g.P.Device.standing c.call_one.new.platform) c.args.offer.now (One c.args.request.now) (Err c.in-Err.refusal) c.in-Err.ensures.calls
+
+pub returns-in-Ok-clause-steps : goal.returns-in-Ok-clause-steps
+returns-in-Ok-clause-steps g c =
+    λ (short : is_long (One c.args.request.now) ≡ false).
+    subst
+    (λ (t : Bool). StepsAnswered t (g.P.Device.standing c.args.platform.now) (g.P.Device.standing c.call_one.new.platform))
+    (sym c.into_one.ensures.again)
+    (steps (g.M.Module.meaning c.args.module.now) (g.P.Device.standing c.args.platform.now)
+    (g.P.Device.standing c.call_one.new.platform) c.args.offer.now (One c.args.request.now) (Ok c.in-Ok.answer) c.in-Ok.ensures.calls short)

@@ -1,8 +1,13 @@
 use Rattle.mm_module.specs.Batches.{batch_of}
-use Rattle.mm_opt.proofs.Asking.{untouched}
+use Rattle.mm_opt.proofs.Asking.{untouched, steps}
 use Rattle.mm_opt.proofs.whole.ask_batch.Goals as goal
 
 pub returns-clause-untouched : goal.returns-clause-untouched
 returns-clause-untouched g c =
     untouched (g.M.Module.meaning c.args.module.now) (g.P.Device.standing c.args.platform.now)
+    (g.P.Device.standing c.call.new.platform) c.args.offer.now (batch_of c.args.batch) c.call.result c.call.ensures
+
+pub returns-clause-steps : goal.returns-clause-steps
+returns-clause-steps g c =
+    steps (g.M.Module.meaning c.args.module.now) (g.P.Device.standing c.args.platform.now)
     (g.P.Device.standing c.call.new.platform) c.args.offer.now (batch_of c.args.batch) c.call.result c.call.ensures
