@@ -121,12 +121,12 @@ linked_at i y named offered b p =
     ap (λ (s : List ℕ). link s (normal b)) (summary_at i y named offered.place p) ∙ sym (summary-push i.meaning.id named (normal b))
 
 -- the requests with those of the batch
-requests_with : (named : List Batch) (b : Batch) → requests_of (named ++ normal b ∷ []) ≡ requests_of named ++ members_of b
+pub requests_with : (named : List Batch) (b : Batch) → requests_of (named ++ normal b ∷ []) ≡ requests_of named ++ members_of b
 requests_with named b =
     flat_map-append members_of named (normal b ∷ [])
     ∙ ap (λ (v : List (List ℕ)). requests_of named ++ v) (append-nil (members_of (normal b)) ∙ members_of-normal b)
 
-total_with : (named : List Batch) (b : Batch) → total_of named + size_of b ≡ total_of (named ++ normal b ∷ [])
+pub total_with : (named : List Batch) (b : Batch) → total_of named + size_of b ≡ total_of (named ++ normal b ∷ [])
 total_with named b =
     sym (ap (λ (v : List (List ℕ)). length v) (requests_with named b) ∙ length-append (requests_of named) (members_of b))
 
@@ -144,7 +144,7 @@ answer_with meaning key batches b again = record {
   });
 }
 
-outputs_with : (meaning : Meaning) (named : List Batch) (b : Batch) → outputs_from meaning (state_after meaning (requests_of named)) (members_of b) ≡ drop (total_of (named ++ normal b ∷ []) - size_of b) (outputs_from meaning meaning.first (requests_of (named ++ normal b ∷ [])))
+pub outputs_with : (meaning : Meaning) (named : List Batch) (b : Batch) → outputs_from meaning (state_after meaning (requests_of named)) (members_of b) ≡ drop (total_of (named ++ normal b ∷ []) - size_of b) (outputs_from meaning meaning.first (requests_of (named ++ normal b ∷ [])))
 outputs_with meaning named b =
     let before : List (List ℕ) = outputs_from meaning meaning.first (requests_of named) in
     let last : List (List ℕ) = outputs_from meaning (state_after meaning (requests_of named)) (members_of b) in
@@ -157,7 +157,7 @@ outputs_with meaning named b =
     ∙ ap (λ (n : ℕ). drop n (before ++ last)) counts
     ∙ drop-append_seam before last)
 
-state_with : (meaning : Meaning) (named : List Batch) (b : Batch) → state_from meaning (state_after meaning (requests_of named)) (members_of b) ≡ state_after meaning (requests_of (named ++ normal b ∷ []))
+pub state_with : (meaning : Meaning) (named : List Batch) (b : Batch) → state_from meaning (state_after meaning (requests_of named)) (members_of b) ≡ state_after meaning (requests_of (named ++ normal b ∷ []))
 state_with meaning named b =
     sym (ap (λ (v : List (List ℕ)). state_after meaning v) (requests_with named b)
     ∙ state_after-append meaning (requests_of named) (members_of b))

@@ -3,3 +3,9 @@ pub mod FirstLaws
 pub mod Findings
 pub mod Asking
 pub mod Checkpointing
+pub mod Standings
+pub mod Judging
+pub mod Continuing
+pub mod Closings
+pub mod Turning
+pub mod CheckpointTurning

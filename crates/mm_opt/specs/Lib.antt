@@ -6,3 +6,7 @@ pub mod Turns
 pub mod Asks
 pub mod Checkpoints
 pub mod CheckpointTurns
+pub mod Continuity
+pub mod Closings
+pub mod TurnContinuity
+pub mod CheckpointContinuity

@@ -59,6 +59,7 @@ impl Call {
     ghost use Rattle.mm_model.specs.Long.{is_long};
     ghost use Rattle.mm_opt.specs.Steps.{number_of, MayGoOn};
     ghost use Rattle.mm_opt.specs.Turns.{Turns, TurnMayGoOn, position_of};
+    ghost use Rattle.mm_opt.specs.TurnContinuity.{TurnContinues};
 
     /// The number of the next device step, from 1.
     pub fn next_step(&self) -> u8
@@ -105,6 +106,8 @@ impl Call {
         ensures turns { Turns (M.meaning «module».now) self (P.standing platform.old) (P.standing platform.new) offer.now
             (batch_of batch.entry) result }
         ensures room { TurnMayGoOn result (P.standing platform.new) }
+        ensures continuity { TurnContinues (M.meaning «module».now) self (P.standing platform.old) (P.standing platform.new) offer.now
+            (batch_of batch.entry) result }
     {
         self.turn(alloc, module, platform, offer, batch)
     }

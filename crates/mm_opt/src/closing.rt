@@ -3,6 +3,7 @@
 ghost use Rattle.std.specs.Prelude.{◌≡◌, None};
 ghost use Rattle.mm_basic.specs.Asks.{Blames};
 ghost use Rattle.mm_opt.specs.declared.stage.CheckpointStage.TheVariants.{Begun};
+ghost use Rattle.mm_opt.specs.Closings.{ClosingContinues};
 ghost use Rattle.mm_opt.specs.Checkpoints.{SeesSegment, segment_by, closing_fault_in, closing_in, Looks, Weighs, Closes, ClosesBy, WeighsAndCloses, ClosesSegment, LeavesStill, ClosingStepsBy};
 
 use crate::segment::{CheckpointRefusal, Checkpointed, Segment};
@@ -51,6 +52,7 @@ impl CheckpointCall {
     ghost use Rattle.std.specs.Prelude.{◌≡◌};
     ghost use Rattle.mm_opt.specs.Checkpoints.{closing_number_of};
     ghost use Rattle.mm_opt.specs.CheckpointTurns.{ClosingTurns};
+    ghost use Rattle.mm_opt.specs.CheckpointContinuity.{ClosingTurnContinues};
 
     /// The number of the next device step, from 1.
     pub fn next_step(&self) -> u8
@@ -66,6 +68,13 @@ impl CheckpointCall {
     /// Makes the next device step: the first reads the cell, the second the register, and the last writes the cell,
     /// which closes the segment. Takes no memory.
     pub fn advance<P: Platform>(self, platform: &mut P) -> CheckpointTurn
+        ensures turns { ClosingTurns self (P.standing platform.old) (P.standing platform.new) result }
+        ensures continuity { ClosingTurnContinues self (P.standing platform.old) (P.standing platform.new) result }
+    {
+        self.turn(platform)
+    }
+
+    fn turn<P: Platform>(self, platform: &mut P) -> CheckpointTurn
         ensures { ClosingTurns self (P.standing platform.old) (P.standing platform.new) result }
     {
         match self.stage {
@@ -125,6 +134,7 @@ pub fn checkpoint<P: Platform>(platform: &mut P) -> Result<Checkpointed, Checkpo
     ensures untouched { LeavesStill result (P.standing platform.old) (P.standing platform.new) }
     ensures faults { Blames (closing_fault_in result) (P.standing platform.old).faults (P.standing platform.new).faults }
     ensures steps { ClosingStepsBy result (P.standing platform.old) (P.standing platform.new) }
+    ensures continuity { ClosingContinues (P.standing platform.old) (P.standing platform.new) result }
 {
     look_and_close(platform)
 }

@@ -7,6 +7,7 @@ ghost use Rattle.mm_model.specs.Long.{is_long};
 ghost use Rattle.mm_basic.specs.Steps.{fault_in};
 ghost use Rattle.mm_basic.specs.Asks.{LeavesUntouched, Blames, whole_in};
 ghost use Rattle.mm_opt.specs.Steps.{IsReady};
+ghost use Rattle.mm_opt.specs.Continuity.{ReadContinues, CommitContinues, Continues};
 ghost use Rattle.mm_opt.specs.Asks.{Reads, ReadsOn, MayCommit, LeavesRoom, PlacesAndWrites, OpensSegment, CommitsFound, Commits, Calls, StepsBy};
 
 use crate::found::{Found, Opening};
@@ -61,6 +62,9 @@ pub fn prepare<M: Module, P: Platform>(
         Reads (M.meaning «module».now) (P.standing platform.old) (P.standing platform.new)
         offer.now (One request.now) result }
     ensures room { LeavesRoom result (P.standing platform.new) }
+    ensures continuity { is_long (One request.now) ≡ false →
+        ReadContinues (M.meaning «module».now) (P.standing platform.old) (P.standing platform.new)
+        offer.now (One request.now) result }
 {
     prepare_batch(alloc, module, platform, offer, Batch::One(request))
 }
@@ -78,6 +82,9 @@ fn prepare_batch<M: Module, P: Platform>(
         Reads (M.meaning «module».now) (P.standing platform.old) (P.standing platform.new)
         offer.now (batch_of batch.entry) result }
     ensures room { LeavesRoom result (P.standing platform.new) }
+    ensures continuity { is_long (batch_of batch.entry) ≡ false →
+        ReadContinues (M.meaning «module».now) (P.standing platform.old) (P.standing platform.new)
+        offer.now (batch_of batch.entry) result }
 {
     if mm_model::is_long(&batch) {
         return Err(Refusal::Long);
@@ -131,6 +138,7 @@ impl Prepared {
     pub fn commit<P: Platform>(self, platform: &mut P) -> Result<Committed, StepFault>
         requires { MayCommit self (P.standing platform.old) }
         ensures commits { CommitsFound self (P.standing platform.old) (P.standing platform.new) result }
+        ensures continuity { CommitContinues self (P.standing platform.old) (P.standing platform.new) result }
     {
         self.write(platform)
     }
@@ -234,6 +242,8 @@ pub fn ask_batch<M: Module, P: Platform>(
     ensures faults { Blames (fault_in result) (P.standing platform.old).faults (P.standing platform.new).faults }
     ensures steps { is_long (batch_of batch.entry) ≡ false →
         StepsBy result (P.standing platform.old) (P.standing platform.new) }
+    ensures continuity { Continues (M.meaning «module».now) (P.standing platform.old) (P.standing platform.new)
+        offer.now (batch_of batch.entry) result }
 {
     call(alloc, module, platform, offer, batch)
 }
@@ -252,6 +262,8 @@ pub fn ask<M: Module, P: Platform>(
     ensures faults { Blames (fault_in result) (P.standing platform.old).faults (P.standing platform.new).faults }
     ensures steps { is_long (One request.now) ≡ false →
         StepsBy (whole_in result) (P.standing platform.old) (P.standing platform.new) }
+    ensures continuity { Continues (M.meaning «module».now) (P.standing platform.old) (P.standing platform.new)
+        offer.now (One request.now) (whole_in result) }
 {
     match call_one(alloc, module, platform, offer, request) {
         Err(refusal) => Err(refusal),

@@ -1,0 +1,17 @@
+use Rattle.std.proofs.Common.{◌≡◌, false, Ok, Err}
+use Rattle.mm_module.specs.Batches.{batch_of}
+use Rattle.mm_model.specs.Long.{is_long}
+use Rattle.mm_opt.proofs.Continuing.{reads_on}
+use Rattle.mm_opt.proofs.whole.prepare_batch.Goals as goal
+
+pub returns-in-Err-clause-continuity : goal.returns-in-Err-clause-continuity
+returns-in-Err-clause-continuity g c =
+    λ (short : is_long (batch_of c.args.batch) ≡ false).
+    reads_on (g.M.Module.meaning c.args.module.now) (g.P.Device.standing c.args.platform.now)
+    (g.P.Device.standing c.read.new.platform) c.args.offer.now (batch_of c.args.batch) (Err c.in-Err.refusal) c.in-Err.ensures.reads
+
+pub returns-in-Ok-clause-continuity : goal.returns-in-Ok-clause-continuity
+returns-in-Ok-clause-continuity g c =
+    λ (short : is_long (batch_of c.args.batch) ≡ false).
+    reads_on (g.M.Module.meaning c.args.module.now) (g.P.Device.standing c.args.platform.now)
+    (g.P.Device.standing c.read.new.platform) c.args.offer.now (batch_of c.args.batch) (Ok c.in-Ok.found) c.in-Ok.ensures.reads
