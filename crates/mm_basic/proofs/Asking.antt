@@ -58,12 +58,12 @@ ends_untouched (Err why) old middle new result g e =
 ends_untouched (Ok found) old middle new result g e =
     subst (λ (r : Result BatchAnswer Refusal). LeavesUntouched r old new) (sym e.gives) (written_untouched e.written old new)
 
-blamed : (fault : Option StepFault) (old new : Standing) (made : Bool) → EndsBy fault old new made → Blames fault old.faults new.faults
+pub blamed : (fault : Option StepFault) (old new : Standing) (made : Bool) → EndsBy fault old new made → Blames fault old.faults new.faults
 blamed None old new made e = e.faults
 blamed (Some Failed) old new made e = e.faults
 blamed (Some Off) old new made e = e.faults
 
-blamed_later : (fault : Option StepFault) (first before now : ℕ) → before ≡ first → Blames fault before now → Blames fault first now
+pub blamed_later : (fault : Option StepFault) (first before now : ℕ) → before ≡ first → Blames fault before now → Blames fault first now
 blamed_later fault first before now e b = subst (λ (n : ℕ). Blames fault n now) e b
 
 -- a handed fault is the device's
@@ -71,7 +71,7 @@ fault_handed : (written : Result BatchAnswer StepFault) → fault_in (handed_on 
 fault_handed (Ok answer) = refl
 fault_handed (Err fault) = refl
 
-written_blamed : (written : Result BatchAnswer StepFault) (old new : Standing) → Blames (result_err written) old.faults new.faults → Blames (fault_in (handed_on written)) old.faults new.faults
+pub written_blamed : (written : Result BatchAnswer StepFault) (old new : Standing) → Blames (result_err written) old.faults new.faults → Blames (fault_in (handed_on written)) old.faults new.faults
 written_blamed written old new b = subst (λ (f : Option StepFault). Blames f old.faults new.faults) (sym (fault_handed written)) b
 
 ends_blamed : (found : Result Found Refusal) (old middle new : Standing) (result : Result BatchAnswer Refusal) → Goes ReadCell old middle (fault_in found) → Ends found middle new result → Blames (fault_in result) old.faults new.faults

@@ -38,9 +38,9 @@ right_reads meaning key offer content r =
     ((record { content = r.formed; tag = length-hmac_of key (snapshot_front content) }, r.sealed), (r.variant, r.id))
 
 -- an accepted offer gives something
-record IsGiven (e : Result Bool Refusal) : Type 0 where
-  again : Bool
-  is : e ≡ Ok again
+pub record IsGiven (e : Result Bool Refusal) : Type 0 where
+  pub again : Bool
+  pub is : e ≡ Ok again
 
 admits : (v : Verdict) → IsAccepted v → IsGiven (admitted v true)
 admits Fresh a = record { again = false; is = refl }
@@ -48,7 +48,7 @@ admits Again a = record { again = true; is = refl }
 admits Lost a = absurd a
 admits Stale a = absurd a
 
-weighs : (s t fits : Bool) (v : Verdict) → s ≡ true → t ≡ true → fits ≡ true → IsAccepted v → IsGiven (weighed s t v fits)
+pub weighs : (s t fits : Bool) (v : Verdict) → s ≡ true → t ≡ true → fits ≡ true → IsAccepted v → IsGiven (weighed s t v fits)
 weighs s t fits v p q r a =
     subst (λ (x : Bool). IsGiven (weighed x t v fits)) (sym p)
     (subst (λ (x : Bool). IsGiven (weighed true x v fits)) (sym q)

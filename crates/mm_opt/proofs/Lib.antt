@@ -9,3 +9,4 @@ pub mod Continuing
 pub mod Closings
 pub mod Turning
 pub mod CheckpointTurning
+pub mod Completeness

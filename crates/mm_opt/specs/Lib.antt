@@ -10,3 +10,4 @@ pub mod Continuity
 pub mod Closings
 pub mod TurnContinuity
 pub mod CheckpointContinuity
+pub mod Completeness

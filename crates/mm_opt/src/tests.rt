@@ -10,12 +10,14 @@ use mm_base::{Bytes, read_decimal};
 use mm_digest::Digest;
 use mm_model::{Answer, BatchAnswer, Refusal};
 use mm_module::{Batch, Counter, Outputs};
-use mm_platform::{MemPlatform, Meddle, Platform, Stop};
+use mm_platform::{Meddle, MemPlatform, Platform, Stop};
 use std::alloc::Global;
 use std::test::Fail;
 
 const KEY: [u8; 32] = [7; 32];
+
 const BARRIER: [u8; 32] = [9; 32];
+
 const FOREIGN: Digest = Digest { bytes: [255; 32] };
 
 /// Short stories: what is planned, what is asked on which snapshot, and what comes; behind it how often the cell was

@@ -83,13 +83,7 @@ fn is_again(
     if is_zero(extension) {
         return false;
     }
-    fits_again(
-        cell,
-        register,
-        &anchored(anchor, extension),
-        &zero(),
-        value,
-    )
+    fits_again(cell, register, &anchored(anchor, extension), &zero(), value)
 }
 
 // Whether this form is where the platform stands.

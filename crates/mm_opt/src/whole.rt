@@ -8,6 +8,7 @@ ghost use Rattle.mm_basic.specs.Steps.{fault_in};
 ghost use Rattle.mm_basic.specs.Asks.{LeavesUntouched, Blames, whole_in};
 ghost use Rattle.mm_opt.specs.Steps.{IsReady};
 ghost use Rattle.mm_opt.specs.Continuity.{ReadContinues, CommitContinues, Continues};
+ghost use Rattle.mm_opt.specs.Completeness.{IsComplete};
 ghost use Rattle.mm_opt.specs.Asks.{Reads, ReadsOn, MayCommit, LeavesRoom, PlacesAndWrites, OpensSegment, CommitsFound, Commits, Calls, StepsBy};
 
 use crate::found::{Found, Opening};
@@ -244,6 +245,8 @@ pub fn ask_batch<M: Module, P: Platform>(
         StepsBy result (P.standing platform.old) (P.standing platform.new) }
     ensures continuity { Continues (M.meaning «module».now) (P.standing platform.old) (P.standing platform.new)
         offer.now (batch_of batch.entry) result }
+    ensures complete { IsComplete (M.meaning «module».now) (P.standing platform.old) (P.standing platform.new)
+        offer.now (batch_of batch.entry) result }
 {
     call(alloc, module, platform, offer, batch)
 }
@@ -263,6 +266,8 @@ pub fn ask<M: Module, P: Platform>(
     ensures steps { is_long (One request.now) ≡ false →
         StepsBy (whole_in result) (P.standing platform.old) (P.standing platform.new) }
     ensures continuity { Continues (M.meaning «module».now) (P.standing platform.old) (P.standing platform.new)
+        offer.now (One request.now) (whole_in result) }
+    ensures complete { IsComplete (M.meaning «module».now) (P.standing platform.old) (P.standing platform.new)
         offer.now (One request.now) (whole_in result) }
 {
     match call_one(alloc, module, platform, offer, request) {

@@ -7,6 +7,7 @@ use Rattle.mm_model.specs.Long.{is_long}
 use Rattle.mm_opt.specs.Asks.{Calls, StepsAnswered}
 use Rattle.mm_opt.proofs.Asking.{untouched, steps}
 use Rattle.mm_opt.proofs.Continuing.{continues}
+use Rattle.mm_opt.proofs.Completeness.{complete}
 use Rattle.mm_opt.proofs.whole.ask.Goals as goal
 
 pub returns-in-Err-clause-untouched : goal.returns-in-Err-clause-untouched
@@ -44,6 +45,21 @@ returns-in-Err-clause-continuity g c =
 pub returns-in-Ok-clause-continuity : goal.returns-in-Ok-clause-continuity
 returns-in-Ok-clause-continuity g c =
     continues (g.M.Module.meaning c.args.module.now) (g.P.Device.standing c.args.platform.now)
+    (g.P.Device.standing c.call_one.new.platform) c.args.offer.now (One c.args.request.now) (Ok (whole c.into_one.result))
+    (subst
+    (λ (a : BatchAnswer). Calls (g.M.Module.meaning c.args.module.now) (g.P.Device.standing c.args.platform.now)
+    (g.P.Device.standing c.call_one.new.platform) c.args.offer.now (One c.args.request.now) (Ok a))
+    (wholly c.in-Ok.answer c.into_one.result c.into_one.ensures.again c.into_one.ensures.position c.into_one.ensures.output c.into_one.ensures.snapshot)
+    c.in-Ok.ensures.calls)
+
+pub returns-in-Err-clause-complete : goal.returns-in-Err-clause-complete
+returns-in-Err-clause-complete g c =
+    complete (g.M.Module.meaning c.args.module.now) (g.P.Device.standing c.args.platform.now)
+    (g.P.Device.standing c.call_one.new.platform) c.args.offer.now (One c.args.request.now) (Err c.in-Err.refusal) c.in-Err.ensures.calls
+
+pub returns-in-Ok-clause-complete : goal.returns-in-Ok-clause-complete
+returns-in-Ok-clause-complete g c =
+    complete (g.M.Module.meaning c.args.module.now) (g.P.Device.standing c.args.platform.now)
     (g.P.Device.standing c.call_one.new.platform) c.args.offer.now (One c.args.request.now) (Ok (whole c.into_one.result))
     (subst
     (λ (a : BatchAnswer). Calls (g.M.Module.meaning c.args.module.now) (g.P.Device.standing c.args.platform.now)

@@ -1,6 +1,7 @@
 use Rattle.mm_module.specs.Batches.{batch_of}
 use Rattle.mm_opt.proofs.Asking.{untouched, steps}
 use Rattle.mm_opt.proofs.Continuing.{continues}
+use Rattle.mm_opt.proofs.Completeness.{complete}
 use Rattle.mm_opt.proofs.whole.ask_batch.Goals as goal
 
 pub returns-clause-untouched : goal.returns-clause-untouched
@@ -16,4 +17,9 @@ returns-clause-steps g c =
 pub returns-clause-continuity : goal.returns-clause-continuity
 returns-clause-continuity g c =
     continues (g.M.Module.meaning c.args.module.now) (g.P.Device.standing c.args.platform.now)
+    (g.P.Device.standing c.call.new.platform) c.args.offer.now (batch_of c.args.batch) c.call.result c.call.ensures
+
+pub returns-clause-complete : goal.returns-clause-complete
+returns-clause-complete g c =
+    complete (g.M.Module.meaning c.args.module.now) (g.P.Device.standing c.args.platform.now)
     (g.P.Device.standing c.call.new.platform) c.args.offer.now (batch_of c.args.batch) c.call.result c.call.ensures
