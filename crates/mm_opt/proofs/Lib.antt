@@ -10,3 +10,4 @@ pub mod Closings
 pub mod Turning
 pub mod CheckpointTurning
 pub mod Completeness
+pub mod Acting

@@ -1,7 +1,8 @@
 -- What each turn of a checkpoint does and gives.
-use Rattle.std.specs.Prelude.{◌≡◌, ℕ, List, Result, Ok, Err}
+use Rattle.std.specs.Prelude.{◌≡◌, ℕ, List, Option, None, Result, Ok, Err}
 use Rattle.mm_platform.specs.declared.fault.StepFault.{StepFault}
 use Rattle.mm_platform.specs.Standing.{Standing}
+use Rattle.mm_platform.specs.Steps.{Goes}
 use Rattle.mm_opt.specs.declared.segment.Checkpointed.{Checkpointed}
 use Rattle.mm_opt.specs.declared.segment.Checkpointed.TheVariants as checkpointed
 use Rattle.mm_opt.specs.declared.segment.CheckpointRefusal.{CheckpointRefusal}
@@ -12,7 +13,7 @@ use Rattle.mm_opt.specs.declared.stage.CheckpointStage.{CheckpointStage}
 use Rattle.mm_opt.specs.declared.stage.CheckpointStage.TheVariants as stage
 use Rattle.mm_opt.specs.declared.closing.CheckpointTurn.{CheckpointTurn}
 use Rattle.mm_opt.specs.declared.closing.CheckpointTurn.TheVariants.{Going, Done, Refused}
-use Rattle.mm_opt.specs.Checkpoints.{Looks, Weighs, Closes}
+use Rattle.mm_opt.specs.Checkpoints.{closing_act_of, closing_fault_of, Looks, Weighs, Closes}
 
 -- what the first turn gives, by the segment that it finds
 abbrev pub looked_turn : Result Segment CheckpointRefusal → CheckpointTurn
@@ -41,3 +42,13 @@ abbrev pub ClosingTurns : CheckpointStage → Standing → Standing → Checkpoi
 ClosingTurns stage.Begun old new turn = TurnsClosingBy (Looks old new) looked_turn turn
 ClosingTurns (stage.Seen cell) old new turn = TurnsClosingBy (Weighs cell old new) weighed_turn turn
 ClosingTurns (stage.Closing next) old new turn = TurnsClosingBy (Closes next old new) closed_turn turn
+
+-- the fault that a turn hands on
+abbrev pub closing_fault_turned : CheckpointTurn → Option StepFault
+closing_fault_turned (Going stage) = None
+closing_fault_turned (Done it) = None
+closing_fault_turned (Refused why) = closing_fault_of why
+
+-- One turn makes exactly the device step that comes next, and hands its fault on.
+abbrev pub ClosingActsAt : CheckpointStage → Standing → Standing → CheckpointTurn → Type 0
+ClosingActsAt call old new turn = Goes (closing_act_of call) old new (closing_fault_turned turn)

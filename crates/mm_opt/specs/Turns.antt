@@ -2,6 +2,8 @@
 use Rattle.std.specs.Prelude.{◌≡◌, ℕ, List, Option, None, Some, Result, Ok, Err}
 use Rattle.mm_platform.specs.declared.fault.StepFault.{StepFault}
 use Rattle.mm_platform.specs.Standing.{Standing}
+use Rattle.mm_platform.specs.Steps.{Goes}
+use Rattle.mm_basic.specs.Steps.{fault_of}
 use Rattle.mm_module.specs.Meaning.{Meaning}
 use Rattle.mm_module.specs.Batch.{Batch}
 use Rattle.mm_seal.specs.declared.cell.Cell.{Cell}
@@ -16,7 +18,7 @@ use Rattle.mm_opt.specs.declared.stage.Stage.{Stage}
 use Rattle.mm_opt.specs.declared.stage.Stage.TheVariants as stage
 use Rattle.mm_opt.specs.declared.call.Turn.{Turn}
 use Rattle.mm_opt.specs.declared.call.Turn.TheVariants.{Going, Done, Refused}
-use Rattle.mm_opt.specs.Steps.{MayGoOn, ReadsCell, ReadsRegister, Extends, Empties, Places, Writes}
+use Rattle.mm_opt.specs.Steps.{act_of, MayGoOn, ReadsCell, ReadsRegister, Extends, Empties, Places, Writes}
 
 -- the position after the batch, once it has run in memory
 abbrev pub position_of : Stage → Option ℕ
@@ -74,3 +76,15 @@ abbrev pub TurnMayGoOn : Turn → Standing → Type 0
 TurnMayGoOn (Going stage) standing = MayGoOn stage standing
 TurnMayGoOn (Done answer) standing = Unit {0}
 TurnMayGoOn (Refused why) standing = Unit {0}
+
+-- the fault that a turn hands on
+abbrev pub fault_turned : Turn → Option StepFault
+fault_turned (Going stage) = None
+fault_turned (Done answer) = None
+fault_turned (Refused why) = fault_of why
+
+-- One turn makes exactly the device step that comes next, and hands its fault on. Besides it may make room.
+pub record ActsAt (call : Stage) (old new : Standing) (turn : Turn) : Type 0 where
+  pub middle : Standing
+  pub goes : Goes (act_of call) old middle (fault_turned turn)
+  pub room : new ≡ record middle { spare = new.spare }

@@ -58,7 +58,7 @@ impl Call {
     ghost use Rattle.mm_module.specs.Batches.{batch_of};
     ghost use Rattle.mm_model.specs.Long.{is_long};
     ghost use Rattle.mm_opt.specs.Steps.{number_of, MayGoOn};
-    ghost use Rattle.mm_opt.specs.Turns.{Turns, TurnMayGoOn, position_of};
+    ghost use Rattle.mm_opt.specs.Turns.{Turns, ActsAt, TurnMayGoOn, position_of};
     ghost use Rattle.mm_opt.specs.TurnContinuity.{TurnContinues};
 
     /// The number of the next device step, from 1.
@@ -105,6 +105,7 @@ impl Call {
         requires room { MayGoOn self (P.standing platform.old) }
         ensures turns { Turns (M.meaning «module».now) self (P.standing platform.old) (P.standing platform.new) offer.now
             (batch_of batch.entry) result }
+        ensures acts { ActsAt self (P.standing platform.old) (P.standing platform.new) result }
         ensures room { TurnMayGoOn result (P.standing platform.new) }
         ensures continuity { TurnContinues (M.meaning «module».now) self (P.standing platform.old) (P.standing platform.new) offer.now
             (batch_of batch.entry) result }

@@ -51,7 +51,7 @@ pub fn begin_checkpoint() -> CheckpointCall
 impl CheckpointCall {
     ghost use Rattle.std.specs.Prelude.{◌≡◌};
     ghost use Rattle.mm_opt.specs.Checkpoints.{closing_number_of};
-    ghost use Rattle.mm_opt.specs.CheckpointTurns.{ClosingTurns};
+    ghost use Rattle.mm_opt.specs.CheckpointTurns.{ClosingTurns, ClosingActsAt};
     ghost use Rattle.mm_opt.specs.CheckpointContinuity.{ClosingTurnContinues};
 
     /// The number of the next device step, from 1.
@@ -69,6 +69,7 @@ impl CheckpointCall {
     /// which closes the segment. Takes no memory.
     pub fn advance<P: Platform>(self, platform: &mut P) -> CheckpointTurn
         ensures turns { ClosingTurns self (P.standing platform.old) (P.standing platform.new) result }
+        ensures acts { ClosingActsAt self (P.standing platform.old) (P.standing platform.new) result }
         ensures continuity { ClosingTurnContinues self (P.standing platform.old) (P.standing platform.new) result }
     {
         self.turn(platform)

@@ -364,3 +364,29 @@ fn an_opening_goes_on_by_one_step_at_a_time(rt: HostRuntime) -> Result<(), Fail>
     assert_eq!(rt; answer.outputs.get(0), Some(b"1".as_slice()));
     Ok(())
 }
+
+/// The steps of a checkpoint, one by one: nothing is written before the last.
+#[test]
+fn a_checkpoint_goes_on_by_one_step_at_a_time(rt: HostRuntime) -> Result<(), Fail> {
+    let mut host = Host::new(rt.alloc())?;
+    assert_eq!(rt; host.ask(0, Batch::One(b"add 1"))?.as_str(), "ok 1 1");
+    let mut call = begin_checkpoint();
+    for step in 1..3 {
+        assert_eq!(rt; call.next_step(), step);
+        call = match call.advance(&mut host.platform) {
+            CheckpointTurn::Going(call) => call,
+            CheckpointTurn::Done(_) => Err("done before its last step")?,
+            CheckpointTurn::Refused(refusal) => Err(refusal)?,
+        };
+        assert_eq!(rt; host.platform.nv_writes(), 1);
+    }
+    assert_eq!(rt; call.next_step(), 3);
+    let closed = match call.advance(&mut host.platform) {
+        CheckpointTurn::Done(checkpointed) => checkpointed == Checkpointed::Done,
+        CheckpointTurn::Going(_) => Err("a fourth step")?,
+        CheckpointTurn::Refused(refusal) => Err(refusal)?,
+    };
+    assert!(rt; closed);
+    assert_eq!(rt; host.platform.nv_writes(), 2);
+    Ok(())
+}
