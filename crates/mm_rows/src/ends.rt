@@ -1,6 +1,7 @@
 //! Replays that stop early.
 
 use crate::run::{ROOM, check, check_all, lines_of, replay};
+use crate::schedules::{LIMITER, QUOTA};
 use mm_app::memoir;
 use mm_base::{Bytes, Failed, MemSink, MemSource, Source};
 use std::alloc::Global;
@@ -73,43 +74,6 @@ fn other_words_are_refused(rt: HostRuntime) -> Result<(), Fail> {
     }
     Ok(())
 }
-
-/// Two schedules, with their replies.
-const LIMITER: &str = "\
-memoir 1 basic limiter
-ask 0 set pw 2
-=> ok 1 set
-ask 1 guess a
-=> ok 2 wrong 1
-ask 1 guess b
-=> no stale
-ask 2 guess b
-=> ok 3 wrong 0
-ask 3 guess pw
-=> ok 4 locked
-ask flip 0 50 left
-=> no state
-=> end 4 5
-";
-
-const QUOTA: &str = "\
-memoir 1 basic quota
-ask last open disk 100
-=> ok 1 opened
-ask last use disk 60
-=> ok 2 used 60
-ask last use disk 50
-=> ok 3 over 40
-ask last free disk 70
-=> ok 4 under 60
-ask last left disk
-=> ok 5 left 40
-ask last sum
-=> ok 6 sum 60
-ask last use tape 1
-=> ok 7 none
-=> end 7 8
-";
 
 #[test]
 fn the_pieces_of_an_input_make_no_difference(rt: HostRuntime) -> Result<(), Fail> {

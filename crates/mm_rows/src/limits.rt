@@ -8,7 +8,7 @@ use std::alloc::Global;
 use std::process::Abort;
 use std::test::Fail;
 
-const COUNTER: &[u8] = b"memoir 1 basic counter\n";
+const HEADER: &[u8] = b"memoir 1 basic counter\n";
 
 /// A source of some bytes, and then of others so many times.
 #[derive(Drop)]
@@ -39,7 +39,7 @@ impl Source for Repeated<'_> {
 
 // A header, and one line of these words and so many letters.
 fn with_letters(alloc: Global, words: &[u8], letters: usize) -> Result<Bytes, Fail> {
-    let mut schedule = Bytes::copy_of(alloc, COUNTER)?;
+    let mut schedule = Bytes::copy_of(alloc, HEADER)?;
     schedule.append(words)?;
     for _ in 0..letters {
         schedule.push(b'a')?;
@@ -66,7 +66,7 @@ fn a_request_has_4096_bytes_and_a_line_8400(rt: HostRuntime) -> Result<(), Fail>
 #[test]
 fn a_line_without_an_end_is_not_read_to_it(rt: HostRuntime) -> Result<(), Fail> {
     let mut input = Repeated {
-        next: COUNTER,
+        next: HEADER,
         again: b"aaaaaaaaaaaaaaaa",
         times: u64::MAX,
     };
@@ -100,7 +100,7 @@ fn a_schedule_has_20000_events(rt: HostRuntime) -> Result<(), Fail> {
     ];
     for (times, last, code) in cases {
         let mut input = Repeated {
-            next: COUNTER,
+            next: HEADER,
             again: b"power\n",
             times,
         };
@@ -112,7 +112,7 @@ fn a_schedule_has_20000_events(rt: HostRuntime) -> Result<(), Fail> {
 /// Would not end in its time if bytes held were looked at again.
 #[test]
 fn single_bytes_take_no_longer(rt: HostRuntime) -> Result<(), Fail> {
-    let mut schedule = Bytes::copy_of(rt.alloc(), COUNTER)?;
+    let mut schedule = Bytes::copy_of(rt.alloc(), HEADER)?;
     for _ in 0..20_000u32 {
         schedule.append(b"power\n")?;
     }

@@ -133,8 +133,8 @@ ask 0 sum
 => end 1 2
 ";
 
-/// The modules.
-const MODULES: &str = "\
+/// The limiter, with a schedule that has a reply for each event.
+pub const LIMITER: &str = "\
 memoir 1 basic limiter
 ask 0 set pw 2
 => ok 1 set
@@ -149,7 +149,10 @@ ask 3 guess pw
 ask flip 0 50 left
 => no state
 => end 4 5
+";
 
+/// The counter at its greatest value.
+const COUNTER: &str = "\
 memoir 1 basic counter
 ask 0 add 18446744073709551615
 => ok 1 18446744073709551615
@@ -164,7 +167,10 @@ ask 4 read
 checkpoint
 => no kind
 => end 5 6
+";
 
+/// The small ledger, with a reply for each event.
+pub const QUOTA: &str = "\
 memoir 1 basic quota
 ask last open disk 100
 => ok 1 opened
@@ -240,7 +246,10 @@ fn what_was_altered_or_made_up_is_refused(rt: HostRuntime) -> Result<(), Fail> {
 
 #[test]
 fn each_module_answers_by_its_table(rt: HostRuntime) -> Result<(), Fail> {
-    check_all(&rt, rt.alloc(), MODULES, 0)
+    for table in [LIMITER, COUNTER, QUOTA] {
+        check_all(&rt, rt.alloc(), table, 0)?;
+    }
+    Ok(())
 }
 
 #[test]
