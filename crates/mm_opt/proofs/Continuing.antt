@@ -43,9 +43,26 @@ use Rattle.mm_opt.specs.Seen.{is_cell_of, own_cell, cell_in}
 use Rattle.mm_opt.specs.Answers.{change_by, found_unless, found_in, OrMemory}
 use Rattle.mm_opt.specs.Steps.{ReadsCell, ReadsRegister, MakesRoom, Finds, Extends, Empties, Places, Writes}
 use Rattle.mm_opt.specs.Asks.{PlacedOn, PlacesAndWrites, EmptiedOn, OpensSegment, CommitsFound, Commits, Ends, ReadsOn as ReadsFrom, Reads, Asks, Calls}
-use Rattle.mm_opt.specs.Continuity.{own_in, StandsBy, taking, MovesOn, SeesOn, IsReadyOn, IsReadyIn, change_on, expected_by, expected_at, expected, with_it, IsAskedFrom, ReadsOn, CellContinues, RegisterContinues, moves_of, Answers, StandsAmong, CommitsOn, ReadContinues, CommitContinues, RefusesFrom, GoesOn, Follows, Continues}
+use Rattle.mm_opt.specs.Continuity.{own_in, StandsBy, taking, SeesOn, IsReadyOn, IsReadyIn, change_on, expected_by, expected_at, expected, with_it, IsAskedFrom, ReadsOn, moves_of, IsExpectedAnswer, StandsAmong, CommitsOn, ReadContinues, CommitContinues, RefusesFrom, GoesOn, Follows, Continues}
 use Rattle.mm_opt.proofs.Standings.{reads, stands_taking, stands_extended, stands_placed, stands_emptied, stands_opened, stands_after, stands_now, stands_then, stands_read, stands_seen, noted, stands_noted}
 use Rattle.mm_opt.proofs.Judging.{IsLive, fresh_live, found_alike}
+
+-- a step that makes a move: after a fault it was made or wasn't
+abbrev pub MovesOn : {A : Type 0} → Instance → History → Move → Standing → Result A StepFault → Type 0
+MovesOn i y m new (Ok it) = StandsBy i y (m ∷ []) new
+MovesOn i y m new (Err fault) = StandsBy i y [] new ⊎ StandsBy i y (m ∷ []) new
+
+-- State continuity of the reading steps, from every history under every key and barrier.
+abbrev pub CellContinues : Meaning → Standing → Standing → Result Cell Refusal → Type 0
+CellContinues meaning old new found =
+    (key barrier : List ℕ) (y : History) → StandsFor (opt meaning key barrier) old y →
+    SeesOn (opt meaning key barrier) y new found
+
+abbrev pub RegisterContinues : Meaning → Cell → Standing → Standing → List ℕ → Batch → Result Found Refusal → Type 0
+RegisterContinues meaning cell old new offer b found =
+    (key barrier : List ℕ) (y : History) (all : List (List ℕ)) (taken : Result Snapshot PartsFault) →
+    StandsFor (opt meaning key barrier) old y → cell ≡ cell_of (opt meaning key barrier) y →
+    ReadsParts offer Opt meaning.id taken → ReadsOn all (opt meaning key barrier) y offer b taken new found
 
 -- the first step
 same_number : (n : ℕ) → nat_eq n n ≡ true

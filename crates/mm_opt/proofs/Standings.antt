@@ -25,7 +25,7 @@ use Rattle.mm_model.specs.Symbolic.{moved_by}
 use Rattle.mm_model.proofs.Digests.{register-push}
 use Rattle.mm_model.proofs.Histories.{values_of-append}
 use Rattle.mm_model.proofs.MovedDigests.{opt_digests}
-use Rattle.mm_opt.specs.Continuity.{own_in, MayMoveBy, StandsBy, taking, MovesOn}
+use Rattle.mm_opt.specs.Continuity.{own_in, MayMoveBy, StandsBy, taking}
 
 -- the register's value, where its items are told
 abbrev pub reads : Option (List Item) → Option (List ℕ)

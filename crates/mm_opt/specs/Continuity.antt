@@ -57,11 +57,6 @@ pub record StandsBy (i : Instance) (y : History) (own : List Move) (new : Standi
 abbrev pub taking : History → List (List ℕ) → History
 taking y others = record y { items = y.items ++ map Value others }
 
--- a step that makes a move: after a fault it was made or wasn't
-abbrev pub MovesOn : {A : Type 0} → Instance → History → Move → Standing → Result A StepFault → Type 0
-MovesOn i y m new (Ok it) = StandsBy i y (m ∷ []) new
-MovesOn i y m new (Err fault) = StandsBy i y [] new ⊎ StandsBy i y (m ∷ []) new
-
 -- State continuity of the first step: the cell found is the history's.
 pub record SeesOn (i : Instance) (y : History) (new : Standing) (found : Result Cell Refusal) : Type 0 where
   pub others : List (List ℕ)
@@ -125,18 +120,6 @@ pub record ReadsOn (all : List (List ℕ)) (i : Instance) (y : History) (offer :
       OrMemory (expected i (taking y others) taken b) found
   pub ready : IsAskedFrom all i (taking y others) offer b → IsReadyIn i (taking y others) (normal b) found
 
--- State continuity of the reading steps, from every history under every key and barrier.
-abbrev pub CellContinues : Meaning → Standing → Standing → Result Cell Refusal → Type 0
-CellContinues meaning old new found =
-    (key barrier : List ℕ) (y : History) → StandsFor (opt meaning key barrier) old y →
-    SeesOn (opt meaning key barrier) y new found
-
-abbrev pub RegisterContinues : Meaning → Cell → Standing → Standing → List ℕ → Batch → Result Found Refusal → Type 0
-RegisterContinues meaning cell old new offer b found =
-    (key barrier : List ℕ) (y : History) (all : List (List ℕ)) (taken : Result Snapshot PartsFault) →
-    StandsFor (opt meaning key barrier) old y → cell ≡ cell_of (opt meaning key barrier) y →
-    ReadsParts offer Opt meaning.id taken → ReadsOn all (opt meaning key barrier) y offer b taken new found
-
 -- the moves of a call, by what is expected of it
 abbrev pub moves_of : Batch → Result Found Refusal → List Move
 moves_of b (Err why) = []
@@ -145,11 +128,11 @@ moves_of b (Ok (Inside ready)) = Commit (normal b) ∷ []
 moves_of b (Ok (Opens opening)) = Reset ∷ Placed (normal b) ∷ Commit (normal b) ∷ []
 
 -- the answer that is expected
-abbrev pub Answers : Result Found Refusal → BatchAnswer → Type 0
-Answers (Err why) answer = ⊥
-Answers (Ok (Repeat it)) answer = answer ≡ it
-Answers (Ok (Inside ready)) answer = answer ≡ ready.answer
-Answers (Ok (Opens opening)) answer = answer ≡ opening.answer
+abbrev pub IsExpectedAnswer : Result Found Refusal → BatchAnswer → Type 0
+IsExpectedAnswer (Err why) answer = ⊥
+IsExpectedAnswer (Ok (Repeat it)) answer = answer ≡ it
+IsExpectedAnswer (Ok (Inside ready)) answer = answer ≡ ready.answer
+IsExpectedAnswer (Ok (Opens opening)) answer = answer ≡ opening.answer
 
 -- The platform stands for the history with some first ones of these moves.
 pub record StandsAmong (i : Instance) (y : History) (moves : List Move) (new : Standing) : Type 0 where
@@ -183,7 +166,7 @@ RefusesFrom i y b expects new why None = OrMemory expects (Err why) × StandsBy 
 RefusesFrom i y b expects new why (Some fault) = StandsAmong i y (moves_of b expects) new
 
 abbrev pub GoesOn : Instance → History → Batch → Result Found Refusal → Standing → Result BatchAnswer Refusal → Type 0
-GoesOn i y b expects new (Ok answer) = Answers expects answer × StandsBy i y (moves_of b expects) new
+GoesOn i y b expects new (Ok answer) = IsExpectedAnswer expects answer × StandsBy i y (moves_of b expects) new
 GoesOn i y b expects new (Err why) = RefusesFrom i y b expects new why (fault_of why)
 
 -- What follows from a history: with the values that others had put into the register when it was read.

@@ -369,7 +369,8 @@ fn an_opening_goes_on_by_one_step_at_a_time(rt: HostRuntime) -> Result<(), Fail>
 #[test]
 fn a_checkpoint_goes_on_by_one_step_at_a_time(rt: HostRuntime) -> Result<(), Fail> {
     let mut host = Host::new(rt.alloc())?;
-    assert_eq!(rt; host.ask(0, Batch::One(b"add 1"))?.as_str(), "ok 1 1");
+    let row = row_of("quiet ask 0 add 1 => ok 1 1, 1").ok_or("no row")?;
+    assert_eq!(rt; host.call(&row)?.as_str(), "ok 1 1");
     let mut call = begin_checkpoint();
     for step in 1..3 {
         assert_eq!(rt; call.next_step(), step);
