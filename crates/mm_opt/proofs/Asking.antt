@@ -1,11 +1,9 @@
 -- What a whole call leaves and counts.
-use Rattle.std.proofs.Common.{◌≡◌, ℕ, Bool, true, false, List, [], ◌∷◌, ◌++◌, length, Option, None, Some, Result, Ok, Err, IfOk, refl, sym, ap, ◌∙◌, subst, arith, inl, inr, ◌⊎◌}
-use Rattle.std.specs.Result.{result_err}
+use Rattle.std.proofs.Common.{◌≡◌, ℕ, Bool, true, false, List, [], ◌++◌, length, Option, None, Some, Result, Ok, Err, IfOk, refl, sym, ap, ◌∙◌, subst, arith, inl, inr}
 use Rattle.mm_base.specs.Faults.{counted}
 use Rattle.mm_platform.specs.declared.fault.StepFault.{StepFault}
-use Rattle.mm_platform.specs.declared.fault.StepFault.TheVariants.{Failed, Off}
 use Rattle.mm_platform.specs.Standing.{Standing}
-use Rattle.mm_platform.specs.Steps.{Act, ReadCell, WriteCell, ReadRegister, ResetRegister, ExtendRegister, EndsBy, Goes, beside, Readies}
+use Rattle.mm_platform.specs.Steps.{Act, ReadCell, ReadRegister, Goes, beside}
 use Rattle.mm_platform.proofs.Calling.{beside-none, beside-beside}
 use Rattle.mm_module.specs.Meaning.{Meaning}
 use Rattle.mm_module.specs.Batch.{Batch, size_of}
@@ -22,8 +20,8 @@ use Rattle.mm_opt.specs.declared.found.Found.TheVariants.{Repeat, Inside, Opens}
 use Rattle.mm_opt.specs.declared.found.Ready.{Ready}
 use Rattle.mm_opt.specs.declared.found.Opening.{Opening}
 use Rattle.mm_opt.specs.Steps.{ReadsCell, ReadsRegister, MakesRoom, Extends, Empties, Places, Writes}
-use Rattle.mm_opt.specs.Asks.{ReadsOn, Reads, PlacedOn, PlacesAndWrites, EmptiedOn, OpensSegment, CommitsFound, Commits, Ends, Calls, OneStep, TwoSteps, ThreeSteps, FourSteps, FiveSteps, StepsMade, one_step, two_steps, three_steps, four_steps, five_steps, StepsAnswered, StepsRefused, StepsBy}
-use Rattle.mm_opt.proofs.Findings.{IsFirst, IsSecond, IsAnswerTo, IsShaped, first_refused, shaped}
+use Rattle.mm_opt.specs.Asks.{ReadsOn, Reads, PlacedOn, EmptiedOn, CommitsFound, Ends, Calls, OneStep, TwoSteps, ThreeSteps, FourSteps, one_step, two_steps, three_steps, four_steps, five_steps, StepsAnswered, StepsRefused, StepsBy}
+use Rattle.mm_opt.proofs.Findings.{IsFirst, IsSecond, IsShaped, first_refused, shaped}
 
 pub same_untouched : (old : Standing) → IsUntouched old old
 same_untouched old = record {

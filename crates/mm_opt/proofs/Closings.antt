@@ -1,6 +1,5 @@
 -- State continuity of checkpoints.
-use Rattle.std.proofs.Common.{◌≡◌, ℕ, Bool, true, false, ◌&&◌, List, [], ◌∷◌, ◌++◌, map, Option, None, Some, Result, Ok, Err, IfOk, refl, sym, ap, ◌∙◌, subst, inl, inr, ◌⊎◌}
-use Rattle.std.specs.Result.{result_err}
+use Rattle.std.proofs.Common.{◌≡◌, ℕ, Bool, true, false, ◌&&◌, List, [], ◌∷◌, ◌++◌, None, Result, Ok, Err, refl, sym, ap, ◌∙◌, subst, inl, inr, ◌⊎◌}
 use Rattle.std.specs.Option.{option_map}
 use Rattle.std.specs.Str.{bytes_eq}
 use Rattle.std.proofs.lemmas.Slice.Eq.{bytes_eq-Decides}
@@ -8,7 +7,7 @@ use Rattle.mm_digest.specs.declared.variant.Variant.TheVariants.{Opt}
 use Rattle.mm_digest.specs.Messages.{zero_bytes}
 use Rattle.mm_platform.specs.declared.fault.StepFault.{StepFault}
 use Rattle.mm_platform.specs.Standing.{Standing}
-use Rattle.mm_platform.specs.Steps.{ReadCell, ReadRegister, WriteCell, beside, cell_after, Goes}
+use Rattle.mm_platform.specs.Steps.{WriteCell, beside, cell_after}
 use Rattle.mm_module.specs.Meaning.{Meaning}
 use Rattle.mm_seal.specs.declared.cell.Cell.{Cell}
 use Rattle.mm_seal.specs.declared.cell.CellFault.{CellFault}
@@ -16,18 +15,17 @@ use Rattle.mm_seal.specs.Cell.{SpellsCell, cell_spelling}
 use Rattle.mm_seal.proofs.CellLaws.{reads_cell-same}
 use Rattle.mm_model.specs.Chains.{register_of}
 use Rattle.mm_model.specs.Instance.{Instance, opt}
-use Rattle.mm_model.specs.History.{Entry, Value, History, Close, moved, values_of, register_value_of}
+use Rattle.mm_model.specs.History.{Entry, History, Close, moved, values_of, register_value_of}
 use Rattle.mm_model.specs.Life.{is_empty, life_of, is_lost}
 use Rattle.mm_model.specs.Moves.{MayMove, digests_of, made}
 use Rattle.mm_model.specs.Standing.{StandsFor, cell_of}
 use Rattle.mm_model.proofs.OptJudge.{lost_is_zero}
 use Rattle.mm_opt.specs.declared.segment.Checkpointed.{Checkpointed}
-use Rattle.mm_opt.specs.declared.segment.Checkpointed.TheVariants.{Done, NoSegment}
 use Rattle.mm_opt.specs.declared.segment.CheckpointRefusal.{CheckpointRefusal}
 use Rattle.mm_opt.specs.declared.segment.CheckpointRefusal.TheVariants as refusal
 use Rattle.mm_opt.specs.declared.segment.Segment.{Segment}
 use Rattle.mm_opt.specs.declared.segment.Segment.TheVariants.{Open, Shut}
-use Rattle.mm_opt.specs.Checkpoints.{closing_fault_of, closing_fault_in, segment_by, segment_in, Looks, closed_cell, closing_by, closing_in, Weighs, Closes, closing_handed_on, ClosesBy, EndsClosing, WeighsAndCloses, EndsLooking, ClosesSegment}
+use Rattle.mm_opt.specs.Checkpoints.{closing_fault_of, closing_fault_in, segment_by, segment_in, Looks, closed_cell, closing_by, Weighs, Closes, closing_handed_on, EndsClosing, EndsLooking, ClosesSegment}
 use Rattle.mm_opt.specs.Continuity.{StandsBy, taking}
 use Rattle.mm_opt.specs.Closings.{IsClearOn, ClosesFrom, ClosesOn, ClosingContinues}
 use Rattle.mm_opt.proofs.Standings.{stands_taking, stands_closed, stands_after, stands_now, stands_then, stands_read, stands_seen, cell_at}

@@ -1,5 +1,5 @@
 -- A right offer that the verdict accepts is answered.
-use Rattle.std.proofs.Common.{◌≡◌, ℕ, ◌+◌, ◌≤◌, ◌^◌, ◌&&◌, Bool, true, false, List, Option, None, Some, Result, Ok, Err, refl, sym, ap, ◌∙◌, subst, inl, inr}
+use Rattle.std.proofs.Common.{◌≡◌, ℕ, ◌+◌, ◌≤◌, ◌^◌, ◌&&◌, Bool, true, false, List, Option, None, Some, Result, Ok, Err, refl, sym, ap, subst, inl, inr}
 use Rattle.std.specs.Prelude.{nat_le, nat_eq}
 use Rattle.std.specs.Result.{result_err}
 use Rattle.std.specs.Str.{bytes_eq}
@@ -13,31 +13,30 @@ use Rattle.mm_platform.specs.Steps.{Act, ReadCell, Goes}
 use Rattle.mm_module.specs.Meaning.{Meaning}
 use Rattle.mm_module.specs.Batch.{Batch, size_of, normal}
 use Rattle.mm_seal.specs.declared.cell.Cell.{Cell}
-use Rattle.mm_seal.specs.Snapshot.{Content, Snapshot, ReadsParts, snapshot_front, sealed_of, tag_of}
+use Rattle.mm_seal.specs.Snapshot.{Content, ReadsParts, snapshot_front, sealed_of, tag_of}
 use Rattle.mm_model.specs.Instance.{Instance, opt}
 use Rattle.mm_model.specs.History.{History, total_of}
 use Rattle.mm_model.specs.Judge.{is_last, judged, judge}
 use Rattle.mm_model.specs.Life.{Life, Live, Spoiled, Lost as LostLife, life_of, is_lost}
 use Rattle.mm_model.specs.Long.{is_long}
-use Rattle.mm_model.specs.Standing.{StandsFor, IsRight}
+use Rattle.mm_model.specs.Standing.{IsRight}
 use Rattle.mm_model.specs.declared.answer.BatchAnswer.{BatchAnswer}
 use Rattle.mm_model.specs.declared.refusal.Refusal.{Refusal}
-use Rattle.mm_model.specs.declared.refusal.Refusal.TheVariants.{Memory, Long}
+use Rattle.mm_model.specs.declared.refusal.Refusal.TheVariants.{Memory}
 use Rattle.mm_model.specs.declared.verdict.Verdict.{Verdict}
-use Rattle.mm_basic.specs.Order.{weighed}
 use Rattle.mm_basic.specs.Steps.{fault_of, fault_in, handed_on}
 use Rattle.mm_basic.specs.Asks.{Blames}
 use Rattle.mm_basic.specs.Continuity.{IsAccepted, IsAnswered}
 use Rattle.mm_basic.proofs.Asking.{blamed, blamed_later, written_blamed}
-use Rattle.mm_basic.proofs.Completeness.{offered_of, IsGiven, weighs}
+use Rattle.mm_basic.proofs.Completeness.{offered_of, weighs}
 use Rattle.mm_opt.specs.declared.found.Found.{Found}
 use Rattle.mm_opt.specs.declared.found.Found.TheVariants.{Repeat, Inside, Opens}
 use Rattle.mm_opt.specs.declared.found.Opening.{Opening}
 use Rattle.mm_opt.specs.Answers.{found_unless, OrMemory}
-use Rattle.mm_opt.specs.Steps.{ReadsRegister, MakesRoom, Makes, Empties, Places}
+use Rattle.mm_opt.specs.Steps.{MakesRoom, Makes, Empties, Places}
 use Rattle.mm_opt.specs.Asks.{ReadsOn, Reads, PlacedOn, EmptiedOn, CommitsFound, Ends, Calls}
 use Rattle.mm_opt.specs.Continuity.{taking, expected_by, expected_at, expected, IsAskedFrom, RefusesFrom, GoesOn}
-use Rattle.mm_opt.specs.Completeness.{Completes, IsComplete}
+use Rattle.mm_opt.specs.Completeness.{IsComplete}
 use Rattle.mm_opt.proofs.Continuing.{continues}
 
 -- which count of faults a call leaves

@@ -1,30 +1,28 @@
 -- State continuity of turns and calls.
-use Rattle.std.proofs.Common.{◌≡◌, ℕ, Bool, true, false, ◌&&◌, List, [], ◌∷◌, ◌++◌, map, Option, None, Some, Result, Ok, Err, IfOk, refl, sym, ap, ◌∙◌, subst, inl, inr, ◌⊎◌, arith, append_assoc}
+use Rattle.std.proofs.Common.{◌≡◌, ℕ, Bool, true, false, List, [], ◌∷◌, ◌++◌, map, Option, None, Some, Result, Ok, Err, IfOk, refl, sym, ap, ◌∙◌, subst, inl, inr, ◌⊎◌, arith, append_assoc}
 use Rattle.std.proofs.lemmas.Bool.Decides.{nat_tests}
 use Rattle.std.specs.Prelude.{nat_eq}
-use Rattle.std.specs.Result.{result_err}
 use Rattle.std.specs.Option.{option_map}
-use Rattle.std.proofs.lemmas.List.{append-nil, map-append}
-use Rattle.mm_digest.specs.declared.digest.Digest.{Digest}
+use Rattle.std.proofs.lemmas.List.{map-append}
 use Rattle.mm_digest.specs.declared.variant.Variant.TheVariants.{Opt}
 use Rattle.mm_platform.specs.declared.fault.StepFault.{StepFault}
 use Rattle.mm_platform.specs.Standing.{Item, Standing, own_item, values_of as values_in, register_of as read_of}
-use Rattle.mm_platform.specs.Steps.{Act, ReadCell, WriteCell, ReadRegister, ResetRegister, ExtendRegister, beside, cell_after, items_after, Goes}
+use Rattle.mm_platform.specs.Steps.{WriteCell, ResetRegister, ExtendRegister, beside, cell_after, items_after}
 use Rattle.mm_module.specs.Meaning.{Meaning}
 use Rattle.mm_module.specs.Batch.{Batch, normal}
 use Rattle.mm_seal.specs.declared.cell.Cell.{Cell}
 use Rattle.mm_seal.specs.declared.cell.CellFault.{CellFault}
 use Rattle.mm_seal.specs.declared.snapshot.PartsFault.{PartsFault}
 use Rattle.mm_seal.specs.declared.snapshot.PartsFault.TheVariants.{Form, Kind}
-use Rattle.mm_seal.specs.Cell.{SpellsCell, ReadsCell as ReadsBytes, cell_spelling}
+use Rattle.mm_seal.specs.Cell.{SpellsCell, cell_spelling}
 use Rattle.mm_seal.specs.Snapshot.{Snapshot, ReadsParts}
 use Rattle.mm_seal.proofs.CellLaws.{reads_cell-same}
 use Rattle.mm_seal.proofs.SnapshotLaws.{reads_parts-same}
 use Rattle.mm_model.specs.Chains.{guard}
 use Rattle.mm_model.specs.Instance.{Instance, opt}
-use Rattle.mm_model.specs.History.{Entry, Value, History, Move, Commit, Placed, Reset, Close, moved, joined, register_value_of}
+use Rattle.mm_model.specs.History.{Entry, Value, History, Move, Commit, Placed, Reset, moved, joined, register_value_of}
 use Rattle.mm_model.specs.Life.{is_empty, has_value}
-use Rattle.mm_model.specs.Moves.{MayMove, IsAllowed, IsOpening}
+use Rattle.mm_model.specs.Moves.{MayMove, IsAllowed}
 use Rattle.mm_model.specs.Sound.{batches_in}
 use Rattle.mm_model.specs.Standing.{StandsFor, cell_of}
 use Rattle.mm_model.specs.declared.answer.BatchAnswer.{BatchAnswer}
@@ -34,16 +32,15 @@ use Rattle.mm_basic.specs.Continuity.{answer_on}
 use Rattle.mm_basic.specs.Steps.{fault_of, fault_in, handed_on}
 use Rattle.mm_model.specs.Judge.{judge}
 use Rattle.mm_model.specs.Life.{life_of, is_lost}
-use Rattle.mm_model.specs.Long.{is_long}
 use Rattle.mm_opt.specs.declared.found.Ready.{Ready}
 use Rattle.mm_opt.specs.declared.found.Opening.{Opening}
 use Rattle.mm_opt.specs.declared.found.Found.{Found}
 use Rattle.mm_opt.specs.declared.found.Found.TheVariants.{Repeat, Inside, Opens}
-use Rattle.mm_opt.specs.Seen.{is_cell_of, own_cell, cell_in}
+use Rattle.mm_opt.specs.Seen.{own_cell, cell_in}
 use Rattle.mm_opt.specs.Answers.{change_by, found_unless, found_in, OrMemory}
 use Rattle.mm_opt.specs.Steps.{ReadsCell, ReadsRegister, MakesRoom, Finds, Extends, Empties, Places, Writes}
-use Rattle.mm_opt.specs.Asks.{PlacedOn, PlacesAndWrites, EmptiedOn, OpensSegment, CommitsFound, Commits, Ends, ReadsOn as ReadsFrom, Reads, Asks, Calls}
-use Rattle.mm_opt.specs.Continuity.{own_in, StandsBy, taking, SeesOn, IsReadyOn, IsReadyIn, change_on, expected_by, expected_at, expected, with_it, IsAskedFrom, ReadsOn, moves_of, IsExpectedAnswer, StandsAmong, CommitsOn, ReadContinues, CommitContinues, RefusesFrom, GoesOn, Follows, Continues}
+use Rattle.mm_opt.specs.Asks.{PlacedOn, EmptiedOn, CommitsFound, Ends, ReadsOn as ReadsFrom, Reads, Calls}
+use Rattle.mm_opt.specs.Continuity.{own_in, StandsBy, taking, SeesOn, IsReadyOn, IsReadyIn, change_on, expected_by, expected_at, expected, with_it, IsAskedFrom, ReadsOn, moves_of, StandsAmong, CommitsOn, ReadContinues, CommitContinues, RefusesFrom, GoesOn, Follows, Continues}
 use Rattle.mm_opt.proofs.Standings.{reads, stands_taking, stands_extended, stands_placed, stands_emptied, stands_opened, stands_after, stands_now, stands_then, stands_read, stands_seen, noted, stands_noted}
 use Rattle.mm_opt.proofs.Judging.{IsLive, fresh_live, found_alike}
 

@@ -1,6 +1,5 @@
 -- What is found, and the room that is made after it.
-use Rattle.std.proofs.Common.{◌≡◌, ℕ, Bool, true, false, List, length, Option, None, Some, Result, Ok, Err, refl, sym, ap, ◌∙◌, subst, inl, inr, ◌⊎◌}
-use Rattle.mm_digest.specs.declared.variant.Variant.TheVariants.{Opt}
+use Rattle.std.proofs.Common.{◌≡◌, ℕ, Bool, true, false, List, length, Option, None, Some, Result, Ok, Err, refl, sym, ap, ◌∙◌, subst, inl, inr}
 use Rattle.mm_platform.specs.declared.fault.StepFault.{StepFault}
 use Rattle.mm_platform.specs.Standing.{Item, Standing, values_of, register_of}
 use Rattle.mm_platform.specs.Steps.{ReadRegister, Goes}
@@ -12,7 +11,7 @@ use Rattle.mm_seal.specs.declared.cell.CellFault.{CellFault}
 use Rattle.mm_seal.specs.declared.cell.CellFault.TheVariants.{Blank, Cell as Unspelled}
 use Rattle.mm_seal.specs.declared.snapshot.PartsFault.{PartsFault}
 use Rattle.mm_seal.specs.declared.snapshot.PartsFault.TheVariants.{Form, Kind}
-use Rattle.mm_seal.specs.Snapshot.{Content, Snapshot, ReadsParts}
+use Rattle.mm_seal.specs.Snapshot.{Content, Snapshot}
 use Rattle.mm_model.specs.declared.answer.BatchAnswer.{BatchAnswer}
 use Rattle.mm_model.specs.declared.refusal.Refusal.{Refusal}
 use Rattle.mm_model.specs.declared.refusal.Refusal.TheVariants as refusal
@@ -25,8 +24,8 @@ use Rattle.mm_opt.specs.declared.found.Found.{Found}
 use Rattle.mm_opt.specs.declared.found.Found.TheVariants.{Repeat, Inside, Opens}
 use Rattle.mm_opt.specs.Seen.{is_cell_of, own_cell, cell_in}
 use Rattle.mm_opt.specs.Order.{value_of, has_lost_power, verdict_of}
-use Rattle.mm_opt.specs.Answers.{answer_of, change_of, change_by, found_from, found_at, found_unless, found_in, opened_cell, OrMemory}
-use Rattle.mm_opt.specs.Steps.{FindsCell, ReadsCell, FindsIn, Finds, MakesRoom, ReadsRegister}
+use Rattle.mm_opt.specs.Answers.{answer_of, change_by, found_from, found_at, found_unless, found_in, opened_cell, OrMemory}
+use Rattle.mm_opt.specs.Steps.{ReadsCell, FindsIn, MakesRoom, ReadsRegister}
 
 -- want of memory, twice
 or_then : (x : Result Found Refusal) (found : Found) (result : Result Found Refusal) → OrMemory x (Ok found) → OrMemory (Ok found) result → OrMemory x result

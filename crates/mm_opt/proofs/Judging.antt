@@ -1,9 +1,8 @@
 -- What a call finds by digests is what the history gives.
-use Rattle.std.proofs.Common.{◌≡◌, ℕ, ◌+◌, ◌-◌, ◌&&◌, Bool, true, false, List, [], ◌∷◌, ◌++◌, drop, Option, None, Some, Result, Ok, Err, IsTrue, refl, sym, ap, ◌∙◌, subst}
+use Rattle.std.proofs.Common.{◌≡◌, ℕ, ◌+◌, ◌-◌, ◌&&◌, Bool, true, false, List, [], ◌∷◌, ◌++◌, drop, Result, Ok, Err, IsTrue, refl, sym, ap, ◌∙◌, subst}
 use Rattle.std.specs.Prelude.{nat_eq, nat_le, ◌^◌}
 use Rattle.std.specs.Str.{bytes_eq}
 use Rattle.std.proofs.lemmas.Slice.Eq.{bytes_eq-Decides}
-use Rattle.mm_digest.specs.declared.digest.Digest.{Digest}
 use Rattle.mm_digest.specs.declared.variant.Variant.TheVariants.{Opt}
 use Rattle.mm_digest.specs.Messages.{zero_bytes, extended_of}
 use Rattle.mm_module.specs.Meaning.{Meaning, state_from, state_after, outputs_from}
@@ -12,7 +11,6 @@ use Rattle.mm_seal.specs.declared.snapshot.PartsFault.{PartsFault}
 use Rattle.mm_seal.specs.declared.snapshot.PartsFault.TheVariants.{Form, Kind}
 use Rattle.mm_seal.specs.declared.snapshot.Place.{Place}
 use Rattle.mm_seal.specs.declared.snapshot.Place.TheVariants.{Basic as InBasic, Opt as InOpt}
-use Rattle.mm_seal.specs.Cell.{cell_spelling}
 use Rattle.mm_seal.specs.Snapshot.{Content, Snapshot, Spells, IsOfKind, ReadsParts, snapshot_front, sealed_of, tag_of}
 use Rattle.mm_model.specs.Chains.{guard, register_of, own_values}
 use Rattle.mm_model.specs.Instance.{Instance, opt}
@@ -23,7 +21,7 @@ use Rattle.mm_model.specs.Messages.{IsClearFor}
 use Rattle.mm_model.specs.Places.{Names, IsPlaceOf, digest_of, anchor_after, issued_place}
 use Rattle.mm_model.specs.Sound.{IsSound}
 use Rattle.mm_model.specs.Standing.{IsRight, cell_of}
-use Rattle.mm_model.specs.Symbolic.{opened, with_batch}
+use Rattle.mm_model.specs.Symbolic.{opened}
 use Rattle.mm_model.proofs.Batches.{at_the_end, before_the_last}
 use Rattle.mm_model.proofs.Digests.{register-push}
 use Rattle.mm_model.proofs.Histories.{values_of-own, own_values-append}
@@ -31,15 +29,15 @@ use Rattle.mm_model.proofs.OptJudge.{opt_is_judged, lost_is_zero}
 use Rattle.mm_model.specs.declared.answer.BatchAnswer.{BatchAnswer}
 use Rattle.mm_model.specs.declared.refusal.Refusal.{Refusal}
 use Rattle.mm_model.specs.declared.verdict.Verdict.{Verdict}
-use Rattle.mm_model.specs.declared.verdict.Verdict.TheVariants.{Fresh, Again, Lost, Stale}
+use Rattle.mm_model.specs.declared.verdict.Verdict.TheVariants.{Fresh, Again}
 use Rattle.mm_basic.specs.Order.{examined}
 use Rattle.mm_basic.specs.Continuity.{answer_on}
 use Rattle.mm_basic.proofs.Verdicts.{weighed_alike, weighed_only, total_with, outputs_with, state_with}
 use Rattle.mm_opt.specs.declared.found.Found.{Found}
-use Rattle.mm_opt.specs.declared.found.Found.TheVariants.{Repeat, Inside, Opens}
-use Rattle.mm_opt.specs.Order.{anchor_in, extension_in, value_of, has_lost_power, verdict_at, verdict_of}
-use Rattle.mm_opt.specs.Answers.{digest, extension_at, place_after, answer_at, answer_of, change_by, change_of, found_from, found_at, found_unless, found_in}
-use Rattle.mm_opt.specs.Continuity.{with_it, change_on, expected_by, expected_at, expected, IsAskedFrom}
+use Rattle.mm_opt.specs.declared.found.Found.TheVariants.{Repeat}
+use Rattle.mm_opt.specs.Order.{anchor_in, extension_in, value_of, verdict_of}
+use Rattle.mm_opt.specs.Answers.{digest, extension_at, place_after, answer_at, answer_of, change_of, found_from, found_at, found_unless, found_in}
+use Rattle.mm_opt.specs.Continuity.{with_it, expected_by, expected_at, expected, IsAskedFrom}
 
 -- what a live history is
 pub record IsLive (y : History) : Type 0 where

@@ -1,8 +1,7 @@
 -- What the platform stands for after each device step.
-use Rattle.std.proofs.Common.{◌≡◌, ℕ, Bool, true, false, List, [], ◌∷◌, ◌++◌, length, map, Option, None, Some, Result, Ok, Err, refl, sym, ap, ◌∙◌, subst, inl, inr, ◌⊎◌, append_assoc}
+use Rattle.std.proofs.Common.{◌≡◌, ℕ, Bool, true, false, List, [], ◌∷◌, ◌++◌, map, Option, None, Some, refl, sym, ap, ◌∙◌, subst, append_assoc}
 use Rattle.std.specs.List.{fold}
 use Rattle.std.specs.Option.{option_map}
-use Rattle.std.specs.Str.{bytes_eq}
 use Rattle.std.proofs.lemmas.List.{append-nil, map-append}
 use Rattle.std.proofs.lemmas.List.Sums.{fold-append}
 use Rattle.mm_digest.specs.declared.variant.Variant.TheVariants.{Opt}
@@ -10,17 +9,17 @@ use Rattle.mm_digest.specs.Messages.{zero_bytes, extended_of, anchored_of}
 use Rattle.mm_digest.proofs.Lengths.{length-anchored_of}
 use Rattle.mm_platform.specs.declared.fault.StepFault.{StepFault}
 use Rattle.mm_platform.specs.Standing.{Item, Standing, own_item, foreign_item, values_of as values_in, register_of as read_of}
-use Rattle.mm_platform.specs.Steps.{Act, ReadCell, WriteCell, ReadRegister, ResetRegister, ExtendRegister, beside, cell_after, items_after, Goes}
+use Rattle.mm_platform.specs.Steps.{ReadCell, ReadRegister, beside, Goes}
 use Rattle.mm_module.specs.Meaning.{Meaning}
 use Rattle.mm_module.specs.Batch.{Batch}
 use Rattle.mm_seal.specs.declared.cell.Cell.{Cell}
 use Rattle.mm_seal.specs.Cell.{IsCell, cell_spelling}
 use Rattle.mm_model.specs.Chains.{guard, register_of}
 use Rattle.mm_model.specs.Instance.{Instance, opt}
-use Rattle.mm_model.specs.History.{Entry, Value, History, Move, Commit, Foreign, Placed, Reset, Close, Power, moved, committed, values_of, register_value_of}
-use Rattle.mm_model.specs.Moves.{MayMove, IsAllowed, IsOpening, Digests, digests_of, committing, made}
+use Rattle.mm_model.specs.History.{Entry, Value, History, Move, Commit, Foreign, Placed, Reset, Close, moved, values_of, register_value_of}
+use Rattle.mm_model.specs.Moves.{MayMove, IsAllowed, Digests, digests_of, committing, made}
 use Rattle.mm_model.specs.Places.{digest_of}
-use Rattle.mm_model.specs.Standing.{StandsFor, register_reads, cell_of}
+use Rattle.mm_model.specs.Standing.{StandsFor, cell_of}
 use Rattle.mm_model.specs.Symbolic.{moved_by}
 use Rattle.mm_model.proofs.Digests.{register-push}
 use Rattle.mm_model.proofs.Histories.{values_of-append}

@@ -1,13 +1,12 @@
 -- State continuity of turns.
-use Rattle.std.proofs.Common.{◌≡◌, ℕ, Bool, true, false, List, [], ◌∷◌, ◌++◌, map, Option, None, Some, Result, Ok, Err, refl, sym, ap, ◌∙◌, subst, inl, inr, ◌⊎◌}
+use Rattle.std.proofs.Common.{◌≡◌, ℕ, Bool, true, false, List, [], ◌∷◌, ◌++◌, map, Some, Result, Ok, Err, refl, sym, ap, ◌∙◌, subst, inl, inr, ◌⊎◌}
 use Rattle.std.specs.List.{fold}
 use Rattle.std.specs.Option.{option_map}
-use Rattle.std.specs.Result.{result_err}
 use Rattle.mm_digest.specs.declared.variant.Variant.TheVariants.{Opt}
 use Rattle.mm_digest.specs.Messages.{extended_of}
 use Rattle.mm_platform.specs.declared.fault.StepFault.{StepFault}
 use Rattle.mm_platform.specs.Standing.{Standing, own_item}
-use Rattle.mm_platform.specs.Steps.{WriteCell, ResetRegister, ExtendRegister, beside, cell_after, items_after, Goes}
+use Rattle.mm_platform.specs.Steps.{WriteCell, ResetRegister, ExtendRegister, beside, cell_after, items_after}
 use Rattle.mm_module.specs.Meaning.{Meaning}
 use Rattle.mm_module.specs.Batch.{Batch, normal}
 use Rattle.mm_seal.specs.declared.cell.Cell.{Cell}
@@ -27,8 +26,8 @@ use Rattle.mm_opt.specs.declared.stage.Stage.TheVariants as stage
 use Rattle.mm_opt.specs.declared.call.Turn.{Turn}
 use Rattle.mm_opt.specs.Steps.{Extends, Empties, Places, Writes}
 use Rattle.mm_opt.specs.Continuity.{taking}
-use Rattle.mm_opt.specs.Turns.{Turns, TurnsBy}
-use Rattle.mm_opt.specs.TurnContinuity.{Changed, Written, ChangesOn, WritesOn, TurnContinues}
+use Rattle.mm_opt.specs.Turns.{Turns}
+use Rattle.mm_opt.specs.TurnContinuity.{Changed, Written, TurnContinues}
 use Rattle.mm_opt.proofs.Standings.{reads, register_taking, stands_taking, stands_extended, stands_placed, stands_emptied, cell_at, opening_made, opened_is_cell, written_cell, noted, stands_noted}
 use Rattle.mm_opt.proofs.Continuing.{cell_on, register_on, may_open, may_shut, still_held, taken_twice}
 

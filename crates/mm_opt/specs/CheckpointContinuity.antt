@@ -1,9 +1,8 @@
 -- State continuity of each turn of a checkpoint, from every history under every key and barrier.
-use Rattle.std.specs.Prelude.{◌≡◌, ℕ, true, false, List, None, Result, Ok, Err}
+use Rattle.std.specs.Prelude.{◌≡◌, ℕ, true, false, List, None, Result}
 use Rattle.mm_digest.specs.declared.variant.Variant.TheVariants.{Opt}
 use Rattle.mm_platform.specs.Standing.{Standing}
 use Rattle.mm_module.specs.Meaning.{Meaning}
-use Rattle.mm_seal.specs.declared.cell.Cell.{Cell}
 use Rattle.mm_model.specs.Instance.{Instance, opt}
 use Rattle.mm_model.specs.History.{History, Close, register_value_of}
 use Rattle.mm_model.specs.Life.{is_empty}
