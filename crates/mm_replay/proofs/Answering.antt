@@ -1,5 +1,5 @@
 -- A run over the lines of a schedule is the run of its events.
-use Rattle.std.proofs.Common.{◌≡◌, ◌∙◌, ◌+◌, ℕ, Bool, true, false, cond, List, [], ◌∷◌, ◌++◌, length, map, nat_lt, Result, Ok, Err, Option, None, Some, refl, sym, ap}
+use Rattle.std.proofs.Common.{◌≡◌, ◌∙◌, ◌+◌, ℕ, Bool, true, false, cond, List, [], ◌∷◌, ◌++◌, length, map, nat_lt, Ok, Err, Option, None, Some, refl, sym, ap}
 use Rattle.mm_base.specs.declared.replay_fault.ReplayFault.{ReplayFault}
 use Rattle.mm_base.specs.declared.replay_fault.ReplayFault.TheVariants.{LineLong}
 use Rattle.mm_modules.specs.declared.any.AnyModule.{AnyModule}
@@ -12,6 +12,7 @@ use Rattle.mm_replay.specs.declared.player.Refused.TheVariants.{Bad, Much}
 use Rattle.mm_replay.specs.Play.{Told, stopped, after_writing, line_limit, refusal_at, answered, run}
 use Rattle.mm_replay.specs.Schedule.{Running, is_too_much, outcome_in, after_event, Stage, InEvents, event_answer, schedule_answer}
 use Rattle.mm_replay.specs.Text.{text_of, texts_of}
+use Rattle.mm_replay.proofs.Runs.{not_ok, ok_same}
 
 abbrev followed_in : Running → List Event → Followed Digests
 followed_in r events = followed (world_of r.machine) (by_digests (world_of r.machine)) r.digests r.issued events
@@ -29,12 +30,6 @@ pub record AnswersFrom (r : Running) (lines : List (List ℕ)) (t : Told Stage) 
   pub issued : last.issued ≡ (followed_in r events).issued
   pub machine : last.machine ≡ r.machine
   pub whole : (p : Stage) → t.outcome ≡ Ok p → (rest ≡ []) × (p ≡ InEvents last)
-
-pub not_ok : {P : Type 0} (fault : ReplayFault) (p : P) → (let r : Result P ReplayFault = Err fault in r ≡ Ok p) → ⊥
-not_ok fault p h = cc
-
-pub ok_same : {P : Type 0} (p q : P) → (let r : Result P ReplayFault = Ok p in r ≡ Ok q) → p ≡ q
-ok_same p q h = cc
 
 -- no line was answered
 answers_none : (r : Running) (lines : List (List ℕ)) (fault : ReplayFault) → AnswersFrom r lines (stopped fault)

@@ -16,7 +16,7 @@ use Rattle.mm_replay.specs.Plays.{ForWhole, Settles, Plays}
 use Rattle.mm_replay.specs.Schedule.{Stage, AtHeader, schedule_answer, schedule_closing}
 use Rattle.mm_replay.specs.Machines.{machine_at}
 use Rattle.mm_replay.specs.Replays.{Reports, Replays, IsUnrefused}
-use Rattle.mm_replay.proofs.Answering.{not_ok}
+use Rattle.mm_replay.proofs.Runs.{not_ok}
 use Rattle.mm_replay.proofs.Telling.{tells}
 
 -- an answer other than Ok means the same for any call

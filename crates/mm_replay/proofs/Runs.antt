@@ -15,11 +15,11 @@ is_long h = grind (arith, nat_tests)
 is_short : {n : ℕ} → n ≤ line_limit → nat_lt line_limit n ≡ false
 is_short h = grind (arith, nat_tests)
 
-not_stopped : {P : Type 0} (fault : ReplayFault) (player : P) → (let r : Result P ReplayFault = Err fault in r ≡ Ok player) → ⊥
-not_stopped fault player clash = cc
+pub not_ok : {P : Type 0} (fault : ReplayFault) (player : P) → (let r : Result P ReplayFault = Err fault in r ≡ Ok player) → ⊥
+not_ok fault player clash = cc
 
-ok_is : {P : Type 0} (a b : P) → (let r : Result P ReplayFault = Ok a in r ≡ Ok b) → a ≡ b
-ok_is a b same = cc
+pub ok_same : {P : Type 0} (a b : P) → (let r : Result P ReplayFault = Ok a in r ≡ Ok b) → a ≡ b
+ok_same a b same = cc
 
 told_is : {P : Type 0} (t : Told P) (written : List ℕ) (outcome : Result P ReplayFault) → t.written ≡ written → t.outcome ≡ outcome → t ≡ told written outcome
 told_is t written outcome w o = λ i. told (w i) (o i)
@@ -33,9 +33,9 @@ turned-append : {P : Type 0} (long : Bool) (answer : Result (List ℕ × P) Refu
     → cond long (stopped (LineLong number)) (answered on number answer) ≡ told sent (Ok last)
     → cond long (stopped (LineLong number)) (answered after number answer) ≡ after_writing sent rest
 turned-append {P} true answer number on after sent last rest step h =
-    absurd (not_stopped (LineLong number) last (ap (λ (t : Told P). t.outcome) h))
+    absurd (not_ok (LineLong number) last (ap (λ (t : Told P). t.outcome) h))
 turned-append {P} false (Err refused) number on after sent last rest step h =
-    absurd (not_stopped (refusal_at number refused) last (ap (λ (t : Told P). t.outcome) h))
+    absurd (not_ok (refusal_at number refused) last (ap (λ (t : Told P). t.outcome) h))
 turned-append {P} false (Ok reply) number on after sent last rest step h =
     let went = told_is (on reply.1) (on reply.1).written (Ok last) refl (ap (λ (t : Told P). t.outcome) h) in
     ap (after_writing reply.0) (step reply.1 (on reply.1).written went)
@@ -47,7 +47,7 @@ pub run-append : {P : Type 0} (answer : P → List ℕ → Result (List ℕ × P
     → run answer number player lines ≡ told sent (Ok last)
     → run answer number player (lines ++ more) ≡ after_writing sent (run answer (number + length lines) last more)
 run-append {P} answer number player [] more sent last h =
-    let at_last : player ≡ last = ok_is player last (ap (λ (t : Told P). t.outcome) h) in
+    let at_last : player ≡ last = ok_same player last (ap (λ (t : Told P). t.outcome) h) in
     let none : [] ≡ sent = ap (λ (t : Told P). t.written) h in
     ap (λ p. run answer number p more) at_last
     ∙ ap (λ n. run answer n last more) (omega arith)

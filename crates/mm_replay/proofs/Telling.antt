@@ -20,7 +20,8 @@ use Rattle.mm_replay.specs.Schedule.{begun, Stage, AtHeader, InEvents, header_an
 use Rattle.mm_replay.specs.Takes.{IsFrontOf}
 use Rattle.mm_replay.specs.Text.{texts_of}
 use Rattle.mm_replay.specs.Headline.{IsContinuous, AnswersEvents, AnswersLines, AnswersAll, AnswersFirst, Tells}
-use Rattle.mm_replay.proofs.Answering.{AnswersFrom, answers_from, not_ok, ok_same}
+use Rattle.mm_replay.proofs.Runs.{not_ok, ok_same}
+use Rattle.mm_replay.proofs.Answering.{AnswersFrom, answers_from}
 
 -- the laws of whole runs give the headline
 continuous : BasicIsExpected → ExpectedRuns → (machine : AnyModule) (events : List Event) → IsContinuous (world_of machine) events
