@@ -37,27 +37,34 @@ impl Source for Repeated<'_> {
     }
 }
 
-// A header, and one line of these words and so many letters.
-fn with_letters(alloc: Global, words: &[u8], letters: usize) -> Result<Bytes, Fail> {
-    let mut schedule = Bytes::copy_of(alloc, HEADER)?;
+// Puts a line of these words and so many letters at the end of a schedule.
+fn put_line(schedule: &mut Bytes, words: &[u8], letters: usize) -> Result<(), Fail> {
     schedule.append(words)?;
     for _ in 0..letters {
         schedule.push(b'a')?;
     }
     schedule.push(b'\n')?;
-    Ok(schedule)
+    Ok(())
 }
 
 #[test]
-fn a_request_has_4096_bytes_and_a_line_8400(rt: HostRuntime) -> Result<(), Fail> {
-    let cases: [(usize, &[u8], u8); 4] = [
-        (4096, b"ok 1 bad\nend 1 2\n", 0),
-        (4097, b"no long\nend 0 1\n", 0),
+fn a_request_has_4096_bytes(rt: HostRuntime) -> Result<(), Fail> {
+    let mut schedule = Bytes::copy_of(rt.alloc(), HEADER)?;
+    put_line(&mut schedule, b"ask 0 ", 4096)?;
+    put_line(&mut schedule, b"ask 1 ", 4097)?;
+    let written = b"ok 1 bad\nno long\nend 1 2\n";
+    check(&rt, rt.alloc(), schedule.as_slice(), written, 0)
+}
+
+#[test]
+fn a_line_has_8400_bytes(rt: HostRuntime) -> Result<(), Fail> {
+    let cases: [(usize, &[u8], u8); 2] = [
         (8394, b"no long\nend 0 1\n", 0),
         (8395, b"stop long 2\n", 14),
     ];
     for (letters, written, code) in cases {
-        let schedule = with_letters(rt.alloc(), b"ask 0 ", letters)?;
+        let mut schedule = Bytes::copy_of(rt.alloc(), HEADER)?;
+        put_line(&mut schedule, b"ask 0 ", letters)?;
         check(&rt, rt.alloc(), schedule.as_slice(), written, code)?;
     }
     Ok(())
