@@ -1,4 +1,5 @@
 pub mod DecimalLemmas
+pub mod FieldLaws
 pub mod Input
 pub mod LineLemmas
 pub mod StreamLemmas

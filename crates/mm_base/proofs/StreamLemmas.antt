@@ -1,10 +1,10 @@
 -- Known bytes that grow or are consumed by two pieces, one after the other.
-use Rattle.std.proofs.Common.{ℕ, List, [], ◌++◌, take, drop, refl, sym, ap, ◌∙◌, append_assoc}
+use Rattle.std.proofs.Common.{ℕ, ◌≡◌, ◌+◌, ◌<◌, List, [], ◌++◌, take, drop, length, refl, sym, ap, ◌∙◌, arith, length-append, append_assoc}
 use Rattle.std.proofs.lemmas.List.{append-nil, take-append-drop}
 use Rattle.std.specs.Prelude.{Option, None, Some, Err}
 use Rattle.std.specs.Io.KnownBytes.{Appends, Consumes, Keeps}
 use Rattle.mm_base.specs.declared.fault.WriteFault.{WriteFault}
-use Rattle.mm_base.specs.Streams.{GoesOut, Sends}
+use Rattle.mm_base.specs.Streams.{GoesOut, Sends, IsCutShort}
 
 pub Appends-none : (known : Option (List ℕ)) → Appends known known []
 Appends-none None = tt
@@ -60,3 +60,19 @@ GoesOut-fails old mid new bytes rest fault so kept = record {
   appended = Appends-kept old mid new so.sent so.appended kept;
   whole = tt;
 }
+
+same_length : (a c before bytes : List ℕ) → Some a ≡ Some before → Some c ≡ Some (before ++ bytes) → length c ≡ length a + length bytes
+same_length a c before bytes e now =
+    let f : c ≡ a ++ bytes = cc in ap length f ∙ length-append a bytes
+
+-- with a rest to go, not all went out
+pub GoesOut-short : (old mid new : Option (List ℕ)) (bytes rest : List ℕ) → GoesOut old mid bytes rest → Keeps mid new
+    → 0 < length rest → IsCutShort old new bytes
+GoesOut-short None mid new bytes rest so kept some before e now = cc
+GoesOut-short (Some a) None new bytes rest so kept some before e now = absurd so.appended
+GoesOut-short (Some a) (Some b) None bytes rest so kept some before e now = absurd kept
+GoesOut-short (Some a) (Some b) (Some c) bytes rest so kept some before e now =
+    let l : length c ≡ length a + length so.sent = ap length (kept ∙ so.appended) ∙ length-append a so.sent in
+    let m : length bytes ≡ length so.sent + length rest = ap length so.parts ∙ length-append so.sent rest in
+    let n : length c ≡ length a + length bytes = same_length a c before bytes e now in
+    omega (arith, l, m, n)

@@ -1,5 +1,6 @@
 pub mod Decimals
 pub mod Faults
+pub mod Fields
 pub mod Held
 pub mod Input
 pub mod Limits

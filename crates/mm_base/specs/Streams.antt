@@ -1,5 +1,5 @@
 -- Sources and sinks over memory, and what is said of a whole write.
-use Rattle.std.specs.Prelude.{◌≡◌, ℕ, ◌-◌, List, [], ◌++◌, take, drop, Option, Result, Ok, Err, OnOk}
+use Rattle.std.specs.Prelude.{◌≡◌, ◌≢◌, ℕ, ◌-◌, List, [], ◌++◌, take, drop, Option, Some, Result, Ok, Err, OnOk}
 use Rattle.std.specs.Io.KnownBytes.{Appends}
 use Rattle.mm_base.specs.declared.fault.Failed.{Failed}
 use Rattle.mm_base.specs.declared.fault.WriteFault.{WriteFault}
@@ -48,6 +48,10 @@ pub record Sends (received now : Option (List ℕ)) (bytes : List ℕ) (result :
   pub parts : bytes ≡ sent ++ unsent
   pub appended : Appends received now sent
   pub whole : OnOk result (unsent ≡ [])
+
+-- not all of these bytes went out
+abbrev pub IsCutShort : Option (List ℕ) → Option (List ℕ) → List ℕ → Type 0
+IsCutShort received now bytes = (before : List ℕ) → received ≡ Some before → now ≢ Some (before ++ bytes)
 
 -- what went out so far of these bytes, with this rest to go
 pub record GoesOut (received now : Option (List ℕ)) (bytes rest : List ℕ) : Type 0 where

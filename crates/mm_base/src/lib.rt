@@ -1,9 +1,11 @@
-//! What every crate of Memoir stands on: bytes, their sources and sinks, lines, decimals and faults.
+//! What every crate of Memoir stands on: bytes, their sources and sinks, lines, decimals, numbers of
+//! fixed length and faults.
 #![tactic(auto)]
 
 mod bytes;
 mod decimal;
 mod fault;
+mod fields;
 mod lines;
 mod replay_fault;
 mod sink;
@@ -14,6 +16,7 @@ mod tests;
 pub use bytes::Bytes;
 pub use decimal::{put_decimal, read_decimal};
 pub use fault::{Failed, Memory, WriteFault};
+pub use fields::{bytes_of_u32, bytes_of_u64, split_u32, split_u64};
 pub use lines::{LONGEST_LINE, LineFault, LineReader, Read};
 pub use replay_fault::ReplayFault;
 pub use sink::{MemSink, Sink, write_all};

@@ -1,9 +1,9 @@
 //! Where bytes go.
 
-ghost use Rattle.std.specs.Prelude.{◌≡◌, ◌+◌, ◌-◌, ◌↔◌, ◌<◌, ◌≤◌, ◌⊎◌, List, ℕ, [], Option, Some, length, min, vec_capacity, Contains, IfOk, IsErr};
+ghost use Rattle.std.specs.Prelude.{◌≡◌, ◌+◌, ◌-◌, ◌↔◌, ◌<◌, ◌≤◌, ◌⊎◌, List, ℕ, [], Option, Some, length, min, vec_capacity, Contains, IfOk, IsErr, OnErr};
 ghost use Rattle.std.specs.Io.KnownBytes.{WriteAppends};
 ghost use Rattle.mm_base.specs.Faults.{counted, CountsFaults};
-ghost use Rattle.mm_base.specs.Streams.{Intake, intake_of, after_give, Sends};
+ghost use Rattle.mm_base.specs.Streams.{Intake, intake_of, after_give, Sends, IsCutShort};
 
 use crate::fault::{Failed, Memory, WriteFault};
 use std::alloc::Global;
@@ -104,9 +104,10 @@ impl Sink for MemSink {
     }
 }
 
-/// Gives all these bytes to the sink. After `WriteFault` a prefix of them went out.
+/// Gives all these bytes to the sink. After `WriteFault` a prefix of them went out, and not all.
 pub fn write_all<K: Sink>(sink: &mut K, bytes: &[u8]) -> Result<(), WriteFault>
     ensures sent { Sends (K.received sink.old) (K.received sink.new) bytes.now result }
+    ensures cut { OnErr result (IsCutShort (K.received sink.old) (K.received sink.new) bytes.now) }
     ensures counted { CountsFaults (K.faults sink.old) (K.faults sink.new) result }
 {
     let mut rest = bytes;

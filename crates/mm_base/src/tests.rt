@@ -2,7 +2,8 @@
 
 use crate::{
     Bytes, Failed, LineFault, LineReader, MemSink, MemSource, Memory, Read, ReplayFault, Sink,
-    Source, WriteFault, put_decimal, read_decimal, write_all,
+    Source, WriteFault, bytes_of_u32, bytes_of_u64, put_decimal, read_decimal, split_u32,
+    split_u64, write_all,
 };
 use std::test::Fail;
 
@@ -96,6 +97,18 @@ fn decimals_have_one_spelling(rt: HostRuntime) -> Result<(), Fail> {
 }
 
 #[test]
+fn numbers_are_spelled_with_the_highest_byte_first(rt: HostRuntime) -> Result<(), Fail> {
+    let bytes = b"\x00\x01\x00\x00\x00\x00\x00\x02\x03";
+    assert_eq!(rt; bytes_of_u64(0x1_0000_0000_0002).as_slice(), &bytes[..8]);
+    assert_eq!(rt; bytes_of_u32(0x1_0000).as_slice(), &bytes[..4]);
+    assert_eq!(rt; split_u64(bytes), Some((0x1_0000_0000_0002, &bytes[8..])));
+    assert_eq!(rt; split_u32(bytes), Some((0x1_0000, &bytes[4..])));
+    assert_eq!(rt; split_u64(&bytes[..7]), None);
+    assert_eq!(rt; split_u32(&bytes[..3]), None);
+    Ok(())
+}
+
+#[test]
 fn a_sink_takes_what_it_has_room_for(rt: HostRuntime) -> Result<(), Fail> {
     let mut sink = MemSink::new(rt.alloc(), 5, &[2])?;
     assert_eq!(rt; write_all(&mut sink, b"abc"), Ok(()));
@@ -123,6 +136,9 @@ fn faults_say_what_happened(rt: HostRuntime) -> Result<(), Fail> {
         format!(in rt.alloc(); "{WriteFault}")?,
         format!(in rt.alloc(); "{}", LineFault::ReadFault)?,
         format!(in rt.alloc(); "{}", LineFault::LineLong)?,
+        format!(in rt.alloc(); "{}", ReplayFault::Memory)?,
+        format!(in rt.alloc(); "{}", ReplayFault::ReadFault)?,
+        format!(in rt.alloc(); "{}", ReplayFault::WriteFault)?,
         format!(in rt.alloc(); "{}", ReplayFault::BadLine { line: 7 })?,
         format!(in rt.alloc(); "{}", ReplayFault::LineLong { line: 8 })?,
         format!(in rt.alloc(); "{}", ReplayFault::TooMuch)?,
@@ -133,6 +149,9 @@ fn faults_say_what_happened(rt: HostRuntime) -> Result<(), Fail> {
         "the output failed",
         "the input failed",
         "a line is too long",
+        "out of memory",
+        "the input failed",
+        "the output failed",
         "line 7 is no line of this input",
         "line 8 is too long",
         "the input is too large",

@@ -1,5 +1,5 @@
 -- The blocks of HMAC, over plain lists.
-use Rattle.std.proofs.Common.{ℕ, ◌≡◌, ◌+◌, ◌<◌, ◌≤◌, List, [], ◌∷◌, ◌++◌, length, map, get_or, set, take, drop, replicate, bit_xor, ap, sym, ◌∙◌}
+use Rattle.std.proofs.Common.{ℕ, ◌≡◌, ◌+◌, ◌<◌, ◌≤◌, List, [], ◌∷◌, ◌++◌, length, map, get_or, set, take, drop, replicate, bit_xor, ap, sym, ◌∙◌, append_assoc}
 use Rattle.std.proofs.lemmas.List.{drop-replicate, take_more, take_more_set, map-append, take_all}
 use Rattle.mm_digest.specs.Hmac.{zero_padded, masked}
 
@@ -26,3 +26,7 @@ pub masked-whole : (pad i : ℕ) (block out : List ℕ) → length block ≤ i �
 unfolding masked
 masked-whole pad i block out h k e =
     sym (take_all i out k) ∙ e ∙ ap (λ (x : List ℕ). map (λ b. bit_xor b pad) x) (take_all i block h)
+
+-- three parts behind a front, one after another
+pub joined_three : (front a b c : List ℕ) → ((front ++ a) ++ b) ++ c ≡ front ++ (a ++ (b ++ c))
+joined_three front a b c = simp append_assoc

@@ -1,4 +1,5 @@
 use super::*;
+use sha2::{Digest as _, Sha256};
 use std::process::Abort;
 use std::test::Fail;
 
@@ -10,8 +11,9 @@ fn expect(rt: &impl Abort, digest: Digest, text: &str) {
     assert_eq!(rt; digest, Digest { bytes }, "{text}");
 }
 
-// The tags of RFC 4231, cases 1, 2 and 6, and of a key of exactly one block; the messages' digests
-// were made by another implementation of SHA-256.
+// SHA-256 of the empty message and of `abc`, by FIPS 180-4; the tags of RFC 4231, cases 1, 2 and 6, and of
+// a key of exactly one block; the messages' digests and the absorbed key's tags were made by another
+// implementation of SHA-256.
 #[test]
 fn digests_of_known_messages(rt: HostRuntime) -> Result<(), Fail> {
     let rt = &rt;
@@ -23,7 +25,28 @@ fn digests_of_known_messages(rt: HostRuntime) -> Result<(), Fail> {
     }
     let (a, b) = (Digest { bytes: low }, Digest { bytes: high });
     let long = b"Test Using Larger Than Block-Size Key - Hash Key First";
+    let key = HmacKey::new(&low);
     let table = [
+        (
+            Digest {
+                bytes: Sha256::digest(b""),
+            },
+            "e3b0c44298fc1c149afbf4c8996fb92427ae41e4649b934ca495991b7852b855",
+        ),
+        (
+            Digest {
+                bytes: Sha256::digest(b"abc"),
+            },
+            "ba7816bf8f01cfea414140de5dae2223b00361a396177a9cb410ff61f20015ad",
+        ),
+        (
+            key.tag(b"Hi There"),
+            "278639ec02309d3afded1b273f1349ba63b9089c12476d716bee3ecc94673e9e",
+        ),
+        (
+            key.tag_of_three(b"H", b"i The", b"re"),
+            "278639ec02309d3afded1b273f1349ba63b9089c12476d716bee3ecc94673e9e",
+        ),
         (
             zero(),
             "0000000000000000000000000000000000000000000000000000000000000000",

@@ -7,3 +7,4 @@ pub mod Bytes
 pub mod CounterTable
 pub mod CounterLaws
 pub mod LineLaws
+pub mod Values

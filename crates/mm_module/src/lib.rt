@@ -5,12 +5,14 @@ mod batch;
 mod counter;
 mod machine;
 mod outputs;
+mod value;
 mod words;
 
 pub use batch::Batch;
 pub use counter::Counter;
 pub use machine::{Module, Short, Stepped, is_line};
 pub use outputs::Outputs;
+pub use value::value_in;
 pub use words::Words;
 
 #[cfg(test)]

@@ -169,3 +169,15 @@ fn meddles(rt: HostRuntime) -> Result<(), Fail> {
     assert_eq!(rt; platform.nv_writes(), 1);
     Ok(())
 }
+
+#[test]
+fn faults_say_what_happened(rt: HostRuntime) -> Result<(), Fail> {
+    let table = [
+        (StepFault::Failed, "the device failed"),
+        (StepFault::Off, "the platform is off"),
+    ];
+    for (fault, text) in table {
+        assert_eq!(rt; format!(in rt.alloc(); "{fault}")?.as_str(), text);
+    }
+    Ok(())
+}

@@ -9,7 +9,8 @@ use Rattle.mm_platform.specs.declared.plan.Stop.TheVariants.{Quiet, Cut, Drop, F
 use Rattle.mm_schedule.specs.declared.event.Offer.{Offer}
 use Rattle.mm_schedule.specs.declared.event.Offer.TheVariants.{Number, Last, Flip, Raw}
 use Rattle.mm_schedule.specs.Events.{Event, Ask, Checkpoint, Power, Extend}
-use Rattle.mm_schedule.specs.Words.{◌>>=◌, after, bytes_at, number_at, step_at, value_at, word_at}
+use Rattle.mm_module.specs.Values.{value_at}
+use Rattle.mm_schedule.specs.Words.{◌>>=◌, after, bytes_at, number_at, step_at, word_at}
 
 -- A meddle behind its first word: a step that is no lower than the one before, and a value.
 unfoldable pub meddle_at : ℕ → List ℕ → Option (Meddle × List ℕ)

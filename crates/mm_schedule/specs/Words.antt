@@ -4,7 +4,7 @@ use Rattle.std.specs.List.{position}
 use Rattle.std.specs.Result.{result_ok}
 use Rattle.std.specs.Str.{bytes_eq}
 use Rattle.std.specs.Borrow.{Bor}
-use Rattle.hex.specs.Hex.{decode_of, decode_sized}
+use Rattle.hex.specs.Hex.{decode_of}
 use Rattle.mm_base.specs.Decimals.{number_of}
 
 -- one reading after another
@@ -38,10 +38,6 @@ step_at (digit ∷ next ∷ rest) = None
 -- a decimal of at most 999999999
 unfoldable pub number_at : List ℕ → Option ℕ
 number_at word = number_of word >>= λ number. if nat_lt 999999999 number then None else Some number
-
--- a value of 64 hexadecimal digits
-unfoldable pub value_at : List ℕ → Option (List ℕ)
-value_at word = result_ok (decode_sized word 32)
 
 -- bytes in hexadecimal digits, or `-` for none
 unfoldable pub bytes_at : List ℕ → Option (List ℕ)

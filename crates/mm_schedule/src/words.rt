@@ -5,7 +5,8 @@ ghost use Rattle.std.specs.List.{list_all, position};
 ghost use Rattle.std.specs.Option.{option_map};
 ghost use Rattle.std.specs.Str.{bytes_eq};
 ghost use Rattle.hex.specs.Hex.{is_hex_digit};
-ghost use Rattle.mm_schedule.specs.Words.{after, bytes_at, in_place, is_space, number_at, step_at, value_at, word_at};
+ghost use Rattle.mm_module.specs.Values.{value_at};
+ghost use Rattle.mm_schedule.specs.Words.{after, bytes_at, in_place, is_space, number_at, step_at, word_at};
 
 use mm_base::read_decimal;
 use mm_digest::Digest;
@@ -70,14 +71,10 @@ pub fn number_in(word: &[u8]) -> Option<u32>
 }
 
 /// A value of 64 hexadecimal digits.
-#[tactic(auto, unfolding(crate::specs::Words::value_at))]
 pub fn value_in(word: &[u8]) -> Option<Digest>
     ensures { option_map (λ (value : _). value.bytes) result ≡ value_at word.now }
 {
-    let mut bytes = [0; 32];
-    if hex::decode_to_slice(word, &mut bytes).is_err() {
-        return None;
-    }
+    let bytes = mm_module::value_in(word)?;
     Some(Digest { bytes })
 }
 

@@ -1,3 +1,5 @@
-pub mod FieldLaws
 pub mod CellLaws
 pub mod SnapshotLaws
+pub mod Reading
+pub mod Fields
+pub mod SealLaws

@@ -8,13 +8,14 @@ use Rattle.mm_digest.specs.declared.variant.Variant.TheVariants as variants
 use Rattle.mm_digest.specs.Messages.{variant_byte}
 use Rattle.mm_seal.specs.declared.snapshot.Place.{Place}
 use Rattle.mm_seal.specs.declared.snapshot.Place.TheVariants.{Basic, Opt}
-use Rattle.mm_seal.specs.Fields.{version_of, eight_bytes, four_bytes}
+use Rattle.mm_base.specs.Fields.{eight_bytes, four_bytes}
+use Rattle.mm_seal.specs.Fields.{version_of}
 use Rattle.mm_seal.specs.Snapshot.{Content, IsContent, IsPlace, Snapshot, snapshot_spelling, OneSpelling, variant_of, place_spelling, front_head, snapshot_front, Spells, IsOfKind, ReadsParts, tag_of, sealed_of}
 use Rattle.mm_digest.proofs.Lengths.{length-hmac_of}
 use Rattle.mm_seal.specs.declared.snapshot.PartsFault.{PartsFault}
 use Rattle.mm_seal.specs.declared.snapshot.PartsFault.TheVariants.{Form, Kind}
 use Rattle.mm_seal.specs.Body.{IsNoFront, HasHead, place_length}
-use Rattle.mm_seal.proofs.FieldLaws.{append-injective, eight_bytes-injective, four_bytes-injective, length-eight_bytes, length-four_bytes}
+use Rattle.mm_base.proofs.FieldLaws.{append-injective, eight_bytes-injective, four_bytes-injective, length-eight_bytes, length-four_bytes}
 use Rattle.mm_seal.proofs.CellLaws.{variant_byte-injective}
 
 -- five parts put at the end one after another

@@ -2,3 +2,4 @@ pub mod Fields
 pub mod Cell
 pub mod Snapshot
 pub mod Body
+pub mod Parts

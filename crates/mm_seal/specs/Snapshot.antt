@@ -11,7 +11,8 @@ use Rattle.mm_seal.specs.declared.snapshot.PartsFault.{PartsFault}
 use Rattle.mm_seal.specs.declared.snapshot.PartsFault.TheVariants.{Form, Kind}
 use Rattle.mm_seal.specs.declared.snapshot.OpenFault.{OpenFault}
 use Rattle.mm_seal.specs.declared.snapshot.OpenFault.TheVariants as opening
-use Rattle.mm_seal.specs.Fields.{version_of, eight_bytes, four_bytes}
+use Rattle.mm_base.specs.Fields.{eight_bytes, four_bytes}
+use Rattle.mm_seal.specs.Fields.{version_of}
 
 abbrev pub variant_of : Place → Variant
 variant_of (Basic summary) = variants.Basic
@@ -70,6 +71,10 @@ tag_of key content = hmac_of key (snapshot_front content)
 -- the content's snapshot under the key
 unfoldable pub sealed_of : List ℕ → Content → List ℕ
 sealed_of key content = snapshot_front content ++ tag_of key content
+
+-- what the content's snapshot under the key is taken apart to
+abbrev pub offered_of : List ℕ → Content → Snapshot
+offered_of key content = record { content = content; tag = tag_of key content }
 
 -- the snapshot is of this variant and module
 abbrev pub IsOfKind : Variant → ℕ → Snapshot → Type 0

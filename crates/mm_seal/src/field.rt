@@ -1,7 +1,7 @@
 //! Fields of fixed length at the front of a byte list.
 
-ghost use Rattle.std.specs.Prelude.{◌≡◌, ◌<◌, ◌^◌, ◌++◌, length, MatchOption};
-ghost use Rattle.mm_seal.specs.Fields.{version_of, eight_bytes, four_bytes};
+ghost use Rattle.std.specs.Prelude.{◌≡◌, ◌<◌, ◌++◌, length, MatchOption};
+ghost use Rattle.mm_seal.specs.Fields.{version_of};
 
 use mm_digest::Digest;
 
@@ -20,42 +20,10 @@ pub fn split_key(bytes: &[u8]) -> Option<([u8; 32], &[u8])>
     Some((*front, rest))
 }
 
-// The digest in front, and the rest.
+/// The digest in the 32 bytes in front, and the rest. None exactly where there are fewer bytes.
 pub fn split_digest(bytes: &[u8]) -> Option<(Digest, &[u8])>
     ensures { MatchOption result (length bytes.now < 32) (λ p. (bytes.now ≡ p.0.bytes ++ p.1.now) × (length p.0.bytes ≡ 32)) }
 {
     let (front, rest) = bytes.split_first_chunk::<32>()?;
     Some((Digest { bytes: *front }, rest))
-}
-
-// The number in the 8 bytes in front, and the rest.
-pub fn split_u64(bytes: &[u8]) -> Option<(u64, &[u8])>
-    ensures { MatchOption result (length bytes.now < 8) (λ p. (bytes.now ≡ eight_bytes p.0 ++ p.1.now) × (p.0 < 2 ^ 64)) }
-{
-    let (front, rest) = bytes.split_first_chunk::<8>()?;
-    Some((u64::from_be_bytes(*front), rest))
-}
-
-// The number in the 4 bytes in front, and the rest.
-pub fn split_u32(bytes: &[u8]) -> Option<(u32, &[u8])>
-    ensures { MatchOption result (length bytes.now < 4) (λ p. (bytes.now ≡ four_bytes p.0 ++ p.1.now) × (p.0 < 2 ^ 32)) }
-{
-    let (front, rest) = bytes.split_first_chunk::<4>()?;
-    Some((u32::from_be_bytes(*front), rest))
-}
-
-// The number in 8 bytes.
-#[tactic(auto, unfolding(crate::specs::Fields::eight_bytes))]
-pub fn bytes_of_u64(n: u64) -> [u8; 8]
-    ensures { result ≡ eight_bytes n }
-{
-    n.to_be_bytes()
-}
-
-// The number in 4 bytes.
-#[tactic(auto, unfolding(crate::specs::Fields::four_bytes))]
-pub fn bytes_of_u32(n: u32) -> [u8; 4]
-    ensures { result ≡ four_bytes n }
-{
-    n.to_be_bytes()
 }

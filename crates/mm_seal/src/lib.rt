@@ -6,6 +6,7 @@ mod field;
 mod snapshot;
 
 pub use cell::{Cell, CellFault, cell_bytes, read_cell};
+pub use field::split_digest;
 pub use snapshot::{Body, Offered, OpenFault, PartsFault, Place, open, parts, seal, seal_under};
 
 #[cfg(test)]

@@ -4,10 +4,11 @@ ghost use Rattle.std.specs.Prelude.{◌≡◌, ◌≤◌, ◌<◌, ◌^◌, ◌+
 ghost use Rattle.mm_base.specs.Limits.{limit_of};
 ghost use Rattle.mm_digest.specs.Hmac.{hmac_of};
 ghost use Rattle.mm_seal.specs.Snapshot.{variant_of, place_spelling, IsPlace, front_head, snapshot_front, sealed_of, IsOfKind, IsNoSnapshot, Spells, ReadsParts, Opens, OneSpelling};
+ghost use Rattle.mm_seal.specs.Parts.{parts_of};
 ghost use Rattle.mm_seal.specs.Body.{content_of, IsNoFront, IsFrontOf, HasFieldsOf, HasHead, PlacedIn, place_length};
 
-use crate::field::{bytes_of_u32, bytes_of_u64, split_digest, split_u32, split_u64, version};
-use mm_base::{Bytes, Memory};
+use crate::field::{split_digest, version};
+use mm_base::{Bytes, Memory, bytes_of_u32, bytes_of_u64, split_u32, split_u64};
 use mm_digest::{Digest, HmacKey, Variant};
 use std::alloc::Global;
 use std::marker::Model;
@@ -202,6 +203,7 @@ fn head_of(body: &Body<'_>) -> [u8; 6]
 #[tactic(auto, using(crate::proofs::SnapshotLaws::one_spelling))]
 pub fn parts(bytes: &[u8], variant: Variant, id: u8) -> Result<Offered<'_>, PartsFault>
     ensures reads { ReadsParts bytes.now variant id result }
+    ensures parts { result ≡ parts_of variant id bytes.now }
     ensures one_spelling { OneSpelling }
 {
     match offered_in(bytes) {

@@ -83,6 +83,32 @@ fn cells_are_read_as_they_are_spelled(rt: HostRuntime) -> Result<(), Fail> {
     Ok(())
 }
 
+#[test]
+fn faults_say_what_happened(rt: HostRuntime) -> Result<(), Fail> {
+    let texts = [
+        format!(in rt.alloc(); "{}", CellFault::Blank)?,
+        format!(in rt.alloc(); "{}", CellFault::Cell)?,
+        format!(in rt.alloc(); "{}", PartsFault::Form)?,
+        format!(in rt.alloc(); "{}", PartsFault::Kind)?,
+        format!(in rt.alloc(); "{}", OpenFault::Form)?,
+        format!(in rt.alloc(); "{}", OpenFault::Kind)?,
+        format!(in rt.alloc(); "{}", OpenFault::Tag)?,
+    ];
+    let expected = [
+        "the cell is blank",
+        "the cell is not spelled",
+        "the offer is not spelled",
+        "the offer is of another variant or module",
+        "the offer is not spelled",
+        "the offer is of another variant or module",
+        "the offer's tag is wrong",
+    ];
+    for (text, expected) in texts.iter().zip(expected) {
+        assert_eq!(rt; text.as_str(), expected);
+    }
+    Ok(())
+}
+
 // The place of a variant.
 fn place_of(variant: Variant) -> Place {
     match variant {

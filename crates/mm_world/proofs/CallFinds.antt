@@ -33,11 +33,11 @@ use Rattle.mm_basic.specs.Order.{weighed}
 use Rattle.mm_basic.specs.Answers.{found_in, found_from, answer_of, cell_after}
 use Rattle.mm_basic.specs.Steps.{OrMemory, Finds}
 use Rattle.mm_basic.proofs.Reading.{one_sight, seen_by}
-use Rattle.mm_world.specs.Offered.{parts_of}
+use Rattle.mm_seal.specs.Parts.{parts_of}
 use Rattle.mm_world.specs.Levels.{Digests, by_digests, answer_by_digests}
 use Rattle.mm_world.specs.Folds as fold
 use Rattle.mm_world.specs.Stands.{basic_digests, cell_at}
-use Rattle.mm_world.proofs.Fields.{reads_parts}
+use Rattle.mm_seal.proofs.Fields.{reads_parts}
 
 -- the answer to an offer that is found, by digests
 abbrev pub answer_as : Instance → Digests → Content → Batch → Bool → BatchAnswer

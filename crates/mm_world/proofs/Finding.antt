@@ -23,7 +23,8 @@ use Rattle.mm_model.proofs.Basic.{basic_is_judged}
 use Rattle.mm_model.proofs.Batches.{at_the_end, before_the_last}
 use Rattle.mm_basic.specs.Order.{admitted, weighed, examined}
 use Rattle.mm_basic.proofs.Verdicts.{weighed_alike}
-use Rattle.mm_world.specs.Offered.{parts_of, content_if_right, right_content}
+use Rattle.mm_seal.specs.Parts.{parts_of}
+use Rattle.mm_world.specs.Offered.{content_if_right, right_content}
 use Rattle.mm_world.specs.Levels.{Digests, by_lists, by_digests}
 use Rattle.mm_world.specs.Folds.{Found, found_with, found_from, found_at}
 use Rattle.mm_world.specs.Premises.{right_messages}

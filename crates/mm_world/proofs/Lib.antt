@@ -16,7 +16,6 @@ pub mod OptCalling
 pub mod OptFollowing
 pub mod OptEvents
 pub mod OptRuns
-pub mod Fields
 pub mod Stepping
 pub mod CallFinds
 pub mod Outcomes

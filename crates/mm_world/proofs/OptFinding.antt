@@ -23,7 +23,7 @@ use Rattle.mm_model.proofs.OptJudge.{opt_is_judged, lost_is_zero}
 use Rattle.mm_model.proofs.Batches.{at_the_end, before_the_last}
 use Rattle.mm_basic.specs.Order.{admitted, examined}
 use Rattle.mm_basic.proofs.Verdicts.{weighed_alike}
-use Rattle.mm_world.specs.Offered.{parts_of}
+use Rattle.mm_seal.specs.Parts.{parts_of}
 use Rattle.mm_world.specs.Levels.{Digests, by_lists, by_digests, is_lost_life}
 use Rattle.mm_world.specs.Folds.{Found, found_with, found_from, found_at}
 use Rattle.mm_world.specs.Premises.{right_messages}

@@ -24,9 +24,10 @@ use Rattle.mm_schedule.specs.Replies.{IsPrintable}
 use Rattle.mm_base.specs.declared.fault.Memory.{Memory}
 use Rattle.mm_modules.specs.Modules.{meaning_of}
 use Rattle.mm_modules.specs.ModulesLaws.{any_is_lawful}
-use Rattle.mm_world.proofs.Reading.{le_tells}
+use Rattle.mm_seal.proofs.Reading.{le_tells}
 use Rattle.mm_world.specs.Held.{Held, world_key, outcome_in, Follows, Lacked}
-use Rattle.mm_world.specs.Offered.{offered_bytes, parts_of}
+use Rattle.mm_seal.specs.Parts.{parts_of}
+use Rattle.mm_world.specs.Offered.{offered_bytes}
 use Rattle.mm_model.specs.Steps.{ask_steps}
 use Rattle.mm_world.specs.Walk.{Walked, walk}
 use Rattle.mm_world.specs.Levels.{Digests, by_digests}

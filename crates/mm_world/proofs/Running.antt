@@ -31,7 +31,8 @@ use Rattle.mm_schedule.specs.declared.reply.Way.{Way}
 use Rattle.mm_schedule.specs.declared.reply.Reply.{Reply}
 use Rattle.mm_schedule.specs.declared.reply.Reply.TheVariants.{Told, No, Kept, Nothing, Closed, Checkpointed, Power as PowerReply, Extended}
 use Rattle.mm_model.proofs.MovedDigests.{total-push}
-use Rattle.mm_world.specs.Offered.{offered_bytes, parts_of}
+use Rattle.mm_seal.specs.Parts.{parts_of}
+use Rattle.mm_world.specs.Offered.{offered_bytes}
 use Rattle.mm_world.specs.Walk.{Walked, made_move, after_stop, after_step, stopped_at, walk, seen_in, commits, closes}
 use Rattle.mm_world.specs.Levels.{Answer, is_lost_life, by_lists, answer_by_lists}
 use Rattle.mm_world.specs.Folds.{Outcome, all_made, Found, found_from, found_at, is_fresh, reading_steps, broken_reply, ended, called, asked, checkpoint_reply, checkpoint_ended, checkpointed_with, outcome_of, Followed, followed}

@@ -30,7 +30,7 @@ use Rattle.mm_world.specs.Offered.{offered_bytes}
 use Rattle.mm_world.specs.Stands.{cell_at, StandsAt, grown}
 use Rattle.mm_world.specs.Asks.{Came, Lacks, AsksAs, ChecksAs, quiet_as, called_by}
 use Rattle.mm_world.specs.Held.{Held, rising_from, world_key, world_of, first_held, summary_in, value_in, held_in, outcome_in, IsQuiet, IsSettled, Follows, Lacked, read_once, Wants}
-use Rattle.mm_world.proofs.Fields.{take_front}
+use Rattle.mm_seal.proofs.Fields.{take_front}
 use Rattle.mm_world.proofs.Stepping.{reads_of, reads-beside, cycled}
 
 summary_spelled : (c : Cell) → length c.summary.bytes ≡ 32 → take 32 (drop 8 (cell_spelling c)) ≡ c.summary.bytes

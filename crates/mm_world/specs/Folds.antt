@@ -23,7 +23,8 @@ use Rattle.mm_schedule.specs.declared.reply.Cause.{Cause}
 use Rattle.mm_schedule.specs.declared.reply.Cause.TheVariants as cause
 use Rattle.mm_schedule.specs.declared.reply.Reply.{Reply}
 use Rattle.mm_schedule.specs.declared.reply.Reply.TheVariants as reply
-use Rattle.mm_world.specs.Offered.{offered_bytes, parts_of}
+use Rattle.mm_seal.specs.Parts.{parts_of}
+use Rattle.mm_world.specs.Offered.{offered_bytes}
 use Rattle.mm_world.specs.Walk.{Walked, walk, seen_in, commits, closes}
 use Rattle.mm_world.specs.Levels.{Answer, Level, Digests, by_lists, by_digests, first_digests}
 

@@ -1,5 +1,5 @@
 -- Bytes that spell a snapshot have its fields at their places.
-use Rattle.std.proofs.Common.{ℕ, ◌≡◌, ◌+◌, ◌-◌, ◌≤◌, ◌^◌, Bool, true, false, ◌&&◌, List, ◌++◌, length, take, drop, Ok, Err, refl, sym, ap, ◌∙◌, subst, arith, length-append, append_assoc}
+use Rattle.std.proofs.Common.{ℕ, ◌≡◌, ◌+◌, ◌-◌, ◌≤◌, ◌^◌, Bool, true, false, ◌&&◌, List, ◌++◌, length, take, drop, Result, Ok, Err, refl, sym, ap, ◌∙◌, subst, arith, length-append, append_assoc}
 use Rattle.std.specs.Prelude.{if◌then◌else◌, nat_le, ◌==◌, slice_index}
 use Rattle.std.specs.Int.{w64, from_be_bytes, to_be_bytes}
 use Rattle.std.specs.Str.{bytes_eq}
@@ -11,16 +11,17 @@ use Rattle.mm_base.specs.Limits.{limit_of}
 use Rattle.mm_digest.specs.declared.digest.Digest.{Digest}
 use Rattle.mm_digest.specs.declared.variant.Variant.{Variant}
 use Rattle.mm_digest.specs.Messages.{variant_byte}
+use Rattle.mm_seal.specs.declared.snapshot.PartsFault.{PartsFault}
 use Rattle.mm_seal.specs.declared.snapshot.PartsFault.TheVariants.{Form, Kind}
 use Rattle.mm_seal.specs.declared.snapshot.Place.{Place}
 use Rattle.mm_seal.specs.declared.snapshot.Place.TheVariants.{Basic, Opt}
-use Rattle.mm_seal.specs.Fields.{eight_bytes, four_bytes}
+use Rattle.mm_base.specs.Fields.{eight_bytes, four_bytes}
 use Rattle.mm_seal.specs.Body.{place_length}
 use Rattle.mm_seal.specs.Snapshot.{Content, Snapshot, IsContent, IsPlace, Spells, IsOfKind, IsNoSnapshot, ReadsParts, place_spelling, front_head, snapshot_front, snapshot_spelling, variant_of}
-use Rattle.mm_seal.proofs.FieldLaws.{length-eight_bytes, length-four_bytes}
-use Rattle.mm_seal.proofs.SnapshotLaws.{length-place_spelling}
-use Rattle.mm_world.specs.Offered.{fields_of, snapshot_with, is_bounded, is_spelled_by, same_variant, is_of_kind, parts_of}
-use Rattle.mm_world.proofs.Reading.{spells_read}
+use Rattle.mm_base.proofs.FieldLaws.{length-eight_bytes, length-four_bytes}
+use Rattle.mm_seal.proofs.SnapshotLaws.{length-place_spelling, reads_parts-same}
+use Rattle.mm_seal.specs.Parts.{fields_of, snapshot_with, is_bounded, is_spelled_by, same_variant, is_of_kind, parts_of}
+use Rattle.mm_seal.proofs.Reading.{spells_read}
 
 pub take_front : (n : ℕ) (xs ys : List ℕ) → length xs ≡ n → take n (xs ++ ys) ≡ xs
 take_front n xs ys e = ap (λ (m : ℕ). take m (xs ++ ys)) (sym e) ∙ take-append_seam xs ys
@@ -199,10 +200,15 @@ reads_by variant id bytes s true true a b c d = (a refl, c refl refl)
 reads_by variant id bytes s true false a b c d = (s, a refl, λ (k : IsOfKind variant id s). let f : false ≡ true = d k in absurd (cc))
 reads_by variant id bytes s false kind a b c d = b refl
 
--- what is read of an offer is what it says
+-- taking apart gives what the bytes say
 pub reads_parts : (variant : Variant) (id : ℕ) (bytes : List ℕ) → ReadsParts bytes variant id (parts_of variant id bytes)
 unfolding parts_of
 reads_parts variant id bytes =
     let s : Snapshot = fields_of bytes in
     reads_by variant id bytes s (is_spelled_by bytes s) (is_of_kind variant id s) (spells_fields bytes) (no_snapshot bytes)
     (λ a b. (spells_read variant id bytes s (read_ok variant id bytes a b)).1) (kind_is variant id s)
+
+-- and nothing else
+pub parts_are : (variant : Variant) (id : ℕ) (bytes : List ℕ) (read : Result Snapshot PartsFault) → ReadsParts bytes variant id read
+    → read ≡ parts_of variant id bytes
+parts_are variant id bytes read r = reads_parts-same bytes variant id read (parts_of variant id bytes) r (reads_parts variant id bytes)

@@ -1,7 +1,7 @@
 use Rattle.std.proofs.Common.{ap, sym, ◌∙◌, List, ℕ, ◌++◌, arith, ◌≡◌, length}
 use Rattle.std.proofs.lemmas.List.{length-take-le}
-use Rattle.mm_seal.proofs.FieldLaws.{joined, eight_bytes-front}
-use Rattle.mm_seal.proofs.field.split_u64.Goals as goal
+use Rattle.mm_base.proofs.FieldLaws.{joined, eight_bytes-front}
+use Rattle.mm_base.proofs.fields.split_u64.Goals as goal
 
 pub returns : goal.returns
 returns c =
