@@ -1,3 +1,4 @@
 pub mod Table
 pub mod Views
 pub mod LimiterLaws
+pub mod Guesses

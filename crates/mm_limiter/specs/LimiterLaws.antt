@@ -12,16 +12,16 @@ use Rattle.mm_module.specs.Words.{words_of}
 use Rattle.mm_limiter.specs.Table.{State, Unset, Guarded, Request, Guard, Guess, Left, Says, IsSet, IsTaken, IsUnset, IsLocked, IsOpen, IsWrong, HasLeft, IsBad, outcome_of, text_of, is_visible, is_secret, is_tries, guard_of, request_of, is_guard, state_of, spelling_of, IsShortSecret, stepped, is_state, limiter}
 
 -- what a secret and a guarded state keep
-record IsSecret (secret : List ℕ) : Type 0 where
-  some : 1 ≤ length secret
-  short : length secret ≤ 64
-  visible : list_all is_visible secret ≡ true
+pub record IsSecret (secret : List ℕ) : Type 0 where
+  pub some : 1 ≤ length secret
+  pub short : length secret ≤ 64
+  pub visible : list_all is_visible secret ≡ true
 
-record IsGuard (tries left : ℕ) (secret : List ℕ) : Type 0 where
-  some : 1 ≤ tries
-  few : tries ≤ 100
-  rest : left ≤ tries
-  formed : IsSecret secret
+pub record IsGuard (tries left : ℕ) (secret : List ℕ) : Type 0 where
+  pub some : 1 ≤ tries
+  pub few : tries ≤ 100
+  pub rest : left ≤ tries
+  pub formed : IsSecret secret
 
 IsSecret-from : (secret : List ℕ) → is_secret secret ≡ true → IsSecret secret
 unfolding is_secret
@@ -38,9 +38,9 @@ is_secret-IsSecret secret is =
     and-both _ _ (and-both _ _ some short) is.visible
 
 -- the tries of a request
-record IsTries (tries : ℕ) : Type 0 where
-  some : 1 ≤ tries
-  few : tries ≤ 100
+pub record IsTries (tries : ℕ) : Type 0 where
+  pub some : 1 ≤ tries
+  pub few : tries ≤ 100
 
 IsTries-from : (tries : ℕ) → is_tries tries ≡ true → IsTries tries
 IsTries-from tries is =
@@ -71,12 +71,12 @@ is_guard-IsGuard tries left secret is =
     and-both _ _ (and-both _ _ (and-both _ _ (and-both _ _ some few) rest) counted) (is_secret-IsSecret secret is.formed)
 
 -- a state that can be spelled
-abbrev IsGood : State → Type 0
+abbrev pub IsGood : State → Type 0
 IsGood Unset = Unit {0}
 IsGood (Guarded tries left secret) = IsGuard tries left secret
 
 -- a request that can be read
-abbrev IsAsked : Option Request → Type 0
+abbrev pub IsAsked : Option Request → Type 0
 IsAsked (Some (Guard secret tries)) = IsSecret secret × IsTries tries
 IsAsked (Some (Guess secret)) = Unit {0}
 IsAsked (Some Left) = Unit {0}
@@ -102,7 +102,7 @@ guard_asked : (secret : List ℕ) (number : Option ℕ) (named flag : Bool) → 
 guard_asked secret number named true is = number_asked secret number (IsSecret-from secret (and-true named (is_secret secret) is).1)
 guard_asked secret number named false is = tt
 
-request_of-asked : (words : List (List ℕ)) → IsAsked (request_of words)
+pub request_of-asked : (words : List (List ℕ)) → IsAsked (request_of words)
 unfolding request_of
 request_of-asked [] = tt
 request_of-asked (word ∷ []) = left_asked (bytes_eq word (codes "left"))
@@ -111,22 +111,22 @@ request_of-asked (word ∷ secret ∷ number ∷ []) = guard_asked secret (numbe
 request_of-asked (word ∷ secret ∷ number ∷ other ∷ more) = tt
 
 -- what is said, with a count of guesses
-abbrev IsSaid : Says → Type 0
+abbrev pub IsSaid : Says → Type 0
 IsSaid (IsWrong left) = left ≤ 100
 IsSaid (HasLeft left) = left ≤ 100
 IsSaid _ = Unit {0}
 
 -- a state that can be spelled and what can be said
-record IsOutcome (outcome : State × Says) : Type 0 where
-  state : IsGood outcome.0
-  said : IsSaid outcome.1
+pub record IsOutcome (outcome : State × Says) : Type 0 where
+  pub state : IsGood outcome.0
+  pub said : IsSaid outcome.1
 
 guessed : (tries left : ℕ) (secret : List ℕ) (locked right : Bool) → IsGuard tries left secret → IsOutcome (if locked then (Guarded tries left secret, IsLocked) else (if right then (Guarded tries tries secret, IsOpen) else (Guarded tries (left - 1) secret, IsWrong (left - 1))))
 guessed tries left secret true right is = record { state = is; said = tt }
 guessed tries left secret false true is = record { state = record { some = is.some; few = is.few; rest = omega arith; formed = is.formed }; said = tt }
 guessed tries left secret false false is = record { state = record { some = is.some; few = is.few; rest = omega (arith, is.rest); formed = is.formed }; said = omega (arith, is.rest, is.few) }
 
-outcome_of-IsOutcome : (state : State) (request : Option Request) → IsGood state → IsAsked request → IsOutcome (outcome_of state request)
+pub outcome_of-IsOutcome : (state : State) (request : Option Request) → IsGood state → IsAsked request → IsOutcome (outcome_of state request)
 outcome_of-IsOutcome Unset (Some (Guard secret tries)) is asked = record { state = record { some = asked.1.some; few = asked.1.few; rest = omega arith; formed = asked.0 }; said = tt }
 outcome_of-IsOutcome (Guarded tries left secret) (Some (Guard other number)) is asked = record { state = is; said = tt }
 outcome_of-IsOutcome Unset (Some (Guess guess)) is asked = record { state = tt; said = tt }
@@ -168,7 +168,7 @@ state_of-reads (form ∷ tries ∷ left ∷ []) = tt
 state_of-reads (form ∷ tries ∷ left ∷ count ∷ secret) = guarded_read form tries left count secret _ refl
 
 -- a spelling is read back
-state_of-spelling_of : (state : State) → IsGood state → state_of (spelling_of state) ≡ Some state
+pub state_of-spelling_of : (state : State) → IsGood state → state_of (spelling_of state) ≡ Some state
 unfolding state_of
 state_of-spelling_of Unset is = refl
 state_of-spelling_of (Guarded tries left secret) is = rw (is_guard-IsGuard tries left secret is) refl

@@ -1,6 +1,7 @@
 //! The limiter: a secret that may be guessed a limited number of times.
 #![tactic(auto)]
 
+pub mod laws;
 mod limiter;
 
 pub use limiter::Limiter;

@@ -5,3 +5,5 @@ pub mod RunLaws
 pub mod ReadIsSpelled
 pub mod HeaderLaws
 pub mod SpelledIsRead
+pub mod TellingLaws
+pub mod PromiseLaws

@@ -3,7 +3,9 @@ pub mod Grammar
 pub mod Headers
 pub mod Laws
 pub mod Machine
+pub mod Promises
 pub mod Replies
 pub mod Spelling
+pub mod Tellings
 pub mod Texts
 pub mod Words

@@ -1,0 +1,45 @@
+-- What a limiter promises of a whole run: wrong guesses run out.
+use Rattle.std.specs.Prelude.{◌≡◌, ℕ, ◌≤◌, ◌||◌, Bool, false, List, [], ◌∷◌, take, drop, count_by, codes, Option, Some, None, if◌then◌else◌}
+use Rattle.std.specs.List.{list_any}
+use Rattle.std.specs.Str.{bytes_eq}
+use Rattle.mm_module.specs.Meaning.{outputs_from}
+use Rattle.mm_module.specs.Words.{words_of}
+use Rattle.mm_limiter.specs.Table.{Request, Guard, Guess, Left, request_of, limiter}
+
+-- a secret was set, or guessed right: all guesses are left again
+abbrev pub is_renewal : List ℕ → Bool
+is_renewal output = bytes_eq output (codes "set") || bytes_eq output (codes "open")
+
+-- a guess was wrong
+abbrev pub is_wrong : List ℕ → Bool
+is_wrong output = bytes_eq (take 6 output) (codes "wrong ")
+
+-- the number of guesses that a request allows
+abbrev pub tries_in : Option Request → ℕ
+tries_in (Some (Guard secret tries)) = tries
+tries_in (Some (Guess secret)) = 0
+tries_in (Some Left) = 0
+tries_in None = 0
+
+-- the guesses that the request allows that was told `set`; 0 where none was
+abbrev pub allowed_by : List (List ℕ) → List (List ℕ) → ℕ
+allowed_by [] outputs = 0
+allowed_by (request ∷ requests) [] = 0
+allowed_by (request ∷ requests) (output ∷ outputs) =
+    if bytes_eq output (codes "set") then tries_in (request_of (words_of request)) else allowed_by requests outputs
+
+-- so many outputs from this place on, as far as there are any
+abbrev pub stretch : ℕ → ℕ → List (List ℕ) → List (List ℕ)
+stretch from size outputs = take size (drop from outputs)
+
+-- Where no output of a stretch is `set` or `open`, at most as many in it are wrong guesses as were allowed: so between
+-- two of those outputs, and after the last.
+abbrev pub LimitsGuesses : List (List ℕ) → Type 0
+LimitsGuesses requests =
+    let outputs = outputs_from limiter limiter.first requests in
+    (from size : ℕ) → list_any is_renewal (stretch from size outputs) ≡ false
+    → count_by is_wrong (stretch from size outputs) ≤ allowed_by requests outputs
+
+-- so it is in every run
+abbrev pub GuessesAreLimited : Type 0
+GuessesAreLimited = (requests : List (List ℕ)) → LimitsGuesses requests

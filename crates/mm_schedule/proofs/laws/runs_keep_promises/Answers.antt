@@ -1,0 +1,5 @@
+use Rattle.mm_schedule.proofs.PromiseLaws.{promises-kept}
+use Rattle.mm_schedule.proofs.laws.runs_keep_promises.Goals as goal
+
+pub returns : goal.returns
+returns c machine events replies requests runs = promises-kept c.guesses_are_limited.ensures machine events replies requests runs

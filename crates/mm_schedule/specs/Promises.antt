@@ -1,0 +1,42 @@
+-- What each module promises of a whole run, and of the replies to it.
+use Rattle.std.specs.Prelude.{◌≡◌, ℕ, ◌≤◌, ◌==◌, ◌&&◌, Bool, false, List, [], count_by}
+use Rattle.std.specs.List.{list_any, range_with_len}
+use Rattle.mm_module.specs.Meaning.{outputs_from}
+use Rattle.mm_limiter.specs.Guesses.{is_renewal, is_wrong, allowed_by, stretch, LimitsGuesses}
+use Rattle.mm_limiter.specs.Table.{limiter}
+use Rattle.mm_modules.specs.Modules.{meaning_of}
+use Rattle.mm_modules.specs.declared.any.AnyModule.{AnyModule}
+use Rattle.mm_modules.specs.declared.any.AnyModule.TheVariants.{Counter, Limiter, Quota, Ledger}
+use Rattle.mm_schedule.specs.declared.reply.Reply.{Reply}
+use Rattle.mm_schedule.specs.Events.{Event}
+use Rattle.mm_schedule.specs.Machine.{Runs}
+use Rattle.mm_schedule.specs.Tellings.{Telling, tellings_in}
+
+-- some line says that the guess with so many requests before it was wrong
+abbrev pub tells_wrong : List Telling → ℕ → Bool
+tells_wrong tellings before = list_any (λ (telling : Telling). telling.before == before && is_wrong telling.output) tellings
+
+-- Lines name wrong guesses at no more places of a stretch than were allowed, where no output in it is `set` or `open`.
+abbrev pub TellsFewWrong : List (List ℕ) → List Reply → Type 0
+TellsFewWrong requests replies =
+    let outputs = outputs_from limiter limiter.first requests in
+    (from size : ℕ) → list_any is_renewal (stretch from size outputs) ≡ false
+    → count_by (tells_wrong (tellings_in replies)) (range_with_len from size) ≤ allowed_by requests outputs
+
+-- What a limiter promises: between two outputs `set` or `open`, and after the last, wrong guesses run out, whether they
+-- were told or not; and so do those that were told, however often.
+pub record KeepsGuessesFew (requests : List (List ℕ)) (replies : List Reply) : Type 0 where
+  pub guesses : LimitsGuesses requests
+  pub told : TellsFewWrong requests replies
+
+-- what a module promises of the requests that were run and of the replies
+abbrev pub Promises : AnyModule → List (List ℕ) → List Reply → Type 0
+Promises Limiter requests replies = KeepsGuessesFew requests replies
+Promises Counter requests replies = Unit {0}
+Promises Quota requests replies = Unit {0}
+Promises Ledger requests replies = Unit {0}
+
+-- every run of a module keeps its promise
+abbrev pub RunsKeepPromises : Type 0
+RunsKeepPromises = (machine : AnyModule) (events : List Event) (replies : List Reply) (requests : List (List ℕ))
+    → Runs (meaning_of machine) [] events replies requests → Promises machine requests replies
