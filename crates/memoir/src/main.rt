@@ -2,14 +2,25 @@
 #![tactic(auto)]
 
 use mm_app::{Status, StdSink, StdSource, memoir};
+use std::io::ErrorKind;
 use std::process::ExitCode;
 use std::{env, io};
 
-// The words after the program's name, and what they do.
+// The words after the program's name. Words that are no UTF-8 are no command, as no words are.
+fn words_after_name(rt: &HostRuntime) -> io::Result<Vec<String>> {
+    match env::args(rt) {
+        Ok(mut all) => {
+            let _ = all.next();
+            Ok(all.collect(rt.alloc())?)
+        }
+        Err(error) if error.kind() == ErrorKind::InvalidData => Ok(Vec::new(rt.alloc())),
+        Err(error) => Err(error),
+    }
+}
+
+// Does what the words say.
 fn run(rt: &HostRuntime) -> io::Result<Status> {
-    let mut all = env::args(rt)?;
-    let _ = all.next();
-    let texts: Vec<String> = all.collect(rt.alloc())?;
+    let texts = words_after_name(rt)?;
     let mut words: Vec<&str> = Vec::new(rt.alloc());
     for text in texts.iter() {
         words.push(text.as_str())?;

@@ -1,11 +1,10 @@
 //! The words of the command line.
 
-ghost use Rattle.std.specs.Prelude.{◌≡◌, ℕ, List, Some, Ok, ◌↔◌, ◌≤◌, IsTrue};
+ghost use Rattle.std.specs.Prelude.{◌≡◌, ℕ, List, Some, Ok, ◌↔◌, IsTrue};
 ghost use Rattle.mm_replay.specs.Play.{run_of};
-ghost use Rattle.mm_replay.specs.Plays.{IsBlamed};
 ghost use Rattle.mm_replay.specs.Schedule.{Stage, AtHeader, schedule_answer, schedule_closing};
 ghost use Rattle.mm_replay.specs.Machines.{machine_at};
-ghost use Rattle.mm_app.specs.Commands.{IsReplay, Replayed, ReplaysAndStops, Stops, is_read_fault, is_write_fault, CountsWrites, IsUnrefused};
+ghost use Rattle.mm_app.specs.Commands.{EndsUnrefused, IsReplay, Replayed, ReplaysAndStops, Stops};
 ghost use Rattle.mm_app.specs.declared.status.Status.TheVariants.{Usage};
 
 use crate::status::Status;
@@ -26,11 +25,10 @@ fn is_replay(words: &[&str]) -> bool
 
 // Replays the input, and says how it ended.
 fn replayed<S: Source, K: Sink>(alloc: Global, input: &mut S, out: &mut K) -> Status
-    ensures replayed { Replayed (S.left input.old) (S.left input.new) (K.received out.old) (K.received out.new) result }
-    ensures read { IsBlamed (is_read_fault result) (S.faults input.old) (S.faults input.new) }
-    ensures wrote { IsBlamed (is_write_fault result) (K.faults out.old) (K.faults out.new) }
+    ensures replayed { Replayed (S.left input.old) (S.left input.new) (K.received out.old) (K.received out.new)
+        (S.faults input.old) (S.faults input.new) (K.faults out.old) (K.faults out.new) result }
     ensures complete { (bytes : List ℕ) → (next : Stage) → S.left input.old ≡ Some bytes
-        → (run_of (schedule_answer machine_at) schedule_closing AtHeader bytes).outcome ≡ Ok next → IsUnrefused result }
+        → (run_of (schedule_answer machine_at) schedule_closing AtHeader bytes).outcome ≡ Ok next → EndsUnrefused result }
 {
     match replay(alloc, input, out) {
         Ok(_) => Status::Done,
@@ -40,11 +38,10 @@ fn replayed<S: Source, K: Sink>(alloc: Global, input: &mut S, out: &mut K) -> St
 
 // Replays the input, and writes the stop line.
 fn replay_and_stop<S: Source, K: Sink>(alloc: Global, input: &mut S, out: &mut K) -> Status
-    ensures replays { ReplaysAndStops (S.left input.old) (S.left input.new) (K.received out.old) (K.received out.new) result }
-    ensures read { IsBlamed (is_read_fault result) (S.faults input.old) (S.faults input.new) }
-    ensures wrote { CountsWrites result (K.faults out.old) (K.faults out.new) }
+    ensures replays { ReplaysAndStops (S.left input.old) (S.left input.new) (K.received out.old) (K.received out.new)
+        (S.faults input.old) (S.faults input.new) (K.faults out.old) (K.faults out.new) result }
     ensures complete { (bytes : List ℕ) → (next : Stage) → S.left input.old ≡ Some bytes
-        → (run_of (schedule_answer machine_at) schedule_closing AtHeader bytes).outcome ≡ Ok next → IsUnrefused result }
+        → (run_of (schedule_answer machine_at) schedule_closing AtHeader bytes).outcome ≡ Ok next → EndsUnrefused result }
 {
     let status = replayed(alloc, input, out);
     let _ = write_stop(status, out);
@@ -54,8 +51,7 @@ fn replay_and_stop<S: Source, K: Sink>(alloc: Global, input: &mut S, out: &mut K
 // Writes that the words are no command.
 fn refused<K: Sink>(out: &mut K) -> Status
     ensures usage { result ≡ Usage }
-    ensures told { Stops (K.received out.old) (K.received out.new) Usage }
-    ensures wrote { K.faults out.old ≤ K.faults out.new }
+    ensures told { Stops (K.received out.old) (K.received out.new) (K.faults out.old) (K.faults out.new) Usage }
 {
     let _ = write_stop(Status::Usage, out);
     Status::Usage
@@ -71,18 +67,17 @@ pub fn memoir<S: Source, K: Sink>(
     input: &mut S,
     out: &mut K,
 ) -> Status
-    ensures replays { IsReplay words.now → ReplaysAndStops (S.left input.old) (S.left input.new) (K.received out.old) (K.received out.new) result }
-    ensures read { IsReplay words.now → IsBlamed (is_read_fault result) (S.faults input.old) (S.faults input.new) }
-    ensures wrote { CountsWrites result (K.faults out.old) (K.faults out.new) }
+    ensures replays { IsReplay words.now → ReplaysAndStops (S.left input.old) (S.left input.new) (K.received out.old) (K.received out.new)
+        (S.faults input.old) (S.faults input.new) (K.faults out.old) (K.faults out.new) result }
 
     // A schedule within the grammar and the limits is not refused.
     ensures complete { IsReplay words.now → (bytes : List ℕ) → (next : Stage) → S.left input.old ≡ Some bytes
-        → (run_of (schedule_answer machine_at) schedule_closing AtHeader bytes).outcome ≡ Ok next → IsUnrefused result }
+        → (run_of (schedule_answer machine_at) schedule_closing AtHeader bytes).outcome ≡ Ok next → EndsUnrefused result }
 
     // The words are no command exactly where they aren't `replay`, and nothing is read then.
     ensures usage { (result ≡ Usage) ↔ (IsReplay words.now → ⊥) }
     ensures unread { (IsReplay words.now → ⊥) → input.new ≡ input.old }
-    ensures told { (IsReplay words.now → ⊥) → Stops (K.received out.old) (K.received out.new) Usage }
+    ensures told { (IsReplay words.now → ⊥) → Stops (K.received out.old) (K.received out.new) (K.faults out.old) (K.faults out.new) Usage }
 {
     if is_replay(words) {
         replay_and_stop(alloc, input, out)

@@ -1,6 +1,6 @@
-//! The program's input and output. They tell no content, so what is said of them is safety and their faults.
+//! The program's input and output, over a reader and a writer. They tell what these tell.
 
-ghost use Rattle.std.specs.Prelude.{◌≡◌, None};
+ghost use Rattle.std.specs.Prelude.{◌≡◌};
 
 use mm_base::{Failed, Sink, Source};
 use std::io::{Read, Write};
@@ -15,14 +15,15 @@ pub struct StdSource<R> {
 impl<R: Read> StdSource<R> {
     /// A source that had no error yet.
     pub fn new(reader: R) -> StdSource<R>
-        ensures { result.faults ≡ 0 }
+        ensures reader { result.reader ≡ reader }
+        ensures faults { result.faults ≡ 0 }
     {
         StdSource { reader, faults: 0 }
     }
 }
 
 impl<R: Read> Source for StdSource<R> {
-    ghost left = { λ _. None };
+    ghost left = { λ source. R.remaining source.reader };
 
     ghost faults = { λ source. source.faults };
 
@@ -47,14 +48,15 @@ pub struct StdSink<W> {
 impl<W: Write> StdSink<W> {
     /// A sink that had no error yet.
     pub fn new(writer: W) -> StdSink<W>
-        ensures { result.faults ≡ 0 }
+        ensures writer { result.writer ≡ writer }
+        ensures faults { result.faults ≡ 0 }
     {
         StdSink { writer, faults: 0 }
     }
 }
 
 impl<W: Write> Sink for StdSink<W> {
-    ghost received = { λ _. None };
+    ghost received = { λ sink. W.contents sink.writer };
 
     ghost faults = { λ sink. sink.faults };
 

@@ -9,3 +9,5 @@ mod limits;
 mod run;
 #[cfg(test)]
 mod schedules;
+#[cfg(test)]
+mod streams;

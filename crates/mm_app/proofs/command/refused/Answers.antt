@@ -1,4 +1,10 @@
 use Rattle.mm_app.proofs.command.refused.Goals as goal
 
 pub returns-clause-told : goal.returns-clause-told
-returns-clause-told g c = record { result = c.write_stop.result; sends = c.write_stop.ensures.sent }
+returns-clause-told g c = record {
+  result = c.write_stop.result;
+  sends = c.write_stop.ensures.sent;
+  counts = c.write_stop.ensures.counted;
+  done = c.write_stop.ensures.done;
+  failed = c.write_stop.ensures.failed;
+}
