@@ -19,3 +19,4 @@ pub mod KeptLaws
 pub mod Whole
 pub mod Listing
 pub mod FreshLists
+pub mod Fitting

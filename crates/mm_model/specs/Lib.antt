@@ -15,3 +15,4 @@ pub mod Long
 pub mod Moves
 pub mod Kept
 pub mod Symbolic
+pub mod Fit

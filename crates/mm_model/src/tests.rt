@@ -193,24 +193,25 @@ fn runs_requests_one_after_another(rt: HostRuntime) -> Result<(), Fail> {
 #[test]
 fn numbers_refusals_and_says_why(rt: HostRuntime) -> Result<(), Fail> {
     let refusals = [
-        (Refusal::Memory, 1),
-        (Refusal::Long, 2),
-        (Refusal::Device(StepFault::Failed), 3),
-        (Refusal::Blank, 4),
-        (Refusal::Cell, 5),
-        (Refusal::Lost, 6),
-        (Refusal::Form, 7),
-        (Refusal::Kind, 8),
-        (Refusal::State, 9),
-        (Refusal::Tag, 10),
-        (Refusal::Stale, 11),
-        (Refusal::Full, 12),
+        (Refusal::Memory, 1, "out of memory"),
+        (Refusal::Long, 2, "the request is too long"),
+        (Refusal::Device(StepFault::Failed), 3, "a step of the platform failed"),
+        (Refusal::Device(StepFault::Off), 3, "a step of the platform failed"),
+        (Refusal::Blank, 4, "the cell is blank"),
+        (Refusal::Cell, 5, "the cell isn't one of this module"),
+        (Refusal::Lost, 6, "power was lost inside an open segment"),
+        (Refusal::Form, 7, "the offer isn't a snapshot"),
+        (Refusal::Kind, 8, "the snapshot is of another variant or module"),
+        (Refusal::State, 9, "the snapshot's state isn't one of the module's"),
+        (Refusal::Tag, 10, "the snapshot isn't sealed under the platform's key"),
+        (Refusal::Stale, 11, "the snapshot is stale"),
+        (Refusal::Full, 12, "there are no positions left"),
     ];
-    for (refusal, code) in refusals {
+    for (refusal, code, text) in refusals {
         assert_eq!(rt; refusal.code(), code);
+        let shown = format!(in rt.alloc(); "{refusal}")?;
+        assert_eq!(rt; shown.as_str(), text);
     }
-    let text = format!(in rt.alloc(); "{}", Refusal::Stale)?;
-    assert_eq!(rt; text.as_str(), "the snapshot is stale");
     Ok(())
 }
 
