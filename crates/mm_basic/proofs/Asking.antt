@@ -7,8 +7,9 @@ use Rattle.mm_platform.specs.declared.fault.StepFault.TheVariants.{Failed, Off}
 use Rattle.mm_platform.specs.Standing.{Standing}
 use Rattle.mm_platform.specs.Steps.{ReadCell, WriteCell, EndsBy, Goes}
 use Rattle.mm_platform.proofs.Calling.{beside-none}
-use Rattle.mm_module.specs.Meaning.{Meaning}
-use Rattle.mm_module.specs.Batch.{Batch, size_of}
+use Rattle.mm_module.specs.Meaning.{Meaning, IsLawful}
+use Rattle.mm_module.specs.Batch.{Batch, One}
+use Rattle.mm_model.specs.Fit.{IsFit}
 use Rattle.mm_model.specs.Long.{is_long}
 use Rattle.mm_model.specs.declared.answer.Answer.{Answer}
 use Rattle.mm_model.specs.declared.answer.BatchAnswer.{BatchAnswer}
@@ -18,7 +19,7 @@ use Rattle.mm_basic.specs.declared.found.Found.{Found}
 use Rattle.mm_basic.specs.declared.found.Found.TheVariants.{Repeat, Change}
 use Rattle.mm_basic.specs.declared.found.Ready.{Ready}
 use Rattle.mm_basic.specs.Steps.{fault_of, fault_in, handed_on, Reads, Writes}
-use Rattle.mm_basic.specs.Asks.{Ends, Calls, IsUntouched, LeavesUntouched, Blames, ReadsOnce, ReadsAndWrites, StepsAnswered, StepsRefused, StepsBy, whole}
+use Rattle.mm_basic.specs.Asks.{CommitsFound, Ends, Calls, IsUntouched, LeavesUntouched, Blames, ReadsOnce, ReadsAndWrites, StepsAnswered, StepsRefused, StepsBy, whole}
 use Rattle.mm_basic.proofs.Findings.{IsShaped, shaped}
 
 same_untouched : (old : Standing) → IsUntouched old old
@@ -65,6 +66,15 @@ blamed (Some Off) old new made e = e.faults
 
 pub blamed_later : (fault : Option StepFault) (first before now : ℕ) → before ≡ first → Blames fault before now → Blames fault first now
 blamed_later fault first before now e b = subst (λ (n : ℕ). Blames fault n now) e b
+
+-- a reading step, a step that commits, and a turn
+pub read_blamed : (meaning : Meaning) (old new : Standing) (offer : List ℕ) (b : Batch) (found : Result Found Refusal) → Reads meaning old new offer b found → Blames (fault_in found) old.faults new.faults
+read_blamed meaning old new offer b found r = blamed (fault_in found) old new r.goes.is_made r.goes.ends
+
+pub commit_blamed : (found : Found) (old new : Standing) (written : Result BatchAnswer StepFault) → CommitsFound found old new written → Blames (result_err written) old.faults new.faults
+commit_blamed (Repeat answer) old new written c =
+    subst (λ (w : Result BatchAnswer StepFault). Blames (result_err w) old.faults new.faults) (sym c.1) (ap (λ (s : Standing). s.faults) c.0)
+commit_blamed (Change ready) old new written c = blamed (result_err written) old new c.goes.is_made c.goes.ends
 
 -- a handed fault is the device's
 fault_handed : (written : Result BatchAnswer StepFault) → fault_in (handed_on written) ≡ result_err written
@@ -117,10 +127,10 @@ ends_stepped b (Ok (Change ready)) old middle new result shape g e =
     (written_stepped e.written ready old middle new g e.commits shape.0)
 
 -- what was found, by what a call asked: its shape, or a device's fault
-found_shaped : (meaning : Meaning) (old middle : Standing) (offer : List ℕ) (b : Batch) (found : Result Found Refusal) → Reads meaning old middle offer b found → IsShaped b found
-found_shaped meaning old middle offer b (Err why) r = tt
-found_shaped meaning old middle offer b (Ok (Repeat answer)) r = let f = r.finds refl in shaped meaning f.bytes offer b (Ok (Repeat answer)) f.finds
-found_shaped meaning old middle offer b (Ok (Change ready)) r = let f = r.finds refl in shaped meaning f.bytes offer b (Ok (Change ready)) f.finds
+found_shaped : (meaning : Meaning) → IsLawful meaning → (old middle : Standing) (offer : List ℕ) (b : Batch) (found : Result Found Refusal) → Reads meaning old middle offer b found → IsShaped b found
+found_shaped meaning lawful old middle offer b (Err why) r = tt
+found_shaped meaning lawful old middle offer b (Ok (Repeat answer)) r = let f = r.finds refl in shaped meaning lawful f.bytes offer b (Ok (Repeat answer)) f.finds
+found_shaped meaning lawful old middle offer b (Ok (Change ready)) r = let f = r.finds refl in shaped meaning lawful f.bytes offer b (Ok (Change ready)) f.finds
 
 calls_untouched : (t : Bool) (meaning : Meaning) (old new : Standing) (offer : List ℕ) (b : Batch) (result : Result BatchAnswer Refusal) → is_long b ≡ t → Calls meaning old new offer b result → LeavesUntouched result old new
 calls_untouched true meaning old new offer b result is c =
@@ -144,34 +154,39 @@ calls_blamed false meaning old new offer b result is c =
 pub blames : (meaning : Meaning) (old new : Standing) (offer : List ℕ) (b : Batch) (result : Result BatchAnswer Refusal) → Calls meaning old new offer b result → Blames (fault_in result) old.faults new.faults
 blames meaning old new offer b result c = calls_blamed (is_long b) meaning old new offer b result refl c
 
-pub steps : (meaning : Meaning) (old new : Standing) (offer : List ℕ) (b : Batch) (result : Result BatchAnswer Refusal) → Calls meaning old new offer b result → is_long b ≡ false → StepsBy result old new
-steps meaning old new offer b result c is =
+pub steps : (meaning : Meaning) → IsLawful meaning → (old new : Standing) (offer : List ℕ) (b : Batch) (result : Result BatchAnswer Refusal) → Calls meaning old new offer b result → is_long b ≡ false → StepsBy result old new
+steps meaning lawful old new offer b result c is =
     let a = c.asks is in
-    ends_stepped b a.found old a.middle new result (found_shaped meaning old a.middle offer b a.found a.reads) a.reads.goes a.ends
+    ends_stepped b a.found old a.middle new result (found_shaped meaning lawful old a.middle offer b a.found a.reads) a.reads.goes a.ends
 
--- an answer has as many outputs as the batch has requests
-abbrev pub IsCounted : Batch → Result BatchAnswer Refusal → Type 0
-IsCounted b result = IfOk result (λ answer. length answer.outputs ≡ size_of b)
+-- an answer is fit
+abbrev pub IsFitIn : Batch → Result BatchAnswer Refusal → Type 0
+IsFitIn b result = IfOk result (λ answer. IsFit b answer)
 
-written_counted : (b : Batch) (written : Result BatchAnswer StepFault) (ready : Ready) (old new : Standing) → Writes ready old new written → length ready.answer.outputs ≡ size_of b → IsCounted b (handed_on written)
-written_counted b (Ok answer) ready old new w e = ap (λ (a : BatchAnswer). length a.outputs) w.gives ∙ e
-written_counted b (Err fault) ready old new w e = tt
+written_fit : (b : Batch) (written : Result BatchAnswer StepFault) (ready : Ready) (old new : Standing) → Writes ready old new written → IsFit b ready.answer → IsFitIn b (handed_on written)
+written_fit b (Ok answer) ready old new w fit = subst (λ (a : BatchAnswer). IsFit b a) (sym w.gives) fit
+written_fit b (Err fault) ready old new w fit = tt
 
-ends_counted : (b : Batch) (found : Result Found Refusal) (old new : Standing) (result : Result BatchAnswer Refusal) → IsShaped b found → Ends found old new result → IsCounted b result
-ends_counted b (Err why) old new result shape e = subst (λ (r : Result BatchAnswer Refusal). IsCounted b r) (sym e.1) tt
-ends_counted b (Ok (Repeat answer)) old new result shape e =
-    subst (λ (r : Result BatchAnswer Refusal). IsCounted b r) (sym (e.gives ∙ ap handed_on e.commits.1)) shape.1
-ends_counted b (Ok (Change ready)) old new result shape e =
-    subst (λ (r : Result BatchAnswer Refusal). IsCounted b r) (sym e.gives) (written_counted b e.written ready old new e.commits shape.1)
+ends_fit : (b : Batch) (found : Result Found Refusal) (old new : Standing) (result : Result BatchAnswer Refusal) → IsShaped b found → Ends found old new result → IsFitIn b result
+ends_fit b (Err why) old new result shape e = subst (λ (r : Result BatchAnswer Refusal). IsFitIn b r) (sym e.1) tt
+ends_fit b (Ok (Repeat answer)) old new result shape e =
+    subst (λ (r : Result BatchAnswer Refusal). IsFitIn b r) (sym (e.gives ∙ ap handed_on e.commits.1)) shape.1
+ends_fit b (Ok (Change ready)) old new result shape e =
+    subst (λ (r : Result BatchAnswer Refusal). IsFitIn b r) (sym e.gives) (written_fit b e.written ready old new e.commits shape.1)
 
-calls_counted : (t : Bool) (meaning : Meaning) (old new : Standing) (offer : List ℕ) (b : Batch) (result : Result BatchAnswer Refusal) → is_long b ≡ t → Calls meaning old new offer b result → IsCounted b result
-calls_counted true meaning old new offer b result is c = subst (λ (r : Result BatchAnswer Refusal). IsCounted b r) (sym (c.long is).1) tt
-calls_counted false meaning old new offer b result is c =
+calls_fit : (t : Bool) (meaning : Meaning) → IsLawful meaning → (old new : Standing) (offer : List ℕ) (b : Batch) (result : Result BatchAnswer Refusal) → is_long b ≡ t → Calls meaning old new offer b result → IsFitIn b result
+calls_fit true meaning lawful old new offer b result is c = subst (λ (r : Result BatchAnswer Refusal). IsFitIn b r) (sym (c.long is).1) tt
+calls_fit false meaning lawful old new offer b result is c =
     let a = c.asks is in
-    ends_counted b a.found a.middle new result (found_shaped meaning old a.middle offer b a.found a.reads) a.ends
+    ends_fit b a.found a.middle new result (found_shaped meaning lawful old a.middle offer b a.found a.reads) a.ends
 
-pub counted_outputs : (meaning : Meaning) (old new : Standing) (offer : List ℕ) (b : Batch) (result : Result BatchAnswer Refusal) → Calls meaning old new offer b result → IsCounted b result
-counted_outputs meaning old new offer b result c = calls_counted (is_long b) meaning old new offer b result refl c
+pub fits : (meaning : Meaning) → IsLawful meaning → (old new : Standing) (offer : List ℕ) (b : Batch) (result : Result BatchAnswer Refusal) → Calls meaning old new offer b result → IsFitIn b result
+fits meaning lawful old new offer b result c = calls_fit (is_long b) meaning lawful old new offer b result refl c
+
+-- a fit answer to one request
+pub one_output : (request : List ℕ) (result : Result BatchAnswer Refusal) → IsFitIn (One request) result → IfOk result (λ answer. length answer.outputs ≡ 1)
+one_output request (Ok answer) fit = fit.counted
+one_output request (Err why) fit = tt
 
 -- the answer to a batch of one is that to its request
 pub wholly : (all : BatchAnswer) (answer : Answer) → answer.again ≡ all.again → answer.position ≡ all.position → all.outputs ≡ answer.output ∷ [] → answer.snapshot ≡ all.snapshot → all ≡ whole answer

@@ -1,11 +1,15 @@
 -- What is found, by what the offer is examined to.
-use Rattle.std.proofs.Common.{◌≡◌, ℕ, Bool, true, false, List, length, Result, Ok, Err, None, refl, sym, ap, ◌∙◌, subst, inl, inr}
-use Rattle.mm_module.specs.Meaning.{Meaning}
-use Rattle.mm_module.specs.Batch.{Batch, size_of, members_of}
-use Rattle.mm_module.proofs.RunLaws.{length-outputs_from}
+use Rattle.std.proofs.Common.{◌≡◌, ℕ, ◌+◌, Bool, true, false, List, Result, Ok, Err, None, IsTrue, refl, sym, ap, ◌∙◌, subst, inl, inr, arith}
+use Rattle.std.proofs.lemmas.Bool.Decides.{nat_tests}
+use Rattle.mm_module.specs.Meaning.{Meaning, IsLawful}
+use Rattle.mm_module.specs.Batch.{Batch, normal}
 use Rattle.mm_seal.specs.declared.cell.CellFault.TheVariants.{Blank, Cell as Unspelled}
 use Rattle.mm_seal.specs.declared.snapshot.PartsFault.TheVariants.{Form, Kind}
-use Rattle.mm_seal.specs.Snapshot.{Content}
+use Rattle.mm_seal.specs.declared.snapshot.Place.TheVariants.{Basic as InBasic}
+use Rattle.mm_seal.specs.Snapshot.{Content, Snapshot}
+use Rattle.mm_model.specs.Fit.{IsFit}
+use Rattle.mm_model.proofs.Chains.{length-link}
+use Rattle.mm_model.proofs.Fitting.{is_fit}
 use Rattle.mm_model.specs.declared.answer.BatchAnswer.{BatchAnswer}
 use Rattle.mm_model.specs.declared.refusal.Refusal.{Refusal}
 use Rattle.mm_model.specs.declared.refusal.Refusal.TheVariants.{Memory}
@@ -14,9 +18,10 @@ use Rattle.mm_model.specs.declared.verdict.Verdict.TheVariants.{Fresh, Again, Lo
 use Rattle.mm_basic.specs.declared.found.Found.{Found}
 use Rattle.mm_basic.specs.declared.found.Found.TheVariants.{Repeat, Change}
 use Rattle.mm_basic.specs.Seen.{Seen, NoCell, OtherCell, NoOffer, Both}
-use Rattle.mm_basic.specs.Order.{admitted, weighed, examined, verdict_of}
-use Rattle.mm_basic.specs.Answers.{answer_of, cell_after, found_from, found_in}
+use Rattle.mm_basic.specs.Order.{admitted, weighed, examined, summary_in, verdict_of}
+use Rattle.mm_basic.specs.Answers.{digest, linked, answer_of, cell_after, found_from, found_in}
 use Rattle.mm_basic.specs.Steps.{fault_in, OrMemory, FindsIn}
+use Rattle.mm_basic.proofs.Verdicts.{weighed_only}
 
 pub found_refused : (e : Result Bool Refusal) (next : List ℕ) (answer : Bool → BatchAnswer) (why : Refusal) → e ≡ Err why → OrMemory (found_from e next answer) (Err why)
 found_refused e next answer why is =
@@ -76,30 +81,40 @@ no_fault_or (Ok it) found h o =
 pub no_fault : (meaning : Meaning) (bytes offer : List ℕ) (b : Batch) (found : Result Found Refusal) → FindsIn meaning bytes offer b found → fault_in found ≡ None
 no_fault meaning bytes offer b found f = no_fault_or (found_in meaning f.seen b) found (no_fault_in meaning f.seen b) f.found_is
 
--- an answer found says whether it is a repeat's, and has an output for each request
+-- an answer found says whether it is a repeat's, and is fit
 abbrev pub IsShaped : Batch → Result Found Refusal → Type 0
 IsShaped b (Err why) = Unit {0}
-IsShaped b (Ok (Repeat answer)) = (answer.again ≡ true) × (length answer.outputs ≡ size_of b)
-IsShaped b (Ok (Change ready)) = (ready.answer.again ≡ false) × (length ready.answer.outputs ≡ size_of b)
+IsShaped b (Ok (Repeat answer)) = (answer.again ≡ true) × IsFit b answer
+IsShaped b (Ok (Change ready)) = (ready.answer.again ≡ false) × IsFit b ready.answer
 
-shaped_from : (meaning : Meaning) (key next : List ℕ) (offered : Content) (b : Batch) (e : Result Bool Refusal) → IsShaped b (found_from e next (answer_of meaning key offered b))
-shaped_from meaning key next offered b (Err why) = tt
-shaped_from meaning key next offered b (Ok true) = (refl, length-outputs_from meaning offered.state (members_of b))
-shaped_from meaning key next offered b (Ok false) = (refl, length-outputs_from meaning offered.state (members_of b))
+shaped_from : (meaning : Meaning) (key next : List ℕ) (offered : Content) (b : Batch) (e : Result Bool Refusal) → ((again : Bool) → e ≡ Ok again → IsFit b (answer_of meaning key offered b again)) → IsShaped b (found_from e next (answer_of meaning key offered b))
+shaped_from meaning key next offered b (Err why) h = tt
+shaped_from meaning key next offered b (Ok true) h = (refl, h true refl)
+shaped_from meaning key next offered b (Ok false) h = (refl, h false refl)
 
-shaped_in : (meaning : Meaning) (seen : Seen) (b : Batch) → IsShaped b (found_in meaning seen b)
-shaped_in meaning (NoCell Blank) b = tt
-shaped_in meaning (NoCell Unspelled) b = tt
-shaped_in meaning OtherCell b = tt
-shaped_in meaning (NoOffer Form) b = tt
-shaped_in meaning (NoOffer Kind) b = tt
-shaped_in meaning (Both cell offered) b =
+-- an offer that is accepted leads to a fit answer
+accepted_fit : (meaning : Meaning) → IsLawful meaning → (key : List ℕ) (offered : Snapshot) (b : Batch) (verdict : Verdict) (again : Bool) → examined meaning key offered b verdict ≡ Ok again → IsFit b (answer_of meaning key offered.content b again)
+accepted_fit meaning lawful key offered b verdict again e =
+    let a = weighed_only _ _ _ _ again e in
+    is_fit meaning lawful key offered.content.state offered.content.position (InBasic (digest (linked offered.content b))) b again
+    (length-link (summary_in offered.content.place) (normal b))
+    (subst (λ (t : Bool). IsTrue t) (sym a.spelled) refl)
+    (grind (arith, nat_tests, a.fitting))
+
+shaped_in : (meaning : Meaning) → IsLawful meaning → (seen : Seen) (b : Batch) → IsShaped b (found_in meaning seen b)
+shaped_in meaning lawful (NoCell Blank) b = tt
+shaped_in meaning lawful (NoCell Unspelled) b = tt
+shaped_in meaning lawful OtherCell b = tt
+shaped_in meaning lawful (NoOffer Form) b = tt
+shaped_in meaning lawful (NoOffer Kind) b = tt
+shaped_in meaning lawful (Both cell offered) b =
     shaped_from meaning cell.key (cell_after cell offered.content b) offered.content b (examined meaning cell.key offered b (verdict_of cell offered b))
+    (accepted_fit meaning lawful cell.key offered b (verdict_of cell offered b))
 
 shaped_or : (b : Batch) (x found : Result Found Refusal) → IsShaped b x → OrMemory x found → IsShaped b found
 shaped_or b (Err why) found h o = subst (λ (r : Result Found Refusal). IsShaped b r) (sym o) tt
 shaped_or b (Ok it) found h o =
     elim o [ inl e ↦ subst (λ (r : Result Found Refusal). IsShaped b r) (sym e) h | inr e ↦ subst (λ (r : Result Found Refusal). IsShaped b r) (sym e) tt ]
 
-pub shaped : (meaning : Meaning) (bytes offer : List ℕ) (b : Batch) (found : Result Found Refusal) → FindsIn meaning bytes offer b found → IsShaped b found
-shaped meaning bytes offer b found f = shaped_or b (found_in meaning f.seen b) found (shaped_in meaning f.seen b) f.found_is
+pub shaped : (meaning : Meaning) → IsLawful meaning → (bytes offer : List ℕ) (b : Batch) (found : Result Found Refusal) → FindsIn meaning bytes offer b found → IsShaped b found
+shaped meaning lawful bytes offer b found f = shaped_or b (found_in meaning f.seen b) found (shaped_in meaning lawful f.seen b) f.found_is

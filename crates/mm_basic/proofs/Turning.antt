@@ -1,11 +1,20 @@
--- State continuity of turns.
-use Rattle.std.proofs.Common.{List, ℕ, Option, None, Some}
+-- State continuity of turns, and their faults.
+use Rattle.std.proofs.Common.{◌≡◌, List, ℕ, Option, None, Some, Result, Ok, Err, refl, sym, ap, ◌∙◌, subst}
+use Rattle.std.specs.Result.{result_err}
+use Rattle.mm_platform.specs.declared.fault.StepFault.{StepFault}
 use Rattle.mm_platform.specs.Standing.{Standing}
 use Rattle.mm_module.specs.Meaning.{Meaning}
 use Rattle.mm_module.specs.Batch.{Batch}
+use Rattle.mm_model.specs.declared.answer.BatchAnswer.{BatchAnswer}
+use Rattle.mm_model.specs.declared.refusal.Refusal.{Refusal}
+use Rattle.mm_basic.specs.declared.found.Found.{Found}
+use Rattle.mm_basic.specs.declared.found.Found.TheVariants.{Repeat, Change}
 use Rattle.mm_basic.specs.declared.found.Ready.{Ready}
 use Rattle.mm_basic.specs.declared.call.Turn.{Turn}
-use Rattle.mm_basic.specs.Turns.{Turns, TurnContinues}
+use Rattle.mm_basic.specs.Turns.{Turns, TurnContinues, turn_fault, turn_of, last_turn}
+use Rattle.mm_basic.specs.Steps.{fault_in}
+use Rattle.mm_basic.specs.Asks.{Blames}
+use Rattle.mm_basic.proofs.Asking.{blamed, read_blamed}
 use Rattle.mm_basic.proofs.Continuing.{read_on, written_on}
 
 first_on : (meaning : Meaning) (old new : Standing) (offer : List ℕ) (b : Batch) (turn : Turn) → Turns meaning None old new offer b turn → TurnContinues meaning None old new offer b turn
@@ -25,3 +34,21 @@ last_on meaning ready old new offer b turn t key y stands next_is = record {
 pub turns_on : (meaning : Meaning) (call : Option Ready) (old new : Standing) (offer : List ℕ) (b : Batch) (turn : Turn) → Turns meaning call old new offer b turn → TurnContinues meaning call old new offer b turn
 turns_on meaning None old new offer b turn t = first_on meaning old new offer b turn t
 turns_on meaning (Some ready) old new offer b turn t = last_on meaning ready old new offer b turn t
+
+found_fault : (found : Result Found Refusal) → turn_fault (turn_of found) ≡ fault_in found
+found_fault (Err why) = refl
+found_fault (Ok (Repeat answer)) = refl
+found_fault (Ok (Change ready)) = refl
+
+written_fault : (written : Result BatchAnswer StepFault) → turn_fault (last_turn written) ≡ result_err written
+written_fault (Ok answer) = refl
+written_fault (Err fault) = refl
+
+-- the count of faults rises where a turn hands one on
+pub turn_blamed : (meaning : Meaning) (call : Option Ready) (old new : Standing) (offer : List ℕ) (b : Batch) (turn : Turn) → Turns meaning call old new offer b turn → Blames (turn_fault turn) old.faults new.faults
+turn_blamed meaning None old new offer b turn t =
+    subst (λ (f : Option StepFault). Blames f old.faults new.faults) (sym (ap turn_fault t.gives ∙ found_fault t.found))
+    (read_blamed meaning old new offer b t.found t.reads)
+turn_blamed meaning (Some ready) old new offer b turn t =
+    subst (λ (f : Option StepFault). Blames f old.faults new.faults) (sym (ap turn_fault t.gives ∙ written_fault t.written))
+    (blamed (result_err t.written) old new t.writes.goes.is_made t.writes.goes.ends)

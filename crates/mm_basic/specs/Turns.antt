@@ -19,7 +19,7 @@ use Rattle.mm_seal.specs.Snapshot.{Snapshot, ReadsParts}
 use Rattle.mm_model.specs.Instance.{Instance, basic}
 use Rattle.mm_model.specs.History.{History}
 use Rattle.mm_model.specs.Standing.{StandsFor, cell_of}
-use Rattle.mm_basic.specs.Steps.{Reads, Writes}
+use Rattle.mm_basic.specs.Steps.{fault_of, Reads, Writes}
 use Rattle.mm_basic.specs.Continuity.{with_batch, expected, IsAskedFrom, ReadsOn, WritesOn}
 
 -- what a turn gives, by what it finds
@@ -32,6 +32,12 @@ turn_of (Ok (Change ready)) = Going (Some ready)
 abbrev pub last_turn : Result BatchAnswer StepFault → Turn
 last_turn (Err fault) = Refused (Device fault)
 last_turn (Ok answer) = Done answer
+
+-- the fault of a device step that a turn hands on
+abbrev pub turn_fault : Turn → Option StepFault
+turn_fault (Going call) = None
+turn_fault (Done answer) = None
+turn_fault (Refused why) = fault_of why
 
 -- the first turn of a call
 pub record TurnsFirst (meaning : Meaning) (old new : Standing) (offer : List ℕ) (b : Batch) (turn : Turn) : Type 0 where

@@ -56,7 +56,8 @@ impl Call {
     ghost use Rattle.mm_module.specs.Batches.{batch_of};
     ghost use Rattle.mm_model.specs.Long.{is_long};
     ghost use Rattle.mm_basic.specs.Steps.{number_of};
-    ghost use Rattle.mm_basic.specs.Turns.{Turns, TurnContinues};
+    ghost use Rattle.mm_basic.specs.Asks.{Blames};
+    ghost use Rattle.mm_basic.specs.Turns.{Turns, TurnContinues, turn_fault};
 
     /// The number of the next device step, from 1.
     pub fn next_step(&self) -> u8
@@ -79,8 +80,8 @@ impl Call {
     }
 
     /// Makes the next device step. The first reads the cell, and runs the batch in memory; the last writes the
-    /// cell, which commits the batch, and takes no memory. The offer, the batch and the module are read by the
-    /// first alone.
+    /// cell, which commits the batch, by a function that has no allocator. The offer, the batch and the module are
+    /// read by the first alone.
     pub fn advance<M: Module, P: Platform>(
         self,
         alloc: Global,
@@ -92,6 +93,7 @@ impl Call {
         requires { is_long (batch_of batch) ≡ false }
         ensures turns { Turns (M.meaning «module».now) self (P.standing platform.old) (P.standing platform.new) offer.now
             (batch_of batch.entry) result }
+        ensures faults { Blames (turn_fault result) (P.standing platform.old).faults (P.standing platform.new).faults }
         ensures continuity { TurnContinues (M.meaning «module».now) self (P.standing platform.old) (P.standing platform.new) offer.now
             (batch_of batch.entry) result }
     {

@@ -31,7 +31,7 @@ pub fn read<M: Module, P: Platform>(
     }
 }
 
-/// The last step: writes the cell, which commits the batch. Takes no memory.
+/// The last step: writes the cell, which commits the batch. It has no allocator, so it takes no memory.
 pub fn write<P: Platform>(ready: Ready, platform: &mut P) -> Result<BatchAnswer, StepFault>
     ensures { Writes ready (P.standing platform.old) (P.standing platform.new) result }
 {

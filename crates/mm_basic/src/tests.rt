@@ -16,7 +16,8 @@ const KEY: [u8; 32] = [7; 32];
 
 /// Calls one after another: the stop that is planned, what is asked on which snapshot, and what comes; behind it how
 /// often the cell was to be written by then. At `new` there is another platform. A repeat is answered and written no
-/// more; a call that is stopped is committed where its write has its effect, and by nothing else.
+/// more; a call that is stopped is committed where its write has its effect, and by nothing else. `parts` makes the
+/// call by `prepare`, `commit` and `answer`, and `turns` step by step.
 const CALLS: &str = "\
 new
 quiet ask 0 add 5 => ok 1 5, 1
@@ -49,15 +50,33 @@ quiet ask 0 add 1\tadd 1 => no 11, 1
 new
 quiet batch 0 add 5 => ok 1 5, 1
 quiet ask 0 add 5 => again 1 5, 1
+new
+quiet parts 0 add 5 => ok 1 5, 1
+quiet parts 0 add 5 => again 1 5, 1
+quiet parts 0 add 7 => no 11, 1
+cut-2 parts 2 add 2 => no 3, 2
+quiet turns 2 add 2 => again 2 7, 2
+quiet turns 3 add 1 => ok 3 8, 3
+done-2 turns 4 add 1 => no 3, 4
+quiet parts 4 add 1 => again 4 9, 4
 ";
 
 /// A line of the table.
 #[derive(Drop)]
 struct Row<'a> {
     stop: Stop,
+    form: Form,
     number: usize,
     batch: Batch<'a>,
     said: &'a [u8],
+}
+
+/// How a call is made.
+#[derive(Clone, Copy)]
+enum Form {
+    Whole,
+    Parts,
+    Turns,
 }
 
 fn row_of(line: &str) -> Option<Row<'_>> {
@@ -69,6 +88,7 @@ fn row_of(line: &str) -> Option<Row<'_>> {
     let batch = batch_of(word, text.as_bytes());
     Some(Row {
         stop: stop_of(stop),
+        form: form_of(word),
         number,
         batch,
         said: said.as_bytes(),
@@ -79,6 +99,14 @@ fn batch_of<'a>(word: &str, text: &'a [u8]) -> Batch<'a> {
     match word {
         "batch" => Batch::Many(text),
         _ => Batch::One(text),
+    }
+}
+
+fn form_of(word: &str) -> Form {
+    match word {
+        "parts" => Form::Parts,
+        "turns" => Form::Turns,
+        _ => Form::Whole,
     }
 }
 
@@ -132,22 +160,31 @@ impl Host {
 
     fn call_once(&mut self, row: &Row<'_>) -> Result<String, Fail> {
         self.platform.plan(row.stop, &[])?;
-        let came = self.ask(row.number, row.batch)?;
+        let came = self.ask(row.form, row.number, row.batch)?;
         self.platform.end_plan();
         self.platform.cycle()?;
         Ok(came)
     }
 
     /// Asks for a batch, offering the snapshot of this number, and says what came.
-    fn ask(&mut self, number: usize, batch: Batch<'_>) -> Result<String, Fail> {
+    fn ask(&mut self, form: Form, number: usize, batch: Batch<'_>) -> Result<String, Fail> {
         let offer = self.snapshots.get(number).ok_or("no snapshot")?.as_slice();
-        match batch {
-            Batch::One(request) => {
-                let came = ask_counter(self.alloc, &mut self.platform, offer, request);
+        let platform = &mut self.platform;
+        match (form, batch) {
+            (Form::Whole, Batch::One(request)) => {
+                let came = ask_counter(self.alloc, platform, offer, request);
                 self.one(came)
             }
-            Batch::Many(_) => {
-                let came = ask_counter_batch(self.alloc, &mut self.platform, offer, batch);
+            (Form::Whole, Batch::Many(_)) => {
+                let came = ask_counter_batch(self.alloc, platform, offer, batch);
+                self.many(came)
+            }
+            (Form::Parts, _) => {
+                let came = ask_in_parts(self.alloc, platform, offer, batch.text());
+                self.many(came)
+            }
+            (Form::Turns, _) => {
+                let came = ask_in_turns(self.alloc, platform, offer, batch);
                 self.many(came)
             }
         }
@@ -196,6 +233,36 @@ fn ask_counter_batch(
     batch: Batch<'_>,
 ) -> Result<BatchAnswer, Refusal> {
     ask_batch(alloc, &Counter, platform, offer, batch)
+}
+
+fn ask_in_parts(
+    alloc: Global,
+    platform: &mut MemPlatform,
+    offer: &[u8],
+    request: &[u8],
+) -> Result<BatchAnswer, Refusal> {
+    let prepared = prepare(alloc, &Counter, platform, offer, request)?;
+    match prepared.commit(platform) {
+        Err(fault) => Err(Refusal::Device(fault)),
+        Ok(committed) => Ok(committed.answer()),
+    }
+}
+
+fn ask_in_turns(
+    alloc: Global,
+    platform: &mut MemPlatform,
+    offer: &[u8],
+    batch: Batch<'_>,
+) -> Result<BatchAnswer, Refusal> {
+    let mut call = begin(batch)?;
+    for _ in 0..2 {
+        match call.advance(alloc, &Counter, platform, offer, batch) {
+            Turn::Going(next) => call = next,
+            Turn::Done(answer) => return Ok(answer),
+            Turn::Refused(refusal) => return Err(refusal),
+        }
+    }
+    Err(Refusal::Long)
 }
 
 fn line(alloc: Global, again: bool, position: u64) -> Result<String, Fail> {
@@ -292,12 +359,22 @@ fn offers_are_refused_in_order(rt: HostRuntime) -> Result<(), Fail> {
 fn a_long_request_a_blank_cell_and_another_cell_are_refused(rt: HostRuntime) -> Result<(), Fail> {
     let alloc = rt.alloc();
     let mut host = Host::new(alloc)?;
-    assert_eq!(rt; host.ask(0, Batch::One(b"add 1\n"))?.as_str(), "no 2");
-    assert_eq!(rt; host.ask(0, Batch::Many(&[b'\t'; 64]))?.as_str(), "no 2");
+    assert_eq!(rt;
+        host.ask(Form::Whole, 0, Batch::One(b"add 1\n"))?.as_str(),
+        "no 2"
+    );
+    assert_eq!(rt;
+        host.ask(Form::Whole, 0, Batch::Many(&[b'\t'; 64]))?
+            .as_str(),
+        "no 2"
+    );
     assert_eq!(rt; begin(Batch::One(&[b'a'; 4097])).err(), Some(Refusal::Long));
     for (byte, code) in [(0, "no 4"), (1, "no 5")] {
         host.platform = MemPlatform::new(alloc, &[byte; 104]);
-        assert_eq!(rt; host.ask(0, Batch::One(b"read"))?.as_str(), code);
+        assert_eq!(rt;
+            host.ask(Form::Whole, 0, Batch::One(b"read"))?.as_str(),
+            code
+        );
     }
     Ok(())
 }

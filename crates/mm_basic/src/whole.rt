@@ -1,12 +1,14 @@
 //! Whole calls.
 
 ghost use Rattle.std.specs.Prelude.{◌≡◌, true, false, Err, IfOk, length};
+ghost use Rattle.std.specs.Result.{result_err};
 ghost use Rattle.mm_module.specs.Batch.{One};
 ghost use Rattle.mm_module.specs.Batches.{batch_of};
 ghost use Rattle.mm_model.specs.Long.{is_long};
+ghost use Rattle.mm_model.specs.Fit.{IsFit};
 ghost use Rattle.mm_basic.specs.Steps.{fault_in, Reads};
 ghost use Rattle.mm_basic.specs.Continuity.{ReadContinues, CommitContinues, Continues, IsComplete};
-ghost use Rattle.mm_basic.specs.Asks.{Calls, Commits, CommitsFound, LeavesUntouched, Blames, StepsBy, whole_in};
+ghost use Rattle.mm_basic.specs.Asks.{Calls, Commits, CommitsFound, LeavesUntouched, Blames, StepsBy, whole, whole_in};
 
 use crate::found::Found;
 use crate::step::{read, write};
@@ -57,6 +59,7 @@ pub fn prepare<M: Module, P: Platform>(
     ensures reads { is_long (One request.now) ≡ false →
         Reads (M.meaning «module».now) (P.standing platform.old) (P.standing platform.new)
         offer.now (One request.now) result }
+    ensures faults { Blames (fault_in result) (P.standing platform.old).faults (P.standing platform.new).faults }
     ensures continuity { is_long (One request.now) ≡ false →
         ReadContinues (M.meaning «module».now) (P.standing platform.old) (P.standing platform.new)
         offer.now (One request.now) result }
@@ -76,6 +79,7 @@ fn prepare_batch<M: Module, P: Platform>(
     ensures reads { is_long (batch_of batch.entry) ≡ false →
         Reads (M.meaning «module».now) (P.standing platform.old) (P.standing platform.new)
         offer.now (batch_of batch.entry) result }
+    ensures faults { Blames (fault_in result) (P.standing platform.old).faults (P.standing platform.new).faults }
     ensures continuity { is_long (batch_of batch.entry) ≡ false →
         ReadContinues (M.meaning «module».now) (P.standing platform.old) (P.standing platform.new)
         offer.now (batch_of batch.entry) result }
@@ -93,6 +97,7 @@ impl Prepared {
     /// Makes the writing step, which commits the request; a repeat has none. Takes no memory.
     pub fn commit<P: Platform>(self, platform: &mut P) -> Result<Committed, StepFault>
         ensures commits { CommitsFound self (P.standing platform.old) (P.standing platform.new) result }
+        ensures faults { Blames (result_err result) (P.standing platform.old).faults (P.standing platform.new).faults }
         ensures continuity { CommitContinues self (P.standing platform.old) (P.standing platform.new) result }
     {
         self.write(platform)
@@ -163,6 +168,7 @@ pub fn ask_batch<M: Module, P: Platform>(
     ensures faults { Blames (fault_in result) (P.standing platform.old).faults (P.standing platform.new).faults }
     ensures steps { is_long (batch_of batch.entry) ≡ false →
         StepsBy result (P.standing platform.old) (P.standing platform.new) }
+    ensures fits { IfOk result (λ answer. IsFit (batch_of batch.entry) answer) }
     ensures continuity { Continues (M.meaning «module».now) (P.standing platform.old) (P.standing platform.new)
         offer.now (batch_of batch.entry) result }
     ensures complete { IsComplete (M.meaning «module».now) (P.standing platform.old) (P.standing platform.new)
@@ -185,6 +191,7 @@ pub fn ask<M: Module, P: Platform>(
     ensures faults { Blames (fault_in result) (P.standing platform.old).faults (P.standing platform.new).faults }
     ensures steps { is_long (One request.now) ≡ false →
         StepsBy (whole_in result) (P.standing platform.old) (P.standing platform.new) }
+    ensures fits { IfOk result (λ answer. IsFit (One request.now) (whole answer)) }
     ensures continuity { Continues (M.meaning «module».now) (P.standing platform.old) (P.standing platform.new)
         offer.now (One request.now) (whole_in result) }
     ensures complete { IsComplete (M.meaning «module».now) (P.standing platform.old) (P.standing platform.new)

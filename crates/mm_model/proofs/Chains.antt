@@ -3,7 +3,8 @@ use Rattle.std.proofs.Common.{ℕ, ◌≡◌, ◌≢◌, List, [], ◌∷◌, �
 use Rattle.std.specs.List.{AllByRecursion, Contains}
 use Rattle.sha2.specs.Sha256.{sha256}
 use Rattle.sha2.proofs.Facts256.{length-sha256}
-use Rattle.mm_model.specs.Chains.{after, trail}
+use Rattle.mm_module.specs.Batch.{Batch}
+use Rattle.mm_model.specs.Chains.{after, trail, link, link_message}
 use Rattle.mm_model.specs.Messages.{Within, IsClear}
 use Rattle.mm_model.proofs.Lists.{ends, by_last, each_left, each_right, each_append}
 
@@ -18,6 +19,10 @@ trail-append f s (x ∷ xs) ys = ap (λ v. f s x ∷ v) (trail-append f (sha256 
 pub length-after : {A : Type 0} (f : List ℕ → A → List ℕ) (s : List ℕ) (xs : List A) → length s ≡ 32 → length (after f s xs) ≡ 32
 length-after f s [] h = h
 length-after f s (x ∷ xs) h = length-after f (sha256 (f s x)) xs (length-sha256 (f s x))
+
+pub length-link : (s : List ℕ) (b : Batch) → length (link s b) ≡ 32
+unfolding link
+length-link s b = length-sha256 (link_message s b)
 
 -- A chain that tells its items: no listed step leads back to the start, and a message tells the digest before
 -- it and its item.

@@ -195,15 +195,35 @@ fn numbers_refusals_and_says_why(rt: HostRuntime) -> Result<(), Fail> {
     let refusals = [
         (Refusal::Memory, 1, "out of memory"),
         (Refusal::Long, 2, "the request is too long"),
-        (Refusal::Device(StepFault::Failed), 3, "a step of the platform failed"),
-        (Refusal::Device(StepFault::Off), 3, "a step of the platform failed"),
+        (
+            Refusal::Device(StepFault::Failed),
+            3,
+            "a step of the platform failed",
+        ),
+        (
+            Refusal::Device(StepFault::Off),
+            3,
+            "a step of the platform failed",
+        ),
         (Refusal::Blank, 4, "the cell is blank"),
         (Refusal::Cell, 5, "the cell isn't one of this module"),
         (Refusal::Lost, 6, "power was lost inside an open segment"),
         (Refusal::Form, 7, "the offer isn't a snapshot"),
-        (Refusal::Kind, 8, "the snapshot is of another variant or module"),
-        (Refusal::State, 9, "the snapshot's state isn't one of the module's"),
-        (Refusal::Tag, 10, "the snapshot isn't sealed under the platform's key"),
+        (
+            Refusal::Kind,
+            8,
+            "the snapshot is of another variant or module",
+        ),
+        (
+            Refusal::State,
+            9,
+            "the snapshot's state isn't one of the module's",
+        ),
+        (
+            Refusal::Tag,
+            10,
+            "the snapshot isn't sealed under the platform's key",
+        ),
         (Refusal::Stale, 11, "the snapshot is stale"),
         (Refusal::Full, 12, "there are no positions left"),
     ];

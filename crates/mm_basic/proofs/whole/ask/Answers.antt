@@ -1,11 +1,12 @@
 use Rattle.std.proofs.Common.{Ok, Err, subst}
 use Rattle.mm_module.specs.Batch.{One}
 use Rattle.mm_model.specs.declared.answer.BatchAnswer.{BatchAnswer}
+use Rattle.mm_model.specs.Fit.{IsFit}
 use Rattle.mm_basic.specs.Asks.{Calls}
 use Rattle.mm_basic.specs.Asks.{whole}
 use Rattle.mm_basic.proofs.Continuing.{continues}
 use Rattle.mm_basic.proofs.Completeness.{complete}
-use Rattle.mm_basic.proofs.Asking.{untouched, blames, steps, wholly}
+use Rattle.mm_basic.proofs.Asking.{untouched, blames, steps, fits, wholly}
 use Rattle.mm_basic.proofs.whole.ask.Goals as goal
 
 pub returns-in-Err-clause-untouched : goal.returns-in-Err-clause-untouched
@@ -20,7 +21,7 @@ returns-in-Err-clause-faults g c =
 
 pub returns-in-Err-clause-steps : goal.returns-in-Err-clause-steps
 returns-in-Err-clause-steps g c =
-    steps (g.M.Module.meaning c.args.module.now) (g.P.Device.standing c.args.platform.now)
+    steps (g.M.Module.meaning c.args.module.now) (g.met.M.Module.is_lawful c.args.module.now) (g.P.Device.standing c.args.platform.now)
     (g.P.Device.standing c.call_one.new.platform) c.args.offer.now (One c.args.request.now) (Err c.in-Err.refusal) c.in-Err.ensures.calls
 
 pub returns-in-Ok-clause-calls : goal.returns-in-Ok-clause-calls
@@ -40,6 +41,13 @@ pub returns-in-Err-clause-complete : goal.returns-in-Err-clause-complete
 returns-in-Err-clause-complete g c =
     complete (g.M.Module.meaning c.args.module.now) (g.P.Device.standing c.args.platform.now)
     (g.P.Device.standing c.call_one.new.platform) c.args.offer.now (One c.args.request.now) (Err c.in-Err.refusal) c.in-Err.ensures.calls
+
+pub returns-in-Ok-clause-fits : goal.returns-in-Ok-clause-fits
+returns-in-Ok-clause-fits g c =
+    subst (λ (a : BatchAnswer). IsFit (One c.args.request.now) a)
+    (wholly c.in-Ok.answer c.into_one.result c.into_one.ensures.again c.into_one.ensures.position c.into_one.ensures.output c.into_one.ensures.snapshot)
+    (fits (g.M.Module.meaning c.args.module.now) (g.met.M.Module.is_lawful c.args.module.now) (g.P.Device.standing c.args.platform.now)
+    (g.P.Device.standing c.call_one.new.platform) c.args.offer.now (One c.args.request.now) (Ok c.in-Ok.answer) c.in-Ok.ensures.calls)
 
 pub returns-in-Ok-clause-continuity : goal.returns-in-Ok-clause-continuity
 returns-in-Ok-clause-continuity g c =

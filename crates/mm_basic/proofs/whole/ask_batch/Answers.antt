@@ -1,7 +1,7 @@
 use Rattle.mm_module.specs.Batches.{batch_of}
 use Rattle.mm_basic.proofs.Continuing.{continues}
 use Rattle.mm_basic.proofs.Completeness.{complete}
-use Rattle.mm_basic.proofs.Asking.{untouched, blames, steps}
+use Rattle.mm_basic.proofs.Asking.{untouched, blames, steps, fits}
 use Rattle.mm_basic.proofs.whole.ask_batch.Goals as goal
 
 pub returns-clause-untouched : goal.returns-clause-untouched
@@ -16,7 +16,12 @@ returns-clause-faults g c =
 
 pub returns-clause-steps : goal.returns-clause-steps
 returns-clause-steps g c =
-    steps (g.M.Module.meaning c.args.module.now) (g.P.Device.standing c.args.platform.now)
+    steps (g.M.Module.meaning c.args.module.now) (g.met.M.Module.is_lawful c.args.module.now) (g.P.Device.standing c.args.platform.now)
+    (g.P.Device.standing c.call.new.platform) c.args.offer.now (batch_of c.args.batch) c.call.result c.call.ensures
+
+pub returns-clause-fits : goal.returns-clause-fits
+returns-clause-fits g c =
+    fits (g.M.Module.meaning c.args.module.now) (g.met.M.Module.is_lawful c.args.module.now) (g.P.Device.standing c.args.platform.now)
     (g.P.Device.standing c.call.new.platform) c.args.offer.now (batch_of c.args.batch) c.call.result c.call.ensures
 
 pub returns-clause-continuity : goal.returns-clause-continuity

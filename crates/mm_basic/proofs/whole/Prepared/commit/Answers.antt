@@ -1,6 +1,11 @@
+use Rattle.mm_basic.proofs.Asking.{commit_blamed}
 use Rattle.mm_basic.proofs.Continuing.{commits_on}
 use Rattle.mm_basic.proofs.whole.Prepared.commit.Goals as goal
 
 pub returns-clause-continuity : goal.returns-clause-continuity
 returns-clause-continuity g c =
     commits_on c.args.self (g.P.Device.standing c.args.platform.now) (g.P.Device.standing c.write.new.platform) c.write.result c.write.ensures
+
+pub returns-clause-faults : goal.returns-clause-faults
+returns-clause-faults g c =
+    commit_blamed c.args.self (g.P.Device.standing c.args.platform.now) (g.P.Device.standing c.write.new.platform) c.write.result c.write.ensures
