@@ -1,15 +1,17 @@
 -- Each turn makes exactly the device step that comes next.
-use Rattle.std.proofs.Common.{◌≡◌, ℕ, List, Option, Result, Ok, Err, refl, sym, ap, ◌∙◌, subst}
+use Rattle.std.proofs.Common.{◌≡◌, ℕ, Bool, List, Option, None, Some, Result, Ok, Err, refl, sym, ap, ◌∙◌, subst}
 use Rattle.std.specs.Result.{result_err}
 use Rattle.mm_platform.specs.declared.fault.StepFault.{StepFault}
+use Rattle.mm_platform.specs.declared.fault.StepFault.TheVariants.{Failed, Off}
 use Rattle.mm_platform.specs.Standing.{Standing}
-use Rattle.mm_platform.specs.Steps.{Act, ReadCell, WriteCell, ReadRegister, ResetRegister, ExtendRegister, Goes}
+use Rattle.mm_platform.specs.Steps.{Act, ReadCell, WriteCell, ReadRegister, ResetRegister, ExtendRegister, EndsBy, Goes}
 use Rattle.mm_module.specs.Meaning.{Meaning}
 use Rattle.mm_module.specs.Batch.{Batch}
 use Rattle.mm_seal.specs.declared.cell.Cell.{Cell}
 use Rattle.mm_model.specs.declared.answer.BatchAnswer.{BatchAnswer}
 use Rattle.mm_model.specs.declared.refusal.Refusal.{Refusal}
 use Rattle.mm_basic.specs.Steps.{fault_in}
+use Rattle.mm_basic.specs.Asks.{Blames}
 use Rattle.mm_opt.specs.declared.found.Opening.{Opening}
 use Rattle.mm_opt.specs.declared.found.Found.{Found}
 use Rattle.mm_opt.specs.declared.found.Found.TheVariants.{Repeat, Inside, Opens}
@@ -19,6 +21,7 @@ use Rattle.mm_opt.specs.declared.segment.Segment.{Segment}
 use Rattle.mm_opt.specs.declared.segment.Segment.TheVariants.{Open, Shut}
 use Rattle.mm_opt.specs.declared.stage.Stage.{Stage}
 use Rattle.mm_opt.specs.declared.stage.Stage.TheVariants as stage
+use Rattle.mm_opt.specs.declared.stage.Change.TheVariants as change
 use Rattle.mm_opt.specs.declared.stage.CheckpointStage.{CheckpointStage}
 use Rattle.mm_opt.specs.declared.stage.CheckpointStage.TheVariants as checkpoint_stage
 use Rattle.mm_opt.specs.declared.call.Turn.{Turn}
@@ -71,26 +74,37 @@ acts_at (stage.Seen cell) meaning old new offer b turn t = record {
   goes = handed ReadRegister old t.step.middle (fault_in t.outcome) (found_turn t.outcome) turn (found_fault t.outcome) t.gives t.step.goes;
   room = room_only t.outcome t.step.middle new t.step.room;
 }
-acts_at (stage.Inside ready) meaning old new offer b turn t = record {
+acts_at (stage.Changing (change.Inside ready)) meaning old new offer b turn t = record {
   middle = new;
   goes = handed (ExtendRegister ready.value.bytes) old new (result_err t.outcome) (last_turn t.outcome) turn (last_fault t.outcome) t.gives t.step.goes;
   room = refl;
 }
-acts_at (stage.Emptying opening) meaning old new offer b turn t = record {
+acts_at (stage.Changing (change.Emptying opening)) meaning old new offer b turn t = record {
   middle = new;
   goes = handed ResetRegister old new (result_err t.outcome) (emptied_turn t.outcome) turn (emptied_fault t.outcome) t.gives t.step.goes;
   room = refl;
 }
-acts_at (stage.Placing opening) meaning old new offer b turn t = record {
+acts_at (stage.Changing (change.Placing opening)) meaning old new offer b turn t = record {
   middle = new;
   goes = handed (ExtendRegister opening.value.bytes) old new (result_err t.outcome) (placed_turn t.outcome) turn (placed_fault t.outcome) t.gives t.step.goes;
   room = refl;
 }
-acts_at (stage.Writing opening) meaning old new offer b turn t = record {
+acts_at (stage.Changing (change.Writing opening)) meaning old new offer b turn t = record {
   middle = new;
   goes = handed (WriteCell opening.next) old new (result_err t.outcome) (last_turn t.outcome) turn (last_fault t.outcome) t.gives t.step.goes;
   room = refl;
 }
+
+-- the count of faults rises where a turn hands one on
+blamed : (fault : Option StepFault) (old new : Standing) (made : Bool) → EndsBy fault old new made → Blames fault old.faults new.faults
+blamed None old new made e = e.faults
+blamed (Some Failed) old new made e = e.faults
+blamed (Some Off) old new made e = e.faults
+
+pub turn_blamed : (call : Stage) (old new : Standing) (turn : Turn) → ActsAt call old new turn → Blames (fault_turned turn) old.faults new.faults
+turn_blamed call old new turn a =
+    subst (λ (s : Standing). Blames (fault_turned turn) old.faults s.faults) (sym a.room)
+    (blamed (fault_turned turn) old a.middle a.goes.is_made a.goes.ends)
 
 -- the same of a checkpoint
 looked_fault : (found : Result Segment CheckpointRefusal) → closing_fault_in found ≡ closing_fault_turned (looked_turn found)

@@ -6,7 +6,7 @@ use Rattle.mm_platform.specs.Standing.{Standing}
 use Rattle.mm_platform.specs.Steps.{Act, ReadCell, ReadRegister, Goes, beside}
 use Rattle.mm_platform.proofs.Calling.{beside-none, beside-beside}
 use Rattle.mm_module.specs.Meaning.{Meaning}
-use Rattle.mm_module.specs.Batch.{Batch, size_of}
+use Rattle.mm_module.specs.Batch.{Batch}
 use Rattle.mm_seal.specs.declared.cell.Cell.{Cell}
 use Rattle.mm_model.specs.Long.{is_long}
 use Rattle.mm_model.specs.declared.answer.BatchAnswer.{BatchAnswer}
@@ -111,61 +111,16 @@ calls_untouched false meaning old new offer b result is c =
 pub untouched : (meaning : Meaning) (old new : Standing) (offer : List ℕ) (b : Batch) (result : Result BatchAnswer Refusal) → Calls meaning old new offer b result → LeavesUntouched result old new
 untouched meaning old new offer b result c = calls_untouched (is_long b) meaning old new offer b result refl c
 
--- an answer has as many outputs as the batch has requests
-abbrev pub IsCounted : Batch → Result BatchAnswer Refusal → Type 0
-IsCounted b result = IfOk result (λ answer. length answer.outputs ≡ size_of b)
-
-abbrev IsCountedIn : Batch → Result BatchAnswer StepFault → Type 0
-IsCountedIn b written = IfOk written (λ answer. length answer.outputs ≡ size_of b)
-
-handed_counted : (b : Batch) (written : Result BatchAnswer StepFault) → IsCountedIn b written → IsCounted b (handed_on written)
-handed_counted b (Ok answer) is = is
-handed_counted b (Err fault) is = tt
-
-given_counted : (b : Batch) (written : Result BatchAnswer StepFault) (it : BatchAnswer) → IfOk written (λ given. given ≡ it) → length it.outputs ≡ size_of b → IsCountedIn b written
-given_counted b (Ok answer) it gives e = ap (λ (a : BatchAnswer). length a.outputs) gives ∙ e
-given_counted b (Err fault) it gives e = tt
-
-placed_counted : (placed : Result Opening StepFault) (b : Batch) (opening : Opening) (old new : Standing) (written : Result BatchAnswer StepFault) → IfOk placed (λ given. given ≡ opening) → PlacedOn placed old new written → length opening.answer.outputs ≡ size_of b → IsCountedIn b written
-placed_counted (Err fault) b opening old new written gives on e = subst (λ (w : Result BatchAnswer StepFault). IsCountedIn b w) (sym on.1) tt
-placed_counted (Ok it) b opening old new written gives on e =
-    given_counted b written it.answer on.gives (ap (λ (o : Opening). length o.answer.outputs) gives ∙ e)
-
-emptied_counted : (emptied : Result Opening StepFault) (b : Batch) (opening : Opening) (old new : Standing) (written : Result BatchAnswer StepFault) → IfOk emptied (λ given. given ≡ opening) → EmptiedOn emptied old new written → length opening.answer.outputs ≡ size_of b → IsCountedIn b written
-emptied_counted (Err fault) b opening old new written gives on e = subst (λ (w : Result BatchAnswer StepFault). IsCountedIn b w) (sym on.1) tt
-emptied_counted (Ok it) b opening old new written gives on e =
-    placed_counted on.placed b it on.middle new written on.places.gives on.on (ap (λ (o : Opening). length o.answer.outputs) gives ∙ e)
-
-commits_counted : (found : Found) (b : Batch) (old new : Standing) (written : Result BatchAnswer StepFault) → IsShaped b (Ok found) → CommitsFound found old new written → IsCountedIn b written
-commits_counted (Repeat answer) b old new written shape c = subst (λ (w : Result BatchAnswer StepFault). IsCountedIn b w) (sym c.1) shape.1
-commits_counted (Inside ready) b old new written shape c = given_counted b written ready.answer c.gives shape.1
-commits_counted (Opens opening) b old new written shape c =
-    emptied_counted c.emptied b opening c.middle new written c.empties.gives c.on shape.1
-
 -- what was found, once the register was read
-reads_shaped : (cell : Result Cell Refusal) (meaning : Meaning) (old new : Standing) (offer : List ℕ) (b : Batch) (found : Found) → ReadsOn meaning cell old new offer b (Ok found) → IsShaped b (Ok found)
+pub reads_shaped : (cell : Result Cell Refusal) (meaning : Meaning) (old new : Standing) (offer : List ℕ) (b : Batch) (found : Found) → ReadsOn meaning cell old new offer b (Ok found) → IsShaped (Ok found)
 reads_shaped (Err why) meaning old new offer b found on = let e : Ok found ≡ Err why = on.1 in absurd (cc)
 reads_shaped (Ok cell) meaning old new offer b found on = shaped meaning cell old new offer b (Ok found) on
-
-ends_counted : (found : Result Found Refusal) (meaning : Meaning) (offer : List ℕ) (b : Batch) (old middle new : Standing) (result : Result BatchAnswer Refusal) → Reads meaning old middle offer b found → Ends found middle new result → IsCounted b result
-ends_counted (Err why) meaning offer b old middle new result r e = subst (λ (x : Result BatchAnswer Refusal). IsCounted b x) (sym e.1) tt
-ends_counted (Ok found) meaning offer b old middle new result r e =
-    subst (λ (x : Result BatchAnswer Refusal). IsCounted b x) (sym e.gives)
-    (handed_counted b e.written (commits_counted found b middle new e.written (reads_shaped r.cell meaning r.middle middle offer b found r.on) e.commits))
-
-calls_counted : (t : Bool) (meaning : Meaning) (old new : Standing) (offer : List ℕ) (b : Batch) (result : Result BatchAnswer Refusal) → is_long b ≡ t → Calls meaning old new offer b result → IsCounted b result
-calls_counted true meaning old new offer b result is c = subst (λ (r : Result BatchAnswer Refusal). IsCounted b r) (sym (c.long is).1) tt
-calls_counted false meaning old new offer b result is c =
-    let a = c.asks is in ends_counted a.found meaning offer b old a.middle new result a.reads a.ends
-
-pub counted_outputs : (meaning : Meaning) (old new : Standing) (offer : List ℕ) (b : Batch) (result : Result BatchAnswer Refusal) → Calls meaning old new offer b result → IsCounted b result
-counted_outputs meaning old new offer b result c = calls_counted (is_long b) meaning old new offer b result refl c
 
 -- what a step counts
 first_counted : (fault : Option StepFault) (old new : Standing) → Goes ReadCell old new fault → OneStep old new
 first_counted fault old new g = (g.steps, g.writes)
 
-room_counted : (found : Result Found Refusal) (old new : Standing) → MakesRoom found old new → (new.steps ≡ old.steps) × (new.writes ≡ old.writes)
+pub room_counted : (found : Result Found Refusal) (old new : Standing) → MakesRoom found old new → (new.steps ≡ old.steps) × (new.writes ≡ old.writes)
 room_counted (Err why) old new r = (ap (λ (s : Standing). s.steps) r, ap (λ (s : Standing). s.writes) r)
 room_counted (Ok (Repeat answer)) old new r = (ap (λ (s : Standing). s.steps) r, ap (λ (s : Standing). s.writes) r)
 room_counted (Ok (Inside ready)) old new r = (ap (λ (s : Standing). s.steps) r.same, ap (λ (s : Standing). s.writes) r.same)
@@ -215,7 +170,7 @@ reads_stepped (Ok cell) meaning old middle new offer b why r on =
     twice_refused why old new (shaped meaning cell middle new offer b (Err why) on)
     (second_counted meaning cell offer b (Err why) old middle new (first_counted None old middle r.goes) on)
 
-reads_counted : (cell : Result Cell Refusal) (meaning : Meaning) (old middle new : Standing) (offer : List ℕ) (b : Batch) (found : Found) → ReadsCell meaning.id old middle cell → ReadsOn meaning cell middle new offer b (Ok found) → TwoSteps old new
+pub reads_counted : (cell : Result Cell Refusal) (meaning : Meaning) (old middle new : Standing) (offer : List ℕ) (b : Batch) (found : Found) → ReadsCell meaning.id old middle cell → ReadsOn meaning cell middle new offer b (Ok found) → TwoSteps old new
 reads_counted (Err why) meaning old middle new offer b found r on = let e : Ok found ≡ Err why = on.1 in absurd (cc)
 reads_counted (Ok cell) meaning old middle new offer b found r on =
     second_counted meaning cell offer b (Ok found) old middle new (first_counted None old middle r.goes) on
@@ -249,14 +204,14 @@ emptied_stepped (Ok it) written opening old middle next new two e p on =
     placed_stepped on.placed written it old next on.middle new (p.goes.steps ∙ ap counted two.0, p.goes.writes ∙ two.1)
     (ap (λ (o : Opening). o.answer.again) p.gives ∙ e) on.places on.on
 
-commits_stepped : (found : Found) (written : Result BatchAnswer StepFault) (b : Batch) (old middle new : Standing) → TwoSteps old middle → IsShaped b (Ok found) → CommitsFound found middle new written → StepsBy (handed_on written) old new
+commits_stepped : (found : Found) (written : Result BatchAnswer StepFault) (b : Batch) (old middle new : Standing) → TwoSteps old middle → IsShaped (Ok found) → CommitsFound found middle new written → StepsBy (handed_on written) old new
 commits_stepped (Repeat answer) written b old middle new two shape c =
     subst (λ (w : Result BatchAnswer StepFault). StepsBy (handed_on w) old new) (sym c.1)
-    (subst (λ (t : Bool). StepsAnswered t old new) (sym shape.0)
+    (subst (λ (t : Bool). StepsAnswered t old new) (sym shape)
     (subst (λ (s : Standing). TwoSteps old s) (sym c.0) two))
-commits_stepped (Inside ready) written b old middle new two shape c = extended_stepped written ready old middle new two shape.0 c
+commits_stepped (Inside ready) written b old middle new two shape c = extended_stepped written ready old middle new two shape c
 commits_stepped (Opens opening) written b old middle new two shape c =
-    emptied_stepped c.emptied written opening old middle c.middle new two shape.0 c.empties c.on
+    emptied_stepped c.emptied written opening old middle c.middle new two shape c.empties c.on
 
 ends_stepped : (found : Result Found Refusal) (meaning : Meaning) (offer : List ℕ) (b : Batch) (old middle new : Standing) (result : Result BatchAnswer Refusal) → Reads meaning old middle offer b found → Ends found middle new result → StepsBy result old new
 ends_stepped (Err why) meaning offer b old middle new result r e =

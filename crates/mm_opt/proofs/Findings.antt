@@ -4,8 +4,7 @@ use Rattle.mm_platform.specs.declared.fault.StepFault.{StepFault}
 use Rattle.mm_platform.specs.Standing.{Item, Standing, values_of, register_of}
 use Rattle.mm_platform.specs.Steps.{ReadRegister, Goes}
 use Rattle.mm_module.specs.Meaning.{Meaning}
-use Rattle.mm_module.specs.Batch.{Batch, size_of, members_of}
-use Rattle.mm_module.proofs.RunLaws.{length-outputs_from}
+use Rattle.mm_module.specs.Batch.{Batch}
 use Rattle.mm_seal.specs.declared.cell.Cell.{Cell}
 use Rattle.mm_seal.specs.declared.cell.CellFault.{CellFault}
 use Rattle.mm_seal.specs.declared.cell.CellFault.TheVariants.{Blank, Cell as Unspelled}
@@ -42,15 +41,16 @@ no_fault_or found result o =
 
 -- the second step, by what it found and the room that was made
 pub reads_register : (meaning : Meaning) (cell : Cell) (old middle new : Standing) (offer : List ℕ) (b : Batch) (register : List ℕ) (found : Found) (result : Result Found Refusal)
-    → Goes ReadRegister old middle None → ((items : List Item) → middle.items ≡ Some items → register ≡ register_of (values_of items))
+    → Goes ReadRegister old middle None → ((items : List Item) → middle.items ≡ Some items → register ≡ register_of (values_of items)) → length register ≡ 32
     → FindsIn meaning cell register offer b (Ok found) → OrMemory (Ok found) result → MakesRoom result middle new
     → ReadsRegister meaning cell old new offer b result
-reads_register meaning cell old middle new offer b register found result goes told finds or room = record {
+reads_register meaning cell old middle new offer b register found result goes told size finds or room = record {
   middle = middle;
   goes = subst (λ (f : Option StepFault). Goes ReadRegister old middle f) (sym (no_fault_or found result or)) goes;
   finds = λ (h : fault_in result ≡ None). record {
     register = register;
     told = told;
+    size = size;
     finds = record {
       taken = finds.taken;
       reads = finds.reads;
@@ -137,15 +137,12 @@ first_refused id old new why r =
     let f = r.finds h in
     subst (λ (c : Result Cell Refusal). IsFirstIn c) (sym f.sees.found_is) (first_cell_in id f.sees.read))
 
--- an answer found says whether it is a repeat's, and has an output for each request
-abbrev pub IsAnswerTo : Batch → Bool → BatchAnswer → Type 0
-IsAnswerTo b again answer = (answer.again ≡ again) × (length answer.outputs ≡ size_of b)
-
-abbrev pub IsShaped : Batch → Result Found Refusal → Type 0
-IsShaped b (Err why) = IsSecond why
-IsShaped b (Ok (Repeat answer)) = IsAnswerTo b true answer
-IsShaped b (Ok (Inside ready)) = IsAnswerTo b false ready.answer
-IsShaped b (Ok (Opens opening)) = IsAnswerTo b false opening.answer
+-- an answer found says whether it is a repeat's
+abbrev pub IsShaped : Result Found Refusal → Type 0
+IsShaped (Err why) = IsSecond why
+IsShaped (Ok (Repeat answer)) = answer.again ≡ true
+IsShaped (Ok (Inside ready)) = ready.answer.again ≡ false
+IsShaped (Ok (Opens opening)) = opening.answer.again ≡ false
 
 abbrev IsSecondIn : Result Bool Refusal → Type 0
 IsSecondIn (Ok again) = Unit {0}
@@ -164,45 +161,44 @@ second_weighed false t v fits = tt
 second_weighed true false v fits = tt
 second_weighed true true v fits = second_admitted v fits
 
-shaped_change : (flag : Bool) (value next : List ℕ) (answer : BatchAnswer) (b : Batch) → IsAnswerTo b false answer → IsShaped b (Ok (change_by flag value next answer))
-shaped_change true value next answer b is = is
-shaped_change false value next answer b is = is
+shaped_change : (flag : Bool) (value next : List ℕ) (answer : BatchAnswer) → answer.again ≡ false → IsShaped (Ok (change_by flag value next answer))
+shaped_change true value next answer is = is
+shaped_change false value next answer is = is
 
-shaped_from : (e : Result Bool Refusal) (meaning : Meaning) (cell : Cell) (register : List ℕ) (offered : Content) (b : Batch) → IsSecondIn e → IsShaped b (found_from e cell (value_of cell b) (answer_of meaning cell register offered b))
+shaped_from : (e : Result Bool Refusal) (meaning : Meaning) (cell : Cell) (register : List ℕ) (offered : Content) (b : Batch) → IsSecondIn e → IsShaped (found_from e cell (value_of cell b) (answer_of meaning cell register offered b))
 shaped_from (Err why) meaning cell register offered b is = is
-shaped_from (Ok true) meaning cell register offered b is = (refl, length-outputs_from meaning offered.state (members_of b))
+shaped_from (Ok true) meaning cell register offered b is = refl
 shaped_from (Ok false) meaning cell register offered b is =
-    shaped_change cell.flag (value_of cell b) (opened_cell cell) (answer_of meaning cell register offered b false) b
-    (refl, length-outputs_from meaning offered.state (members_of b))
+    shaped_change cell.flag (value_of cell b) (opened_cell cell) (answer_of meaning cell register offered b false) refl
 
-shaped_at : (meaning : Meaning) (cell : Cell) (register : List ℕ) (taken : Result Snapshot PartsFault) (b : Batch) → IsShaped b (found_at meaning cell register taken b)
+shaped_at : (meaning : Meaning) (cell : Cell) (register : List ℕ) (taken : Result Snapshot PartsFault) (b : Batch) → IsShaped (found_at meaning cell register taken b)
 shaped_at meaning cell register (Err Form) b = tt
 shaped_at meaning cell register (Err Kind) b = tt
 shaped_at meaning cell register (Ok offered) b =
     shaped_from (examined meaning cell.key offered b (verdict_of cell register offered b)) meaning cell register offered.content b
     (second_weighed _ _ _ _)
 
-shaped_found_unless : (t : Bool) (b : Batch) (found : Result Found Refusal) → IsShaped b found → IsShaped b (found_unless t found)
-shaped_found_unless true b found is = tt
-shaped_found_unless false b found is = is
+shaped_found_unless : (t : Bool) (found : Result Found Refusal) → IsShaped found → IsShaped (found_unless t found)
+shaped_found_unless true found is = tt
+shaped_found_unless false found is = is
 
-shaped_or : (b : Batch) (x found : Result Found Refusal) → IsShaped b x → OrMemory x found → IsShaped b found
-shaped_or b (Err why) found h o = subst (λ (r : Result Found Refusal). IsShaped b r) (sym o) h
-shaped_or b (Ok it) found h o =
-    elim o [ inl e ↦ subst (λ (r : Result Found Refusal). IsShaped b r) (sym e) h | inr e ↦ subst (λ (r : Result Found Refusal). IsShaped b r) (sym e) tt ]
+shaped_or : (x found : Result Found Refusal) → IsShaped x → OrMemory x found → IsShaped found
+shaped_or (Err why) found h o = subst (λ (r : Result Found Refusal). IsShaped r) (sym o) h
+shaped_or (Ok it) found h o =
+    elim o [ inl e ↦ subst (λ (r : Result Found Refusal). IsShaped r) (sym e) h | inr e ↦ subst (λ (r : Result Found Refusal). IsShaped r) (sym e) tt ]
 
-shaped_in : (meaning : Meaning) (cell : Cell) (register offer : List ℕ) (b : Batch) (found : Result Found Refusal) → FindsIn meaning cell register offer b found → IsShaped b found
+shaped_in : (meaning : Meaning) (cell : Cell) (register offer : List ℕ) (b : Batch) (found : Result Found Refusal) → FindsIn meaning cell register offer b found → IsShaped found
 shaped_in meaning cell register offer b found f =
-    shaped_or b (found_in meaning cell register f.taken b) found
-    (shaped_found_unless (has_lost_power cell register) b (found_at meaning cell register f.taken b) (shaped_at meaning cell register f.taken b))
+    shaped_or (found_in meaning cell register f.taken b) found
+    (shaped_found_unless (has_lost_power cell register) (found_at meaning cell register f.taken b) (shaped_at meaning cell register f.taken b))
     f.found_is
 
-shaped_unless : (found : Result Found Refusal) (b : Batch) → (fault_in found ≡ None → IsShaped b found) → IsShaped b found
-shaped_unless (Err why) b h = second_unless why h
-shaped_unless (Ok found) b h = h refl
+shaped_unless : (found : Result Found Refusal) → (fault_in found ≡ None → IsShaped found) → IsShaped found
+shaped_unless (Err why) h = second_unless why h
+shaped_unless (Ok found) h = h refl
 
 -- what the second step finds
-pub shaped : (meaning : Meaning) (cell : Cell) (old new : Standing) (offer : List ℕ) (b : Batch) (found : Result Found Refusal) → ReadsRegister meaning cell old new offer b found → IsShaped b found
+pub shaped : (meaning : Meaning) (cell : Cell) (old new : Standing) (offer : List ℕ) (b : Batch) (found : Result Found Refusal) → ReadsRegister meaning cell old new offer b found → IsShaped found
 shaped meaning cell old new offer b found r =
-    shaped_unless found b (λ (h : fault_in found ≡ None).
+    shaped_unless found (λ (h : fault_in found ≡ None).
     let f = r.finds h in shaped_in meaning cell f.register offer b found f.finds)

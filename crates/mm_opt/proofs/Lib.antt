@@ -2,6 +2,8 @@ pub mod Guards
 pub mod FirstLaws
 pub mod Findings
 pub mod Asking
+pub mod Writing
+pub mod Fits
 pub mod Checkpointing
 pub mod Standings
 pub mod Judging

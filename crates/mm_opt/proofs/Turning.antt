@@ -23,6 +23,7 @@ use Rattle.mm_opt.specs.declared.found.Ready.{Ready}
 use Rattle.mm_opt.specs.declared.found.Opening.{Opening}
 use Rattle.mm_opt.specs.declared.stage.Stage.{Stage}
 use Rattle.mm_opt.specs.declared.stage.Stage.TheVariants as stage
+use Rattle.mm_opt.specs.declared.stage.Change.TheVariants as change
 use Rattle.mm_opt.specs.declared.call.Turn.{Turn}
 use Rattle.mm_opt.specs.Steps.{Extends, Empties, Places, Writes}
 use Rattle.mm_opt.specs.Continuity.{taking}
@@ -153,7 +154,7 @@ seen_on meaning cell old new offer b turn t key barrier y all taken s cell_is re
   gives = t.gives;
 }
 
-inside_on : (meaning : Meaning) (ready : Ready) (old new : Standing) (offer : List ℕ) (b : Batch) (turn : Turn) → Turns meaning (stage.Inside ready) old new offer b turn → TurnContinues meaning (stage.Inside ready) old new offer b turn
+inside_on : (meaning : Meaning) (ready : Ready) (old new : Standing) (offer : List ℕ) (b : Batch) (turn : Turn) → Turns meaning (stage.Changing (change.Inside ready)) old new offer b turn → TurnContinues meaning (stage.Changing (change.Inside ready)) old new offer b turn
 inside_on meaning ready old new offer b turn t key barrier y s is_open held value_is = record {
   outcome = t.outcome;
   step = record {
@@ -163,7 +164,7 @@ inside_on meaning ready old new offer b turn t key barrier y s is_open held valu
   gives = t.gives;
 }
 
-emptying_on : (meaning : Meaning) (opening : Opening) (old new : Standing) (offer : List ℕ) (b : Batch) (turn : Turn) → Turns meaning (stage.Emptying opening) old new offer b turn → TurnContinues meaning (stage.Emptying opening) old new offer b turn
+emptying_on : (meaning : Meaning) (opening : Opening) (old new : Standing) (offer : List ℕ) (b : Batch) (turn : Turn) → Turns meaning (stage.Changing (change.Emptying opening)) old new offer b turn → TurnContinues meaning (stage.Changing (change.Emptying opening)) old new offer b turn
 emptying_on meaning opening old new offer b turn t key barrier y s shut = record {
   outcome = t.outcome;
   step = record {
@@ -173,7 +174,7 @@ emptying_on meaning opening old new offer b turn t key barrier y s shut = record
   gives = t.gives;
 }
 
-placing_on : (meaning : Meaning) (opening : Opening) (old new : Standing) (offer : List ℕ) (b : Batch) (turn : Turn) → Turns meaning (stage.Placing opening) old new offer b turn → TurnContinues meaning (stage.Placing opening) old new offer b turn
+placing_on : (meaning : Meaning) (opening : Opening) (old new : Standing) (offer : List ℕ) (b : Batch) (turn : Turn) → Turns meaning (stage.Changing (change.Placing opening)) old new offer b turn → TurnContinues meaning (stage.Changing (change.Placing opening)) old new offer b turn
 placing_on meaning opening old new offer b turn t key barrier y s shut value_is = record {
   outcome = t.outcome;
   step = record {
@@ -183,7 +184,7 @@ placing_on meaning opening old new offer b turn t key barrier y s shut value_is 
   gives = t.gives;
 }
 
-writing_on : (meaning : Meaning) (it : Opening) (old new : Standing) (offer : List ℕ) (b : Batch) (turn : Turn) → Turns meaning (stage.Writing it) old new offer b turn → TurnContinues meaning (stage.Writing it) old new offer b turn
+writing_on : (meaning : Meaning) (it : Opening) (old new : Standing) (offer : List ℕ) (b : Batch) (turn : Turn) → Turns meaning (stage.Changing (change.Writing it)) old new offer b turn → TurnContinues meaning (stage.Changing (change.Writing it)) old new offer b turn
 writing_on meaning it old new offer b turn t key barrier y later s shut opening next_is = record {
   outcome = t.outcome;
   step = record {
@@ -196,7 +197,7 @@ writing_on meaning it old new offer b turn t key barrier y later s shut opening 
 pub turns_on : (meaning : Meaning) (call : Stage) (old new : Standing) (offer : List ℕ) (b : Batch) (turn : Turn) → Turns meaning call old new offer b turn → TurnContinues meaning call old new offer b turn
 turns_on meaning stage.Begun old new offer b turn t = begun_on meaning old new offer b turn t
 turns_on meaning (stage.Seen cell) old new offer b turn t = seen_on meaning cell old new offer b turn t
-turns_on meaning (stage.Inside ready) old new offer b turn t = inside_on meaning ready old new offer b turn t
-turns_on meaning (stage.Emptying opening) old new offer b turn t = emptying_on meaning opening old new offer b turn t
-turns_on meaning (stage.Placing opening) old new offer b turn t = placing_on meaning opening old new offer b turn t
-turns_on meaning (stage.Writing opening) old new offer b turn t = writing_on meaning opening old new offer b turn t
+turns_on meaning (stage.Changing (change.Inside ready)) old new offer b turn t = inside_on meaning ready old new offer b turn t
+turns_on meaning (stage.Changing (change.Emptying opening)) old new offer b turn t = emptying_on meaning opening old new offer b turn t
+turns_on meaning (stage.Changing (change.Placing opening)) old new offer b turn t = placing_on meaning opening old new offer b turn t
+turns_on meaning (stage.Changing (change.Writing opening)) old new offer b turn t = writing_on meaning opening old new offer b turn t

@@ -1,11 +1,12 @@
 -- What a whole call does to the platform, and what it answers.
-use Rattle.std.specs.Prelude.{◌≡◌, ℕ, Bool, true, false, List, Result, Ok, Err, ◌⊎◌}
+use Rattle.std.specs.Prelude.{◌≡◌, ℕ, Bool, true, false, List, Some, Result, Ok, Err, ◌⊎◌}
 use Rattle.mm_base.specs.Faults.{counted}
 use Rattle.mm_platform.specs.declared.fault.StepFault.{StepFault}
 use Rattle.mm_platform.specs.Standing.{Standing}
 use Rattle.mm_module.specs.Meaning.{Meaning}
 use Rattle.mm_module.specs.Batch.{Batch}
 use Rattle.mm_seal.specs.declared.cell.Cell.{Cell}
+use Rattle.mm_seal.specs.Cell.{IsCell, cell_spelling}
 use Rattle.mm_model.specs.declared.answer.BatchAnswer.{BatchAnswer}
 use Rattle.mm_model.specs.declared.refusal.Refusal.{Refusal}
 use Rattle.mm_model.specs.declared.refusal.Refusal.TheVariants.{Memory, Long, Device, Blank, Cell as OtherCell, Lost, Form, Kind, State, Tag, Stale, Full}
@@ -134,3 +135,24 @@ StepsRefused Full old new = TwoSteps old new
 abbrev pub StepsBy : Result BatchAnswer Refusal → Standing → Standing → Type 0
 StepsBy (Ok answer) old new = StepsAnswered answer.again old new
 StepsBy (Err why) old new = StepsRefused why old new
+
+-- the cell was to be written once, or never
+abbrev pub WritesAtMostOnce : Standing → Standing → Type 0
+WritesAtMostOnce old new = (new.writes ≡ old.writes) ⊎ (new.writes ≡ counted old.writes)
+
+-- the steps of an answer, by whether a segment was open, and by whether it is a repeat's
+abbrev pub StepsFrom : Bool → Bool → Standing → Standing → Type 0
+StepsFrom flag true old new = TwoSteps old new
+StepsFrom true false old new = ThreeSteps old new
+StepsFrom false false old new = FiveSteps old new
+
+abbrev pub AnswersFrom : Bool → Result BatchAnswer Refusal → Standing → Standing → Type 0
+AnswersFrom flag (Ok answer) old new = StepsFrom flag answer.again old new
+AnswersFrom flag (Err why) old new = Unit {0}
+
+-- A call is to write the cell at most once. Where the platform tells its cell, and the flag there is set, it never is: a
+-- new batch is committed by three steps; where the flag is clear, by five, of which the last writes the cell.
+pub record WritesBy (result : Result BatchAnswer Refusal) (old new : Standing) : Type 0 where
+  pub once : WritesAtMostOnce old new
+  pub inside : (cell : Cell) → IsCell cell → old.cell ≡ Some (cell_spelling cell) → cell.flag ≡ true → new.writes ≡ old.writes
+  pub answers : (cell : Cell) → IsCell cell → old.cell ≡ Some (cell_spelling cell) → AnswersFrom cell.flag result old new

@@ -1,5 +1,5 @@
 -- The device steps of a call: what each does to the platform, and what it gives.
-use Rattle.std.specs.Prelude.{◌≡◌, ℕ, ◌≤◌, List, None, Some, Result, Ok, Err, IfOk}
+use Rattle.std.specs.Prelude.{◌≡◌, ℕ, ◌≤◌, List, length, None, Some, Result, Ok, Err, IfOk}
 use Rattle.std.specs.Result.{result_err}
 use Rattle.mm_digest.specs.declared.variant.Variant.TheVariants.{Opt}
 use Rattle.mm_platform.specs.declared.fault.StepFault.{StepFault}
@@ -19,41 +19,52 @@ use Rattle.mm_opt.specs.declared.found.Found.{Found}
 use Rattle.mm_opt.specs.declared.found.Found.TheVariants.{Repeat, Inside, Opens}
 use Rattle.mm_opt.specs.declared.stage.Stage.{Stage}
 use Rattle.mm_opt.specs.declared.stage.Stage.TheVariants as stage
+use Rattle.mm_opt.specs.declared.stage.Change.{Change}
+use Rattle.mm_opt.specs.declared.stage.Change.TheVariants as change
 use Rattle.mm_opt.specs.Seen.{SeesCell}
 use Rattle.mm_opt.specs.Answers.{found_in, OrMemory}
 
 -- The device step that a call makes next. It reads the cell, and then the register. In an open segment it extends the
 -- register, which commits the batch. Otherwise it resets the register, extends it, and writes the cell with the flag
 -- set, which commits the batch.
+abbrev pub act_in : Change → Act
+act_in (change.Inside ready) = ExtendRegister ready.value.bytes
+act_in (change.Emptying opening) = ResetRegister
+act_in (change.Placing opening) = ExtendRegister opening.value.bytes
+act_in (change.Writing opening) = WriteCell opening.next
+
 abbrev pub act_of : Stage → Act
 act_of stage.Begun = ReadCell
 act_of (stage.Seen cell) = ReadRegister
-act_of (stage.Inside ready) = ExtendRegister ready.value.bytes
-act_of (stage.Emptying opening) = ResetRegister
-act_of (stage.Placing opening) = ExtendRegister opening.value.bytes
-act_of (stage.Writing opening) = WriteCell opening.next
+act_of (stage.Changing it) = act_in it
 
 -- the number of that step
+abbrev pub number_in : Change → ℕ
+number_in (change.Inside ready) = 3
+number_in (change.Emptying opening) = 3
+number_in (change.Placing opening) = 4
+number_in (change.Writing opening) = 5
+
 abbrev pub number_of : Stage → ℕ
 number_of stage.Begun = 1
 number_of (stage.Seen cell) = 2
-number_of (stage.Inside ready) = 3
-number_of (stage.Emptying opening) = 3
-number_of (stage.Placing opening) = 4
-number_of (stage.Writing opening) = 5
+number_of (stage.Changing it) = number_in it
 
 -- there is room to record one own extension
 abbrev pub IsReady : Standing → Type 0
 IsReady standing = 1 ≤ standing.spare
 
 -- the room that the rest of the call takes: for one own extension, until it is made
+abbrev pub MayChange : Change → Standing → Type 0
+MayChange (change.Inside ready) standing = IsReady standing
+MayChange (change.Emptying opening) standing = IsReady standing
+MayChange (change.Placing opening) standing = IsReady standing
+MayChange (change.Writing opening) standing = Unit {0}
+
 abbrev pub MayGoOn : Stage → Standing → Type 0
 MayGoOn stage.Begun standing = Unit {0}
 MayGoOn (stage.Seen cell) standing = Unit {0}
-MayGoOn (stage.Inside ready) standing = IsReady standing
-MayGoOn (stage.Emptying opening) standing = IsReady standing
-MayGoOn (stage.Placing opening) standing = IsReady standing
-MayGoOn (stage.Writing opening) standing = Unit {0}
+MayGoOn (stage.Changing it) standing = MayChange it standing
 
 -- What is found on a platform, whose cell is read; it is the platform's, where that tells its cell.
 pub record FindsCell (id : ℕ) (old : Standing) (found : Result Cell Refusal) : Type 0 where
@@ -72,10 +83,11 @@ pub record FindsIn (meaning : Meaning) (cell : Cell) (register offer : List ℕ)
   pub reads : ReadsParts offer Opt meaning.id taken
   pub found_is : OrMemory (found_in meaning cell register taken b) found
 
--- The same, on a platform whose register is read; it is the platform's, where that tells its items.
+-- The same, on a platform whose register is read, 32 bytes; they are the platform's, where that tells its items.
 pub record Finds (meaning : Meaning) (cell : Cell) (middle : Standing) (offer : List ℕ) (b : Batch) (found : Result Found Refusal) : Type 0 where
   pub register : List ℕ
   pub told : (items : List Item) → middle.items ≡ Some items → register ≡ register_of (values_of items)
+  pub size : length register ≡ 32
   pub finds : FindsIn meaning cell register offer b found
 
 -- The room that is made after what was found: for one own extension, where the batch is to be committed.

@@ -16,6 +16,7 @@ use Rattle.mm_model.specs.Moves.{IsOpening}
 use Rattle.mm_model.specs.Standing.{StandsFor, cell_of}
 use Rattle.mm_opt.specs.declared.stage.Stage.{Stage}
 use Rattle.mm_opt.specs.declared.stage.Stage.TheVariants as stage
+use Rattle.mm_opt.specs.declared.stage.Change.TheVariants as change
 use Rattle.mm_opt.specs.declared.call.Turn.{Turn}
 use Rattle.mm_opt.specs.Continuity.{taking, SeesOn, ReadsOn}
 use Rattle.mm_opt.specs.Turns.{TurnsBy, seen_turn, found_turn, emptied_turn, placed_turn, last_turn}
@@ -52,18 +53,18 @@ TurnContinues meaning (stage.Seen cell) old new offer b turn =
     StandsFor (opt meaning key barrier) old y → cell ≡ cell_of (opt meaning key barrier) y →
     ReadsParts offer Opt meaning.id taken →
     TurnsBy (ReadsOn all (opt meaning key barrier) y offer b taken new) found_turn turn
-TurnContinues meaning (stage.Inside ready) old new offer b turn =
+TurnContinues meaning (stage.Changing (change.Inside ready)) old new offer b turn =
     (key barrier : List ℕ) (y : History) → StandsFor (opt meaning key barrier) old y →
     y.is_open ≡ true → is_empty y.items ≡ false → ready.value.bytes ≡ guard barrier (normal b) →
     TurnsBy (ChangesOn (opt meaning key barrier) y (Commit (normal b)) new) last_turn turn
-TurnContinues meaning (stage.Emptying opening) old new offer b turn =
+TurnContinues meaning (stage.Changing (change.Emptying opening)) old new offer b turn =
     (key barrier : List ℕ) (y : History) → StandsFor (opt meaning key barrier) old y → y.is_open ≡ false →
     TurnsBy (ChangesOn (opt meaning key barrier) y Reset new) emptied_turn turn
-TurnContinues meaning (stage.Placing opening) old new offer b turn =
+TurnContinues meaning (stage.Changing (change.Placing opening)) old new offer b turn =
     (key barrier : List ℕ) (y : History) → StandsFor (opt meaning key barrier) old y → y.is_open ≡ false →
     opening.value.bytes ≡ guard barrier (normal b) →
     TurnsBy (ChangesOn (opt meaning key barrier) y (Placed (normal b)) new) placed_turn turn
-TurnContinues meaning (stage.Writing opening) old new offer b turn =
+TurnContinues meaning (stage.Changing (change.Writing opening)) old new offer b turn =
     (key barrier : List ℕ) (y : History) (later : List (List ℕ)) →
     StandsFor (opt meaning key barrier) old (taking y later) → y.is_open ≡ false →
     IsOpening (opt meaning key barrier) y (normal b) →

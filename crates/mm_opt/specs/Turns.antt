@@ -15,18 +15,23 @@ use Rattle.mm_opt.specs.declared.found.Found.{Found}
 use Rattle.mm_opt.specs.declared.found.Found.TheVariants.{Repeat, Inside, Opens}
 use Rattle.mm_opt.specs.declared.stage.Stage.{Stage}
 use Rattle.mm_opt.specs.declared.stage.Stage.TheVariants as stage
+use Rattle.mm_opt.specs.declared.stage.Change.{Change}
+use Rattle.mm_opt.specs.declared.stage.Change.TheVariants as change
 use Rattle.mm_opt.specs.declared.call.Turn.{Turn}
 use Rattle.mm_opt.specs.declared.call.Turn.TheVariants.{Going, Done, Refused}
 use Rattle.mm_opt.specs.Steps.{act_of, MayGoOn, ReadsCell, ReadsRegister, Extends, Empties, Places, Writes}
 
 -- the position after the batch, once it has run in memory
+abbrev pub position_in : Change → ℕ
+position_in (change.Inside ready) = ready.answer.position
+position_in (change.Emptying opening) = opening.answer.position
+position_in (change.Placing opening) = opening.answer.position
+position_in (change.Writing opening) = opening.answer.position
+
 abbrev pub position_of : Stage → Option ℕ
 position_of stage.Begun = None
 position_of (stage.Seen cell) = None
-position_of (stage.Inside ready) = Some ready.answer.position
-position_of (stage.Emptying opening) = Some opening.answer.position
-position_of (stage.Placing opening) = Some opening.answer.position
-position_of (stage.Writing opening) = Some opening.answer.position
+position_of (stage.Changing it) = Some (position_in it)
 
 -- what the first turn gives, by the cell that it finds
 abbrev pub seen_turn : Result Cell Refusal → Turn
@@ -37,17 +42,17 @@ seen_turn (Ok cell) = Going (stage.Seen cell)
 abbrev pub found_turn : Result Found Refusal → Turn
 found_turn (Err why) = Refused why
 found_turn (Ok (Repeat answer)) = Done answer
-found_turn (Ok (Inside ready)) = Going (stage.Inside ready)
-found_turn (Ok (Opens opening)) = Going (stage.Emptying opening)
+found_turn (Ok (Inside ready)) = Going (stage.Changing (change.Inside ready))
+found_turn (Ok (Opens opening)) = Going (stage.Changing (change.Emptying opening))
 
 -- what the turns of an opening give
 abbrev pub emptied_turn : Result Opening StepFault → Turn
 emptied_turn (Err fault) = Refused (Device fault)
-emptied_turn (Ok opening) = Going (stage.Placing opening)
+emptied_turn (Ok opening) = Going (stage.Changing (change.Placing opening))
 
 abbrev pub placed_turn : Result Opening StepFault → Turn
 placed_turn (Err fault) = Refused (Device fault)
-placed_turn (Ok opening) = Going (stage.Writing opening)
+placed_turn (Ok opening) = Going (stage.Changing (change.Writing opening))
 
 -- what the last turn gives
 abbrev pub last_turn : Result BatchAnswer StepFault → Turn
@@ -60,15 +65,19 @@ pub record TurnsBy {A : Type 0} (steps : A → Type 0) (given : A → Turn) (tur
   pub step : steps outcome
   pub gives : turn ≡ given outcome
 
+-- one turn that makes a changing step
+abbrev pub Changes : Change → Standing → Standing → Turn → Type 0
+Changes (change.Inside ready) old new turn = TurnsBy (Extends ready old new) last_turn turn
+Changes (change.Emptying opening) old new turn = TurnsBy (Empties opening old new) emptied_turn turn
+Changes (change.Placing opening) old new turn = TurnsBy (Places opening old new) placed_turn turn
+Changes (change.Writing opening) old new turn = TurnsBy (Writes opening old new) last_turn turn
+
 -- one turn of a call
 abbrev pub Turns : Meaning → Stage → Standing → Standing → List ℕ → Batch → Turn → Type 0
 Turns meaning stage.Begun old new offer b turn = TurnsBy (ReadsCell meaning.id old new) seen_turn turn
 Turns meaning (stage.Seen cell) old new offer b turn =
     TurnsBy (ReadsRegister meaning cell old new offer b) found_turn turn
-Turns meaning (stage.Inside ready) old new offer b turn = TurnsBy (Extends ready old new) last_turn turn
-Turns meaning (stage.Emptying opening) old new offer b turn = TurnsBy (Empties opening old new) emptied_turn turn
-Turns meaning (stage.Placing opening) old new offer b turn = TurnsBy (Places opening old new) placed_turn turn
-Turns meaning (stage.Writing opening) old new offer b turn = TurnsBy (Writes opening old new) last_turn turn
+Turns meaning (stage.Changing it) old new offer b turn = Changes it old new turn
 
 -- the room that the rest of a call takes, if it goes on
 abbrev pub TurnMayGoOn : Turn → Standing → Type 0

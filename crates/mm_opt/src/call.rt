@@ -3,10 +3,10 @@
 ghost use Rattle.std.specs.Prelude.{◌≡◌, true, false, IfOk, IfErr};
 ghost use Rattle.mm_module.specs.Batches.{batch_of};
 ghost use Rattle.mm_model.specs.Long.{is_long};
-ghost use Rattle.mm_opt.specs.declared.stage.Stage.TheVariants.{Begun};
+ghost use Rattle.mm_opt.specs.declared.stage.Stage.TheVariants.{Begun, Changing};
 
 use crate::found::{Found, Opening};
-use crate::stage::Stage;
+use crate::stage::{Change, Stage};
 use crate::step::{empty, extend, place, read_cell, read_register, write};
 use mm_model::{BatchAnswer, Refusal};
 use mm_module::{Batch, Module};
@@ -58,7 +58,8 @@ impl Call {
     ghost use Rattle.mm_module.specs.Batches.{batch_of};
     ghost use Rattle.mm_model.specs.Long.{is_long};
     ghost use Rattle.mm_opt.specs.Steps.{number_of, MayGoOn};
-    ghost use Rattle.mm_opt.specs.Turns.{Turns, ActsAt, TurnMayGoOn, position_of};
+    ghost use Rattle.mm_opt.specs.Turns.{Turns, ActsAt, TurnMayGoOn, position_of, fault_turned};
+    ghost use Rattle.mm_basic.specs.Asks.{Blames};
     ghost use Rattle.mm_opt.specs.TurnContinuity.{TurnContinues};
 
     /// The number of the next device step, from 1.
@@ -68,10 +69,7 @@ impl Call {
         match &self.stage {
             Stage::Begun => 1,
             Stage::Seen(_) => 2,
-            Stage::Inside(_) => 3,
-            Stage::Emptying(_) => 3,
-            Stage::Placing(_) => 4,
-            Stage::Writing(_) => 5,
+            Stage::Changing(change) => change.number(),
         }
     }
 
@@ -82,10 +80,7 @@ impl Call {
         match &self.stage {
             Stage::Begun => None,
             Stage::Seen(_) => None,
-            Stage::Inside(ready) => Some(ready.answer.position),
-            Stage::Emptying(opening) => Some(opening.answer.position),
-            Stage::Placing(opening) => Some(opening.answer.position),
-            Stage::Writing(opening) => Some(opening.answer.position),
+            Stage::Changing(change) => Some(change.position()),
         }
     }
 
@@ -107,6 +102,7 @@ impl Call {
             (batch_of batch.entry) result }
         ensures acts { ActsAt self (P.standing platform.old) (P.standing platform.new) result }
         ensures room { TurnMayGoOn result (P.standing platform.new) }
+        ensures faults { Blames (fault_turned result) (P.standing platform.old).faults (P.standing platform.new).faults }
         ensures continuity { TurnContinues (M.meaning «module».now) self (P.standing platform.old) (P.standing platform.new) offer.now
             (batch_of batch.entry) result }
     {
@@ -131,10 +127,50 @@ impl Call {
             Stage::Seen(cell) => {
                 Turn::found(read_register(alloc, module, &cell, platform, offer, batch))
             }
-            Stage::Inside(ready) => Turn::last(extend(ready, platform)),
-            Stage::Emptying(opening) => Turn::emptied(empty(opening, platform)),
-            Stage::Placing(opening) => Turn::placed(place(opening, platform)),
-            Stage::Writing(opening) => Turn::last(write(opening, platform)),
+            Stage::Changing(change) => change.make(platform),
+        }
+    }
+}
+
+impl Change {
+    ghost use Rattle.std.specs.Prelude.{◌≡◌};
+    ghost use Rattle.mm_opt.specs.Steps.{number_in, MayChange};
+    ghost use Rattle.mm_opt.specs.Turns.{position_in, Changes};
+
+    // The number of the device step.
+    fn number(&self) -> u8
+        ensures { result ≡ number_in self.now }
+    {
+        match self {
+            Change::Inside(_) => 3,
+            Change::Emptying(_) => 3,
+            Change::Placing(_) => 4,
+            Change::Writing(_) => 5,
+        }
+    }
+
+    // The position after the batch.
+    fn position(&self) -> u64
+        ensures { result ≡ position_in self.now }
+    {
+        match self {
+            Change::Inside(ready) => ready.answer.position,
+            Change::Emptying(opening) => opening.answer.position,
+            Change::Placing(opening) => opening.answer.position,
+            Change::Writing(opening) => opening.answer.position,
+        }
+    }
+
+    // Makes the device step. It is handed no allocator, so it asks for no memory.
+    fn make<P: Platform>(self, platform: &mut P) -> Turn
+        requires { MayChange self (P.standing platform.old) }
+        ensures { Changes self (P.standing platform.old) (P.standing platform.new) result }
+    {
+        match self {
+            Change::Inside(ready) => Turn::last(extend(ready, platform)),
+            Change::Emptying(opening) => Turn::emptied(empty(opening, platform)),
+            Change::Placing(opening) => Turn::placed(place(opening, platform)),
+            Change::Writing(opening) => Turn::last(write(opening, platform)),
         }
     }
 }
@@ -159,8 +195,8 @@ impl Turn {
     {
         match found {
             Ok(Found::Repeat(answer)) => Turn::Done(answer),
-            Ok(Found::Inside(ready)) => Turn::going(Stage::Inside(ready)),
-            Ok(Found::Opens(opening)) => Turn::going(Stage::Emptying(opening)),
+            Ok(Found::Inside(ready)) => Turn::changing(Change::Inside(ready)),
+            Ok(Found::Opens(opening)) => Turn::changing(Change::Emptying(opening)),
             Err(refusal) => Turn::Refused(refusal),
         }
     }
@@ -170,7 +206,7 @@ impl Turn {
         ensures { result ≡ emptied_turn emptied }
     {
         match emptied {
-            Ok(opening) => Turn::going(Stage::Placing(opening)),
+            Ok(opening) => Turn::changing(Change::Placing(opening)),
             Err(fault) => Turn::Refused(Refusal::Device(fault)),
         }
     }
@@ -180,7 +216,7 @@ impl Turn {
         ensures { result ≡ placed_turn placed }
     {
         match placed {
-            Ok(opening) => Turn::going(Stage::Writing(opening)),
+            Ok(opening) => Turn::changing(Change::Writing(opening)),
             Err(fault) => Turn::Refused(Refusal::Device(fault)),
         }
     }
@@ -193,6 +229,12 @@ impl Turn {
             Ok(answer) => Turn::Done(answer),
             Err(fault) => Turn::Refused(Refusal::Device(fault)),
         }
+    }
+
+    fn changing(change: Change) -> Turn
+        ensures { result ≡ Turn.Going (Changing change) }
+    {
+        Turn::going(Stage::Changing(change))
     }
 
     fn going(stage: Stage) -> Turn

@@ -1,6 +1,6 @@
 //! What a call finds in the cell, the register and the offer.
 
-ghost use Rattle.std.specs.Prelude.{◌≡◌, ◌+◌, ◌≤◌, ◌^◌, false, IfOk, IsTrue, None, Ok};
+ghost use Rattle.std.specs.Prelude.{◌≡◌, ◌+◌, ◌≤◌, ◌^◌, false, IfOk, IsTrue, None, Ok, length};
 ghost use Rattle.mm_digest.specs.declared.variant.Variant.TheVariants.{Opt};
 ghost use Rattle.mm_module.specs.Batch.{Many, normal, size_of};
 ghost use Rattle.mm_module.specs.Batches.{batch_of};
@@ -71,7 +71,10 @@ pub fn find<M: Module>(
     requires { is_long (batch_of batch) ≡ false }
     ensures finds { FindsIn (M.meaning «module».now) cell.now register.now.bytes offer.now (batch_of batch.entry) result }
     ensures no_fault { fault_in result ≡ None }
+    ensures sized { length register.now.bytes ≡ 32 }
 {
+    // Read here, so that its length is known.
+    let _bytes = register.bytes;
     let taken = parts(offer, Variant::Opt, module.id());
     if has_lost_power(cell, register) {
         return Err(Refusal::Lost);

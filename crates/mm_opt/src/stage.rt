@@ -10,13 +10,20 @@ pub enum Stage {
     Begun,
     /// The cell was read, and is one of this module.
     Seen(Cell),
-    /// The batch has run in memory, and is to be committed in the open segment.
+    /// The batch has run in memory, and is to be committed.
+    Changing(Change),
+}
+
+/// The changing step that a call makes next.
+#[derive(Drop)]
+pub enum Change {
+    /// The register is to be extended in the open segment, which commits the batch.
     Inside(Ready),
-    /// The batch has run in memory, and the register is to be reset.
+    /// The register is to be reset.
     Emptying(Opening),
     /// The register was reset, and is to be extended.
     Placing(Opening),
-    /// The register was extended, and the cell is to be written.
+    /// The register was extended, and the cell is to be written, which commits the batch.
     Writing(Opening),
 }
 

@@ -1,16 +1,17 @@
 //! The counter over a platform in memory.
 
-ghost use Rattle.std.specs.Prelude.{◌≡◌, false, IfOk};
+ghost use Rattle.std.specs.Prelude.{◌≡◌, ◌≤◌, ◌^◌, false, length, IfOk};
 ghost use Rattle.mm_module.specs.Batches.{batch_of};
 ghost use Rattle.mm_model.specs.Long.{is_long};
 ghost use Rattle.mm_opt.specs.Steps.{MayGoOn};
 
 use super::*;
 use mm_base::{Bytes, read_decimal};
-use mm_digest::Digest;
+use mm_digest::{Digest, Variant, start, zero};
 use mm_model::{Answer, BatchAnswer, Refusal};
 use mm_module::{Batch, Counter, Outputs};
-use mm_platform::{Meddle, MemPlatform, Platform, Stop};
+use mm_platform::{Meddle, MemPlatform, Platform, StepFault, Stop};
+use mm_seal::{Body, Cell, Place, cell_bytes, seal};
 use std::alloc::Global;
 use std::test::Fail;
 
@@ -90,6 +91,43 @@ quiet ask 0 add 1 => no 11, 1
 quiet ask 0 add 1\tadd 1 => no 11, 1
 quiet batch 1 add 5 => ok 3 7, 1
 quiet ask 1 add 5 => again 3 7, 1
+new
+quiet parts 0 add 1 => ok 1 1, 1
+quiet parts 0 add 1 => again 1 1, 1
+quiet parts 1 add 1 => ok 2 2, 1
+quiet parts 0 add 1 => no 11, 1
+new
+quiet ask 0 add 1 => ok 1 1, 1
+quiet checkpoint 0 . => checkpointed, 2
+quiet ask 1 add 1 => ok 2 2, 3
+quiet checkpoint 0 . => checkpointed, 4
+quiet ask 1 add 1 => again 2 2, 4
+quiet ask 0 add 1 => no 11, 4
+";
+
+/// What is in the cell, what is offered, what is asked, and the number of the refusal. Each offer has what the rows below
+/// it are refused for too.
+const REFUSALS: &str = "\
+blank form long => 2
+blank form read => 4
+noise form read => 5
+basic form read => 5
+module-2 form read => 5
+open form read => 6
+shut form read => 7
+shut kind read => 8
+shut state read => 9
+shut tag read => 10
+shut stale read => 11
+shut full read => 12
+";
+
+/// What is in the cell, and what a checkpoint says.
+const CLOSINGS: &str = "\
+blank => the cell is blank
+noise => the cell isn't spelled
+basic => the cell is one of Basic
+open => power was lost inside an open segment
 ";
 
 /// A line of the table.
@@ -194,6 +232,7 @@ impl Host {
                 Ok(format!(in self.alloc; "extended")?)
             }
             "batch" => self.ask(row.number, Batch::Many(row.text)),
+            "parts" => self.ask_in_parts(row.number, row.text),
             _ => self.ask(row.number, Batch::One(row.text)),
         }
     }
@@ -224,6 +263,13 @@ impl Host {
                 self.many(came)
             }
         }
+    }
+
+    /// The same of one request, in its parts.
+    fn ask_in_parts(&mut self, number: usize, request: &[u8]) -> Result<String, Fail> {
+        let offer = self.snapshots.get(number).ok_or("no snapshot")?.as_slice();
+        let came = ask_in_parts(self.alloc, &mut self.platform, offer, request);
+        self.many(came)
     }
 
     /// Says what came of one request, and keeps the snapshot.
@@ -269,6 +315,19 @@ fn ask_counter_batch(
     batch: Batch<'_>,
 ) -> Result<BatchAnswer, Refusal> {
     ask_batch(alloc, &Counter, platform, offer, batch)
+}
+
+fn ask_in_parts(
+    alloc: Global,
+    platform: &mut MemPlatform,
+    offer: &[u8],
+    request: &[u8],
+) -> Result<BatchAnswer, Refusal> {
+    let prepared = prepare(alloc, &Counter, platform, offer, request)?;
+    match prepared.commit(platform) {
+        Err(fault) => Err(Refusal::Device(fault)),
+        Ok(committed) => Ok(committed.answer()),
+    }
 }
 
 fn close_counter(platform: &mut MemPlatform) -> Result<Checkpointed, CheckpointRefusal> {
@@ -362,6 +421,137 @@ fn an_opening_goes_on_by_one_step_at_a_time(rt: HostRuntime) -> Result<(), Fail>
     assert_eq!(rt; host.platform.nv_writes(), 1);
     assert_eq!(rt; answer.position, 1);
     assert_eq!(rt; answer.outputs.get(0), Some(b"1".as_slice()));
+    let call = go_on(begin(batch)?, alloc, &mut host.platform, offer, batch)?;
+    let again = match call.advance(alloc, &Counter, &mut host.platform, offer, batch) {
+        Turn::Done(answer) => answer.again,
+        Turn::Going(_) => Err("a third step")?,
+        Turn::Refused(refusal) => Err(refusal)?,
+    };
+    assert!(rt; again);
+    Ok(())
+}
+
+fn opt_cell(module: u8, flag: bool) -> [u8; 104] {
+    cell_bytes(&Cell {
+        variant: Variant::Opt,
+        module,
+        flag,
+        summary: start(Variant::Opt, module),
+        key: KEY,
+        barrier: BARRIER,
+    })
+}
+
+fn basic_cell() -> [u8; 104] {
+    cell_bytes(&Cell {
+        variant: Variant::Basic,
+        module: 1,
+        flag: false,
+        summary: start(Variant::Basic, 1),
+        key: KEY,
+        barrier: [0; 32],
+    })
+}
+
+fn cell_of(word: &str) -> [u8; 104] {
+    match word {
+        "blank" => [0; 104],
+        "noise" => [1; 104],
+        "basic" => basic_cell(),
+        "module-2" => opt_cell(2, false),
+        "open" => opt_cell(1, true),
+        _ => opt_cell(1, false),
+    }
+}
+
+fn sealed(
+    alloc: Global,
+    key: &[u8; 32],
+    place: Place,
+    position: u64,
+    state: &[u8],
+) -> Result<Bytes, Fail>
+    requires position { position ≤ 2 ^ 48 }
+    requires state { length state.now ≤ 8 }
+{
+    let body = Body {
+        module: 1,
+        place,
+        position,
+        state,
+    };
+    Ok(seal(alloc, key, &body)?)
+}
+
+fn offer_of(alloc: Global, word: &str) -> Result<Bytes, Fail> {
+    let extension = zero();
+    let there = Place::Opt {
+        anchor: zero(),
+        extension,
+    };
+    let here = Place::Opt {
+        anchor: start(Variant::Opt, 1),
+        extension,
+    };
+    match word {
+        "kind" => sealed(alloc, &BARRIER, Place::Basic(zero()), 1 << 48, b"no state"),
+        "state" => sealed(alloc, &BARRIER, there, 1 << 48, b"odd"),
+        "tag" => sealed(alloc, &BARRIER, there, 1 << 48, &[0; 8]),
+        "stale" => sealed(alloc, &KEY, there, 1 << 48, &[0; 8]),
+        "full" => sealed(alloc, &KEY, here, 1 << 48, &[0; 8]),
+        _ => Ok(Bytes::copy_of(alloc, b"MMS1")?),
+    }
+}
+
+fn request_of(word: &str) -> &[u8] {
+    match word {
+        "long" => b"read\n",
+        _ => b"read",
+    }
+}
+
+// What a call is refused for that meets what this line names.
+fn refused(alloc: Global, asked: &str) -> Result<u8, Fail> {
+    let (cell, asked) = asked.split_once(' ').ok_or("no cell")?;
+    let (offer, request) = asked.split_once(' ').ok_or("no offer")?;
+    let offer = offer_of(alloc, offer)?;
+    let mut platform = MemPlatform::new(alloc, &cell_of(cell));
+    match ask_counter(alloc, &mut platform, offer.as_slice(), request_of(request)) {
+        Ok(_) => Ok(0),
+        Err(refusal) => Ok(refusal.code()),
+    }
+}
+
+#[test]
+fn calls_are_refused_in_order(rt: HostRuntime) -> Result<(), Fail> {
+    for line in REFUSALS.lines() {
+        let (asked, code) = line.split_once(" => ").ok_or("no row")?;
+        let code = read_decimal(code.as_bytes()).ok_or("no number")?;
+        assert_eq!(rt; refused(rt.alloc(), asked)? as u64, code);
+    }
+    Ok(())
+}
+
+/// What a checkpoint is refused for, in words, and what closes nothing.
+#[test]
+fn checkpoints_are_refused_in_words(rt: HostRuntime) -> Result<(), Fail> {
+    let alloc = rt.alloc();
+    for line in CLOSINGS.lines() {
+        let (cell, text) = line.split_once(" => ").ok_or("no row")?;
+        let mut platform = MemPlatform::new(alloc, &cell_of(cell));
+        let refusal = close_counter(&mut platform).err().ok_or("not refused")?;
+        assert_eq!(rt; format!(in alloc; "{refusal}")?.as_str(), text);
+    }
+    let device = CheckpointRefusal::Device(StepFault::Off);
+    assert_eq!(rt;
+        format!(in alloc; "{device}")?.as_str(),
+        "a step of the platform failed"
+    );
+    let mut platform = MemPlatform::new(alloc, &cell_of("shut"));
+    assert_eq!(rt;
+        close_counter(&mut platform).ok(),
+        Some(Checkpointed::NoSegment)
+    );
     Ok(())
 }
 

@@ -1,15 +1,17 @@
 //! Whole calls.
 
 ghost use Rattle.std.specs.Prelude.{◌≡◌, true, false, Err, IfOk, length};
+ghost use Rattle.std.specs.Result.{result_err};
 ghost use Rattle.mm_module.specs.Batch.{One};
 ghost use Rattle.mm_module.specs.Batches.{batch_of};
+ghost use Rattle.mm_model.specs.Fit.{IsFit};
 ghost use Rattle.mm_model.specs.Long.{is_long};
 ghost use Rattle.mm_basic.specs.Steps.{fault_in};
 ghost use Rattle.mm_basic.specs.Asks.{LeavesUntouched, Blames, whole_in};
 ghost use Rattle.mm_opt.specs.Steps.{IsReady};
 ghost use Rattle.mm_opt.specs.Continuity.{ReadContinues, CommitContinues, Continues};
 ghost use Rattle.mm_opt.specs.Completeness.{IsComplete};
-ghost use Rattle.mm_opt.specs.Asks.{Reads, ReadsOn, MayCommit, LeavesRoom, PlacesAndWrites, OpensSegment, CommitsFound, Commits, Calls, StepsBy};
+ghost use Rattle.mm_opt.specs.Asks.{Reads, ReadsOn, MayCommit, LeavesRoom, PlacesAndWrites, OpensSegment, CommitsFound, Commits, Calls, StepsBy, WritesBy};
 
 use crate::found::{Found, Opening};
 use crate::step::{empty, extend, place, read_cell, read_register, write};
@@ -63,6 +65,7 @@ pub fn prepare<M: Module, P: Platform>(
         Reads (M.meaning «module».now) (P.standing platform.old) (P.standing platform.new)
         offer.now (One request.now) result }
     ensures room { LeavesRoom result (P.standing platform.new) }
+    ensures faults { Blames (fault_in result) (P.standing platform.old).faults (P.standing platform.new).faults }
     ensures continuity { is_long (One request.now) ≡ false →
         ReadContinues (M.meaning «module».now) (P.standing platform.old) (P.standing platform.new)
         offer.now (One request.now) result }
@@ -83,6 +86,7 @@ fn prepare_batch<M: Module, P: Platform>(
         Reads (M.meaning «module».now) (P.standing platform.old) (P.standing platform.new)
         offer.now (batch_of batch.entry) result }
     ensures room { LeavesRoom result (P.standing platform.new) }
+    ensures faults { Blames (fault_in result) (P.standing platform.old).faults (P.standing platform.new).faults }
     ensures continuity { is_long (batch_of batch.entry) ≡ false →
         ReadContinues (M.meaning «module».now) (P.standing platform.old) (P.standing platform.new)
         offer.now (batch_of batch.entry) result }
@@ -139,6 +143,7 @@ impl Prepared {
     pub fn commit<P: Platform>(self, platform: &mut P) -> Result<Committed, StepFault>
         requires { MayCommit self (P.standing platform.old) }
         ensures commits { CommitsFound self (P.standing platform.old) (P.standing platform.new) result }
+        ensures faults { Blames (result_err result) (P.standing platform.old).faults (P.standing platform.new).faults }
         ensures continuity { CommitContinues self (P.standing platform.old) (P.standing platform.new) result }
     {
         self.write(platform)
@@ -243,6 +248,8 @@ pub fn ask_batch<M: Module, P: Platform>(
     ensures faults { Blames (fault_in result) (P.standing platform.old).faults (P.standing platform.new).faults }
     ensures steps { is_long (batch_of batch.entry) ≡ false →
         StepsBy result (P.standing platform.old) (P.standing platform.new) }
+    ensures writes { WritesBy result (P.standing platform.old) (P.standing platform.new) }
+    ensures fits { IfOk result (λ answer. IsFit (batch_of batch.entry) answer) }
     ensures continuity { Continues (M.meaning «module».now) (P.standing platform.old) (P.standing platform.new)
         offer.now (batch_of batch.entry) result }
     ensures complete { IsComplete (M.meaning «module».now) (P.standing platform.old) (P.standing platform.new)
@@ -265,6 +272,8 @@ pub fn ask<M: Module, P: Platform>(
     ensures faults { Blames (fault_in result) (P.standing platform.old).faults (P.standing platform.new).faults }
     ensures steps { is_long (One request.now) ≡ false →
         StepsBy (whole_in result) (P.standing platform.old) (P.standing platform.new) }
+    ensures writes { WritesBy (whole_in result) (P.standing platform.old) (P.standing platform.new) }
+    ensures fits { IfOk (whole_in result) (λ answer. IsFit (One request.now) answer) }
     ensures continuity { Continues (M.meaning «module».now) (P.standing platform.old) (P.standing platform.new)
         offer.now (One request.now) (whole_in result) }
     ensures complete { IsComplete (M.meaning «module».now) (P.standing platform.old) (P.standing platform.new)

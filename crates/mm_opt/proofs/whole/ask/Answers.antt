@@ -6,6 +6,8 @@ use Rattle.mm_basic.proofs.Asking.{wholly}
 use Rattle.mm_model.specs.Long.{is_long}
 use Rattle.mm_opt.specs.Asks.{Calls, StepsAnswered}
 use Rattle.mm_opt.proofs.Asking.{untouched, steps}
+use Rattle.mm_opt.proofs.Writing.{writes}
+use Rattle.mm_opt.proofs.Fits.{fits}
 use Rattle.mm_opt.proofs.Continuing.{continues}
 use Rattle.mm_opt.proofs.Completeness.{complete}
 use Rattle.mm_opt.proofs.whole.ask.Goals as goal
@@ -36,6 +38,31 @@ returns-in-Ok-clause-steps g c =
     (sym c.into_one.ensures.again)
     (steps (g.M.Module.meaning c.args.module.now) (g.P.Device.standing c.args.platform.now)
     (g.P.Device.standing c.call_one.new.platform) c.args.offer.now (One c.args.request.now) (Ok c.in-Ok.answer) c.in-Ok.ensures.calls short)
+
+pub returns-in-Err-clause-writes : goal.returns-in-Err-clause-writes
+returns-in-Err-clause-writes g c =
+    writes (g.M.Module.meaning c.args.module.now) (g.P.Device.standing c.args.platform.now)
+    (g.P.Device.standing c.call_one.new.platform) c.args.offer.now (One c.args.request.now) (Err c.in-Err.refusal) c.in-Err.ensures.calls
+
+pub returns-in-Ok-clause-writes : goal.returns-in-Ok-clause-writes
+returns-in-Ok-clause-writes g c =
+    writes (g.M.Module.meaning c.args.module.now) (g.P.Device.standing c.args.platform.now)
+    (g.P.Device.standing c.call_one.new.platform) c.args.offer.now (One c.args.request.now) (Ok (whole c.into_one.result))
+    (subst
+    (λ (a : BatchAnswer). Calls (g.M.Module.meaning c.args.module.now) (g.P.Device.standing c.args.platform.now)
+    (g.P.Device.standing c.call_one.new.platform) c.args.offer.now (One c.args.request.now) (Ok a))
+    (wholly c.in-Ok.answer c.into_one.result c.into_one.ensures.again c.into_one.ensures.position c.into_one.ensures.output c.into_one.ensures.snapshot)
+    c.in-Ok.ensures.calls)
+
+pub returns-in-Ok-clause-fits : goal.returns-in-Ok-clause-fits
+returns-in-Ok-clause-fits g c =
+    fits (g.M.Module.meaning c.args.module.now) (g.met.M.Module.is_lawful c.args.module.now) (g.P.Device.standing c.args.platform.now)
+    (g.P.Device.standing c.call_one.new.platform) c.args.offer.now (One c.args.request.now) (Ok (whole c.into_one.result))
+    (subst
+    (λ (a : BatchAnswer). Calls (g.M.Module.meaning c.args.module.now) (g.P.Device.standing c.args.platform.now)
+    (g.P.Device.standing c.call_one.new.platform) c.args.offer.now (One c.args.request.now) (Ok a))
+    (wholly c.in-Ok.answer c.into_one.result c.into_one.ensures.again c.into_one.ensures.position c.into_one.ensures.output c.into_one.ensures.snapshot)
+    c.in-Ok.ensures.calls)
 
 pub returns-in-Err-clause-continuity : goal.returns-in-Err-clause-continuity
 returns-in-Err-clause-continuity g c =

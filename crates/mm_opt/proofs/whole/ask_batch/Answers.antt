@@ -1,5 +1,7 @@
 use Rattle.mm_module.specs.Batches.{batch_of}
 use Rattle.mm_opt.proofs.Asking.{untouched, steps}
+use Rattle.mm_opt.proofs.Writing.{writes}
+use Rattle.mm_opt.proofs.Fits.{fits}
 use Rattle.mm_opt.proofs.Continuing.{continues}
 use Rattle.mm_opt.proofs.Completeness.{complete}
 use Rattle.mm_opt.proofs.whole.ask_batch.Goals as goal
@@ -12,6 +14,16 @@ returns-clause-untouched g c =
 pub returns-clause-steps : goal.returns-clause-steps
 returns-clause-steps g c =
     steps (g.M.Module.meaning c.args.module.now) (g.P.Device.standing c.args.platform.now)
+    (g.P.Device.standing c.call.new.platform) c.args.offer.now (batch_of c.args.batch) c.call.result c.call.ensures
+
+pub returns-clause-writes : goal.returns-clause-writes
+returns-clause-writes g c =
+    writes (g.M.Module.meaning c.args.module.now) (g.P.Device.standing c.args.platform.now)
+    (g.P.Device.standing c.call.new.platform) c.args.offer.now (batch_of c.args.batch) c.call.result c.call.ensures
+
+pub returns-clause-fits : goal.returns-clause-fits
+returns-clause-fits g c =
+    fits (g.M.Module.meaning c.args.module.now) (g.met.M.Module.is_lawful c.args.module.now) (g.P.Device.standing c.args.platform.now)
     (g.P.Device.standing c.call.new.platform) c.args.offer.now (batch_of c.args.batch) c.call.result c.call.ensures
 
 pub returns-clause-continuity : goal.returns-clause-continuity

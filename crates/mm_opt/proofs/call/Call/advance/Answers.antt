@@ -1,5 +1,5 @@
 use Rattle.mm_module.specs.Batches.{batch_of}
-use Rattle.mm_opt.proofs.Acting.{acts_at}
+use Rattle.mm_opt.proofs.Acting.{acts_at, turn_blamed}
 use Rattle.mm_opt.proofs.Turning.{turns_on}
 use Rattle.mm_opt.proofs.call.Call.advance.Goals as goal
 
@@ -12,3 +12,9 @@ pub returns-clause-acts : goal.returns-clause-acts
 returns-clause-acts g c =
     acts_at c.args.self (g.M.Module.meaning c.args.module.now) (g.P.Device.standing c.args.platform.now)
     (g.P.Device.standing c.turn.new.platform) c.args.offer.now (batch_of c.args.batch) c.turn.result c.turn.ensures
+
+pub returns-clause-faults : goal.returns-clause-faults
+returns-clause-faults g c =
+    turn_blamed c.args.self (g.P.Device.standing c.args.platform.now) (g.P.Device.standing c.turn.new.platform) c.turn.result
+    (acts_at c.args.self (g.M.Module.meaning c.args.module.now) (g.P.Device.standing c.args.platform.now)
+    (g.P.Device.standing c.turn.new.platform) c.args.offer.now (batch_of c.args.batch) c.turn.result c.turn.ensures)
