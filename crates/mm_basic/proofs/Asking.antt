@@ -1,37 +1,26 @@
 -- What a whole call leaves and counts.
-use Rattle.std.proofs.Common.{◌≡◌, ℕ, Bool, true, false, List, [], ◌∷◌, length, Option, None, Some, Result, Ok, Err, IfOk, refl, sym, ap, ◌∙◌, subst, arith, inl, inr}
+use Rattle.std.proofs.Common.{◌≡◌, ℕ, Bool, true, false, List, ◌∷◌, length, Option, None, Some, Result, Ok, Err, IfOk, refl, sym, ap, ◌∙◌, subst, arith, inl, inr}
 use Rattle.std.specs.Result.{result_err}
 use Rattle.mm_base.specs.Faults.{counted}
 use Rattle.mm_platform.specs.declared.fault.StepFault.{StepFault}
-use Rattle.mm_platform.specs.declared.fault.StepFault.TheVariants.{Failed, Off}
 use Rattle.mm_platform.specs.Standing.{Standing}
-use Rattle.mm_platform.specs.Steps.{ReadCell, WriteCell, EndsBy, Goes}
-use Rattle.mm_platform.proofs.Calling.{beside-none}
+use Rattle.mm_platform.specs.Steps.{ReadCell, WriteCell, Goes}
 use Rattle.mm_module.specs.Meaning.{Meaning, IsLawful}
 use Rattle.mm_module.specs.Batch.{Batch, One}
 use Rattle.mm_model.specs.Fit.{IsFit}
 use Rattle.mm_model.specs.Long.{is_long}
-use Rattle.mm_model.specs.declared.answer.Answer.{Answer}
 use Rattle.mm_model.specs.declared.answer.BatchAnswer.{BatchAnswer}
 use Rattle.mm_model.specs.declared.refusal.Refusal.{Refusal}
 use Rattle.mm_model.specs.declared.refusal.Refusal.TheVariants.{Long}
 use Rattle.mm_basic.specs.declared.found.Found.{Found}
 use Rattle.mm_basic.specs.declared.found.Found.TheVariants.{Repeat, Change}
 use Rattle.mm_basic.specs.declared.found.Ready.{Ready}
-use Rattle.mm_basic.specs.Steps.{fault_of, fault_in, handed_on, Reads, Writes}
-use Rattle.mm_basic.specs.Asks.{CommitsFound, Ends, Calls, IsUntouched, LeavesUntouched, Blames, ReadsOnce, ReadsAndWrites, StepsAnswered, StepsRefused, StepsBy, whole}
+use Rattle.mm_call.specs.Refusals.{fault_of, fault_in, handed_on}
+use Rattle.mm_basic.specs.Steps.{Reads, Writes}
+use Rattle.mm_basic.specs.Asks.{CommitsFound, Ends, Calls, ReadsOnce, ReadsAndWrites, StepsAnswered, StepsRefused, StepsBy}
+use Rattle.mm_call.specs.Leaving.{IsUntouched, LeavesUntouched, Blames}
 use Rattle.mm_basic.proofs.Findings.{IsShaped, shaped}
-
-same_untouched : (old : Standing) → IsUntouched old old
-same_untouched old = record {
-  others = [];
-  cell = refl;
-  items = sym (beside-none old.items);
-  is_on = refl;
-  writes = refl;
-  room = omega arith;
-  faults = refl;
-}
+use Rattle.mm_call.proofs.Leaving.{blamed, blamed_later, written_blamed, same_untouched}
 
 read_untouched : (old new : Standing) → Goes ReadCell old new None → IsUntouched old new
 read_untouched old new g = record {
@@ -59,14 +48,6 @@ ends_untouched (Err why) old middle new result g e =
 ends_untouched (Ok found) old middle new result g e =
     subst (λ (r : Result BatchAnswer Refusal). LeavesUntouched r old new) (sym e.gives) (written_untouched e.written old new)
 
-pub blamed : (fault : Option StepFault) (old new : Standing) (made : Bool) → EndsBy fault old new made → Blames fault old.faults new.faults
-blamed None old new made e = e.faults
-blamed (Some Failed) old new made e = e.faults
-blamed (Some Off) old new made e = e.faults
-
-pub blamed_later : (fault : Option StepFault) (first before now : ℕ) → before ≡ first → Blames fault before now → Blames fault first now
-blamed_later fault first before now e b = subst (λ (n : ℕ). Blames fault n now) e b
-
 -- a reading step, a step that commits, and a turn
 pub read_blamed : (meaning : Meaning) (old new : Standing) (offer : List ℕ) (b : Batch) (found : Result Found Refusal) → Reads meaning old new offer b found → Blames (fault_in found) old.faults new.faults
 read_blamed meaning old new offer b found r = blamed (fault_in found) old new r.goes.is_made r.goes.ends
@@ -75,14 +56,6 @@ pub commit_blamed : (found : Found) (old new : Standing) (written : Result Batch
 commit_blamed (Repeat answer) old new written c =
     subst (λ (w : Result BatchAnswer StepFault). Blames (result_err w) old.faults new.faults) (sym c.1) (ap (λ (s : Standing). s.faults) c.0)
 commit_blamed (Change ready) old new written c = blamed (result_err written) old new c.goes.is_made c.goes.ends
-
--- a handed fault is the device's
-fault_handed : (written : Result BatchAnswer StepFault) → fault_in (handed_on written) ≡ result_err written
-fault_handed (Ok answer) = refl
-fault_handed (Err fault) = refl
-
-pub written_blamed : (written : Result BatchAnswer StepFault) (old new : Standing) → Blames (result_err written) old.faults new.faults → Blames (fault_in (handed_on written)) old.faults new.faults
-written_blamed written old new b = subst (λ (f : Option StepFault). Blames f old.faults new.faults) (sym (fault_handed written)) b
 
 ends_blamed : (found : Result Found Refusal) (old middle new : Standing) (result : Result BatchAnswer Refusal) → Goes ReadCell old middle (fault_in found) → Ends found middle new result → Blames (fault_in result) old.faults new.faults
 ends_blamed (Err why) old middle new result g e =
@@ -188,7 +161,3 @@ pub one_output : (request : List ℕ) (result : Result BatchAnswer Refusal) → 
 one_output request (Ok answer) fit = fit.counted
 one_output request (Err why) fit = tt
 
--- the answer to a batch of one is that to its request
-pub wholly : (all : BatchAnswer) (answer : Answer) → answer.again ≡ all.again → answer.position ≡ all.position → all.outputs ≡ answer.output ∷ [] → answer.snapshot ≡ all.snapshot → all ≡ whole answer
-wholly all answer again position outputs snapshot =
-    λ i. record { again = sym again i; position = sym position i; outputs = outputs i; snapshot = sym snapshot i }

@@ -10,7 +10,7 @@ use Rattle.mm_platform.specs.declared.fault.StepFault.{StepFault}
 use Rattle.mm_platform.specs.Standing.{Standing}
 use Rattle.mm_module.specs.Meaning.{Meaning}
 use Rattle.mm_module.specs.Batch.{Batch, size_of, normal}
-use Rattle.mm_seal.specs.Snapshot.{Content, Snapshot, ReadsParts, snapshot_front, sealed_of, tag_of}
+use Rattle.mm_seal.specs.Snapshot.{Content, ReadsParts, snapshot_front, sealed_of, tag_of}
 use Rattle.mm_model.specs.Instance.{Instance, basic}
 use Rattle.mm_model.specs.History.{History}
 use Rattle.mm_model.specs.Judge.{judge}
@@ -19,40 +19,19 @@ use Rattle.mm_model.specs.declared.answer.BatchAnswer.{BatchAnswer}
 use Rattle.mm_model.specs.declared.refusal.Refusal.{Refusal}
 use Rattle.mm_model.specs.declared.refusal.Refusal.TheVariants.{Memory}
 use Rattle.mm_model.specs.declared.verdict.Verdict.{Verdict}
-use Rattle.mm_model.specs.declared.verdict.Verdict.TheVariants.{Fresh, Again, Lost, Stale}
 use Rattle.mm_basic.specs.declared.found.Found.{Found}
-use Rattle.mm_basic.specs.Order.{admitted, weighed}
-use Rattle.mm_basic.specs.Steps.{fault_of, fault_in, OrMemory}
-use Rattle.mm_basic.specs.Asks.{Calls, Blames}
-use Rattle.mm_basic.specs.Continuity.{expected_by, expected, RefusesFrom, GoesOn, IsAccepted, IsAnswered, IsComplete}
+use Rattle.mm_call.specs.Refusals.{fault_of, fault_in, OrMemory}
+use Rattle.mm_basic.specs.Asks.{Calls}
+use Rattle.mm_call.specs.Leaving.{Blames, IsAccepted, IsAnswered}
+use Rattle.mm_basic.specs.Continuity.{expected_by, expected, RefusesFrom, GoesOn, IsComplete}
 use Rattle.mm_basic.proofs.Asking.{blames}
 use Rattle.mm_basic.proofs.Continuing.{continues}
-
--- the offer, taken apart
-abbrev pub offered_of : List ℕ → Content → Snapshot
-offered_of key content = record { content = content; tag = tag_of key content }
+use Rattle.mm_call.proofs.Weighing.{offered_of, weighs}
 
 right_reads : (meaning : Meaning) (key offer : List ℕ) (content : Content) → IsRight (basic meaning key) offer content → ReadsParts offer Basic meaning.id (Ok (offered_of key content))
 unfolding sealed_of
 right_reads meaning key offer content r =
     ((record { content = r.formed; tag = length-hmac_of key (snapshot_front content) }, r.sealed), (r.variant, r.id))
-
--- an accepted offer gives something
-pub record IsGiven (e : Result Bool Refusal) : Type 0 where
-  pub again : Bool
-  pub is : e ≡ Ok again
-
-admits : (v : Verdict) → IsAccepted v → IsGiven (admitted v true)
-admits Fresh a = record { again = false; is = refl }
-admits Again a = record { again = true; is = refl }
-admits Lost a = absurd a
-admits Stale a = absurd a
-
-pub weighs : (s t fits : Bool) (v : Verdict) → s ≡ true → t ≡ true → fits ≡ true → IsAccepted v → IsGiven (weighed s t v fits)
-weighs s t fits v p q r a =
-    subst (λ (x : Bool). IsGiven (weighed x t v fits)) (sym p)
-    (subst (λ (x : Bool). IsGiven (weighed true x v fits)) (sym q)
-    (subst (λ (x : Bool). IsGiven (weighed true true v x)) (sym r) (admits v a)))
 
 record IsFound (x : Result Found Refusal) : Type 0 where
   found : Found

@@ -1,5 +1,5 @@
 -- State continuity of turns and calls.
-use Rattle.std.proofs.Common.{◌≡◌, ℕ, ◌+◌, ◌^◌, Bool, true, false, List, ◌∷◌, [], ◌++◌, Option, None, Some, Result, Ok, Err, refl, sym, ap, ◌∙◌, subst, inl, inr, ◌⊎◌, length}
+use Rattle.std.proofs.Common.{◌≡◌, ℕ, ◌+◌, ◌^◌, Bool, true, false, List, [], ◌∷◌, ◌++◌, Option, None, Some, Result, Ok, Err, refl, sym, ap, ◌∙◌, subst, inl, inr, ◌⊎◌, length}
 use Rattle.std.specs.Prelude.{nat_le}
 use Rattle.std.specs.Str.{bytes_eq}
 use Rattle.std.specs.Option.{option_map}
@@ -30,13 +30,17 @@ use Rattle.mm_basic.specs.declared.found.Found.{Found}
 use Rattle.mm_basic.specs.declared.found.Found.TheVariants.{Repeat, Change}
 use Rattle.mm_basic.specs.declared.found.Ready.{Ready}
 use Rattle.mm_basic.specs.Seen.{Seen, Both}
-use Rattle.mm_basic.specs.Order.{examined, verdict_of}
+use Rattle.mm_call.specs.Order.{examined}
+use Rattle.mm_basic.specs.Order.{verdict_of}
 use Rattle.mm_basic.specs.Answers.{digest, answer_of, cell_after, found_from, found_in}
-use Rattle.mm_basic.specs.Steps.{fault_of, fault_in, handed_on, OrMemory, Finds, Reads, Writes}
+use Rattle.mm_call.specs.Refusals.{fault_of, fault_in, handed_on, OrMemory}
+use Rattle.mm_basic.specs.Steps.{Finds, Reads, Writes}
 use Rattle.mm_basic.specs.Asks.{CommitsFound, Ends, Calls}
-use Rattle.mm_basic.specs.Continuity.{with_batch, answer_on, ready_on, expected_by, expected, IsAskedFrom, RefusesFrom, GoesOn, Continues, ReadsOn, IsReadyOn, WritesOn, CommitsOn, ReadContinues, CommitContinues}
+use Rattle.mm_basic.specs.Continuity.{with_batch, ready_on, expected_by, expected, IsAskedFrom, RefusesFrom, GoesOn, Continues, ReadsOn, IsReadyOn, WritesOn, CommitsOn, ReadContinues, CommitContinues}
+use Rattle.mm_call.specs.Answers.{answer_on}
 use Rattle.mm_basic.proofs.Reading.{seen_by, one_sight}
-use Rattle.mm_basic.proofs.Verdicts.{weighed_alike, weighed_only, right_offer, verdict_on, fresh_named, again_named, linked_at, answer_with, answered_on}
+use Rattle.mm_call.proofs.Weighing.{weighed_alike, weighed_only}
+use Rattle.mm_basic.proofs.Verdicts.{right_offer, verdict_on, fresh_named, again_named, linked_at, answer_with, answered_on}
 
 -- what was accepted gives what the history gives
 accepted_alike : (e : Result Bool Refusal) (i : Instance) (y : History) (b : Batch) (next : List ℕ) (answer : Bool → BatchAnswer) → (e ≡ Ok true → answer true ≡ answer_on i y b true) → (e ≡ Ok false → (next ≡ cell_spelling (cell_of i (with_batch i y b))) × (answer false ≡ answer_on i (with_batch i y b) b false)) → found_from e next answer ≡ expected_by e i y b

@@ -18,10 +18,12 @@ use Rattle.mm_model.specs.declared.verdict.Verdict.TheVariants.{Fresh, Again, Lo
 use Rattle.mm_basic.specs.declared.found.Found.{Found}
 use Rattle.mm_basic.specs.declared.found.Found.TheVariants.{Repeat, Change}
 use Rattle.mm_basic.specs.Seen.{Seen, NoCell, OtherCell, NoOffer, Both}
-use Rattle.mm_basic.specs.Order.{admitted, weighed, examined, summary_in, verdict_of}
+use Rattle.mm_call.specs.Order.{admitted, weighed, examined}
+use Rattle.mm_basic.specs.Order.{summary_in, verdict_of}
 use Rattle.mm_basic.specs.Answers.{digest, linked, answer_of, cell_after, found_from, found_in}
-use Rattle.mm_basic.specs.Steps.{fault_in, OrMemory, FindsIn}
-use Rattle.mm_basic.proofs.Verdicts.{weighed_only}
+use Rattle.mm_call.specs.Refusals.{fault_in, OrMemory}
+use Rattle.mm_basic.specs.Steps.{FindsIn}
+use Rattle.mm_call.proofs.Weighing.{weighed_only}
 
 pub found_refused : (e : Result Bool Refusal) (next : List ℕ) (answer : Bool → BatchAnswer) (why : Refusal) → e ≡ Err why → OrMemory (found_from e next answer) (Err why)
 found_refused e next answer why is =

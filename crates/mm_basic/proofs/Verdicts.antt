@@ -1,17 +1,12 @@
 -- The verdict by digests is the verdict on the history, and what follows is the history's.
-use Rattle.std.proofs.Common.{◌≡◌, ℕ, ◌+◌, ◌-◌, ◌&&◌, Bool, true, false, List, [], ◌∷◌, ◌++◌, length, drop, Ok, IsTrue, refl, sym, ap, ◌∙◌, subst, arith, length-append}
+use Rattle.std.proofs.Common.{◌≡◌, ℕ, ◌+◌, ◌-◌, ◌&&◌, Bool, true, false, List, [], ◌∷◌, ◌++◌, drop, IsTrue, refl, sym, ap, ◌∙◌, subst}
 use Rattle.std.specs.Prelude.{nat_eq}
 use Rattle.std.specs.Str.{bytes_eq}
-use Rattle.std.proofs.lemmas.List.{append-nil}
-use Rattle.std.proofs.lemmas.Grind.{flat_map-append}
 use Rattle.std.proofs.lemmas.Slice.Eq.{bytes_eq-Decides}
-use Rattle.std.proofs.Math.Seq.{drop-append_seam}
 use Rattle.mm_digest.specs.declared.variant.Variant.TheVariants.{Basic}
 use Rattle.mm_digest.specs.Messages.{zero_bytes}
 use Rattle.mm_module.specs.Meaning.{Meaning, state_from, state_after, outputs_from}
 use Rattle.mm_module.specs.Batch.{Batch, members_of, size_of, normal}
-use Rattle.mm_module.proofs.RunLaws.{state_after-append, outputs_from-append, length-outputs_from}
-use Rattle.mm_module.proofs.BatchLaws.{members_of-normal}
 use Rattle.mm_seal.specs.declared.snapshot.Place.{Place}
 use Rattle.mm_seal.specs.declared.snapshot.Place.TheVariants.{Basic as InBasic, Opt as InOpt}
 use Rattle.mm_seal.specs.Snapshot.{Content, Snapshot, Spells, IsOfKind, snapshot_front, sealed_of, tag_of}
@@ -27,42 +22,10 @@ use Rattle.mm_model.proofs.Basic.{basic_is_judged}
 use Rattle.mm_model.proofs.Batches.{at_the_end, before_the_last}
 use Rattle.mm_model.proofs.Digests.{summary-push}
 use Rattle.mm_model.specs.declared.answer.BatchAnswer.{BatchAnswer}
-use Rattle.mm_model.specs.declared.verdict.Verdict.{Verdict}
-use Rattle.mm_model.specs.declared.verdict.Verdict.TheVariants.{Fresh, Again, Lost, Stale}
-use Rattle.mm_basic.specs.Order.{admitted, weighed, summary_in}
+use Rattle.mm_model.specs.declared.verdict.Verdict.TheVariants.{Fresh, Again}
+use Rattle.mm_basic.specs.Order.{summary_in}
 use Rattle.mm_basic.specs.Answers.{digest, linked, answer_of}
-
--- the verdict counts only for a rightly sealed offer of a spelled state
-pub weighed_alike : (s t : Bool) (v w : Verdict) (fits : Bool) → (s ≡ true → t ≡ true → v ≡ w) → weighed s t v fits ≡ weighed s t w fits
-weighed_alike false t v w fits h = refl
-weighed_alike true false v w fits h = refl
-weighed_alike true true v w fits h = ap (λ (x : Verdict). admitted x fits) (h refl refl)
-
--- the verdict that accepts
-abbrev pub accepting : Bool → Verdict
-accepting true = Again
-accepting false = Fresh
-
-pub record IsAdmitted (s t : Bool) (v : Verdict) (fits again : Bool) : Type 0 where
-  pub spelled : s ≡ true
-  pub tagged : t ≡ true
-  pub verdict : v ≡ accepting again
-  pub fitting : fits ≡ true
-
-admitted_only : (v : Verdict) (fits again : Bool) → admitted v fits ≡ Ok again → IsAdmitted true true v fits again
-admitted_only Fresh true true e = cc
-admitted_only Fresh true false e = record { spelled = refl; tagged = refl; verdict = refl; fitting = refl }
-admitted_only Fresh false again e = cc
-admitted_only Again true true e = record { spelled = refl; tagged = refl; verdict = refl; fitting = refl }
-admitted_only Again true false e = cc
-admitted_only Again false again e = cc
-admitted_only Lost fits again e = cc
-admitted_only Stale fits again e = cc
-
-pub weighed_only : (s t : Bool) (v : Verdict) (fits again : Bool) → weighed s t v fits ≡ Ok again → IsAdmitted s t v fits again
-weighed_only false t v fits again e = cc
-weighed_only true false v fits again e = cc
-weighed_only true true v fits again e = admitted_only v fits again e
+use Rattle.mm_call.proofs.Ending.{total_with, outputs_with, state_with}
 
 -- an offer taken apart that has a spelled state and its tag is right
 pub right_offer : (meaning : Meaning) (key offer : List ℕ) (offered : Snapshot) → Spells offer offered → IsOfKind Basic meaning.id offered → meaning.is_spelled offered.content.state ≡ true → bytes_eq offered.tag (tag_of key offered.content) ≡ true → IsRight (basic meaning key) offer offered.content
@@ -120,16 +83,6 @@ pub linked_at : (i : Instance) (y : History) (named : List Batch) (offered : Con
 linked_at i y named offered b p =
     ap (λ (s : List ℕ). link s (normal b)) (summary_at i y named offered.place p) ∙ sym (summary-push i.meaning.id named (normal b))
 
--- the requests with those of the batch
-pub requests_with : (named : List Batch) (b : Batch) → requests_of (named ++ normal b ∷ []) ≡ requests_of named ++ members_of b
-requests_with named b =
-    flat_map-append members_of named (normal b ∷ [])
-    ∙ ap (λ (v : List (List ℕ)). requests_of named ++ v) (append-nil (members_of (normal b)) ∙ members_of-normal b)
-
-pub total_with : (named : List Batch) (b : Batch) → total_of named + size_of b ≡ total_of (named ++ normal b ∷ [])
-total_with named b =
-    sym (ap (λ (v : List (List ℕ)). length v) (requests_with named b) ∙ length-append (requests_of named) (members_of b))
-
 -- the answer on these batches
 abbrev pub answer_with : Meaning → List ℕ → List Batch → Batch → Bool → BatchAnswer
 answer_with meaning key batches b again = record {
@@ -143,24 +96,6 @@ answer_with meaning key batches b again = record {
     state = state_after meaning (requests_of batches);
   });
 }
-
-pub outputs_with : (meaning : Meaning) (named : List Batch) (b : Batch) → outputs_from meaning (state_after meaning (requests_of named)) (members_of b) ≡ drop (total_of (named ++ normal b ∷ []) - size_of b) (outputs_from meaning meaning.first (requests_of (named ++ normal b ∷ [])))
-outputs_with meaning named b =
-    let before : List (List ℕ) = outputs_from meaning meaning.first (requests_of named) in
-    let last : List (List ℕ) = outputs_from meaning (state_after meaning (requests_of named)) (members_of b) in
-    let whole : outputs_from meaning meaning.first (requests_of (named ++ normal b ∷ [])) ≡ before ++ last =
-    ap (λ (v : List (List ℕ)). outputs_from meaning meaning.first v) (requests_with named b)
-    ∙ outputs_from-append meaning meaning.first (requests_of named) (members_of b) in
-    let counts : total_of (named ++ normal b ∷ []) - size_of b ≡ length before =
-    omega (arith, total_with named b, length-outputs_from meaning meaning.first (requests_of named)) in
-    sym (ap (λ (v : List (List ℕ)). drop (total_of (named ++ normal b ∷ []) - size_of b) v) whole
-    ∙ ap (λ (n : ℕ). drop n (before ++ last)) counts
-    ∙ drop-append_seam before last)
-
-pub state_with : (meaning : Meaning) (named : List Batch) (b : Batch) → state_from meaning (state_after meaning (requests_of named)) (members_of b) ≡ state_after meaning (requests_of (named ++ normal b ∷ []))
-state_with meaning named b =
-    sym (ap (λ (v : List (List ℕ)). state_after meaning v) (requests_with named b)
-    ∙ state_after-append meaning (requests_of named) (members_of b))
 
 -- the answer by what the offer says, as its parts are the history's
 answer_by : (meaning : Meaning) (key : List ℕ) (offered : Content) (b : Batch) (again : Bool) (summary state : List ℕ) (position : ℕ) (outputs : List (List ℕ)) → linked offered b ≡ summary → offered.position + size_of b ≡ position → outputs_from meaning offered.state (members_of b) ≡ outputs → state_from meaning offered.state (members_of b) ≡ state → answer_of meaning key offered b again ≡ record {

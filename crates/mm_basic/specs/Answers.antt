@@ -1,14 +1,14 @@
 -- What a call answers, and what it writes.
 use Rattle.std.specs.Prelude.{ℕ, ◌+◌, Bool, true, false, List, Result, Ok, Err}
 use Rattle.mm_digest.specs.declared.digest.Digest.{Digest}
-use Rattle.mm_module.specs.Meaning.{Meaning, state_from, outputs_from}
-use Rattle.mm_module.specs.Batch.{Batch, members_of, size_of, normal}
+use Rattle.mm_module.specs.Meaning.{Meaning}
+use Rattle.mm_module.specs.Batch.{Batch, normal}
 use Rattle.mm_seal.specs.declared.cell.Cell.{Cell}
 use Rattle.mm_seal.specs.declared.cell.CellFault.TheVariants.{Blank, Cell as Unspelled}
 use Rattle.mm_seal.specs.declared.snapshot.PartsFault.TheVariants.{Form, Kind}
 use Rattle.mm_seal.specs.declared.snapshot.Place.TheVariants.{Basic}
 use Rattle.mm_seal.specs.Cell.{cell_spelling}
-use Rattle.mm_seal.specs.Snapshot.{Content, sealed_of}
+use Rattle.mm_seal.specs.Snapshot.{Content}
 use Rattle.mm_model.specs.Chains.{link}
 use Rattle.mm_model.specs.declared.answer.BatchAnswer.{BatchAnswer}
 use Rattle.mm_model.specs.declared.refusal.Refusal.{Refusal}
@@ -16,7 +16,9 @@ use Rattle.mm_model.specs.declared.refusal.Refusal.TheVariants as refusal
 use Rattle.mm_basic.specs.declared.found.Found.{Found}
 use Rattle.mm_basic.specs.declared.found.Found.TheVariants.{Repeat, Change}
 use Rattle.mm_basic.specs.Seen.{Seen, NoCell, OtherCell, NoOffer, Both}
-use Rattle.mm_basic.specs.Order.{examined, summary_in, verdict_of}
+use Rattle.mm_call.specs.Order.{examined}
+use Rattle.mm_basic.specs.Order.{summary_in, verdict_of}
+use Rattle.mm_call.specs.Answers.{answer_at}
 
 abbrev pub digest : List ℕ → Digest
 digest bytes = record { bytes = bytes }
@@ -25,26 +27,8 @@ digest bytes = record { bytes = bytes }
 abbrev pub linked : Content → Batch → List ℕ
 linked offered b = link (summary_in offered.place) (normal b)
 
--- what the new snapshot says, at this summary: the batch was run from the offered state
-abbrev pub content_at : Meaning → Content → Digest → Batch → Content
-content_at meaning offered summary b = record {
-  id = meaning.id;
-  place = Basic summary;
-  position = offered.position + size_of b;
-  state = state_from meaning offered.state (members_of b);
-}
-
--- the answer, at this summary, by whether it is a repeat
-abbrev pub answer_at : Meaning → List ℕ → Content → Digest → Batch → Bool → BatchAnswer
-answer_at meaning key offered summary b again = record {
-  again = again;
-  position = offered.position + size_of b;
-  outputs = outputs_from meaning offered.state (members_of b);
-  snapshot = sealed_of key (content_at meaning offered summary b);
-}
-
 abbrev pub answer_of : Meaning → List ℕ → Content → Batch → Bool → BatchAnswer
-answer_of meaning key offered b again = answer_at meaning key offered (digest (linked offered b)) b again
+answer_of meaning key offered b again = answer_at meaning key offered (Basic (digest (linked offered b))) b again
 
 -- the cell once the batch is committed
 abbrev pub cell_after : Cell → Content → Batch → List ℕ

@@ -1,19 +1,18 @@
 -- What a whole call does to the platform, and what it answers.
-use Rattle.std.specs.Prelude.{◌≡◌, ◌∷◌, ℕ, ◌≤◌, Bool, true, false, List, [], Option, None, Some, Result, Ok, Err, ◌⊎◌}
-use Rattle.mm_base.specs.Faults.{counted, Rose}
+use Rattle.std.specs.Prelude.{◌≡◌, ◌∷◌, ℕ, ◌≤◌, Bool, true, false, List, Option, None, Some, Result, Ok, Err, ◌⊎◌}
+use Rattle.mm_base.specs.Faults.{counted}
 use Rattle.mm_platform.specs.declared.fault.StepFault.{StepFault}
 use Rattle.mm_platform.specs.Standing.{Standing}
-use Rattle.mm_platform.specs.Steps.{beside}
 use Rattle.mm_module.specs.Meaning.{Meaning}
 use Rattle.mm_module.specs.Batch.{Batch}
-use Rattle.mm_model.specs.declared.answer.Answer.{Answer}
 use Rattle.mm_model.specs.declared.answer.BatchAnswer.{BatchAnswer}
 use Rattle.mm_model.specs.declared.refusal.Refusal.{Refusal}
 use Rattle.mm_model.specs.declared.refusal.Refusal.TheVariants.{Long}
 use Rattle.mm_model.specs.Long.{is_long}
 use Rattle.mm_basic.specs.declared.found.Found.{Found}
 use Rattle.mm_basic.specs.declared.found.Found.TheVariants.{Repeat, Change}
-use Rattle.mm_basic.specs.Steps.{fault_of, handed_on, Reads, Writes}
+use Rattle.mm_call.specs.Refusals.{fault_of, handed_on}
+use Rattle.mm_basic.specs.Steps.{Reads, Writes}
 
 -- How a call goes on once its batch has run in memory: a repeat is answered, and a new batch is committed.
 abbrev pub CommitsFound : Found → Standing → Standing → Result BatchAnswer StepFault → Type 0
@@ -41,26 +40,6 @@ pub record Calls (meaning : Meaning) (old new : Standing) (offer : List ℕ) (b 
   pub long : is_long b ≡ true → (new ≡ old) × (result ≡ Err Long)
   pub asks : is_long b ≡ false → Asks meaning old new offer b result
 
--- The platform is as before, but for the count of steps, the values of others in the register, and room.
-pub record IsUntouched (old new : Standing) : Type 0 where
-  pub others : List (List ℕ)
-  pub cell : new.cell ≡ old.cell
-  pub items : new.items ≡ beside others old.items
-  pub is_on : new.is_on ≡ old.is_on
-  pub writes : new.writes ≡ old.writes
-  pub room : old.spare ≤ new.spare
-  pub faults : new.faults ≡ old.faults
-
--- The count of faults rose where a device's fault is handed on, and is as before otherwise.
-abbrev pub Blames : Option StepFault → ℕ → ℕ → Type 0
-Blames None before now = now ≡ before
-Blames (Some fault) before now = Rose before now
-
--- what a refused call leaves, unless it hands on a device's fault
-abbrev pub LeavesUntouched : Result BatchAnswer Refusal → Standing → Standing → Type 0
-LeavesUntouched (Ok answer) old new = Unit {0}
-LeavesUntouched (Err why) old new = fault_of why ≡ None → IsUntouched old new
-
 -- one step, which reads; or two, of which the second writes the cell
 abbrev pub ReadsOnce : Standing → Standing → Type 0
 ReadsOnce old new = (new.steps ≡ counted old.steps) × (new.writes ≡ old.writes)
@@ -80,16 +59,3 @@ StepsRefused (Some fault) old new = ReadsOnce old new ⊎ ReadsAndWrites old new
 abbrev pub StepsBy : Result BatchAnswer Refusal → Standing → Standing → Type 0
 StepsBy (Ok answer) old new = StepsAnswered answer.again old new
 StepsBy (Err why) old new = StepsRefused (fault_of why) old new
-
--- the answer to one request, as the answer to a batch of one
-abbrev pub whole : Answer → BatchAnswer
-whole answer = record {
-  again = answer.again;
-  position = answer.position;
-  outputs = answer.output ∷ [];
-  snapshot = answer.snapshot;
-}
-
-abbrev pub whole_in : Result Answer Refusal → Result BatchAnswer Refusal
-whole_in (Ok answer) = Ok (whole answer)
-whole_in (Err why) = Err why

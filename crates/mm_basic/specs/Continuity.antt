@@ -1,49 +1,34 @@
 -- State continuity: what a call gives from any history that the platform stands for.
-use Rattle.std.specs.Prelude.{◌≡◌, ℕ, ◌-◌, ◌+◌, ◌≤◌, ◌^◌, Bool, true, false, List, Option, None, Some, Result, Ok, Err, IsOk, drop, ◌⊎◌}
-use Rattle.mm_base.specs.Faults.{Rose}
+use Rattle.std.specs.Prelude.{◌≡◌, ℕ, ◌-◌, ◌+◌, ◌≤◌, ◌^◌, Bool, true, false, List, Option, None, Some, Result, Ok, Err, ◌⊎◌}
 use Rattle.mm_digest.specs.declared.variant.Variant.TheVariants.{Basic}
 use Rattle.mm_platform.specs.declared.fault.StepFault.{StepFault}
 use Rattle.mm_platform.specs.Standing.{Standing}
-use Rattle.mm_module.specs.Meaning.{Meaning, outputs_from}
+use Rattle.mm_module.specs.Meaning.{Meaning}
 use Rattle.mm_module.specs.Batch.{Batch, size_of, normal}
 use Rattle.mm_seal.specs.declared.snapshot.PartsFault.{PartsFault}
 use Rattle.mm_seal.specs.declared.snapshot.PartsFault.TheVariants.{Form, Kind}
 use Rattle.mm_seal.specs.Cell.{cell_spelling}
 use Rattle.mm_seal.specs.Snapshot.{Content, Snapshot, ReadsParts}
 use Rattle.mm_model.specs.Instance.{Instance, basic}
-use Rattle.mm_model.specs.History.{History, Commit, moved, requests_of, total_of}
+use Rattle.mm_model.specs.History.{History, Commit, moved}
 use Rattle.mm_model.specs.Judge.{judge}
 use Rattle.mm_model.specs.Long.{is_long}
 use Rattle.mm_model.specs.Messages.{IsClearFor}
-use Rattle.mm_model.specs.Standing.{StandsFor, IsRight, IsGenuine, cell_of, issued_bytes}
+use Rattle.mm_model.specs.Standing.{StandsFor, IsRight, IsGenuine, cell_of}
 use Rattle.mm_model.specs.declared.answer.BatchAnswer.{BatchAnswer}
 use Rattle.mm_model.specs.declared.refusal.Refusal.{Refusal}
 use Rattle.mm_model.specs.declared.refusal.Refusal.TheVariants as refusal
-use Rattle.mm_model.specs.declared.verdict.Verdict.{Verdict}
-use Rattle.mm_model.specs.declared.verdict.Verdict.TheVariants.{Fresh, Again, Lost, Stale}
 use Rattle.mm_basic.specs.declared.found.Found.{Found}
 use Rattle.mm_basic.specs.declared.found.Found.TheVariants.{Repeat, Change}
 use Rattle.mm_basic.specs.declared.found.Ready.{Ready}
-use Rattle.mm_basic.specs.Order.{examined}
-use Rattle.mm_basic.specs.Steps.{fault_of, fault_in, OrMemory}
+use Rattle.mm_call.specs.Order.{examined}
+use Rattle.mm_call.specs.Refusals.{fault_of, fault_in, OrMemory}
+use Rattle.mm_call.specs.Leaving.{IsAccepted, IsAnswered}
+use Rattle.mm_call.specs.Answers.{answer_on}
 
 -- the history once the batch is committed
 abbrev pub with_batch : Instance → History → Batch → History
 with_batch i y b = moved i y (Commit (normal b))
-
--- what the module says to the last requests of a history, this many of them
-abbrev pub last_outputs : Meaning → History → ℕ → List (List ℕ)
-last_outputs meaning y count =
-    drop (total_of y.batches - count) (outputs_from meaning meaning.first (requests_of y.batches))
-
--- the answer to a batch with which a history ends, by whether it is a repeat
-abbrev pub answer_on : Instance → History → Batch → Bool → BatchAnswer
-answer_on i y b again = record {
-  again = again;
-  position = total_of y.batches;
-  outputs = last_outputs i.meaning y (size_of b);
-  snapshot = issued_bytes i y;
-}
 
 -- a new batch, ready to be committed
 abbrev pub ready_on : Instance → History → Batch → Ready
@@ -134,17 +119,6 @@ Continues meaning old new offer b result =
     is_long b ≡ false → (key : List ℕ) (y : History) (all : List (List ℕ)) (taken : Result Snapshot PartsFault) →
     IsAskedFrom all (basic meaning key) y old offer b → ReadsParts offer Basic meaning.id taken →
     GoesOn (basic meaning key) y b (expected (basic meaning key) y taken b) new result
-
--- the verdict accepts the offer
-abbrev pub IsAccepted : Verdict → Type 0
-IsAccepted Fresh = Unit {0}
-IsAccepted Again = Unit {0}
-IsAccepted Lost = ⊥
-IsAccepted Stale = ⊥
-
--- answered, or refused for want of memory or for a device's fault, which was counted
-abbrev pub IsAnswered : Result BatchAnswer Refusal → Standing → Standing → Type 0
-IsAnswered result old new = IsOk result ⊎ (result ≡ Err refusal.Memory) ⊎ Rose old.faults new.faults
 
 -- Completeness: a right offer of the last position, or of the one before the batch that was committed last and is
 -- asked again, is answered, while there are positions left.

@@ -1,7 +1,6 @@
 pub mod Seen
 pub mod Order
 pub mod Answers
-pub mod Ran
 pub mod Steps
 pub mod Turns
 pub mod Asks

@@ -1,38 +1,13 @@
 -- The order in which an offer is refused.
-use Rattle.std.specs.Prelude.{ℕ, ◌+◌, ◌^◌, Bool, true, false, List, Result, Ok, Err, nat_le}
-use Rattle.std.specs.Str.{bytes_eq}
-use Rattle.mm_module.specs.Meaning.{Meaning}
-use Rattle.mm_module.specs.Batch.{Batch, size_of, normal}
+use Rattle.std.specs.Prelude.{ℕ, ◌+◌, ◌^◌, List}
+use Rattle.mm_module.specs.Batch.{Batch, normal}
 use Rattle.mm_seal.specs.declared.cell.Cell.{Cell}
 use Rattle.mm_seal.specs.declared.snapshot.Place.{Place}
 use Rattle.mm_seal.specs.declared.snapshot.Place.TheVariants.{Basic, Opt}
-use Rattle.mm_seal.specs.Snapshot.{Snapshot, tag_of}
+use Rattle.mm_seal.specs.Snapshot.{Snapshot}
 use Rattle.mm_model.specs.Judge.{basic_verdict}
-use Rattle.mm_model.specs.declared.refusal.Refusal.{Refusal}
 use Rattle.mm_model.specs.declared.refusal.Refusal.TheVariants as refusal
 use Rattle.mm_model.specs.declared.verdict.Verdict.{Verdict}
-use Rattle.mm_model.specs.declared.verdict.Verdict.TheVariants.{Fresh, Again, Lost, Stale}
-
--- by the verdict, and by whether there are positions left for the batch: whether it is a repeat
-abbrev pub admitted : Verdict → Bool → Result Bool Refusal
-admitted Fresh true = Ok false
-admitted Again true = Ok true
-admitted Fresh false = Err refusal.Full
-admitted Again false = Err refusal.Full
-admitted Lost fits = Err refusal.Lost
-admitted Stale fits = Err refusal.Stale
-
--- before that: the offered state is one of the module's, and the tag is right
-abbrev pub weighed : Bool → Bool → Verdict → Bool → Result Bool Refusal
-weighed false is_tagged verdict fits = Err refusal.State
-weighed true false verdict fits = Err refusal.Tag
-weighed true true verdict fits = admitted verdict fits
-
--- an offer under the cell's key, by the verdict on it
-abbrev pub examined : Meaning → List ℕ → Snapshot → Batch → Verdict → Result Bool Refusal
-examined meaning key offered b verdict =
-    weighed (meaning.is_spelled offered.content.state) (bytes_eq offered.tag (tag_of key offered.content)) verdict
-    (nat_le (offered.content.position + size_of b) (2 ^ 48))
 
 -- the summary of an offered place; no offer to Basic has a place of Opt
 abbrev pub summary_in : Place → List ℕ

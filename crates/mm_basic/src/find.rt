@@ -1,9 +1,9 @@
 //! What a call finds in the cell and the offer.
 
-ghost use Rattle.std.specs.Prelude.{◌≡◌, ◌+◌, ◌≤◌, ◌^◌, ◌↔◌, false, None, IsTrue, OnOk};
+ghost use Rattle.std.specs.Prelude.{◌≡◌, ◌≤◌, ◌^◌, ◌↔◌, false, None, IsTrue};
 ghost use Rattle.std.specs.Str.{bytes_eq};
 ghost use Rattle.mm_digest.specs.declared.variant.Variant.TheVariants.{Basic};
-ghost use Rattle.mm_module.specs.Batch.{Many, has_tab, normal, size_of};
+ghost use Rattle.mm_module.specs.Batch.{Many, normal};
 ghost use Rattle.mm_module.specs.Batches.{batch_of};
 ghost use Rattle.mm_seal.specs.Cell.{FitsVariant};
 ghost use Rattle.mm_seal.specs.Snapshot.{variant_of};
@@ -11,20 +11,18 @@ ghost use Rattle.mm_model.specs.Chains.{link};
 ghost use Rattle.mm_model.specs.Judge.{verdict_by};
 ghost use Rattle.mm_model.specs.Long.{is_long};
 ghost use Rattle.mm_basic.specs.Seen.{IsCellOf, Both};
-ghost use Rattle.mm_basic.specs.Order.{admitted, examined, summary_in};
+ghost use Rattle.mm_basic.specs.Order.{summary_in};
 ghost use Rattle.mm_basic.specs.Answers.{found_in};
-ghost use Rattle.mm_basic.specs.Steps.{FindsIn, OrMemory, fault_in};
+ghost use Rattle.mm_basic.specs.Steps.{FindsIn};
+ghost use Rattle.mm_call.specs.Refusals.{OrMemory, fault_in};
 
 use crate::found::{Found, Ready};
-use crate::run::answer;
+use mm_call::{answer, examine, has_tab};
 use mm_digest::{Digest, HmacKey, Variant, successor, successor_batch};
 use mm_model::{Refusal, Verdict};
 use mm_module::{Batch, Module};
 use mm_seal::{Cell, CellFault, Offered, PartsFault, Place, cell_bytes, parts, read_cell};
 use std::alloc::Global;
-
-/// The greatest position.
-const LAST_POSITION: u64 = 1 << 48;
 
 /// What is found in the cell's bytes and the offered ones, in the order of the refusals.
 pub fn find<M: Module>(
@@ -88,7 +86,7 @@ fn weigh<M: Module>(
         Err(refusal) => return Err(refusal),
         Ok(again) => again,
     };
-    let answer = match answer(alloc, module, &key, &body, next, batch, again) {
+    let answer = match answer(alloc, module, &key, &body, Place::Basic(next), batch, again) {
         Err(_) => return Err(Refusal::Memory),
         Ok(answer) => answer,
     };
@@ -136,13 +134,6 @@ fn link_text(summary: &Digest, text: &[u8]) -> Digest
     }
 }
 
-/// Whether a text is several requests.
-pub fn has_tab(text: &[u8]) -> bool
-    ensures { result ≡ has_tab text.now }
-{
-    text.iter().any(|byte| *byte == b'\t')
-}
-
 // The verdict on an offered summary, with the summary that the batch leads to.
 fn verdict(summary: &Digest, offered: &Digest, next: &Digest) -> Verdict
     ensures { result ≡ verdict_by false (bytes_eq offered.now.bytes summary.now.bytes) (bytes_eq next.now.bytes summary.now.bytes) }
@@ -154,44 +145,4 @@ fn verdict(summary: &Digest, offered: &Digest, next: &Digest) -> Verdict
         return Verdict::Again;
     }
     Verdict::Stale
-}
-
-/// Whether an offer is accepted, and as a repeat, by the verdict on it. State, Tag, Stale and Full come in this order.
-/// Takes no memory.
-pub fn examine<M: Module>(
-    module: &M,
-    key: &HmacKey,
-    offered: &Offered<'_>,
-    batch: Batch<'_>,
-    verdict: Verdict,
-) -> Result<bool, Refusal>
-    requires position { offered.now.content.position ≤ 2 ^ 48 }
-    requires short { is_long (batch_of batch) ≡ false }
-    ensures answer { result ≡ examined (M.meaning «module».now) key.now offered.now (batch_of batch.entry) verdict }
-    ensures spelled { OnOk result (IsTrue ((M.meaning «module».now).is_spelled offered.now.content.state)) }
-    ensures fits { OnOk result (offered.now.content.position + size_of (batch_of batch.entry) ≤ 2 ^ 48) }
-{
-    let body = offered.body();
-    if !module.state_is_spelled(body.state) {
-        return Err(Refusal::State);
-    }
-    if !offered.tag_right_under(key) {
-        return Err(Refusal::Tag);
-    }
-    let fits = body.position + batch.len() as u64 <= LAST_POSITION;
-    admit(verdict, fits)
-}
-
-// Whether the batch is a repeat, by the verdict and by whether there are positions left for it.
-fn admit(verdict: Verdict, fits: bool) -> Result<bool, Refusal>
-    ensures answer { result ≡ admitted verdict fits }
-    ensures fits { OnOk result (IsTrue fits) }
-{
-    match verdict {
-        Verdict::Lost => Err(Refusal::Lost),
-        Verdict::Stale => Err(Refusal::Stale),
-        Verdict::Fresh | Verdict::Again if !fits => Err(Refusal::Full),
-        Verdict::Fresh => Ok(false),
-        Verdict::Again => Ok(true),
-    }
 }

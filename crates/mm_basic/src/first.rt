@@ -6,19 +6,12 @@ ghost use Rattle.mm_model.specs.History.{first_history};
 ghost use Rattle.mm_model.specs.Instance.{basic};
 ghost use Rattle.mm_model.specs.Standing.{cell_of, issued_bytes};
 
-use mm_base::{Bytes, Memory};
+use mm_base::Memory;
+use mm_call::Provisioned;
 use mm_digest::{Variant, start, zero};
 use mm_module::Module;
 use mm_seal::{Body, Cell, Place, cell_bytes, seal};
 use std::alloc::Global;
-
-/// The first cell and the snapshot of position 0.
-#[derive(Debug, Drop)]
-pub struct Provisioned {
-    /// The cell's 104 bytes.
-    pub cell: [u8; 104],
-    pub snapshot: Bytes,
-}
 
 /// The first cell and snapshot of a module under a key. Basic has no barrier, and ignores it.
 pub fn provision<M: Module>(

@@ -6,14 +6,12 @@ mod call;
 mod find;
 mod first;
 mod found;
-mod run;
 mod step;
 mod whole;
 
 pub use call::{Call, Turn, begin};
-pub use find::{examine, has_tab};
-pub use first::{Provisioned, provision};
-pub use run::{Ran, run_batch};
+pub use first::provision;
+pub use mm_call::Provisioned;
 pub use whole::{Committed, Prepared, ask, ask_batch, prepare};
 
 #[cfg(test)]

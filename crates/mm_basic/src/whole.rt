@@ -6,9 +6,11 @@ ghost use Rattle.mm_module.specs.Batch.{One};
 ghost use Rattle.mm_module.specs.Batches.{batch_of};
 ghost use Rattle.mm_model.specs.Long.{is_long};
 ghost use Rattle.mm_model.specs.Fit.{IsFit};
-ghost use Rattle.mm_basic.specs.Steps.{fault_in, Reads};
+ghost use Rattle.mm_call.specs.Refusals.{fault_in};
+ghost use Rattle.mm_basic.specs.Steps.{Reads};
 ghost use Rattle.mm_basic.specs.Continuity.{ReadContinues, CommitContinues, Continues, IsComplete};
-ghost use Rattle.mm_basic.specs.Asks.{Calls, Commits, CommitsFound, LeavesUntouched, Blames, StepsBy, whole, whole_in};
+ghost use Rattle.mm_basic.specs.Asks.{Calls, Commits, CommitsFound, StepsBy};
+ghost use Rattle.mm_call.specs.Leaving.{LeavesUntouched, Blames, whole, whole_in};
 
 use crate::found::Found;
 use crate::step::{read, write};

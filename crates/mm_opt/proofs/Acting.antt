@@ -10,8 +10,8 @@ use Rattle.mm_module.specs.Batch.{Batch}
 use Rattle.mm_seal.specs.declared.cell.Cell.{Cell}
 use Rattle.mm_model.specs.declared.answer.BatchAnswer.{BatchAnswer}
 use Rattle.mm_model.specs.declared.refusal.Refusal.{Refusal}
-use Rattle.mm_basic.specs.Steps.{fault_in}
-use Rattle.mm_basic.specs.Asks.{Blames}
+use Rattle.mm_call.specs.Refusals.{fault_in}
+use Rattle.mm_call.specs.Leaving.{Blames}
 use Rattle.mm_opt.specs.declared.found.Opening.{Opening}
 use Rattle.mm_opt.specs.declared.found.Found.{Found}
 use Rattle.mm_opt.specs.declared.found.Found.TheVariants.{Repeat, Inside, Opens}

@@ -13,8 +13,8 @@ use Rattle.mm_model.specs.declared.answer.BatchAnswer.{BatchAnswer}
 use Rattle.mm_model.specs.declared.refusal.Refusal.{Refusal}
 use Rattle.mm_model.specs.declared.refusal.Refusal.TheVariants as refusal
 use Rattle.mm_model.specs.declared.refusal.Refusal.TheVariants.{Long}
-use Rattle.mm_basic.specs.Steps.{fault_of, fault_in, handed_on}
-use Rattle.mm_basic.specs.Asks.{IsUntouched, LeavesUntouched}
+use Rattle.mm_call.specs.Refusals.{fault_of, fault_in, handed_on}
+use Rattle.mm_call.specs.Leaving.{IsUntouched, LeavesUntouched}
 use Rattle.mm_opt.specs.declared.found.Found.{Found}
 use Rattle.mm_opt.specs.declared.found.Found.TheVariants.{Repeat, Inside, Opens}
 use Rattle.mm_opt.specs.declared.found.Ready.{Ready}

@@ -24,15 +24,14 @@ use Rattle.mm_model.specs.declared.answer.BatchAnswer.{BatchAnswer}
 use Rattle.mm_model.specs.declared.refusal.Refusal.{Refusal}
 use Rattle.mm_model.specs.declared.refusal.Refusal.TheVariants.{Memory}
 use Rattle.mm_model.specs.declared.verdict.Verdict.{Verdict}
-use Rattle.mm_basic.specs.Steps.{fault_of, fault_in, handed_on}
-use Rattle.mm_basic.specs.Asks.{Blames}
-use Rattle.mm_basic.specs.Continuity.{IsAccepted, IsAnswered}
-use Rattle.mm_basic.proofs.Asking.{blamed, blamed_later, written_blamed}
-use Rattle.mm_basic.proofs.Completeness.{offered_of, weighs}
+use Rattle.mm_call.specs.Refusals.{fault_of, fault_in, handed_on, OrMemory}
+use Rattle.mm_call.specs.Leaving.{Blames, IsAccepted, IsAnswered}
+use Rattle.mm_call.proofs.Leaving.{blamed, blamed_later, written_blamed}
+use Rattle.mm_call.proofs.Weighing.{offered_of, weighs}
 use Rattle.mm_opt.specs.declared.found.Found.{Found}
 use Rattle.mm_opt.specs.declared.found.Found.TheVariants.{Repeat, Inside, Opens}
 use Rattle.mm_opt.specs.declared.found.Opening.{Opening}
-use Rattle.mm_opt.specs.Answers.{found_unless, OrMemory}
+use Rattle.mm_opt.specs.Answers.{found_unless}
 use Rattle.mm_opt.specs.Steps.{MakesRoom, Makes, Empties, Places}
 use Rattle.mm_opt.specs.Asks.{ReadsOn, Reads, PlacedOn, EmptiedOn, CommitsFound, Ends, Calls}
 use Rattle.mm_opt.specs.Continuity.{taking, expected_by, expected_at, expected, IsAskedFrom, RefusesFrom, GoesOn}

@@ -21,23 +21,22 @@ use Rattle.mm_seal.proofs.SnapshotLaws.{reads_parts-same}
 use Rattle.mm_model.specs.Chains.{guard}
 use Rattle.mm_model.specs.Instance.{Instance, opt}
 use Rattle.mm_model.specs.History.{Entry, Value, History, Move, Commit, Placed, Reset, moved, joined, register_value_of}
-use Rattle.mm_model.specs.Life.{is_empty, has_value}
+use Rattle.mm_model.specs.Life.{is_empty, has_value, life_of, is_lost}
 use Rattle.mm_model.specs.Moves.{MayMove, IsAllowed}
 use Rattle.mm_model.specs.Sound.{batches_in}
 use Rattle.mm_model.specs.Standing.{StandsFor, cell_of}
 use Rattle.mm_model.specs.declared.answer.BatchAnswer.{BatchAnswer}
 use Rattle.mm_model.specs.declared.refusal.Refusal.{Refusal}
-use Rattle.mm_basic.specs.Order.{examined}
-use Rattle.mm_basic.specs.Continuity.{answer_on}
-use Rattle.mm_basic.specs.Steps.{fault_of, fault_in, handed_on}
+use Rattle.mm_call.specs.Order.{examined}
+use Rattle.mm_call.specs.Answers.{answer_on}
+use Rattle.mm_call.specs.Refusals.{fault_of, fault_in, handed_on, OrMemory}
 use Rattle.mm_model.specs.Judge.{judge}
-use Rattle.mm_model.specs.Life.{life_of, is_lost}
 use Rattle.mm_opt.specs.declared.found.Ready.{Ready}
 use Rattle.mm_opt.specs.declared.found.Opening.{Opening}
 use Rattle.mm_opt.specs.declared.found.Found.{Found}
 use Rattle.mm_opt.specs.declared.found.Found.TheVariants.{Repeat, Inside, Opens}
 use Rattle.mm_opt.specs.Seen.{own_cell, cell_in}
-use Rattle.mm_opt.specs.Answers.{change_by, found_unless, found_in, OrMemory}
+use Rattle.mm_opt.specs.Answers.{change_by, found_unless, found_in}
 use Rattle.mm_opt.specs.Steps.{ReadsCell, ReadsRegister, MakesRoom, Finds, Extends, Empties, Places, Writes}
 use Rattle.mm_opt.specs.Asks.{PlacedOn, EmptiedOn, CommitsFound, Ends, ReadsOn as ReadsFrom, Reads, Calls}
 use Rattle.mm_opt.specs.Continuity.{own_in, StandsBy, taking, SeesOn, IsReadyOn, IsReadyIn, change_on, expected_by, expected_at, expected, with_it, IsAskedFrom, ReadsOn, moves_of, StandsAmong, CommitsOn, ReadContinues, CommitContinues, RefusesFrom, GoesOn, Follows, Continues}

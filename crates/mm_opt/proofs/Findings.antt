@@ -17,13 +17,13 @@ use Rattle.mm_model.specs.declared.refusal.Refusal.TheVariants as refusal
 use Rattle.mm_model.specs.declared.refusal.Refusal.TheVariants.{Memory}
 use Rattle.mm_model.specs.declared.verdict.Verdict.{Verdict}
 use Rattle.mm_model.specs.declared.verdict.Verdict.TheVariants.{Fresh, Again, Lost, Stale}
-use Rattle.mm_basic.specs.Order.{admitted, weighed, examined}
-use Rattle.mm_basic.specs.Steps.{fault_of, fault_in}
+use Rattle.mm_call.specs.Order.{admitted, weighed, examined}
+use Rattle.mm_call.specs.Refusals.{fault_of, fault_in, OrMemory}
 use Rattle.mm_opt.specs.declared.found.Found.{Found}
 use Rattle.mm_opt.specs.declared.found.Found.TheVariants.{Repeat, Inside, Opens}
 use Rattle.mm_opt.specs.Seen.{is_cell_of, own_cell, cell_in}
 use Rattle.mm_opt.specs.Order.{value_of, has_lost_power, verdict_of}
-use Rattle.mm_opt.specs.Answers.{answer_of, change_by, found_from, found_at, found_unless, found_in, opened_cell, OrMemory}
+use Rattle.mm_opt.specs.Answers.{answer_of, change_by, found_from, found_at, found_unless, found_in, opened_cell}
 use Rattle.mm_opt.specs.Steps.{ReadsCell, FindsIn, MakesRoom, ReadsRegister}
 
 -- want of memory, twice

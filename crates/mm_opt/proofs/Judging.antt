@@ -30,13 +30,14 @@ use Rattle.mm_model.specs.declared.answer.BatchAnswer.{BatchAnswer}
 use Rattle.mm_model.specs.declared.refusal.Refusal.{Refusal}
 use Rattle.mm_model.specs.declared.verdict.Verdict.{Verdict}
 use Rattle.mm_model.specs.declared.verdict.Verdict.TheVariants.{Fresh, Again}
-use Rattle.mm_basic.specs.Order.{examined}
-use Rattle.mm_basic.specs.Continuity.{answer_on}
-use Rattle.mm_basic.proofs.Verdicts.{weighed_alike, weighed_only, total_with, outputs_with, state_with}
+use Rattle.mm_call.specs.Order.{examined}
+use Rattle.mm_call.specs.Answers.{answer_on, answer_at}
+use Rattle.mm_call.proofs.Weighing.{weighed_alike, weighed_only}
+use Rattle.mm_call.proofs.Ending.{total_with, outputs_with, state_with}
 use Rattle.mm_opt.specs.declared.found.Found.{Found}
 use Rattle.mm_opt.specs.declared.found.Found.TheVariants.{Repeat}
 use Rattle.mm_opt.specs.Order.{anchor_in, extension_in, value_of, verdict_of}
-use Rattle.mm_opt.specs.Answers.{digest, extension_at, place_after, answer_at, answer_of, change_of, found_from, found_at, found_unless, found_in}
+use Rattle.mm_opt.specs.Answers.{digest, extension_at, place_after, answer_of, change_of, found_from, found_at, found_unless, found_in}
 use Rattle.mm_opt.specs.Continuity.{with_it, expected_by, expected_at, expected, IsAskedFrom}
 
 -- what a live history is

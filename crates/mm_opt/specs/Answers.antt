@@ -3,22 +3,23 @@ use Rattle.std.specs.Prelude.{◌≡◌, ℕ, ◌+◌, Bool, true, false, List, 
 use Rattle.mm_digest.specs.declared.digest.Digest.{Digest}
 use Rattle.mm_digest.specs.declared.variant.Variant.TheVariants as variants
 use Rattle.mm_digest.specs.Messages.{zero_bytes, extended_of}
-use Rattle.mm_module.specs.Meaning.{Meaning, state_from, outputs_from}
-use Rattle.mm_module.specs.Batch.{Batch, members_of, size_of}
+use Rattle.mm_module.specs.Meaning.{Meaning}
+use Rattle.mm_module.specs.Batch.{Batch}
 use Rattle.mm_seal.specs.declared.cell.Cell.{Cell}
 use Rattle.mm_seal.specs.declared.snapshot.PartsFault.{PartsFault}
 use Rattle.mm_seal.specs.declared.snapshot.PartsFault.TheVariants.{Form, Kind}
 use Rattle.mm_seal.specs.declared.snapshot.Place.{Place}
 use Rattle.mm_seal.specs.declared.snapshot.Place.TheVariants.{Opt}
 use Rattle.mm_seal.specs.Cell.{cell_spelling}
-use Rattle.mm_seal.specs.Snapshot.{Content, Snapshot, sealed_of}
+use Rattle.mm_seal.specs.Snapshot.{Content, Snapshot}
 use Rattle.mm_model.specs.declared.answer.BatchAnswer.{BatchAnswer}
 use Rattle.mm_model.specs.declared.refusal.Refusal.{Refusal}
 use Rattle.mm_model.specs.declared.refusal.Refusal.TheVariants as refusal
-use Rattle.mm_basic.specs.Order.{examined}
+use Rattle.mm_call.specs.Order.{examined}
 use Rattle.mm_opt.specs.declared.found.Found.{Found}
 use Rattle.mm_opt.specs.declared.found.Found.TheVariants.{Repeat, Inside, Opens}
 use Rattle.mm_opt.specs.Order.{value_of, has_lost_power, verdict_of}
+use Rattle.mm_call.specs.Answers.{answer_at}
 
 abbrev pub digest : List ℕ → Digest
 digest bytes = record { bytes = bytes }
@@ -37,24 +38,6 @@ extension_after false extension value = extended_of extension value
 abbrev pub place_after : Cell → List ℕ → List ℕ → Bool → Place
 place_after cell register value again =
     Opt cell.summary (digest (extension_after again (extension_at cell.flag register) value))
-
--- what the new snapshot says, at this place: the batch was run from the offered state
-abbrev pub content_at : Meaning → Content → Place → Batch → Content
-content_at meaning offered place b = record {
-  id = meaning.id;
-  place = place;
-  position = offered.position + size_of b;
-  state = state_from meaning offered.state (members_of b);
-}
-
--- the answer, at this place, by whether it is a repeat
-abbrev pub answer_at : Meaning → List ℕ → Content → Place → Batch → Bool → BatchAnswer
-answer_at meaning key offered place b again = record {
-  again = again;
-  position = offered.position + size_of b;
-  outputs = outputs_from meaning offered.state (members_of b);
-  snapshot = sealed_of key (content_at meaning offered place b);
-}
 
 abbrev pub answer_of : Meaning → Cell → List ℕ → Content → Batch → Bool → BatchAnswer
 answer_of meaning cell register offered b again =
@@ -101,8 +84,3 @@ abbrev pub extends : Found → Bool
 extends (Repeat answer) = false
 extends (Inside ready) = true
 extends (Opens opening) = true
-
--- Want of memory may come in place of what is not refused.
-abbrev pub OrMemory : Result Found Refusal → Result Found Refusal → Type 0
-OrMemory (Err why) found = found ≡ Err why
-OrMemory (Ok it) found = (found ≡ Ok it) ⊎ (found ≡ Err refusal.Memory)

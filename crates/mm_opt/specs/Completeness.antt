@@ -12,7 +12,7 @@ use Rattle.mm_model.specs.Long.{is_long}
 use Rattle.mm_model.specs.Standing.{StandsFor, IsRight}
 use Rattle.mm_model.specs.declared.answer.BatchAnswer.{BatchAnswer}
 use Rattle.mm_model.specs.declared.refusal.Refusal.{Refusal}
-use Rattle.mm_basic.specs.Continuity.{IsAccepted, IsAnswered}
+use Rattle.mm_call.specs.Leaving.{IsAccepted, IsAnswered}
 use Rattle.mm_opt.specs.Continuity.{taking, IsAskedFrom}
 
 -- What follows from a history, with the values that others had put into the register when it was read: an offer that the

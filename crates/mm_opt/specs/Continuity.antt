@@ -24,12 +24,12 @@ use Rattle.mm_model.specs.Symbolic.{moved_by, with_batch}
 use Rattle.mm_model.specs.declared.answer.BatchAnswer.{BatchAnswer}
 use Rattle.mm_model.specs.declared.refusal.Refusal.{Refusal}
 use Rattle.mm_model.specs.declared.refusal.Refusal.TheVariants as refusal
-use Rattle.mm_basic.specs.Order.{examined}
-use Rattle.mm_basic.specs.Steps.{fault_of, fault_in}
-use Rattle.mm_basic.specs.Continuity.{answer_on}
+use Rattle.mm_call.specs.Order.{examined}
+use Rattle.mm_call.specs.Refusals.{fault_of, fault_in, OrMemory}
+use Rattle.mm_call.specs.Answers.{answer_on}
 use Rattle.mm_opt.specs.declared.found.Found.{Found}
 use Rattle.mm_opt.specs.declared.found.Found.TheVariants.{Repeat, Inside, Opens}
-use Rattle.mm_opt.specs.Answers.{change_by, found_unless, OrMemory}
+use Rattle.mm_opt.specs.Answers.{change_by, found_unless}
 
 -- the moves that are not others' values
 abbrev pub own_in : List Move → List Move

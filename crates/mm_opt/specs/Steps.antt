@@ -12,7 +12,7 @@ use Rattle.mm_seal.specs.declared.snapshot.PartsFault.{PartsFault}
 use Rattle.mm_seal.specs.Snapshot.{Snapshot, ReadsParts}
 use Rattle.mm_model.specs.declared.answer.BatchAnswer.{BatchAnswer}
 use Rattle.mm_model.specs.declared.refusal.Refusal.{Refusal}
-use Rattle.mm_basic.specs.Steps.{fault_in}
+use Rattle.mm_call.specs.Refusals.{fault_in, OrMemory}
 use Rattle.mm_opt.specs.declared.found.Ready.{Ready}
 use Rattle.mm_opt.specs.declared.found.Opening.{Opening}
 use Rattle.mm_opt.specs.declared.found.Found.{Found}
@@ -22,7 +22,7 @@ use Rattle.mm_opt.specs.declared.stage.Stage.TheVariants as stage
 use Rattle.mm_opt.specs.declared.stage.Change.{Change}
 use Rattle.mm_opt.specs.declared.stage.Change.TheVariants as change
 use Rattle.mm_opt.specs.Seen.{SeesCell}
-use Rattle.mm_opt.specs.Answers.{found_in, OrMemory}
+use Rattle.mm_opt.specs.Answers.{found_in}
 
 -- The device step that a call makes next. It reads the cell, and then the register. In an open segment it extends the
 -- register, which commits the batch. Otherwise it resets the register, extends it, and writes the cell with the flag

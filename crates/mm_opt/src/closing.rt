@@ -1,7 +1,7 @@
 //! A checkpoint, which closes the open segment: in one, or moved one device step at a time.
 
 ghost use Rattle.std.specs.Prelude.{◌≡◌, None};
-ghost use Rattle.mm_basic.specs.Asks.{Blames};
+ghost use Rattle.mm_call.specs.Leaving.{Blames};
 ghost use Rattle.mm_opt.specs.declared.stage.CheckpointStage.TheVariants.{Begun};
 ghost use Rattle.mm_opt.specs.Closings.{ClosingContinues};
 ghost use Rattle.mm_opt.specs.Checkpoints.{SeesSegment, segment_by, closing_fault_in, closing_in, Looks, Weighs, Closes, ClosesBy, WeighsAndCloses, ClosesSegment, LeavesStill, ClosingStepsBy};

@@ -2,29 +2,25 @@
 
 ghost use Rattle.std.specs.Prelude.{◌≡◌, ◌+◌, ◌≤◌, ◌^◌, false, IfOk, IsTrue, None, Ok, length};
 ghost use Rattle.mm_digest.specs.declared.variant.Variant.TheVariants.{Opt};
-ghost use Rattle.mm_module.specs.Batch.{Many, normal, size_of};
+ghost use Rattle.mm_module.specs.Batch.{Many, normal};
 ghost use Rattle.mm_module.specs.Batches.{batch_of};
-ghost use Rattle.mm_seal.specs.Body.{content_of};
 ghost use Rattle.mm_seal.specs.Snapshot.{variant_of};
 ghost use Rattle.mm_model.specs.Chains.{guard};
 ghost use Rattle.mm_model.specs.Judge.{forms_of, opt_verdict};
 ghost use Rattle.mm_model.specs.Long.{is_long};
 ghost use Rattle.mm_opt.specs.Seen.{is_cell_of, own_cell, SeesCell};
 ghost use Rattle.mm_opt.specs.Order.{anchor_in, extension_in};
-ghost use Rattle.mm_opt.specs.Answers.{answer_at, place_after, extension_at, extension_after, change_of, found_at, OrMemory};
+ghost use Rattle.mm_opt.specs.Answers.{place_after, extension_at, extension_after, change_of, found_at};
+ghost use Rattle.mm_call.specs.Refusals.{OrMemory, fault_in};
 ghost use Rattle.mm_opt.specs.Steps.{FindsIn};
-ghost use Rattle.mm_basic.specs.Steps.{fault_in};
 
 use crate::found::{Found, Opening, Ready};
 use crate::verdicts::{has_lost_power, verdict};
-use mm_base::Memory;
-use mm_basic::{Ran, examine, has_tab, run_batch};
+use mm_call::{answer, examine, has_tab};
 use mm_digest::{Digest, HmacKey, Variant, extended, secured, secured_batch, zero};
 use mm_model::{BatchAnswer, Refusal, Verdict};
 use mm_module::{Batch, Module};
-use mm_seal::{
-    Body, Cell, CellFault, Offered, PartsFault, Place, cell_bytes, parts, read_cell, seal_under,
-};
+use mm_seal::{Cell, CellFault, Offered, PartsFault, Place, cell_bytes, parts, read_cell};
 use std::alloc::Global;
 
 /// The cell of the module with this id that these bytes are.
@@ -181,39 +177,6 @@ fn extension_after(again: bool, extension: Digest, value: &Digest) -> Digest
     } else {
         extended(&extension, value)
     }
-}
-
-// The answer to a batch that runs from an offered state, with the place that it leads to.
-fn answer<M: Module>(
-    alloc: Global,
-    module: &M,
-    key: &HmacKey,
-    offered: &Body<'_>,
-    place: Place,
-    batch: Batch<'_>,
-    again: bool,
-) -> Result<BatchAnswer, Memory>
-    requires spelled { IsTrue ((M.meaning «module».now).is_spelled offered.now.state.now) }
-    requires fits { offered.now.position + size_of (batch_of batch) ≤ 2 ^ 48 }
-    requires short { is_long (batch_of batch) ≡ false }
-    ensures { IfOk result (λ answer. answer ≡ answer_at (M.meaning «module».now) key.now
-        (content_of offered.now) place (batch_of batch.entry) again) }
-{
-    let Ran { state, outputs } = run_batch(alloc, module, offered.state, batch)?;
-    let position = offered.position + batch.len() as u64;
-    let body = Body {
-        module: module.id(),
-        place,
-        position,
-        state: state.as_slice(),
-    };
-    let snapshot = seal_under(alloc, key, &body)?;
-    Ok(BatchAnswer {
-        again,
-        position,
-        outputs,
-        snapshot,
-    })
 }
 
 // A new batch, ready to be committed.

@@ -7,7 +7,7 @@ ghost use Rattle.mm_model.specs.Instance.{opt};
 ghost use Rattle.mm_model.specs.Standing.{cell_of, issued_bytes};
 
 use mm_base::Memory;
-use mm_basic::Provisioned;
+use mm_call::Provisioned;
 use mm_digest::{Variant, start, zero};
 use mm_module::Module;
 use mm_seal::{Body, Cell, Place, cell_bytes, seal};

@@ -16,7 +16,7 @@ mod whole;
 pub use call::{Call, Turn, begin};
 pub use closing::{CheckpointCall, CheckpointTurn, begin_checkpoint, checkpoint};
 pub use first::provision;
-pub use mm_basic::Provisioned;
+pub use mm_call::Provisioned;
 pub use segment::{CheckpointRefusal, Checkpointed};
 pub use whole::{Committed, Prepared, ask, ask_batch, prepare};
 

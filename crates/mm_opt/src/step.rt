@@ -3,7 +3,7 @@
 ghost use Rattle.std.specs.Prelude.{◌≡◌, false};
 ghost use Rattle.mm_module.specs.Batches.{batch_of};
 ghost use Rattle.mm_model.specs.Long.{is_long};
-ghost use Rattle.mm_opt.specs.Answers.{OrMemory};
+ghost use Rattle.mm_call.specs.Refusals.{OrMemory};
 ghost use Rattle.mm_opt.specs.Steps.{IsReady, ReadsCell, ReadsRegister, MakesRoom, Extends, Empties, Places, Writes};
 
 use crate::find::{find, find_cell};

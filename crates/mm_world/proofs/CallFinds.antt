@@ -29,9 +29,10 @@ use Rattle.mm_model.specs.declared.verdict.Verdict.TheVariants.{Fresh, Again, Lo
 use Rattle.mm_basic.specs.declared.found.Found.{Found}
 use Rattle.mm_basic.specs.declared.found.Found.TheVariants.{Repeat, Change}
 use Rattle.mm_basic.specs.Seen.{Seen}
-use Rattle.mm_basic.specs.Order.{weighed}
+use Rattle.mm_call.specs.Order.{weighed}
 use Rattle.mm_basic.specs.Answers.{found_in, found_from, answer_of, cell_after}
-use Rattle.mm_basic.specs.Steps.{OrMemory, Finds}
+use Rattle.mm_call.specs.Refusals.{OrMemory}
+use Rattle.mm_basic.specs.Steps.{Finds}
 use Rattle.mm_basic.proofs.Reading.{one_sight, seen_by}
 use Rattle.mm_seal.specs.Parts.{parts_of}
 use Rattle.mm_world.specs.Levels.{Digests, by_digests, answer_by_digests}

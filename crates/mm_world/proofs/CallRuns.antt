@@ -25,7 +25,8 @@ use Rattle.mm_basic.specs.declared.found.Found.TheVariants.{Repeat, Change}
 use Rattle.mm_basic.specs.declared.found.Ready.{Ready}
 use Rattle.mm_basic.specs.declared.call.Turn.{Turn}
 use Rattle.mm_basic.specs.declared.call.Turn.TheVariants.{Going, Done, Refused}
-use Rattle.mm_basic.specs.Steps.{fault_of, fault_in, Reads}
+use Rattle.mm_call.specs.Refusals.{fault_of, fault_in}
+use Rattle.mm_basic.specs.Steps.{Reads}
 use Rattle.mm_basic.specs.Turns.{Turns, TurnsFirst, turn_of}
 use Rattle.mm_schedule.specs.declared.reply.Reply.TheVariants as reply
 use Rattle.mm_world.specs.declared.call.Called.{Called}

@@ -21,8 +21,8 @@ use Rattle.mm_model.specs.declared.refusal.Refusal.{Refusal}
 use Rattle.mm_model.specs.declared.refusal.Refusal.TheVariants as refusal
 use Rattle.mm_model.proofs.OptJudge.{opt_is_judged, lost_is_zero}
 use Rattle.mm_model.proofs.Batches.{at_the_end, before_the_last}
-use Rattle.mm_basic.specs.Order.{admitted, examined}
-use Rattle.mm_basic.proofs.Verdicts.{weighed_alike}
+use Rattle.mm_call.specs.Order.{admitted, examined}
+use Rattle.mm_call.proofs.Weighing.{weighed_alike}
 use Rattle.mm_seal.specs.Parts.{parts_of}
 use Rattle.mm_world.specs.Levels.{Digests, by_lists, by_digests, is_lost_life}
 use Rattle.mm_world.specs.Folds.{Found, found_with, found_from, found_at}

@@ -16,7 +16,7 @@ use Rattle.mm_model.specs.Long.{is_long}
 use Rattle.mm_model.specs.declared.refusal.Refusal.{Refusal}
 use Rattle.mm_model.specs.declared.verdict.Verdict.{Verdict}
 use Rattle.mm_model.specs.declared.verdict.Verdict.TheVariants.{Fresh, Again, Lost, Stale}
-use Rattle.mm_basic.specs.Order.{weighed, examined}
+use Rattle.mm_call.specs.Order.{weighed, examined}
 use Rattle.mm_schedule.specs.declared.reply.Reply.{Reply}
 use Rattle.mm_schedule.specs.declared.reply.Way.{Way}
 use Rattle.mm_schedule.specs.Events.{Event, Ask, Checkpoint, Power, Extend}
@@ -31,8 +31,7 @@ use Rattle.mm_world.specs.Offered.{offered_bytes}
 use Rattle.mm_model.specs.Steps.{ask_steps}
 use Rattle.mm_world.specs.Walk.{Walked, walk}
 use Rattle.mm_world.specs.Levels.{Digests, by_digests}
-use Rattle.mm_world.specs.Folds.{Found, all_made, is_fresh, found_with, found_from, found_at, broken_reply, ended, called_with, called, asked, checkpoint_ended, outcome_of, seen_at, reading_steps}
-use Rattle.mm_world.specs.Folds.{uncalled}
+use Rattle.mm_world.specs.Folds.{Found, all_made, is_fresh, found_with, found_from, found_at, broken_reply, ended, called_with, called, asked, checkpoint_ended, outcome_of, seen_at, reading_steps, uncalled}
 use Rattle.mm_schedule.specs.declared.reply.Reply.TheVariants as reply
 use Rattle.mm_schedule.specs.declared.reply.Cause.TheVariants as cause
 use Rattle.mm_model.specs.declared.refusal.Refusal.TheVariants as refusal

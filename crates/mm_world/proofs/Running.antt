@@ -24,7 +24,7 @@ use Rattle.mm_model.specs.Steps.{Step, Reads, Changes, Writes, ask_steps, checkp
 use Rattle.mm_model.specs.declared.refusal.Refusal.{Refusal}
 use Rattle.mm_model.specs.declared.refusal.Refusal.TheVariants.{Lost as LostRefusal}
 use Rattle.mm_model.proofs.Batches.{EndsWith, is_last_tells}
-use Rattle.mm_basic.specs.Order.{admitted, examined}
+use Rattle.mm_call.specs.Order.{admitted, examined}
 use Rattle.mm_schedule.specs.Events.{Event, Ask, Checkpoint, Power, Extend}
 use Rattle.mm_schedule.specs.Machine.{RunsOn, Repeats, RunsUntold, StepsOn, StaysOn, Steps, Runs}
 use Rattle.mm_schedule.specs.declared.reply.Way.{Way}

@@ -16,7 +16,7 @@ use Rattle.mm_model.specs.Standing.{issued_bytes}
 use Rattle.mm_model.specs.Long.{is_long}
 use Rattle.mm_model.specs.declared.refusal.Refusal.{Refusal}
 use Rattle.mm_model.specs.declared.refusal.Refusal.TheVariants as refusal
-use Rattle.mm_basic.specs.Order.{examined}
+use Rattle.mm_call.specs.Order.{examined}
 use Rattle.mm_schedule.specs.Events.{Event, Ask, Checkpoint, Power, Extend}
 use Rattle.mm_schedule.specs.declared.reply.Way.{Way}
 use Rattle.mm_schedule.specs.declared.reply.Cause.{Cause}

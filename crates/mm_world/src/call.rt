@@ -6,7 +6,7 @@ ghost use Rattle.mm_module.specs.Batches.{batch_of};
 ghost use Rattle.mm_platform.specs.declared.fault.StepFault.{StepFault};
 ghost use Rattle.mm_basic.specs.declared.found.Ready.{Ready};
 ghost use Rattle.mm_model.specs.Long.{is_long};
-ghost use Rattle.mm_basic.specs.Steps.{fault_of};
+ghost use Rattle.mm_call.specs.Refusals.{fault_of};
 ghost use Rattle.mm_world.specs.Walk.{way_of};
 ghost use Rattle.mm_world.specs.Folds.{cause_of};
 ghost use Rattle.mm_world.specs.Offered.{offered_bytes};

@@ -3,10 +3,11 @@ use Rattle.mm_module.specs.Batch.{One}
 use Rattle.mm_model.specs.declared.answer.BatchAnswer.{BatchAnswer}
 use Rattle.mm_model.specs.Fit.{IsFit}
 use Rattle.mm_basic.specs.Asks.{Calls}
-use Rattle.mm_basic.specs.Asks.{whole}
+use Rattle.mm_call.specs.Leaving.{whole}
 use Rattle.mm_basic.proofs.Continuing.{continues}
 use Rattle.mm_basic.proofs.Completeness.{complete}
-use Rattle.mm_basic.proofs.Asking.{untouched, blames, steps, fits, wholly}
+use Rattle.mm_basic.proofs.Asking.{untouched, blames, steps, fits}
+use Rattle.mm_call.proofs.Leaving.{wholly}
 use Rattle.mm_basic.proofs.whole.ask.Goals as goal
 
 pub returns-in-Err-clause-untouched : goal.returns-in-Err-clause-untouched

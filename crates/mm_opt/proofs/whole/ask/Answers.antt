@@ -1,8 +1,8 @@
 use Rattle.std.proofs.Common.{◌≡◌, Bool, false, Ok, Err, sym, subst}
 use Rattle.mm_module.specs.Batch.{One}
 use Rattle.mm_model.specs.declared.answer.BatchAnswer.{BatchAnswer}
-use Rattle.mm_basic.specs.Asks.{whole}
-use Rattle.mm_basic.proofs.Asking.{wholly}
+use Rattle.mm_call.specs.Leaving.{whole}
+use Rattle.mm_call.proofs.Leaving.{wholly}
 use Rattle.mm_model.specs.Long.{is_long}
 use Rattle.mm_opt.specs.Asks.{Calls, StepsAnswered}
 use Rattle.mm_opt.proofs.Asking.{untouched, steps}

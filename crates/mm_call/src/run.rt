@@ -6,23 +6,23 @@ ghost use Rattle.mm_module.specs.Batch.{members_of, size_of, normal};
 ghost use Rattle.mm_module.specs.Batches.{batch_of};
 ghost use Rattle.mm_seal.specs.Body.{content_of};
 ghost use Rattle.mm_model.specs.Long.{is_long};
-ghost use Rattle.mm_basic.specs.Answers.{answer_at};
-ghost use Rattle.mm_basic.specs.Ran.{RanSome};
+ghost use Rattle.mm_call.specs.Answers.{answer_at};
+ghost use Rattle.mm_call.specs.Ran.{RanSome};
 
 use mm_base::{Bytes, Memory};
-use mm_digest::{Digest, HmacKey};
+use mm_digest::HmacKey;
 use mm_model::BatchAnswer;
 use mm_module::{Batch, Module, Outputs, Stepped};
 use mm_seal::{Body, Place, seal_under};
 use std::alloc::Global;
 
-/// The answer to a batch that runs from an offered state, with the summary that it leads to.
+/// The answer to a batch that runs from an offered state, with the place that it leads to.
 pub fn answer<M: Module>(
     alloc: Global,
     module: &M,
     key: &HmacKey,
     offered: &Body<'_>,
-    summary: Digest,
+    place: Place,
     batch: Batch<'_>,
     again: bool,
 ) -> Result<BatchAnswer, Memory>
@@ -30,13 +30,13 @@ pub fn answer<M: Module>(
     requires fits { offered.now.position + size_of (batch_of batch) ≤ 2 ^ 48 }
     requires short { is_long (batch_of batch) ≡ false }
     ensures { IfOk result (λ answer. answer ≡ answer_at (M.meaning «module».now) key.now
-        (content_of offered.now) summary (batch_of batch.entry) again) }
+        (content_of offered.now) place (batch_of batch.entry) again) }
 {
     let Ran { state, outputs } = run_batch(alloc, module, offered.state, batch)?;
     let position = offered.position + batch.len() as u64;
     let body = Body {
         module: module.id(),
-        place: Place::Basic(summary),
+        place,
         position,
         state: state.as_slice(),
     };

@@ -1,7 +1,7 @@
 use Rattle.mm_module.specs.Batch.{members_of}
 use Rattle.mm_module.specs.Batches.{batch_of}
-use Rattle.mm_basic.specs.Ran.{RanSome}
-use Rattle.mm_basic.proofs.run.run_batch.Given as goal
+use Rattle.mm_call.specs.Ran.{RanSome}
+use Rattle.mm_call.proofs.run.run_batch.Given as goal
 
 abbrev pub invariant-members : goal.invariant-members
 invariant-members g l = RanSome (g.M.Module.meaning l.module) l.state (members_of (batch_of l.batch)) l.i l.ran.state l.ran.outputs

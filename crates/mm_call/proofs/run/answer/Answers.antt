@@ -1,8 +1,8 @@
 use Rattle.std.proofs.Common.{◌∙◌}
 use Rattle.mm_module.specs.Batch.{members_of}
 use Rattle.mm_module.specs.Batches.{batch_of}
-use Rattle.mm_basic.proofs.Members.{small_state}
-use Rattle.mm_opt.proofs.find.answer.Goals as goal
+use Rattle.mm_call.proofs.Members.{small_state}
+use Rattle.mm_call.proofs.run.answer.Goals as goal
 
 pub seal_under-requires-clause-state : goal.seal_under-requires-clause-state
 seal_under-requires-clause-state g c =

@@ -1,0 +1,45 @@
+-- What a whole call leaves and counts.
+use Rattle.std.proofs.Common.{◌≡◌, ℕ, Bool, List, [], ◌∷◌, Option, None, Some, Result, Ok, Err, refl, sym, ap, ◌∙◌, subst, arith}
+use Rattle.std.specs.Result.{result_err}
+use Rattle.mm_platform.specs.declared.fault.StepFault.{StepFault}
+use Rattle.mm_platform.specs.declared.fault.StepFault.TheVariants.{Failed, Off}
+use Rattle.mm_platform.specs.Standing.{Standing}
+use Rattle.mm_platform.specs.Steps.{EndsBy}
+use Rattle.mm_platform.proofs.Calling.{beside-none}
+use Rattle.mm_model.specs.declared.answer.Answer.{Answer}
+use Rattle.mm_model.specs.declared.answer.BatchAnswer.{BatchAnswer}
+use Rattle.mm_model.specs.declared.refusal.Refusal.{Refusal}
+use Rattle.mm_call.specs.Refusals.{fault_in, handed_on}
+use Rattle.mm_call.specs.Leaving.{IsUntouched, Blames, whole}
+
+pub same_untouched : (old : Standing) → IsUntouched old old
+same_untouched old = record {
+  others = [];
+  cell = refl;
+  items = sym (beside-none old.items);
+  is_on = refl;
+  writes = refl;
+  room = omega arith;
+  faults = refl;
+}
+
+pub blamed : (fault : Option StepFault) (old new : Standing) (made : Bool) → EndsBy fault old new made → Blames fault old.faults new.faults
+blamed None old new made e = e.faults
+blamed (Some Failed) old new made e = e.faults
+blamed (Some Off) old new made e = e.faults
+
+pub blamed_later : (fault : Option StepFault) (first before now : ℕ) → before ≡ first → Blames fault before now → Blames fault first now
+blamed_later fault first before now e b = subst (λ (n : ℕ). Blames fault n now) e b
+
+-- a handed fault is the device's
+pub fault_handed : (written : Result BatchAnswer StepFault) → fault_in (handed_on written) ≡ result_err written
+fault_handed (Ok answer) = refl
+fault_handed (Err fault) = refl
+
+pub written_blamed : (written : Result BatchAnswer StepFault) (old new : Standing) → Blames (result_err written) old.faults new.faults → Blames (fault_in (handed_on written)) old.faults new.faults
+written_blamed written old new b = subst (λ (f : Option StepFault). Blames f old.faults new.faults) (sym (fault_handed written)) b
+
+-- the answer to a batch of one is that to its request
+pub wholly : (all : BatchAnswer) (answer : Answer) → answer.again ≡ all.again → answer.position ≡ all.position → all.outputs ≡ answer.output ∷ [] → answer.snapshot ≡ all.snapshot → all ≡ whole answer
+wholly all answer again position outputs snapshot =
+    λ i. record { again = sym again i; position = sym position i; outputs = outputs i; snapshot = sym snapshot i }

@@ -1,0 +1,4 @@
+pub mod Members
+pub mod Weighing
+pub mod Ending
+pub mod Leaving

@@ -1,0 +1,84 @@
+-- What is asked of a history and of the moves of a call, that the call be by digests what it is by lists.
+use Rattle.std.specs.Prelude.{◌≡◌, ℕ, Bool, true, false, List, [], ◌∷◌, ◌++◌, Option, None, Some, if◌then◌else◌}
+use Rattle.std.specs.List.{AllByRecursion, Contains}
+use Rattle.mm_digest.specs.declared.variant.Variant.{Variant}
+use Rattle.mm_digest.specs.declared.variant.Variant.TheVariants.{Basic, Opt}
+use Rattle.mm_module.specs.Batch.{Batch}
+use Rattle.mm_seal.specs.Snapshot.{Content}
+use Rattle.mm_model.specs.Instance.{Instance}
+use Rattle.mm_model.specs.History.{History, Move, Commit, Foreign, Placed, Reset, Close, Power, moved}
+use Rattle.mm_model.specs.Sound.{IsSound}
+use Rattle.mm_model.specs.Moves.{IsOutside}
+use Rattle.mm_model.specs.Messages.{Within, IsClear, AreNoGuards, history_messages, move_messages, offer_messages}
+use Rattle.mm_model.specs.Standing.{IsGenuine}
+use Rattle.mm_call.specs.Found.{right_content}
+
+-- a history of Basic, which has no segments
+pub record IsPlain (y : History) : Type 0 where
+  pub closed : y.closed ≡ []
+  pub shut : y.is_open ≡ false
+
+-- what holds of each history that calls, others and losses of power lead to
+abbrev pub IsLedTo : Variant → History → Type 0
+IsLedTo Basic y = IsPlain y
+IsLedTo Opt y = IsSound y
+
+-- What counts of a history: while no segment is open the register isn't read, and a reset comes before it counts.
+abbrev pub counted_part : History → History
+counted_part y = record y { items = if y.is_open then y.items else [] }
+
+-- the moves from the first reset on; without one none
+abbrev pub from_reset : List Move → List Move
+from_reset [] = []
+from_reset (Reset ∷ moves) = Reset ∷ moves
+from_reset (Commit b ∷ moves) = from_reset moves
+from_reset (Foreign v ∷ moves) = from_reset moves
+from_reset (Placed b ∷ moves) = from_reset moves
+from_reset (Close ∷ moves) = from_reset moves
+from_reset (Power ∷ moves) = from_reset moves
+
+-- what counts of the moves of a call: by whether a segment is open when it begins
+abbrev pub counted_moves : Bool → List Move → List Move
+counted_moves true moves = moves
+counted_moves false moves = from_reset moves
+
+-- the messages of moves made one after another
+abbrev pub moves_messages : Instance → History → List Move → List (List ℕ)
+moves_messages i y [] = []
+moves_messages i y (m ∷ moves) = move_messages i y m ++ moves_messages i (moved i y m) moves
+
+-- the values that others put into the register among these moves
+abbrev pub foreign_in : List Move → List (List ℕ)
+foreign_in [] = []
+foreign_in (Foreign v ∷ moves) = v ∷ foreign_in moves
+foreign_in (Commit b ∷ moves) = foreign_in moves
+foreign_in (Placed b ∷ moves) = foreign_in moves
+foreign_in (Reset ∷ moves) = foreign_in moves
+foreign_in (Close ∷ moves) = foreign_in moves
+foreign_in (Power ∷ moves) = foreign_in moves
+
+-- the messages of what is asked of a right offer
+abbrev pub right_messages : Instance → Batch → Option Content → List (List ℕ)
+right_messages i b None = []
+right_messages i b (Some content) = offer_messages i content.place b
+
+-- What is asked of a history, and what a call keeps: calls and others led to it; its messages are in the list `all`; its
+-- values that stand for no batch and count are among `others`; and its batches among those `asked`.
+pub record IsWithin (all others : List (List ℕ)) (asked : List Batch) (i : Instance) (y : History) : Type 0 where
+  pub sound : IsLedTo i.variant y
+  pub outside : IsOutside others y
+  pub listed : Within (history_messages i (counted_part y)) all
+  pub batches : AllByRecursion (Contains asked) y.batches
+
+-- What is asked of a call from a history that makes these moves: the list is clear, and none of the values is the guard
+-- of one of the batches; the history is within them, and so are the batch, the messages of a right offer, which names a
+-- position of the history, and what counts of the moves.
+pub record IsAsked (all others : List (List ℕ)) (asked : List Batch) (i : Instance) (y : History) (moves : List Move) (offer : List ℕ) (b : Batch) : Type 0 where
+  pub clear : IsClear all
+  pub apart : AreNoGuards i.barrier others asked
+  pub within : IsWithin all others asked i y
+  pub is_asked : Contains asked b
+  pub genuine : IsGenuine i y offer
+  pub offered : Within (right_messages i b (right_content i offer)) all
+  pub messages : Within (moves_messages i (counted_part y) (counted_moves y.is_open moves)) all
+  pub values : AllByRecursion (Contains others) (foreign_in (counted_moves y.is_open moves))

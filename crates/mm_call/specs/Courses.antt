@@ -1,0 +1,107 @@
+-- The course of a call: what others put into the register before each step, and how the step ends; and the walk of
+-- steps on a course. Nothing here knows a state: a walk gives the moves that are made.
+use Rattle.std.specs.Prelude.{◌≡◌, ℕ, ◌+◌, suc, Bool, true, false, List, [], ◌∷◌, ◌++◌, Option, None, Some, map}
+use Rattle.mm_platform.specs.declared.fault.StepFault.{StepFault}
+use Rattle.mm_platform.specs.Standing.{Plan, Standing, due}
+use Rattle.mm_platform.specs.Steps.{fault_at, is_made_at}
+use Rattle.mm_model.specs.History.{Move, Commit, Foreign, Placed, Reset, Close, Power}
+use Rattle.mm_model.specs.Steps.{Step, Reads, Changes, Writes}
+
+-- how a step ends: it is done; or it fails by this fault, with its effect made or not
+pub data End : Type 0 where
+  Done : End
+  Fails : StepFault → Bool → End
+
+-- what meets one step: the values that others put into the register just before it, and how it ends
+pub record Fate : Type 0 where
+  pub brings : List (List ℕ)
+  pub ends : End
+
+-- what meets a call: the fate of each step, by its number; and whether memory is wanting when the batch is run
+pub record Course : Type 0 where
+  pub fates : ℕ → Fate
+  pub lacks : Bool
+
+-- the move of one step, where its effect is made
+abbrev pub made_move : Bool → Move → List Move
+made_move true m = m ∷ []
+made_move false m = []
+
+-- the moves of one step: by whether its effect is made, and by the values that others put into the register
+-- just before it. A write of the cell makes its move before them.
+abbrev pub step_moves : Step → Bool → List (List ℕ) → List Move
+step_moves Reads made values = map Foreign values
+step_moves (Changes m) made values = map Foreign values ++ made_move made m
+step_moves (Writes m) made values = made_move made m ++ map Foreign values
+
+-- a step that writes the cell, before so many others
+abbrev pub writes_then : Step → ℕ → ℕ
+writes_then Reads later = later
+writes_then (Changes m) later = later
+writes_then (Writes m) later = suc later
+
+-- the moves made; the steps called, and those of them that write the cell; and the fault by which the call was broken
+-- off, if it was
+pub record Walked : Type 0 where
+  pub moves : List Move
+  pub steps : ℕ
+  pub writes : ℕ
+  pub broken : Option StepFault
+
+-- one step, before the walk of the steps that follow: none is made after one that fails
+abbrev pub after_step : Step → List (List ℕ) → End → Walked → Walked
+after_step step values Done rest = record {
+  moves = step_moves step true values ++ rest.moves;
+  steps = suc rest.steps;
+  writes = writes_then step rest.writes;
+  broken = rest.broken;
+}
+after_step step values (Fails fault made) rest = record {
+  moves = step_moves step made values;
+  steps = 1;
+  writes = writes_then step 0;
+  broken = Some fault;
+}
+
+-- the steps, one after another, from the step of this number on
+abbrev pub walk : (ℕ → Fate) → ℕ → List Step → Walked
+walk fates n [] = record { moves = []; steps = 0; writes = 0; broken = None }
+walk fates n (step ∷ steps) = after_step step (fates n).brings (fates n).ends (walk fates (n + 1) steps)
+
+-- what others put into the register up to the last of these steps, which read
+abbrev pub seen_in : (ℕ → Fate) → List Step → ℕ → List Move
+seen_in fates [] n = []
+seen_in fates (step ∷ steps) n = map Foreign (fates n).brings ++ seen_in fates steps (n + 1)
+
+-- the moves committed a batch; closed a segment
+abbrev pub commits : List Move → Bool
+commits [] = false
+commits (Commit b ∷ moves) = true
+commits (Foreign d ∷ moves) = commits moves
+commits (Placed b ∷ moves) = commits moves
+commits (Reset ∷ moves) = commits moves
+commits (Close ∷ moves) = commits moves
+commits (Power ∷ moves) = commits moves
+
+abbrev pub closes : List Move → Bool
+closes [] = false
+closes (Close ∷ moves) = true
+closes (Commit b ∷ moves) = closes moves
+closes (Foreign d ∷ moves) = closes moves
+closes (Placed b ∷ moves) = closes moves
+closes (Reset ∷ moves) = closes moves
+closes (Power ∷ moves) = closes moves
+
+-- how a step ends that answers this fault, or none
+abbrev pub end_of : Option StepFault → Bool → End
+end_of None made = Done
+end_of (Some fault) made = Fails fault made
+
+-- the fate of each step by a plan of which no step is over
+abbrev pub planned : Plan → ℕ → Fate
+planned plan n = record { brings = due n plan.meddles; ends = end_of (fault_at plan.stop n) (is_made_at plan.stop n) }
+
+-- Where the platform is on and tells a plan of which no step is over, these are the fates by the plan.
+abbrev pub AreTold : Standing → (ℕ → Fate) → Type 0
+AreTold old fates =
+    (plan : Plan) → old.is_on ≡ true → old.plan ≡ Some plan → plan.at ≡ 0 → (n : ℕ) → fates n ≡ planned plan n

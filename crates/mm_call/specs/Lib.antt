@@ -1,0 +1,12 @@
+pub mod Order
+pub mod Answers
+pub mod Ran
+pub mod Refusals
+pub mod Leaving
+pub mod Levels
+pub mod Found
+pub mod Courses
+pub mod Called
+pub mod Standing
+pub mod Asked
+pub mod CallsOn

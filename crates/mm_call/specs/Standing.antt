@@ -1,0 +1,59 @@
+-- Where a platform stands by digests, and what its register shows of the moves of a call.
+use Rattle.std.specs.Prelude.{◌≡◌, ℕ, zero, suc, Bool, true, false, List, [], ◌∷◌, ◌++◌, Some}
+use Rattle.mm_base.specs.Faults.{counted}
+use Rattle.mm_digest.specs.declared.variant.Variant.{Variant}
+use Rattle.mm_digest.specs.declared.variant.Variant.TheVariants.{Basic, Opt}
+use Rattle.mm_seal.specs.declared.cell.Cell.{Cell}
+use Rattle.mm_seal.specs.Cell.{IsCell, cell_spelling}
+use Rattle.mm_platform.specs.Standing.{Item, own_item, foreign_item, Standing}
+use Rattle.mm_module.specs.Meaning.{Meaning}
+use Rattle.mm_model.specs.Chains.{guard}
+use Rattle.mm_model.specs.Instance.{Instance, basic, opt}
+use Rattle.mm_model.specs.History.{Move, Commit, Foreign, Placed, Reset, Close, Power}
+use Rattle.mm_model.specs.Moves.{Digests, made}
+use Rattle.mm_model.specs.Places.{digest_of}
+use Rattle.mm_model.specs.Standing.{register_reads}
+
+-- the instance of a variant; Basic has no barrier, and ignores it
+abbrev pub instance_by : Variant → Meaning → (key barrier : List ℕ) → Instance
+instance_by Basic meaning key barrier = basic meaning key
+instance_by Opt meaning key barrier = opt meaning key barrier
+
+-- the cell of an instance with these digests
+abbrev pub cell_at : Instance → Digests → Cell
+cell_at i d = record {
+  variant = i.variant;
+  «module» = i.meaning.id;
+  flag = d.flag;
+  summary = digest_of d.digest;
+  key = i.key;
+  barrier = i.barrier;
+}
+
+-- The platform's cell and register have these digests.
+pub record StandsAt (i : Instance) (standing : Standing) (d : Digests) : Type 0 where
+  pub spells : IsCell (cell_at i d)
+  pub cell : standing.cell ≡ Some (cell_spelling (cell_at i d))
+  pub reads : register_reads standing ≡ Some d.register
+
+-- What the register shows of a move, by its variant and whether a segment is open: others' values and the core's own
+-- extensions behind what it had shown; nothing once it was emptied.
+abbrev pub shown_by : Variant → Bool → Instance → Move → List Item → List Item
+shown_by Basic flag i (Commit b) items = items
+shown_by Opt true i (Commit b) items = items ++ own_item (guard i.barrier b) ∷ []
+shown_by Opt false i (Commit b) items = items
+shown_by variant flag i (Foreign v) items = items ++ foreign_item v ∷ []
+shown_by variant flag i (Placed b) items = items ++ own_item (guard i.barrier b) ∷ []
+shown_by variant flag i Reset items = []
+shown_by variant flag i Close items = items
+shown_by variant flag i Power items = []
+
+-- what it shows of moves made one after another, from these digests and items on
+abbrev pub shown : Instance → Digests → List Move → List Item → List Item
+shown i d [] items = items
+shown i d (m ∷ moves) items = shown i (made i d m) moves (shown_by i.variant d.flag i m items)
+
+-- a count after so many more
+abbrev pub counted_by : ℕ → ℕ → ℕ
+counted_by zero count = count
+counted_by (suc n) count = counted_by n (counted count)

@@ -1,0 +1,62 @@
+//! Whether an offer is accepted.
+
+ghost use Rattle.std.specs.Prelude.{◌≡◌, ◌+◌, ◌≤◌, ◌^◌, false, IsTrue, OnOk};
+ghost use Rattle.mm_module.specs.Batch.{has_tab, size_of};
+ghost use Rattle.mm_module.specs.Batches.{batch_of};
+ghost use Rattle.mm_model.specs.Long.{is_long};
+ghost use Rattle.mm_call.specs.Order.{admitted, examined};
+
+use mm_digest::HmacKey;
+use mm_model::{Refusal, Verdict};
+use mm_module::{Batch, Module};
+use mm_seal::Offered;
+
+/// The greatest position.
+const LAST_POSITION: u64 = 1 << 48;
+
+/// Whether a text is several requests.
+pub fn has_tab(text: &[u8]) -> bool
+    ensures { result ≡ has_tab text.now }
+{
+    text.iter().any(|byte| *byte == b'\t')
+}
+
+/// Whether an offer is accepted, and as a repeat, by the verdict on it. State, Tag, Stale and Full come in this order.
+/// Takes no memory.
+pub fn examine<M: Module>(
+    module: &M,
+    key: &HmacKey,
+    offered: &Offered<'_>,
+    batch: Batch<'_>,
+    verdict: Verdict,
+) -> Result<bool, Refusal>
+    requires position { offered.now.content.position ≤ 2 ^ 48 }
+    requires short { is_long (batch_of batch) ≡ false }
+    ensures answer { result ≡ examined (M.meaning «module».now) key.now offered.now (batch_of batch.entry) verdict }
+    ensures spelled { OnOk result (IsTrue ((M.meaning «module».now).is_spelled offered.now.content.state)) }
+    ensures fits { OnOk result (offered.now.content.position + size_of (batch_of batch.entry) ≤ 2 ^ 48) }
+{
+    let body = offered.body();
+    if !module.state_is_spelled(body.state) {
+        return Err(Refusal::State);
+    }
+    if !offered.tag_right_under(key) {
+        return Err(Refusal::Tag);
+    }
+    let fits = body.position + batch.len() as u64 <= LAST_POSITION;
+    admit(verdict, fits)
+}
+
+// Whether the batch is a repeat, by the verdict and by whether there are positions left for it.
+fn admit(verdict: Verdict, fits: bool) -> Result<bool, Refusal>
+    ensures answer { result ≡ admitted verdict fits }
+    ensures fits { OnOk result (IsTrue fits) }
+{
+    match verdict {
+        Verdict::Lost => Err(Refusal::Lost),
+        Verdict::Stale => Err(Refusal::Stale),
+        Verdict::Fresh | Verdict::Again if !fits => Err(Refusal::Full),
+        Verdict::Fresh => Ok(false),
+        Verdict::Again => Ok(true),
+    }
+}
