@@ -12,9 +12,10 @@ use Rattle.mm_basic.specs.declared.found.Found.TheVariants.{Repeat, Change}
 use Rattle.mm_basic.specs.declared.found.Ready.{Ready}
 use Rattle.mm_basic.specs.declared.call.Turn.{Turn}
 use Rattle.mm_basic.specs.Turns.{Turns, TurnContinues, turn_fault, turn_of, last_turn}
-use Rattle.mm_basic.specs.Steps.{fault_in}
-use Rattle.mm_basic.specs.Asks.{Blames}
-use Rattle.mm_basic.proofs.Asking.{blamed, read_blamed}
+use Rattle.mm_call.specs.Refusals.{fault_in}
+use Rattle.mm_call.specs.Leaving.{Blames}
+use Rattle.mm_basic.proofs.Asking.{read_blamed}
+use Rattle.mm_call.proofs.Leaving.{blamed}
 use Rattle.mm_basic.proofs.Continuing.{read_on, written_on}
 
 first_on : (meaning : Meaning) (old new : Standing) (offer : List ℕ) (b : Batch) (turn : Turn) → Turns meaning None old new offer b turn → TurnContinues meaning None old new offer b turn

@@ -19,7 +19,8 @@ use Rattle.mm_seal.specs.Snapshot.{Snapshot, ReadsParts}
 use Rattle.mm_model.specs.Instance.{Instance, basic}
 use Rattle.mm_model.specs.History.{History}
 use Rattle.mm_model.specs.Standing.{StandsFor, cell_of}
-use Rattle.mm_basic.specs.Steps.{fault_of, Reads, Writes}
+use Rattle.mm_call.specs.Refusals.{fault_of}
+use Rattle.mm_basic.specs.Steps.{Reads, Writes}
 use Rattle.mm_basic.specs.Continuity.{with_batch, expected, IsAskedFrom, ReadsOn, WritesOn}
 
 -- what a turn gives, by what it finds

@@ -56,7 +56,7 @@ impl Call {
     ghost use Rattle.mm_module.specs.Batches.{batch_of};
     ghost use Rattle.mm_model.specs.Long.{is_long};
     ghost use Rattle.mm_basic.specs.Steps.{number_of};
-    ghost use Rattle.mm_basic.specs.Asks.{Blames};
+    ghost use Rattle.mm_call.specs.Leaving.{Blames};
     ghost use Rattle.mm_basic.specs.Turns.{Turns, TurnContinues, turn_fault};
 
     /// The number of the next device step, from 1.

@@ -20,15 +20,15 @@ use Rattle.mm_model.specs.declared.answer.BatchAnswer.{BatchAnswer}
 use Rattle.mm_model.specs.declared.refusal.Refusal.{Refusal}
 use Rattle.mm_model.specs.declared.verdict.Verdict.{Verdict}
 use Rattle.mm_model.proofs.Fitting.{is_fit}
-use Rattle.mm_basic.specs.Order.{examined}
-use Rattle.mm_basic.specs.Steps.{handed_on}
-use Rattle.mm_basic.proofs.Verdicts.{weighed_only}
+use Rattle.mm_call.specs.Order.{examined}
+use Rattle.mm_call.specs.Refusals.{handed_on, OrMemory}
+use Rattle.mm_call.proofs.Weighing.{weighed_only}
 use Rattle.mm_opt.specs.declared.found.Opening.{Opening}
 use Rattle.mm_opt.specs.declared.found.Found.{Found}
 use Rattle.mm_opt.specs.declared.found.Found.TheVariants.{Repeat, Inside, Opens}
 use Rattle.mm_opt.specs.Seen.{is_cell_of, own_cell, cell_in}
 use Rattle.mm_opt.specs.Order.{value_of, has_lost_power, verdict_of}
-use Rattle.mm_opt.specs.Answers.{answer_of, change_by, opened_cell, extension_at, extension_after, place_after, found_from, found_at, found_unless, found_in, OrMemory}
+use Rattle.mm_opt.specs.Answers.{answer_of, change_by, opened_cell, extension_at, extension_after, place_after, found_from, found_at, found_unless, found_in}
 use Rattle.mm_opt.specs.Steps.{ReadsCell as ReadsStep, FindsIn, ReadsRegister}
 use Rattle.mm_opt.specs.Asks.{ReadsOn, Reads, PlacedOn, EmptiedOn, CommitsFound, Ends, Calls}
 

@@ -16,15 +16,15 @@ use Rattle.mm_model.specs.Long.{is_long}
 use Rattle.mm_model.specs.declared.answer.BatchAnswer.{BatchAnswer}
 use Rattle.mm_model.specs.declared.refusal.Refusal.{Refusal}
 use Rattle.mm_model.specs.declared.refusal.Refusal.TheVariants as refusal
-use Rattle.mm_basic.specs.Order.{examined}
-use Rattle.mm_basic.specs.Steps.{fault_in, handed_on}
+use Rattle.mm_call.specs.Order.{examined}
+use Rattle.mm_call.specs.Refusals.{fault_in, handed_on, OrMemory}
 use Rattle.mm_opt.specs.declared.found.Ready.{Ready}
 use Rattle.mm_opt.specs.declared.found.Opening.{Opening}
 use Rattle.mm_opt.specs.declared.found.Found.{Found}
 use Rattle.mm_opt.specs.declared.found.Found.TheVariants.{Repeat, Inside, Opens}
 use Rattle.mm_opt.specs.Seen.{is_cell_of, own_cell, cell_in}
 use Rattle.mm_opt.specs.Order.{value_of, has_lost_power, verdict_of}
-use Rattle.mm_opt.specs.Answers.{answer_of, change_by, opened_cell, found_from, found_at, found_unless, found_in, OrMemory}
+use Rattle.mm_opt.specs.Answers.{answer_of, change_by, opened_cell, found_from, found_at, found_unless, found_in}
 use Rattle.mm_opt.specs.Steps.{ReadsCell as ReadsStep, FindsIn, ReadsRegister, Extends, Empties, Places, Writes}
 use Rattle.mm_opt.specs.Asks.{ReadsOn, Reads, PlacedOn, EmptiedOn, CommitsFound, Ends, Calls, OneStep, TwoSteps, ThreeSteps, FourSteps, StepsMade, one_step, two_steps, three_steps, four_steps, five_steps, StepsAnswered, StepsRefused, StepsBy, WritesAtMostOnce, StepsFrom, AnswersFrom, WritesBy}
 use Rattle.mm_opt.proofs.Findings.{IsShaped, shaped}

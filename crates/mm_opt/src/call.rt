@@ -59,7 +59,7 @@ impl Call {
     ghost use Rattle.mm_model.specs.Long.{is_long};
     ghost use Rattle.mm_opt.specs.Steps.{number_of, MayGoOn};
     ghost use Rattle.mm_opt.specs.Turns.{Turns, ActsAt, TurnMayGoOn, position_of, fault_turned};
-    ghost use Rattle.mm_basic.specs.Asks.{Blames};
+    ghost use Rattle.mm_call.specs.Leaving.{Blames};
     ghost use Rattle.mm_opt.specs.TurnContinuity.{TurnContinues};
 
     /// The number of the next device step, from 1.
