@@ -443,13 +443,14 @@ fn opt_cell(module: u8, flag: bool) -> [u8; 104] {
 }
 
 fn basic_cell() -> [u8; 104] {
+    let barrier = zero().bytes;
     cell_bytes(&Cell {
         variant: Variant::Basic,
         module: 1,
         flag: false,
         summary: start(Variant::Basic, 1),
         key: KEY,
-        barrier: [0; 32],
+        barrier,
     })
 }
 
