@@ -57,6 +57,20 @@ pub fn by_id(id: u8) -> Option<AnyModule>
     }
 }
 
+impl AnyModule {
+    /// The module's name, of lower-case letters.
+    pub fn name(self) -> &'static [u8]
+        ensures { result.now ≡ name_of self }
+    {
+        match self {
+            AnyModule::Counter => b"counter",
+            AnyModule::Limiter => b"limiter",
+            AnyModule::Quota => b"quota",
+            AnyModule::Ledger => b"ledger",
+        }
+    }
+}
+
 impl Module for AnyModule {
     ghost meaning = { meaning_of };
 

@@ -1,9 +1,10 @@
 //! The first line of a schedule.
 
-ghost use Rattle.std.specs.Prelude.{◌≡◌, Some, IfSome};
-ghost use Rattle.mm_schedule.specs.Headers.{header_at, header_text, variant_at};
+ghost use Rattle.std.specs.Prelude.{◌≡◌, ◌++◌, Some, IfSome, OnOk};
+ghost use Rattle.mm_schedule.specs.Headers.{header_at, header_text, variant_at, variant_text};
 
 use crate::words::{after, is_text, word_in};
+use mm_base::{Bytes, Memory};
 use mm_digest::Variant;
 use mm_modules::{AnyModule, by_name};
 
@@ -30,13 +31,35 @@ fn header_in(line: &[u8]) -> Option<Header>
 {
     let line = after(b"memoir 1 ", line)?;
     let (variant, name) = word_in(line)?;
-    let variant = variant_in(variant)?;
+    let variant = read_variant(variant)?;
     let module = by_name(name)?;
     Some(Header { variant, module })
 }
 
-fn variant_in(word: &[u8]) -> Option<Variant>
-    ensures { result ≡ variant_at word.now }
+/// Puts the header's line at the end, without an LF.
+pub fn put_header(into: &mut Bytes, header: &Header) -> Result<(), Memory>
+    ensures { OnOk result (into.new ≡ into.old ++ header_text header.now) }
+{
+    into.append(b"memoir 1 ")?;
+    into.append(variant_word(header.variant))?;
+    into.append(b" ")?;
+    into.append(header.module.name())
+}
+
+/// The word of a variant: `basic` or `opt`.
+pub fn variant_word(variant: Variant) -> &'static [u8]
+    ensures { result.now ≡ variant_text variant }
+{
+    match variant {
+        Variant::Basic => b"basic",
+        Variant::Opt => b"opt",
+    }
+}
+
+/// The variant of a word, None where the word is neither `basic` nor `opt`.
+pub fn read_variant(word: &[u8]) -> Option<Variant>
+    ensures variant { result ≡ variant_at word.now }
+    ensures spelled { IfSome result (λ variant. word.now ≡ variant_text variant) }
 {
     if is_text(word, b"basic") {
         return Some(Variant::Basic);

@@ -15,7 +15,7 @@ mod words;
 
 pub use event::{Event, Meddles, Offer};
 pub use fault::EventFault;
-pub use header::{Header, read_header};
+pub use header::{Header, put_header, read_header, read_variant, variant_word};
 pub use print::{print_end, print_line, reply_lines};
 pub use read::read_event;
 pub use reply::{Cause, Reply, Way};

@@ -1,0 +1,5 @@
+pub mod Going
+pub mod Parts
+pub mod Readable
+pub mod Rows
+pub mod Spelled

@@ -1,0 +1,69 @@
+-- A generated schedule is read as it was made.
+use Rattle.std.proofs.Common.{◌<◌, ◌≤◌, ◌^◌, ◌*◌, ℕ, zero, suc, ◌+◌, List, [], ◌∷◌, ◌++◌, length, refl, sym, ap, ◌∙◌, arith}
+use Rattle.std.specs.Prelude.{All, codes}
+use Rattle.std.specs.List.{AllByRecursion}
+use Rattle.std.proofs.lemmas.List.{append-nil, length-append, length-take-le}
+use Rattle.std.proofs.lemmas.List.Elements.{All-append, All-from_recursion, All-nil, All-take, All-weaker, recursion_from_All}
+use Rattle.rand_chacha.specs.ChaCha.{key_of}
+use Rattle.mm_base.specs.Input.{IsUnbroken, joined, lines_of, tail_of}
+use Rattle.mm_base.proofs.Input.{lines_of-joined, tail_of-joined}
+use Rattle.mm_digest.specs.declared.variant.Variant.{Variant}
+use Rattle.mm_digest.specs.declared.variant.Variant.TheVariants.{Basic, Opt}
+use Rattle.mm_modules.specs.declared.any.AnyModule.{AnyModule}
+use Rattle.mm_modules.specs.declared.any.AnyModule.TheVariants.{Counter, Limiter, Quota, Ledger}
+use Rattle.mm_modules.specs.Modules.{name_of}
+use Rattle.mm_schedule.specs.declared.header.Header.{Header}
+use Rattle.mm_schedule.specs.Headers.{header_text, variant_text}
+use Rattle.mm_gen.specs.Laws.{IsEventLine, IsSchedule}
+use Rattle.mm_gen.specs.Schedules.{lines_from, schedule_lines, seed_from, words_at}
+use Rattle.mm_gen.specs.Turns.{turn_lines}
+use Rattle.mm_gen.proofs.Parts.{IsPart, both, literal}
+use Rattle.mm_gen.proofs.Rows.{few_lines, some_lines}
+use Rattle.mm_gen.proofs.Spelled.{turn_events}
+
+variant-part : (variant : Variant) → IsPart 20 (variant_text variant)
+variant-part Basic = literal (codes "basic") refl (omega arith)
+variant-part Opt = literal (codes "opt") refl (omega arith)
+
+name-part : (it : AnyModule) → IsPart 20 (name_of it)
+name-part Counter = literal (codes "counter") refl (omega arith)
+name-part Limiter = literal (codes "limiter") refl (omega arith)
+name-part Quota = literal (codes "quota") refl (omega arith)
+name-part Ledger = literal (codes "ledger") refl (omega arith)
+
+header-unbroken : (header : Header) → IsUnbroken (header_text header)
+header-unbroken header =
+    (both 20 60 (codes "memoir 1 ") (variant_text header.variant ++ 32 ∷ name_of header.module) (literal (codes "memoir 1 ") refl (omega arith))
+    (both 20 40 (variant_text header.variant) (32 ∷ name_of header.module) (variant-part header.variant)
+    (both 20 20 (32 ∷ []) (name_of header.module) (literal (32 ∷ []) refl (omega arith)) (name-part header.module)))).unbroken
+
+-- so many turns have at least as many lines, and each is an event's
+events_from : (header : Header) (key : List ℕ) (place first turns : ℕ) → 0 < first → first + 2 * turns < 10 ^ 9
+    → (turns ≤ length (lines_from header key place first turns)) × All IsEventLine (lines_from header key place first turns)
+events_from header key place first zero some low = (omega arith, All-nil IsEventLine)
+events_from header key place first (suc turns) some low =
+    let lines : List (List ℕ) = turn_lines header first (words_at key place) in
+    let least : 0 < length lines = some_lines header first (words_at key place) in
+    let most : length lines ≤ 2 = few_lines header first (words_at key place) in
+    let more = events_from header key (place + 4) (first + length lines) turns (omega arith) (omega arith) in
+    let rest : List (List ℕ) = lines_from header key (place + 4) (first + length lines) turns in
+    let now = All-from_recursion IsEventLine lines (turn_events header first (words_at key place) some (omega arith)) in
+    (omega (arith, length-append lines rest, more.0), All-append IsEventLine lines rest now more.1)
+
+pub is_schedule : (number count : ℕ) (header : Header) → count ≤ 20000 → IsSchedule number count header
+is_schedule number count header few =
+    let all : List (List ℕ) = lines_from header (key_of (seed_from number)) 0 1 count in
+    let from = events_from header (key_of (seed_from number)) 0 1 count (omega arith) (omega arith) in
+    let events : All IsEventLine (schedule_lines number count header) = All-take IsEventLine count all from.1 in
+    let unbroken : AllByRecursion IsUnbroken (header_text header ∷ schedule_lines number count header) = (
+      header-unbroken header,
+      recursion_from_All IsUnbroken (schedule_lines number count header)
+          (All-weaker IsEventLine IsUnbroken (λ line event. event.unbroken) (schedule_lines number count header) events),
+    ) in
+    let lines : List (List ℕ) = header_text header ∷ schedule_lines number count header in
+    record {
+      lines = ap lines_of (sym (append-nil (joined lines))) ∙ lines_of-joined lines [] unbroken ∙ append-nil lines;
+      ends = ap tail_of (sym (append-nil (joined lines))) ∙ tail_of-joined lines [] unbroken;
+      counted = length-take-le count all from.0;
+      events = events;
+    }

@@ -1,0 +1,5 @@
+pub mod Laws
+pub mod Lines
+pub mod Requests
+pub mod Schedules
+pub mod Turns

@@ -1,0 +1,13 @@
+//! Schedules made from a number.
+#![tactic(auto)]
+
+pub mod laws;
+mod line;
+mod request;
+mod schedule;
+#[cfg(test)]
+mod tests;
+mod turn;
+mod words;
+
+pub use schedule::generate;
