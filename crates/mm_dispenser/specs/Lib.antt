@@ -1,0 +1,4 @@
+pub mod Draws
+pub mod Table
+pub mod DispenserLaws
+pub mod Places

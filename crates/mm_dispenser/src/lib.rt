@@ -1,0 +1,11 @@
+//! The dispenser: random words, each told once.
+#![tactic(auto)]
+
+mod dispenser;
+mod draws;
+pub mod laws;
+
+pub use dispenser::Dispenser;
+
+#[cfg(test)]
+mod tests;
