@@ -25,3 +25,5 @@ pub mod Worlds
 pub mod Printing
 pub mod Flipping
 pub mod Counting
+pub mod Naming
+pub mod MetPremises

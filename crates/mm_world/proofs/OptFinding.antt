@@ -129,7 +129,7 @@ pub record Placed (all : List (List ℕ)) (i : Instance) (y : History) (b : Batc
   pub fresh : found.again ≡ false → named ≡ y.batches
   pub repeat : found.again ≡ true → named ++ b ∷ [] ≡ y.batches
 
-admitted_lives : (life : Life) (here repeat fits again : Bool) → admitted (judged life here repeat) fits ≡ Ok again → life ≡ Live
+pub admitted_lives : (life : Life) (here repeat fits again : Bool) → admitted (judged life here repeat) fits ≡ Ok again → life ≡ Live
 admitted_lives Live here repeat fits again e = refl
 admitted_lives Spoiled here repeat fits again e = cc
 admitted_lives LostLife here repeat fits again e = cc
@@ -166,7 +166,7 @@ placed_from meaning key barrier all y bytes b (Ok snapshot) e asking found is =
           (ap (λ p. nat_eq (p + size_of b) (total_of y.batches) && is_last y.batches b) (sym names.position) ∙ a.1 x);
     }
 
-unless_lost : (lost : Bool) (found : Result Found Refusal) (f : Found) → (if lost then Err refusal.Lost else found) ≡ Ok f → found ≡ Ok f
+pub unless_lost : (lost : Bool) (found : Result Found Refusal) (f : Found) → (if lost then Err refusal.Lost else found) ≡ Ok f → found ≡ Ok f
 unless_lost true found f e = cc
 unless_lost false found f e = e
 

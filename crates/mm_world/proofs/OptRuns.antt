@@ -54,7 +54,7 @@ due_by : (others : List (List ℕ)) (hit : Bool) (m : Meddle) (xs : List Meddle)
 due_by others true m xs c h = (c, h)
 due_by others false m xs c h = h
 
-due_outside : (others : List (List ℕ)) (meddles : List Meddle) → AllByRecursion (Contains others) (map (λ (m : Meddle). m.value.bytes) meddles) → AreOutside others meddles
+pub due_outside : (others : List (List ℕ)) (meddles : List Meddle) → AllByRecursion (Contains others) (map (λ (m : Meddle). m.value.bytes) meddles) → AreOutside others meddles
 due_outside others [] h n = tt
 due_outside others (m ∷ meddles) h n =
     due_by others (m.step == n) m (filter (λ (x : Meddle). x.step == n) meddles) h.0 (due_outside others meddles h.1 n)

@@ -1,10 +1,16 @@
 -- The laws of whole runs.
-use Rattle.std.specs.Prelude.{◌≡◌, ℕ, ◌+◌, List, [], ◌++◌}
+use Rattle.std.specs.Prelude.{◌≡◌, ℕ, ◌+◌, List, [], ◌∷◌, ◌++◌, codes}
+use Rattle.std.specs.List.{AllByRecursion}
 use Rattle.mm_module.specs.Meaning.{Meaning}
+use Rattle.mm_module.specs.Batch.{One}
+use Rattle.mm_platform.specs.declared.plan.Stop.TheVariants.{Quiet}
+use Rattle.mm_seal.specs.Snapshot.{Content, sealed_of}
 use Rattle.mm_model.specs.Instance.{Instance, basic, opt}
 use Rattle.mm_model.specs.History.{History, requests_of, total_of, cell_digest_of, register_value_of}
+use Rattle.mm_model.specs.Places.{Names}
 use Rattle.mm_model.specs.Standing.{flag_of}
-use Rattle.mm_schedule.specs.Events.{Event}
+use Rattle.mm_schedule.specs.Events.{Event, Ask}
+use Rattle.mm_schedule.specs.declared.event.Offer.TheVariants.{Last}
 use Rattle.mm_schedule.specs.Machine.{Runs}
 use Rattle.mm_world.specs.Levels.{Digests, by_lists, by_digests}
 use Rattle.mm_world.specs.Folds.{Followed, followed, expected, replies_by_digests}
@@ -63,3 +69,18 @@ abbrev pub OptIsExpected : Type 0
 OptIsExpected = (meaning : Meaning) (key barrier : List ℕ) (events : List Event) →
     IsClearRun (opt meaning key barrier) events → IsGenuineRun (opt meaning key barrier) events →
     AgreesThroughout (opt meaning key barrier) (expected (opt meaning key barrier) events) (replies_by_digests (opt meaning key barrier) events)
+
+-- A snapshot says, sealed under the key, what names a position of the history.
+pub record IsIssued (i : Instance) (y : History) (bytes : List ℕ) : Type 0 where
+  pub content : Content
+  pub sealed : bytes ≡ sealed_of i.key content
+  pub names : Names i y content
+
+-- After each schedule every snapshot that was issued names a position of the history.
+abbrev pub IssuedNamePositions : Instance → Type 0
+IssuedNamePositions i = (events : List Event) →
+    let lists : Followed History = expected i events in AllByRecursion (IsIssued i lists.state) lists.issued
+
+-- One request is asked once: `ask last add 5`.
+abbrev pub one_ask : List Event
+one_ask = Ask [] Quiet Last (One (codes "add 5")) ∷ []
