@@ -1,16 +1,15 @@
 -- The premises of the laws are met by a run of one request, as its digests show.
-use Rattle.std.proofs.Common.{ℕ, zero, suc, ◌≡◌, ◌≢◌, ◌≤◌, ◌+◌, ◌*◌, ◌/◌, ◌^◌, take, drop, Bool, true, false, ◌&&◌, List, [], ◌∷◌, ◌++◌, length, map, Option, None, Some, Result, Ok, Err, refl, sym, ap, ◌∙◌, subst, arith, inl, inr, ◌⊎◌}
+use Rattle.std.proofs.Common.{ℕ, zero, suc, ◌≡◌, ◌≢◌, ◌+◌, ◌*◌, ◌/◌, take, drop, Bool, true, false, ◌&&◌, List, [], ◌∷◌, ◌++◌, length, map, None, Some, Result, Ok, Err, refl, sym, ap, ◌∙◌, subst, arith, inl, inr, ◌⊎◌}
 use Rattle.std.specs.Prelude.{if◌then◌else◌, nat_eq, slice_index, codes}
 use Rattle.std.specs.List.{AllByRecursion, Contains}
 use Rattle.std.specs.Str.{bytes_eq}
 use Rattle.std.proofs.lemmas.Bool.{and_parts}
-use Rattle.std.proofs.lemmas.List.{append-nil}
 use Rattle.std.proofs.lemmas.Bool.Decides.{nat_tests}
 use Rattle.std.proofs.lemmas.List.Elements.{Contains-append_cases, Contains-push_cases}
 use Rattle.sha2.specs.Sha256.{sha256, next_word, first_words, schedule, rounds, add_state, compress, hash_after, digest_bytes, initial_hash_256, padded_message}
 use Rattle.mm_digest.specs.declared.variant.Variant.TheVariants.{Basic, Opt}
-use Rattle.mm_digest.specs.Messages.{zero_bytes, start_message, start_of, successor_of, secured_of, extended_of, extended_message, anchored_message, anchored_of}
-use Rattle.mm_digest.proofs.Lengths.{length-zero_bytes, length-start_of, length-hmac_of}
+use Rattle.mm_digest.specs.Messages.{zero_bytes, start_message, start_of, extended_of, extended_message, anchored_message, anchored_of}
+use Rattle.mm_digest.proofs.Lengths.{length-zero_bytes, length-start_of}
 use Rattle.mm_module.specs.Batch.{Batch, One}
 use Rattle.mm_module.specs.CounterTable.{counter}
 use Rattle.mm_module.specs.CounterLaws.{counter_is_lawful}
@@ -18,7 +17,7 @@ use Rattle.mm_module.specs.Meaning.{Meaning, IsLawful}
 use Rattle.mm_schedule.specs.Events.{Ask}
 use Rattle.mm_schedule.specs.declared.event.Offer.TheVariants.{Last}
 use Rattle.mm_model.specs.Long.{is_long}
-use Rattle.mm_model.specs.Chains.{link_message, guard_message, guard, link, anchor_of}
+use Rattle.mm_model.specs.Chains.{link_message, guard_message, guard, anchor_of}
 use Rattle.mm_model.specs.Instance.{Instance, basic, opt}
 use Rattle.mm_model.specs.History.{first_history, Move}
 use Rattle.mm_model.specs.Messages.{IsClear, Within, form_messages, point_messages, offer_messages}
@@ -32,7 +31,7 @@ use Rattle.mm_model.proofs.Named.{basic_issued, opt_issued}
 use Rattle.mm_platform.specs.declared.plan.Stop.TheVariants.{Quiet}
 use Rattle.mm_seal.specs.declared.snapshot.PartsFault.{PartsFault}
 use Rattle.mm_seal.specs.declared.snapshot.Place.TheVariants.{Opt as InOpt}
-use Rattle.mm_seal.specs.Snapshot.{Content, IsContent, Snapshot, IsSnapshot, snapshot_front, snapshot_spelling, sealed_of, tag_of}
+use Rattle.mm_seal.specs.Snapshot.{Content, IsContent, Snapshot, tag_of}
 use Rattle.mm_seal.proofs.SealLaws.{sealed_once}
 use Rattle.mm_world.specs.Folds.{found_at, is_fresh}
 use Rattle.mm_world.specs.Held.{world_barrier, rising_from}

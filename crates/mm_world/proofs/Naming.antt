@@ -4,14 +4,13 @@ use Rattle.std.specs.Prelude.{if◌then◌else◌, is_none, nat_eq, nat_le}
 use Rattle.std.specs.Str.{bytes_eq}
 use Rattle.std.specs.List.{AllByRecursion, Contains}
 use Rattle.std.proofs.lemmas.List.Elements.{Contains-append_right}
-use Rattle.mm_digest.specs.declared.variant.Variant.{Variant}
 use Rattle.mm_digest.specs.declared.variant.Variant.TheVariants.{Basic, Opt}
 use Rattle.mm_digest.specs.Messages.{extended_message}
 use Rattle.mm_module.specs.Meaning.{Meaning}
 use Rattle.mm_module.specs.Batch.{Batch, size_of, normal}
 use Rattle.mm_seal.specs.declared.snapshot.PartsFault.{PartsFault}
 use Rattle.mm_seal.specs.declared.snapshot.PartsFault.TheVariants.{Form, Kind}
-use Rattle.mm_seal.specs.Snapshot.{Content, Snapshot, tag_of}
+use Rattle.mm_seal.specs.Snapshot.{Snapshot, tag_of}
 use Rattle.mm_platform.specs.declared.plan.Meddle.{Meddle}
 use Rattle.mm_platform.specs.declared.plan.Stop.{Stop}
 use Rattle.mm_platform.specs.declared.plan.Stop.TheVariants.{Quiet, Cut, Drop, Fail}
@@ -20,34 +19,32 @@ use Rattle.mm_platform.specs.Steps.{fault_at, is_made_at}
 use Rattle.mm_model.specs.Chains.{guard, guard_message, register_of, own_values}
 use Rattle.mm_model.specs.Instance.{Instance, basic, opt}
 use Rattle.mm_model.specs.History.{History, Move, Commit, Foreign, Placed, Reset, Close, Power as PowerMove, moved, committed, first_history, joined, total_of}
-use Rattle.mm_model.specs.Life.{Life, Live, life_of, has_value}
+use Rattle.mm_model.specs.Life.{Live, life_of, has_value}
 use Rattle.mm_model.specs.Sound.{IsSound}
-use Rattle.mm_model.specs.Judge.{is_last, judged, judge}
+use Rattle.mm_model.specs.Judge.{is_last, judge}
 use Rattle.mm_model.specs.Long.{is_long}
 use Rattle.mm_model.specs.Moves.{MayMove}
 use Rattle.mm_model.specs.Standing.{issued_bytes}
-use Rattle.mm_model.specs.Places.{Names, issued as content_issued}
+use Rattle.mm_model.specs.Places.{issued as content_issued}
 use Rattle.mm_model.specs.Steps.{Step, Reads, Changes, Writes, ask_steps, checkpoint_steps}
 use Rattle.mm_model.specs.declared.refusal.Refusal.{Refusal}
-use Rattle.mm_model.specs.declared.refusal.Refusal.TheVariants as refusal
 use Rattle.mm_model.proofs.Ends.{first_sound}
 use Rattle.mm_model.proofs.Moves.{sound_moved}
 use Rattle.mm_model.proofs.Named.{basic_names, basic_issued, opt_names, opt_issued}
-use Rattle.mm_call.specs.Order.{admitted, examined}
+use Rattle.mm_call.specs.Order.{examined}
 use Rattle.mm_schedule.specs.Events.{Event, Ask, Checkpoint, Power, Extend}
 use Rattle.mm_schedule.specs.declared.reply.Way.{Way}
 use Rattle.mm_seal.specs.Parts.{parts_of}
 use Rattle.mm_world.specs.Offered.{offered_bytes}
 use Rattle.mm_world.specs.Walk.{Walked, made_move, after_stop, after_step, stopped_at, walk, seen_in, closes}
 use Rattle.mm_world.specs.Levels.{by_lists, is_lost_life}
-use Rattle.mm_world.specs.Folds.{Outcome, all_made, Found, found_from, found_at, is_fresh, ended, called, asked, checkpointed_with, outcome_of, Followed, followed, first_issued}
+use Rattle.mm_world.specs.Folds.{Outcome, all_made, Found, found_from, found_at, is_fresh, ended, called, asked, outcome_of, Followed, followed, first_issued}
 use Rattle.mm_world.specs.Laws.{IsIssued, IssuedNamePositions}
 use Rattle.mm_world.proofs.Finding.{weighed_tells, found_with_tells}
 use Rattle.mm_world.proofs.OptFinding.{IsLive, lives, not_lost, admitted_lives, unless_lost}
 use Rattle.mm_world.proofs.OptFollowing.{seen_is}
-use Rattle.mm_world.proofs.OptHolding.{IsFine, foreign_fine, power_fine}
-use Rattle.mm_world.proofs.OptMessages.{Commits}
-use Rattle.mm_world.proofs.OptReady.{ready_ask, ready_checkpoint, IsAsked}
+use Rattle.mm_world.proofs.OptHolding.{foreign_fine, power_fine}
+use Rattle.mm_world.proofs.OptReady.{ready_ask, ready_checkpoint}
 use Rattle.mm_world.proofs.OptRuns.{due_outside}
 use Rattle.mm_world.proofs.OptWalking.{AllFine, AreOutside, taking, walk_fine}
 
