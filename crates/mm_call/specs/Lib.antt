@@ -10,3 +10,5 @@ pub mod Called
 pub mod Standing
 pub mod Asked
 pub mod CallsOn
+pub mod Trails
+pub mod Laws

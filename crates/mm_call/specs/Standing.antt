@@ -1,5 +1,5 @@
 -- Where a platform stands by digests, and what its register shows of the moves of a call.
-use Rattle.std.specs.Prelude.{◌≡◌, ℕ, zero, suc, Bool, true, false, List, [], ◌∷◌, ◌++◌, Some}
+use Rattle.std.specs.Prelude.{◌≡◌, ℕ, zero, suc, Bool, true, false, List, [], ◌∷◌, ◌++◌, Option, Some}
 use Rattle.mm_base.specs.Faults.{counted}
 use Rattle.mm_digest.specs.declared.variant.Variant.{Variant}
 use Rattle.mm_digest.specs.declared.variant.Variant.TheVariants.{Basic, Opt}
@@ -30,11 +30,16 @@ cell_at i d = record {
   barrier = i.barrier;
 }
 
--- The platform's cell and register have these digests.
+-- what is known of the register's value; in Basic it isn't read
+abbrev pub RegisterAt : Variant → Option (List ℕ) → List ℕ → Type 0
+RegisterAt Basic reads register = Unit {0}
+RegisterAt Opt reads register = reads ≡ Some register
+
+-- The platform's cell has these digests, and in Opt its register.
 pub record StandsAt (i : Instance) (standing : Standing) (d : Digests) : Type 0 where
   pub spells : IsCell (cell_at i d)
   pub cell : standing.cell ≡ Some (cell_spelling (cell_at i d))
-  pub reads : register_reads standing ≡ Some d.register
+  pub reads : RegisterAt i.variant (register_reads standing) d.register
 
 -- What the register shows of a move, by its variant and whether a segment is open: others' values and the core's own
 -- extensions behind what it had shown; nothing once it was emptied.

@@ -8,8 +8,10 @@
 
 mod examining;
 mod first;
+mod laws;
 mod run;
 
 pub use examining::{examine, has_tab};
 pub use first::Provisioned;
+pub use laws::{basic_calls_agree, opt_calls_agree, trails_lead};
 pub use run::{Ran, answer, run_batch};

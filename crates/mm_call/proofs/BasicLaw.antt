@@ -1,0 +1,230 @@
+-- Basic: a call is by digests what it is by lists, on every course.
+use Rattle.std.proofs.Common.{ℕ, ◌≡◌, Bool, true, false, List, [], ◌∷◌, ◌++◌, map, None, Result, Ok, Err, refl, sym, ap, ◌∙◌, subst}
+use Rattle.std.specs.Prelude.{if◌then◌else◌}
+use Rattle.std.specs.List.{AllByRecursion, Contains}
+use Rattle.mm_digest.specs.declared.variant.Variant.TheVariants.{Basic}
+use Rattle.mm_module.specs.Meaning.{Meaning}
+use Rattle.mm_module.specs.Batch.{Batch}
+use Rattle.mm_seal.specs.Snapshot.{Content}
+use Rattle.mm_seal.specs.declared.snapshot.Place.{Place}
+use Rattle.mm_seal.specs.declared.snapshot.Place.TheVariants.{Basic as InBasic, Opt as InOpt}
+use Rattle.mm_model.specs.Chains.{link, link_message, summary_of}
+use Rattle.mm_model.specs.Instance.{Instance, basic}
+use Rattle.mm_model.specs.History.{Entry, History, Move, Commit, Foreign, joined}
+use Rattle.mm_model.specs.Steps.{Step, Reads, Writes, ask_steps}
+use Rattle.mm_model.specs.Messages.{values_in}
+use Rattle.mm_model.specs.Moves.{Digests}
+use Rattle.mm_model.specs.Places.{digest_of, IsPlaceOf, Names}
+use Rattle.mm_model.specs.declared.refusal.Refusal.{Refusal}
+use Rattle.mm_model.proofs.Lists.{each_append}
+use Rattle.mm_call.specs.Levels.{by_lists, by_digests, all_made, Agrees}
+use Rattle.mm_call.specs.Found.{Found, found_at, found_in, is_fresh}
+use Rattle.mm_call.specs.Courses.{End, Done, Fails, Fate, Course, Walked, step_moves, after_step, walk}
+use Rattle.mm_call.specs.Called.{called_with}
+use Rattle.mm_call.specs.Asked.{IsPlain, IsWithin}
+use Rattle.mm_call.specs.Laws.{IsSameCall, BasicCallsAgree}
+use Rattle.mm_call.proofs.Moving.{IsBasicMove, agrees-made, plain-made, same_batches, more_batches}
+use Rattle.mm_call.proofs.Finding.{Holds, Asking, Placed, found_same, placed, right_of_found}
+use Rattle.mm_call.proofs.Calling.{summary_then, listed_push, listed_same, called_message}
+use Rattle.mm_call.proofs.Walks.{Commits, nothing, batch, basic_commits, foreign_first, finished}
+use Rattle.mm_call.proofs.Endings.{Ends, again_of, fresh_of, ending_same}
+
+abbrev pub AreBasic : List Move → Type 0
+AreBasic moves = AllByRecursion IsBasicMove moves
+
+pub basic-append : (xs ys : List Move) → AreBasic xs → AreBasic ys → AreBasic (xs ++ ys)
+basic-append [] ys a b = b
+basic-append (x ∷ xs) ys a b = (a.0, basic-append xs ys a.1 b)
+
+pub basic-foreign : (values : List (List ℕ)) → AreBasic (map Foreign values)
+basic-foreign [] = tt
+basic-foreign (v ∷ values) = (tt, basic-foreign values)
+
+-- the moves of a step of Basic
+abbrev IsOfBasic : Step → Type 0
+IsOfBasic step = (made : Bool) (values : List (List ℕ)) → AreBasic (step_moves step made values)
+
+reads_basic : IsOfBasic Reads
+reads_basic made values = basic-foreign values
+
+writes_basic : (b : Batch) → IsOfBasic (Writes (Commit b))
+writes_basic b true values = (tt, basic-foreign values)
+writes_basic b false values = basic-foreign values
+
+step_basic : (step : Step) (values : List (List ℕ)) (ends : End) (rest : Walked) → IsOfBasic step → AreBasic rest.moves
+    → AreBasic (after_step step values ends rest).moves
+step_basic step values Done rest s r = basic-append (step_moves step true values) rest.moves (s true values) r
+step_basic step values (Fails fault made) rest s r = s made values
+
+walk_basic : (fates : ℕ → Fate) (flag fresh : Bool) (b : Batch) → AreBasic (walk fates 1 (ask_steps Basic flag fresh b)).moves
+walk_basic fates flag false b = step_basic Reads (fates 1).brings (fates 1).ends finished reads_basic tt
+walk_basic fates flag true b =
+    step_basic Reads (fates 1).brings (fates 1).ends (walk fates 2 (Writes (Commit b) ∷ [])) reads_basic
+    (step_basic (Writes (Commit b)) (fates 2).brings (fates 2).ends finished (writes_basic b) tt)
+
+-- a plain history has no values that count
+plain_outside : (others : List (List ℕ)) (closed : List (List Entry)) (is_open : Bool) (items : List Entry) → closed ≡ [] → is_open ≡ false
+    → AllByRecursion (Contains others) (values_in (joined closed ++ (if is_open then items else [])))
+plain_outside others closed is_open items none shut =
+    let P : List (List Entry) → Type 0 = λ c. AllByRecursion (Contains others) (values_in (joined c ++ (if is_open then items else []))) in
+    let Q : Bool → Type 0 = λ o. AllByRecursion (Contains others) (values_in (joined {A = Entry} [] ++ (if o then items else []))) in
+    subst P (sym none) (subst Q (sym shut) tt)
+
+place_any : (i : Instance) (y y' : History) (named : List Batch) (place : Place) → IsPlaceOf Basic i y named place → IsPlaceOf Basic i y' named place
+place_any i y y' named (InBasic s) is = is
+place_any i y y' named (InOpt a e) is = absurd is
+
+-- a history with the same batches is named by the same snapshots
+names_any : (meaning : Meaning) (key : List ℕ) (y y' : History) (offered : Content) → y'.batches ≡ y.batches
+    → Names (basic meaning key) y offered → Names (basic meaning key) y' offered
+names_any meaning key y y' offered e n = record {
+  named = n.named;
+  rest = n.rest;
+  first = e ∙ n.first;
+  position = n.position;
+  state = n.state;
+  place = place_any (basic meaning key) y y' n.named offered.place n.place;
+}
+
+-- what is found, where memory isn't wanting
+pub unlacked : (found : Result Found Refusal) (lacks : Bool) (f : Found) → found_in found lacks ≡ Ok f → found ≡ Ok f
+unlacked (Err why) lacks f e = cc
+unlacked (Ok found) false f e = e
+unlacked (Ok found) true f e = cc
+
+-- the summary of an answer is that of the batches at the end
+end_summary : (i : Instance) (id : ℕ) (y : History) (b : Batch) (again : Bool) (digest : List ℕ) (named : List Batch) (walked : Walked)
+    → digest ≡ summary_of id y.batches → (again ≡ false → named ≡ y.batches) → (again ≡ true → named ++ b ∷ [] ≡ y.batches)
+    → Commits b (if again then false else true) walked → walked.broken ≡ None
+    → (if again then digest else link digest b) ≡ summary_of id (all_made (by_lists i) y walked.moves).batches
+end_summary i id y b again digest named walked e fresh repeat (nothing none unless) whole =
+    summary_then id y.batches named b again digest e fresh repeat
+    ∙ ap (summary_of id) (repeat (again_of again (unless whole)) ∙ sym (same_batches i walked.moves y none))
+end_summary i id y b again digest named walked e fresh repeat (batch one is) whole =
+    summary_then id y.batches named b again digest e fresh repeat
+    ∙ ap (summary_of id) (ap (λ v. v ++ b ∷ []) (fresh (fresh_of again is)) ∙ sym (more_batches i walked.moves y b one))
+
+-- what a call starts from, and what it sees and finds
+record Starts (all others : List (List ℕ)) (asked : List Batch) (i : Instance) (y : History) (d seen : Digests) (b : Batch) (found : Result Found Refusal) : Type 0 where
+  agrees : Agrees i y d
+  within : IsWithin all others asked i y
+  is_asked : Contains asked b
+  sees : seen.digest ≡ d.digest
+  placed_at : (f : Found) → found ≡ Ok f → Placed i y b f
+  message : (f : Found) → found ≡ Ok f → f.again ≡ false → Contains all (link_message (summary_of i.meaning.id y.batches) b)
+
+-- what is asked of the history after the moves of a walk
+within_after : (meaning : Meaning) (key : List ℕ) (all others : List (List ℕ)) (asked : List Batch) (y : History) (d seen : Digests) (b : Batch)
+    (walked : Walked) (found : Result Found Refusal) → Starts all others asked (basic meaning key) y d seen b found
+    → AreBasic walked.moves → Commits b (is_fresh found) walked
+    → IsWithin all others asked (basic meaning key) (all_made (by_lists (basic meaning key)) y walked.moves)
+within_after meaning key all others asked y d seen b walked found s moves (nothing none unless) =
+    let i = basic meaning key in
+    let end = all_made (by_lists i) y walked.moves in
+    let plain : IsPlain end = plain-made meaning key walked.moves y moves s.within.sound in
+    let same = same_batches i walked.moves y none in record {
+      sound = plain;
+      outside = plain_outside others end.closed end.is_open end.items plain.closed plain.shut;
+      listed = listed_same meaning key all y end s.within.listed same;
+      batches = subst (AllByRecursion (Contains asked)) (sym same) s.within.batches;
+    }
+within_after meaning key all others asked y d seen b walked (Ok f) s moves (batch one fresh) =
+    let i = basic meaning key in
+    let end = all_made (by_lists i) y walked.moves in
+    let plain : IsPlain end = plain-made meaning key walked.moves y moves s.within.sound in
+    let more = more_batches i walked.moves y b one in record {
+      sound = plain;
+      outside = plain_outside others end.closed end.is_open end.items plain.closed plain.shut;
+      listed = listed_push meaning key all y end b s.within.listed (s.message f refl (fresh_of f.again fresh)) more;
+      batches = subst (AllByRecursion (Contains asked)) (sym more)
+          (each_append (Contains asked) y.batches (b ∷ []) s.within.batches (s.is_asked, tt));
+    }
+within_after meaning key all others asked y d seen b walked (Err why) s moves (batch one fresh) = cc
+
+-- what is known at the end
+ends_of : (meaning : Meaning) (key : List ℕ) (all others : List (List ℕ)) (asked : List Batch) (y : History) (d seen : Digests) (b : Batch)
+    (walked : Walked) (found : Result Found Refusal) → Starts all others asked (basic meaning key) y d seen b found
+    → Commits b (is_fresh found) walked → Ends (basic meaning key) y seen b walked found
+ends_of meaning key all others asked y d seen b walked found s c = record {
+  points = λ f is. let p = s.placed_at f is in
+      record { named = p.named; position = p.position; state = p.state; fresh = p.fresh; repeat = p.repeat };
+  place = λ f is whole.
+      let p = s.placed_at f is in
+      let C : Result Found Refusal → Type 0 = λ x. Commits b (is_fresh x) walked in
+      ap (λ v. InBasic (digest_of v))
+      (end_summary (basic meaning key) meaning.id y b f.again seen.digest p.named walked (s.sees ∙ s.agrees.digest) p.fresh p.repeat (subst C is c) whole);
+}
+
+walked_same : (meaning : Meaning) (key : List ℕ) (all others : List (List ℕ)) (asked : List Batch) (y sees : History) (d seen : Digests)
+    (course : Course) (b : Batch) (found : Result Found Refusal) → Starts all others asked (basic meaning key) y d seen b found
+    → IsSameCall all others asked (basic meaning key)
+    (called_with (basic meaning key) (by_lists (basic meaning key)) y sees course b found)
+    (called_with (basic meaning key) (by_digests (basic meaning key)) d seen course b found)
+walked_same meaning key all others asked y sees d seen course b found s =
+    let i = basic meaning key in
+    let w : Walked = walk course.fates 1 (ask_steps Basic false (is_fresh found) b) in
+    let moves = walk_basic course.fates false (is_fresh found) b in
+    let commits = basic_commits course.fates false (is_fresh found) b in record {
+      ending = ending_same i y sees seen (all_made (by_digests i) d w.moves) b w w.broken found refl
+          (ends_of meaning key all others asked y d seen b w found s commits) commits;
+      moves = refl;
+      steps = refl;
+      writes = refl;
+      agrees = agrees-made meaning key w.moves y d moves s.agrees;
+      within = within_after meaning key all others asked y d seen b w found s moves commits;
+    }
+
+-- others' values alone change no summary
+foreign_digest : (meaning : Meaning) (key : List ℕ) (values : List (List ℕ)) (d : Digests)
+    → (all_made (by_digests (basic meaning key)) d (map Foreign values ++ [])).digest ≡ d.digest
+foreign_digest meaning key [] d = refl
+foreign_digest meaning key (v ∷ values) d = foreign_digest meaning key values ((by_digests (basic meaning key)).made d (Foreign v))
+
+pub basic_calls_agree : BasicCallsAgree
+basic_calls_agree meaning key all others asked y d course offer b agrees a =
+    let i = basic meaning key in
+    let values = (course.fates 1).brings in
+    let moves : List Move = map Foreign values ++ [] in
+    let sees : History = all_made (by_lists i) y moves in
+    let seen : Digests = all_made (by_digests i) d moves in
+    let quiet : AreBasic moves = basic-append (map Foreign values) [] (basic-foreign values) tt in
+    let same : sees.batches ≡ y.batches = same_batches i moves y (foreign_first values []) in
+    let holds : Holds all i sees seen = record {
+      agrees = agrees-made meaning key moves y d quiet agrees;
+      plain = plain-made meaning key moves y quiet a.within.sound;
+      listed = listed_same meaning key all y sees a.within.listed same;
+    } in
+    let asking : Asking all i sees offer b = record {
+      clear = a.clear;
+      listed = a.offered;
+      genuine = λ content right. names_any meaning key y sees content same (a.genuine content right);
+    } in
+    let lists : Result Found Refusal = found_at i (by_lists i) sees b offer in
+    let found : Result Found Refusal = found_in lists course.lacks in
+    let agree : found_in (found_at i (by_digests i) seen b offer) course.lacks ≡ found =
+    ap (λ x. found_in x course.lacks) (found_same meaning key all sees seen offer b holds asking) in
+    let starts : Starts all others asked i y d seen b found = record {
+      agrees = agrees;
+      within = a.within;
+      is_asked = a.is_asked;
+      sees = foreign_digest meaning key values d;
+      placed_at = λ f is.
+          let p = placed meaning key all sees offer b asking f (unlacked lists course.lacks f is) in
+          record {
+            named = p.named;
+            position = p.position;
+            state = p.state;
+            place = place_any i sees y p.named f.offered.place p.place;
+            fresh = λ x. p.fresh x ∙ same;
+            repeat = λ x. p.repeat x ∙ same;
+          };
+      message = λ f is fresh.
+          let was = unlacked lists course.lacks f is in
+          let p = placed meaning key all sees offer b asking f was in
+          called_message meaning key all y b f.offered.place p.named
+          (right_of_found meaning key all sees offer b asking f was)
+          (place_any i sees y p.named f.offered.place p.place) (p.fresh fresh ∙ same);
+    } in
+    let P : Result Found Refusal → Type 0 = λ x. IsSameCall all others asked i
+    (called_with i (by_lists i) y sees course b found) (called_with i (by_digests i) d seen course b x) in
+    subst P (sym agree) (walked_same meaning key all others asked y sees d seen course b found starts)

@@ -1,0 +1,141 @@
+-- What a call answers, by lists and by digests; and, in Basic, the messages of a history that goes on by the batch.
+use Rattle.std.proofs.Common.{ℕ, ◌≡◌, ◌+◌, ◌-◌, Bool, true, false, List, [], ◌∷◌, ◌++◌, length, drop, refl, sym, ap, ◌∙◌, subst, arith}
+use Rattle.std.specs.Prelude.{if◌then◌else◌}
+use Rattle.std.specs.List.{Contains}
+use Rattle.std.proofs.lemmas.Grind.{flat_map-append}
+use Rattle.std.proofs.lemmas.List.{append-nil}
+use Rattle.mm_digest.specs.declared.variant.Variant.TheVariants.{Basic}
+use Rattle.mm_digest.specs.Messages.{start_of}
+use Rattle.mm_module.specs.Meaning.{Meaning, state_from, state_after, outputs_from}
+use Rattle.mm_module.specs.Batch.{Batch, members_of, size_of}
+use Rattle.mm_module.proofs.RunLaws.{state_after-append, outputs_from-append, length-outputs_from}
+use Rattle.mm_seal.specs.Snapshot.{Content, sealed_of}
+use Rattle.mm_seal.specs.declared.snapshot.Place.{Place}
+use Rattle.mm_seal.specs.declared.snapshot.Place.TheVariants.{Basic as InBasic, Opt as InOpt}
+use Rattle.mm_model.specs.Chains.{link, link_message, summary_of, trail}
+use Rattle.mm_model.specs.Instance.{Instance, basic}
+use Rattle.mm_model.specs.History.{History, requests_of, total_of}
+use Rattle.mm_model.specs.Messages.{Within, history_messages, offer_messages}
+use Rattle.mm_model.specs.Places.{IsPlaceOf, issued_place}
+use Rattle.mm_model.specs.declared.answer.BatchAnswer.{BatchAnswer}
+use Rattle.mm_model.proofs.Chains.{trail_push}
+use Rattle.mm_model.proofs.Digests.{summary-push}
+use Rattle.mm_model.proofs.MovedDigests.{total-push}
+use Rattle.mm_call.specs.Answers.{answer_at, answer_on}
+
+pub requests-append : (bs cs : List Batch) → requests_of (bs ++ cs) ≡ requests_of bs ++ requests_of cs
+requests-append bs cs = flat_map-append members_of bs cs
+
+pub requests-push : (bs : List Batch) (b : Batch) → requests_of (bs ++ b ∷ []) ≡ requests_of bs ++ members_of b
+requests-push bs b = requests-append bs (b ∷ []) ∙ ap (λ v. requests_of bs ++ v) (append-nil (members_of b))
+
+drop-front : (xs ys : List (List ℕ)) → drop (length xs) (xs ++ ys) ≡ ys
+drop-front [] ys = refl
+drop-front (x ∷ xs) ys = drop-front xs ys
+
+pub drop-at : (n : ℕ) (xs ys : List (List ℕ)) → n ≡ length xs → drop n (xs ++ ys) ≡ ys
+drop-at n xs ys e = ap (λ k. drop k (xs ++ ys)) e ∙ drop-front xs ys
+
+-- the answer to the batch after these, at this place
+abbrev pub answer_after : Instance → List Batch → Batch → Place → Bool → BatchAnswer
+answer_after i named b place again = record {
+  again = again;
+  position = total_of named + size_of b;
+  outputs = outputs_from i.meaning (state_after i.meaning (requests_of named)) (members_of b);
+  snapshot = sealed_of i.key (record {
+    id = i.meaning.id;
+    place = place;
+    position = total_of named + size_of b;
+    state = state_from i.meaning (state_after i.meaning (requests_of named)) (members_of b);
+  });
+}
+
+-- the position before the last batch, and what is said to it
+pub before_last : (batches named : List Batch) (b : Batch) → batches ≡ named ++ b ∷ [] → total_of batches - size_of b ≡ total_of named
+before_last batches named b e =
+    let total : total_of batches ≡ total_of named + size_of b = ap total_of e ∙ total-push named b in omega arith
+
+pub said_last : (meaning : Meaning) (batches named : List Batch) (b : Batch) → batches ≡ named ++ b ∷ []
+    → drop (total_of batches - size_of b) (outputs_from meaning meaning.first (requests_of batches))
+    ≡ outputs_from meaning (state_after meaning (requests_of named)) (members_of b)
+said_last meaning batches named b e =
+    let requests : requests_of batches ≡ requests_of named ++ members_of b = ap requests_of e ∙ requests-push named b in
+    let outputs : outputs_from meaning meaning.first (requests_of batches)
+    ≡ outputs_from meaning meaning.first (requests_of named) ++ outputs_from meaning (state_after meaning (requests_of named)) (members_of b) =
+    ap (outputs_from meaning meaning.first) requests ∙ outputs_from-append meaning meaning.first (requests_of named) (members_of b) in
+    ap (λ n. drop n (outputs_from meaning meaning.first (requests_of batches))) (before_last batches named b e)
+    ∙ ap (drop (total_of named)) outputs
+    ∙ drop-at (total_of named) (outputs_from meaning meaning.first (requests_of named)) _ (sym (length-outputs_from meaning meaning.first (requests_of named)))
+
+pub answer-lists : (i : Instance) (y : History) (named : List Batch) (b : Batch) (again : Bool) → y.batches ≡ named ++ b ∷ []
+    → answer_on i y b again ≡ answer_after i named b (issued_place i.variant y.is_open i y) again
+answer-lists i y named b again e =
+    let total : total_of y.batches ≡ total_of named + size_of b = ap total_of e ∙ total-push named b in
+    let said = said_last i.meaning y.batches named b e in
+    let state = ap (λ v. state_after i.meaning (requests_of v)) e ∙ ap (state_after i.meaning) (requests-push named b)
+    ∙ state_after-append i.meaning (requests_of named) (members_of b) in
+    λ j. record {
+      again = again;
+      position = total j;
+      outputs = said j;
+      snapshot = sealed_of i.key (record { id = i.meaning.id; place = issued_place i.variant y.is_open i y; position = total j; state = state j });
+    }
+
+-- the answer by digests, where what is found is the first batches of the history
+pub answer-digests : (i : Instance) (named : List Batch) (b : Batch) (again : Bool) (offered : Content) (first place : Place)
+    → offered.position ≡ total_of named → offered.state ≡ state_after i.meaning (requests_of named) → first ≡ place
+    → answer_at i.meaning i.key offered first b again ≡ answer_after i named b place again
+answer-digests i named b again offered first place position state is =
+    λ j. record {
+      again = again;
+      position = position j + size_of b;
+      outputs = outputs_from i.meaning (state j) (members_of b);
+      snapshot = sealed_of i.key (record {
+        id = i.meaning.id;
+        place = is j;
+        position = position j + size_of b;
+        state = state_from i.meaning (state j) (members_of b);
+      });
+    }
+
+-- the summary after the batch
+pub summary_then : (id : ℕ) (batches named : List Batch) (b : Batch) (again : Bool) (digest : List ℕ) → digest ≡ summary_of id batches
+    → (again ≡ false → named ≡ batches) → (again ≡ true → named ++ b ∷ [] ≡ batches)
+    → (if again then digest else link digest b) ≡ summary_of id (named ++ b ∷ [])
+summary_then id batches named b true digest e fresh repeat = e ∙ ap (summary_of id) (sym (repeat refl))
+summary_then id batches named b false digest e fresh repeat =
+    ap (λ x. link x b) (e ∙ ap (summary_of id) (sym (fresh refl))) ∙ sym (summary-push id named b)
+
+-- the batches at the end of a call that isn't broken off, or that committed its batch
+pub ended_batches : (batches named committed : List Batch) (b : Batch) (again : Bool)
+    → (again ≡ false → named ≡ batches) → (again ≡ true → named ++ b ∷ [] ≡ batches)
+    → (again ≡ true → committed ≡ []) → (again ≡ false → committed ≡ b ∷ [])
+    → batches ++ committed ≡ named ++ b ∷ []
+ended_batches batches named committed b true fresh repeat none one =
+    ap (λ v. batches ++ v) (none refl) ∙ append-nil batches ∙ sym (repeat refl)
+ended_batches batches named committed b false fresh repeat none one =
+    ap (λ v. batches ++ v) (one refl) ∙ ap (λ v. v ++ b ∷ []) (sym (fresh refl))
+
+-- the messages of a history that goes on by the batch
+pub listed_push : (meaning : Meaning) (key : List ℕ) (all : List (List ℕ)) (y y' : History) (b : Batch)
+    → Within (history_messages (basic meaning key) y) all → Contains all (link_message (summary_of meaning.id y.batches) b)
+    → y'.batches ≡ y.batches ++ b ∷ [] → Within (history_messages (basic meaning key) y') all
+unfolding summary_of
+listed_push meaning key all y y' b listed called e =
+    let P : List Batch → Type 0 = λ v. Within (trail link_message (start_of Basic meaning.id) v) all in
+    (listed.0, subst P (sym e) (trail_push link_message (start_of Basic meaning.id) y.batches b all listed.1 called))
+
+pub listed_same : (meaning : Meaning) (key : List ℕ) (all : List (List ℕ)) (y y' : History)
+    → Within (history_messages (basic meaning key) y) all → y'.batches ≡ y.batches → Within (history_messages (basic meaning key) y') all
+listed_same meaning key all y y' listed e =
+    let P : List Batch → Type 0 = λ v. Within (trail link_message (start_of Basic meaning.id) v) all in
+    (listed.0, subst P (sym e) listed.1)
+
+-- the message of a batch that is asked at the end of the history
+pub called_message : (meaning : Meaning) (key : List ℕ) (all : List (List ℕ)) (y : History) (b : Batch) (place : Place) (named : List Batch)
+    → Within (offer_messages (basic meaning key) place b) all → IsPlaceOf Basic (basic meaning key) y named place → named ≡ y.batches
+    → Contains all (link_message (summary_of meaning.id y.batches) b)
+called_message meaning key all y b (InBasic s) named called is e =
+    let P : List ℕ → Type 0 = λ v. Contains all (link_message v b) in
+    subst P (is ∙ ap (summary_of meaning.id) e) called.0
+called_message meaning key all y b (InOpt a x) named called is e = absurd is

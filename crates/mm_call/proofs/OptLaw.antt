@@ -1,0 +1,460 @@
+-- Opt: a call is by digests what it is by lists, on every course.
+use Rattle.std.proofs.Common.{ℕ, ◌≡◌, Bool, true, false, List, [], ◌∷◌, ◌++◌, map, Option, None, Some, Result, Ok, Err, refl, sym, ap, ◌∙◌, subst, append_assoc, inl, inr}
+use Rattle.std.specs.Prelude.{not, if◌then◌else◌}
+use Rattle.std.specs.List.{AllByRecursion, Contains, fold}
+use Rattle.std.proofs.lemmas.List.{append-nil}
+use Rattle.mm_digest.specs.declared.variant.Variant.TheVariants.{Opt}
+use Rattle.mm_digest.specs.Messages.{extended_of}
+use Rattle.mm_platform.specs.declared.fault.StepFault.{StepFault}
+use Rattle.mm_module.specs.Meaning.{Meaning}
+use Rattle.mm_module.specs.Batch.{Batch}
+use Rattle.mm_seal.specs.Snapshot.{Content}
+use Rattle.mm_model.specs.Instance.{Instance, opt}
+use Rattle.mm_model.specs.History.{Value, History, Move, Foreign, Reset, moved}
+use Rattle.mm_model.specs.Life.{are_own}
+use Rattle.mm_model.specs.Steps.{Step, Reads, ask_steps}
+use Rattle.mm_model.specs.Messages.{Within, moving_messages, move_messages}
+use Rattle.mm_model.specs.Moves.{Digests}
+use Rattle.mm_model.specs.Places.{Names, issued_place}
+use Rattle.mm_model.specs.Standing.{IsGenuine}
+use Rattle.mm_model.specs.Sound.{IsSound}
+use Rattle.mm_model.specs.declared.refusal.Refusal.{Refusal}
+use Rattle.mm_model.proofs.Lists.{each_left, each_right}
+use Rattle.mm_model.proofs.Named.{opt_names}
+use Rattle.mm_model.proofs.Moves.{sound_moved}
+use Rattle.mm_call.specs.Levels.{Level, by_lists, by_digests, all_made, Agrees}
+use Rattle.mm_call.specs.Found.{Found, found_at, found_in, is_fresh}
+use Rattle.mm_call.specs.Courses.{Done, Fate, Course, Walked, walk}
+use Rattle.mm_call.specs.Called.{Called, Breaks, kept_at, ended_by, called_by}
+use Rattle.mm_call.specs.Asked.{counted_moves, from_reset, moves_messages, foreign_in, IsWithin, IsAsked}
+use Rattle.mm_call.specs.Laws.{IsSameCall, OptCallsAgree}
+use Rattle.mm_call.proofs.Moving.{committed_in}
+use Rattle.mm_call.proofs.Finding.{Asking}
+use Rattle.mm_call.proofs.OptHolding.{Holds, foreign_may}
+use Rattle.mm_call.proofs.OptFinding.{IsApart, Placed, IsLive, lives, found_same, placed}
+use Rattle.mm_call.proofs.Walks.{opt_commits, committed-foreign, commits-none, changing, asks, taking, taking_is, foreign_made, made-append, foreign_in-foreign, from_reset-foreign, messages-made}
+use Rattle.mm_call.proofs.OptWalks.{AllFine, holds_made, foreign_all, foreign_then, front_outside, Ready, AreOwn, walk_fine, path_end, path_is}
+use Rattle.mm_call.proofs.OptReady.{IsDue, commits_of, ready_inside, ready_opening}
+use Rattle.mm_call.proofs.OptPlaces.{end_place}
+use Rattle.mm_call.proofs.Endings.{Ends, fresh_of, ending_same}
+use Rattle.mm_call.proofs.OptShapes.{two_reads, reading, past, cut, opening, Shape, still, reset, shape}
+use Rattle.mm_call.proofs.OptShut.{bare, bare_digests, found_lists, found_digests, foreign_digests, foreign_reset, foreign_agrees, reset_may, holds_open, holds_shut, within_of, within_items}
+use Rattle.mm_call.proofs.BasicLaw.{unlacked}
+
+fresh_is : (again : Bool) → (if again then false else true) ≡ not again
+fresh_is true = refl
+fresh_is false = refl
+
+-- a call that is broken off before it commits
+broken_ending : {S : Type 0} (level : Level S) (seen s : S) (b : Batch) (found : Result Found Refusal) (moves : List Move) (broken : Option StepFault) (fault : StepFault)
+    → broken ≡ Some fault → committed_in moves ≡ [] → ended_by level seen s b found moves broken ≡ Breaks fault None
+broken_ending level seen s b (Err why) moves broken fault e none =
+    ap (λ x. ended_by level seen s b (Err why) moves x) e ∙ ap (λ k. Breaks fault (kept_at k 0)) (commits-none moves none)
+broken_ending level seen s b (Ok f) moves broken fault e none =
+    ap (λ x. ended_by level seen s b (Ok f) moves x) e
+    ∙ ap (λ k. Breaks fault (kept_at k (level.answer f.again seen s f.offered b).position)) (commits-none moves none)
+
+-- the messages of first moves
+messages_front : (i : Instance) (all : List (List ℕ)) (xs ys : List Move) (y : History) → Within (moves_messages i y (xs ++ ys)) all → Within (moves_messages i y xs) all
+messages_front i all xs ys y w =
+    let P : List (List ℕ) → Type 0 = λ v. Within v all in
+    each_left (Contains all) (moves_messages i y xs) (moves_messages i (all_made (by_lists i) y xs) ys) (subst P (messages-made i xs ys y) w)
+
+seen_split : (xs ys zs : List Move) → (xs ++ (ys ++ [])) ++ zs ≡ xs ++ (ys ++ zs)
+seen_split xs ys zs = append_assoc xs (ys ++ []) zs ∙ ap (λ v. xs ++ v) (append_assoc ys [] zs)
+
+reset_messages : (meaning : Meaning) (key barrier : List ℕ) (y : History) (flag : Bool) → moving_messages Opt flag (opt meaning key barrier) y Reset ≡ []
+reset_messages meaning key barrier y true = refl
+reset_messages meaning key barrier y false = refl
+
+-- a bare history is named by the same snapshots
+genuine_bare : (meaning : Meaning) (key barrier : List ℕ) (y : History) (offer : List ℕ) → y.is_open ≡ false → IsSound y
+    → IsGenuine (opt meaning key barrier) y offer → IsGenuine (opt meaning key barrier) (bare y) offer
+genuine_bare meaning key barrier y offer e sound g =
+    λ content right. opt_names meaning key barrier y Reset content sound (reset_may meaning key barrier y e) (g content right)
+
+names_foreign : (meaning : Meaning) (key barrier : List ℕ) (values : List (List ℕ)) (y : History) (content : Content) → IsSound y
+    → Names (opt meaning key barrier) y content → Names (opt meaning key barrier) (all_made (by_lists (opt meaning key barrier)) y (map Foreign values)) content
+names_foreign meaning key barrier [] y content sound n = n
+names_foreign meaning key barrier (v ∷ values) y content sound n =
+    let may = foreign_may (opt meaning key barrier) y y.is_open v in
+    names_foreign meaning key barrier values (moved (opt meaning key barrier) y (Foreign v)) content
+    (sound_moved meaning key barrier y (Foreign v) sound may) (opt_names meaning key barrier y (Foreign v) content sound may n)
+
+sound_foreign : (meaning : Meaning) (key barrier : List ℕ) (values : List (List ℕ)) (y : History) → IsSound y
+    → IsSound (all_made (by_lists (opt meaning key barrier)) y (map Foreign values))
+sound_foreign meaning key barrier [] y sound = sound
+sound_foreign meaning key barrier (v ∷ values) y sound =
+    sound_foreign meaning key barrier values (moved (opt meaning key barrier) y (Foreign v))
+    (sound_moved meaning key barrier y (Foreign v) sound (foreign_may (opt meaning key barrier) y y.is_open v))
+
+own_inside : (fresh : Bool) (b : Batch) → AreOwn (Reads ∷ Reads ∷ changing true fresh b)
+own_inside true b = (refl, tt)
+own_inside false b = tt
+
+own_opening : (b : Batch) → AreOwn (opening b)
+own_opening b = (refl, (refl, tt))
+
+sound_taking : (meaning : Meaning) (key barrier : List ℕ) (values : List (List ℕ)) (y : History) → IsSound y → IsSound (taking y values)
+sound_taking meaning key barrier values y sound = subst IsSound (taking_is (opt meaning key barrier) values y) (sound_foreign meaning key barrier values y sound)
+
+names_taking : (meaning : Meaning) (key barrier : List ℕ) (values : List (List ℕ)) (y : History) (content : Content) → IsSound y
+    → Names (opt meaning key barrier) y content → Names (opt meaning key barrier) (taking y values) content
+names_taking meaning key barrier values y content sound n =
+    subst (λ x. Names (opt meaning key barrier) x content) (taking_is (opt meaning key barrier) values y) (names_foreign meaning key barrier values y content sound n)
+
+-- the moves that come before the last reading step
+abbrev pub before : Course → List Move
+before c = map Foreign (c.fates 1).brings ++ (map Foreign (c.fates 2).brings ++ [])
+
+-- what is seen by lists
+abbrev pub sight : History → Course → History
+sight y c = taking (taking y (c.fates 1).brings) (c.fates 2).brings
+
+pub sight_is : (i : Instance) (y : History) (c : Course) → all_made (by_lists i) y (before c) ≡ sight y c
+sight_is i y c = foreign_made i (c.fates 1).brings (map Foreign (c.fates 2).brings ++ []) y ∙ foreign_made i (c.fates 2).brings [] (taking y (c.fates 1).brings)
+
+pub sight_agrees : (meaning : Meaning) (key barrier : List ℕ) (y : History) (d : Digests) (c : Course) → Agrees (opt meaning key barrier) y d
+    → Agrees (opt meaning key barrier) (sight y c) (all_made (by_digests (opt meaning key barrier)) d (before c))
+sight_agrees meaning key barrier y d c a =
+    let i = opt meaning key barrier in
+    let v = (c.fates 1).brings in
+    let w = (c.fates 2).brings in
+    let first = foreign_agrees meaning key barrier v y d a in
+    let both = foreign_agrees meaning key barrier w (all_made (by_lists i) y (map Foreign v)) (all_made (by_digests i) d (map Foreign v)) first in
+    let lists : all_made (by_lists i) (all_made (by_lists i) y (map Foreign v)) (map Foreign w) ≡ sight y c =
+    taking_is i w (all_made (by_lists i) y (map Foreign v)) ∙ ap (λ x. taking x w) (taking_is i v y) in
+    let digests : all_made (by_digests i) (all_made (by_digests i) d (map Foreign v)) (map Foreign w) ≡ all_made (by_digests i) d (before c) =
+    sym (made-append (by_digests i) (map Foreign v) (map Foreign w) d) ∙ ap (λ m. all_made (by_digests i) d (map Foreign v ++ m)) (sym (append-nil (map Foreign w))) in
+    subst (λ x. Agrees i (sight y c) x) digests
+    (subst (λ x. Agrees i x (all_made (by_digests i) (all_made (by_digests i) d (map Foreign v)) (map Foreign w))) lists both)
+
+-- the walk of a call
+abbrev pub steps_walk : Course → Bool → Result Found Refusal → Batch → Walked
+steps_walk c flag found b = walk c.fates 1 (Reads ∷ Reads ∷ changing flag (is_fresh found) b)
+
+-- what is known at the end of a call, by what it found at a history with the same batches
+ends_of : (meaning : Meaning) (key barrier : List ℕ) (all : List (List ℕ)) (y z : History) (d : Digests) (c : Course) (b : Batch) (flag : Bool) (found : Result Found Refusal)
+    → y.is_open ≡ flag → z.batches ≡ y.batches → ((f : Found) → found ≡ Ok f → Placed all (opt meaning key barrier) z b f)
+    → ((f : Found) → found ≡ Ok f → flag ≡ true → are_own (sight y c).items y.current ≡ true)
+    → Agrees (opt meaning key barrier) (sight y c) d
+    → Ends (opt meaning key barrier) y d b (steps_walk c flag found b) found
+ends_of meaning key barrier all y z d c b flag found open_is same placed_at own agrees =
+    let i = opt meaning key barrier in
+    let E : Bool → History = λ fresh. path_end i c.fates 3 (changing flag fresh b) (sight y c) in record {
+      points = λ f is. let p = placed_at f is in
+          record { named = p.named; position = p.position; state = p.state; fresh = λ x. p.fresh x ∙ same; repeat = λ x. p.repeat x ∙ same };
+      place = λ f is whole.
+          let path = path_is i c.fates (Reads ∷ Reads ∷ changing flag (is_fresh found) b) 1 y whole in
+          end_place meaning key barrier c.fates (sight y c) d b flag f.again open_is (own f is) agrees
+          ∙ ap (λ fresh. issued_place Opt (E fresh).is_open i (E fresh)) (sym (fresh_is f.again) ∙ sym (ap is_fresh is))
+          ∙ ap (λ (x : History). issued_place Opt x.is_open i x) (sym path);
+    }
+
+module _ (meaning : Meaning) (key barrier : List ℕ) (all others : List (List ℕ)) (asked : List Batch) where
+  -- a call that is cut off at a reading step
+  cut_call : (y sees : History) (d seen : Digests) (b : Batch) (found other : Result Found Refusal) (walked : Walked) (values : List (List ℕ)) (fault : StepFault)
+      → walked.moves ≡ map Foreign values → walked.broken ≡ Some fault
+      → Agrees (opt meaning key barrier) (all_made (by_lists (opt meaning key barrier)) y (map Foreign values)) (all_made (by_digests (opt meaning key barrier)) d (map Foreign values))
+      → IsWithin all others asked (opt meaning key barrier) (all_made (by_lists (opt meaning key barrier)) y (map Foreign values))
+      → IsSameCall all others asked (opt meaning key barrier)
+      (called_by (by_lists (opt meaning key barrier)) y sees b found walked) (called_by (by_digests (opt meaning key barrier)) d seen b other walked)
+  cut_call y sees d seen b found other walked values fault moves broken agrees within =
+      let i = opt meaning key barrier in
+      let none : committed_in walked.moves ≡ [] = ap committed_in moves ∙ committed-foreign values in record {
+        ending = broken_ending (by_digests i) seen (all_made (by_digests i) d walked.moves) b other walked.moves walked.broken fault broken none
+            ∙ sym (broken_ending (by_lists i) sees (all_made (by_lists i) y walked.moves) b found walked.moves walked.broken fault broken none);
+        moves = refl;
+        steps = refl;
+        writes = refl;
+        agrees = subst (λ m. Agrees i (all_made (by_lists i) y m) (all_made (by_digests i) d m)) (sym moves) agrees;
+        within = subst (λ m. IsWithin all others asked i (all_made (by_lists i) y m)) (sym moves) within;
+      }
+
+  -- what counts of the moves of a call inside a segment, and of one with none open
+  abbrev Counts : Bool → History → List Move → Type 0
+  Counts flag y moves =
+      Within (moves_messages (opt meaning key barrier) y (counted_moves flag moves)) all
+      × AllByRecursion (Contains others) (foreign_in (counted_moves flag moves))
+
+  inside_counts : (y : History) (moves : List Move) (offer : List ℕ) (b : Batch) → y.is_open ≡ true
+      → IsAsked all others asked (opt meaning key barrier) y moves offer b → Counts true y moves
+  inside_counts y moves offer b e a =
+      let i = opt meaning key barrier in
+      let P : Bool → Type 0 = λ f. Within (moves_messages i (record y { items = if f then y.items else [] }) (counted_moves f moves)) all
+      × AllByRecursion (Contains others) (foreign_in (counted_moves f moves)) in
+      subst P e (a.messages, a.values)
+
+  shut_counts : (y : History) (moves : List Move) (offer : List ℕ) (b : Batch) → y.is_open ≡ false
+      → IsAsked all others asked (opt meaning key barrier) y moves offer b → Counts false (bare y) moves
+  shut_counts y moves offer b e a =
+      let i = opt meaning key barrier in
+      let P : Bool → Type 0 = λ f. Within (moves_messages i (record y { items = if f then y.items else [] }) (counted_moves f moves)) all
+      × AllByRecursion (Contains others) (foreign_in (counted_moves f moves)) in
+      subst P e (a.messages, a.values)
+
+  -- inside a segment
+
+  -- what others put in before the last reading step was put in by moves that may be made, and their messages are listed
+  seen_holds : (y : History) (d : Digests) (v w : List (List ℕ)) (rest : List Move) → Holds all others asked (opt meaning key barrier) y d
+      → Counts true y (map Foreign v ++ (map Foreign w ++ rest))
+      → Holds all others asked (opt meaning key barrier)
+      (all_made (by_lists (opt meaning key barrier)) y (map Foreign v ++ (map Foreign w ++ [])))
+      (all_made (by_digests (opt meaning key barrier)) d (map Foreign v ++ (map Foreign w ++ [])))
+  seen_holds y d v w rest h c =
+      let i = opt meaning key barrier in
+      let o = front_outside meaning key barrier all others asked v (map Foreign w ++ rest) c.1 in
+      let p = front_outside meaning key barrier all others asked w rest o.1 in
+      let fine = foreign_then meaning key barrier all others asked v (map Foreign w ++ []) y o.0
+      (foreign_then meaning key barrier all others asked w [] (taking y v) p.0 tt) in
+      let M : List Move → Type 0 = λ m. Within (moves_messages i y m) all in
+      holds_made meaning key barrier all others asked (map Foreign v ++ (map Foreign w ++ [])) y d h fine
+      (messages_front i all (map Foreign v ++ (map Foreign w ++ [])) rest y (subst M (sym (seen_split (map Foreign v) (map Foreign w) rest)) c.0))
+
+  -- a new batch is due, and the history is live
+  due_of : (z : History) (b : Batch) (found : Result Found Refusal) → IsSound z → Contains asked b
+      → ((f : Found) → found ≡ Ok f → Placed all (opt meaning key barrier) z b f)
+      → is_fresh found ≡ true → IsDue all asked barrier z b × IsLive z
+  due_of z b (Err why) sound is_asked p fresh = cc
+  due_of z b (Ok f) sound is_asked p fresh =
+      let place = p f refl in (
+        record { commits = commits_of meaning key barrier all z b f sound place (fresh_of f.again fresh); asked_for = is_asked },
+        lives z place.live,
+      )
+
+  ready_third : (fates : ℕ → Fate) (z : History) (b : Batch) (fresh : Bool) → z.is_open ≡ true
+      → (fresh ≡ true → IsDue all asked barrier z b × IsLive z) → Ready all others asked (opt meaning key barrier) fates 3 (changing true fresh b) z
+  ready_third fates z b false e due = tt
+  ready_third fates z b true e due =
+      ready_inside meaning key barrier all others asked fates z b e ((due refl).1.held e) (due refl).0
+
+  -- a call inside a segment that has made its reading steps
+  inside_past : (y sees : History) (d seen : Digests) (c : Course) (b : Batch) (found : Result Found Refusal) → y.is_open ≡ true
+      → Holds all others asked (opt meaning key barrier) y d → Contains asked b → Agrees (opt meaning key barrier) (sight y c) seen
+      → IsSound (sight y c) → ((f : Found) → found ≡ Ok f → Placed all (opt meaning key barrier) (sight y c) b f)
+      → Counts true y (steps_walk c true found b).moves
+      → IsSameCall all others asked (opt meaning key barrier)
+      (called_by (by_lists (opt meaning key barrier)) y sees b found (steps_walk c true found b))
+      (called_by (by_digests (opt meaning key barrier)) d seen b found (steps_walk c true found b))
+  inside_past y sees d seen c b found e h is_asked agrees sound placed_at counts =
+      let i = opt meaning key barrier in
+      let w : Walked = steps_walk c true found b in
+      let ends = ends_of meaning key barrier all y (sight y c) seen c b true found e refl placed_at
+      (λ f is x. (lives (sight y c) (placed_at f is).live).own e) agrees in
+      let third = ready_third c.fates (sight y c) b (is_fresh found) e (due_of (sight y c) b found sound is_asked placed_at) in
+      let ready : Ready all others asked i c.fates 1 (Reads ∷ Reads ∷ changing true (is_fresh found) b) y = λ o p. third in
+      let fine = walk_fine meaning key barrier all others asked c.fates (Reads ∷ Reads ∷ changing true (is_fresh found) b) 1 y
+      (own_inside (is_fresh found) b) counts.1 ready in
+      let end = holds_made meaning key barrier all others asked w.moves y d h fine counts.0 in record {
+        ending = ending_same i y sees seen (all_made (by_digests i) d w.moves) b w w.broken found refl ends (opt_commits c.fates true (is_fresh found) b);
+        moves = refl;
+        steps = refl;
+        writes = refl;
+        agrees = end.agrees;
+        within = within_of meaning key barrier all others asked (all_made (by_lists i) y w.moves) (all_made (by_digests i) d w.moves) end;
+      }
+
+  -- what a call sees and finds, by lists and by digests
+  abbrev Lists : History → Course → List ℕ → Batch → Result Found Refusal
+  Lists y c offer b = found_at (opt meaning key barrier) (by_lists (opt meaning key barrier)) (all_made (by_lists (opt meaning key barrier)) y (before c)) b offer
+
+  abbrev ByDigests : Digests → Course → List ℕ → Batch → Result Found Refusal
+  ByDigests d c offer b = found_at (opt meaning key barrier) (by_digests (opt meaning key barrier)) (all_made (by_digests (opt meaning key barrier)) d (before c)) b offer
+
+  abbrev ListsCall : Bool → History → Course → List ℕ → Batch → Called History
+  ListsCall flag y c offer b =
+      let found = found_in (Lists y c offer b) c.lacks in
+      called_by (by_lists (opt meaning key barrier)) y (all_made (by_lists (opt meaning key barrier)) y (before c)) b found (steps_walk c flag found b)
+
+  abbrev DigestsCall : Bool → Digests → Course → List ℕ → Batch → Called Digests
+  DigestsCall flag d c offer b =
+      let found = found_in (ByDigests d c offer b) c.lacks in
+      called_by (by_digests (opt meaning key barrier)) d (all_made (by_digests (opt meaning key barrier)) d (before c)) b found (steps_walk c flag found b)
+
+  apart_of : (y : History) (moves : List Move) (offer : List ℕ) (b : Batch) → IsAsked all others asked (opt meaning key barrier) y moves offer b
+      → IsApart all others asked barrier
+  apart_of y moves offer b a = record { clear = a.clear; apart = a.apart }
+
+  inside_same : (y : History) (d : Digests) (c : Course) (offer : List ℕ) (b : Batch) → y.is_open ≡ true → Agrees (opt meaning key barrier) y d
+      → (c.fates 1).ends ≡ Done → (c.fates 2).ends ≡ Done
+      → IsAsked all others asked (opt meaning key barrier) y (DigestsCall true d c offer b).moves offer b
+      → IsSameCall all others asked (opt meaning key barrier) (ListsCall true y c offer b) (DigestsCall true d c offer b)
+  inside_same y d c offer b e agrees p q a =
+      let i = opt meaning key barrier in
+      let v = (c.fates 1).brings in
+      let w = (c.fates 2).brings in
+      let sees : History = all_made (by_lists i) y (before c) in
+      let seen : Digests = all_made (by_digests i) d (before c) in
+      let found : Result Found Refusal = found_in (Lists y c offer b) c.lacks in
+      let other : Result Found Refusal = found_in (ByDigests d c offer b) c.lacks in
+      let rest : Walked = walk c.fates 3 (changing true (is_fresh other) b) in
+      let h = holds_open meaning key barrier all others asked y d e agrees a.within in
+      let counts : Counts true y (steps_walk c true other b).moves = inside_counts y (steps_walk c true other b).moves offer b e a in
+      let first : Counts true y (two_reads v Done w (c.fates 2).ends rest).moves = subst (λ x. Counts true y (two_reads v x w (c.fates 2).ends rest).moves) p counts in
+      let both : Counts true y (two_reads v Done w Done rest).moves = subst (λ x. Counts true y (two_reads v Done w x rest).moves) q first in
+      let hs = seen_holds y d v w rest.moves h both in
+      let sound : IsSound (sight y c) = sound_taking meaning key barrier w (taking y v) (sound_taking meaning key barrier v y h.sound) in
+      let named : IsGenuine i (sight y c) offer = λ content right.
+      names_taking meaning key barrier w (taking y v) content (sound_taking meaning key barrier v y h.sound)
+      (names_taking meaning key barrier v y content h.sound (a.genuine content right)) in
+      let asking : Asking all i sees offer b = record {
+        clear = a.clear;
+        listed = a.offered;
+        genuine = subst (λ x. IsGenuine i x offer) (sym (sight_is i y c)) named;
+      } in
+      let agree : other ≡ found = ap (λ x. found_in x c.lacks)
+      (found_same meaning key barrier all others asked sees seen offer b (apart_of y _ offer b a) a.is_asked hs asking) in
+      let placed_at : (f : Found) → found ≡ Ok f → Placed all i (sight y c) b f = λ f is.
+      subst (λ x. Placed all i x b f) (sight_is i y c) (placed meaning key barrier all sees offer b asking f (unlacked (Lists y c offer b) c.lacks f is)) in
+      let P : Result Found Refusal → Type 0 = λ x. IsSameCall all others asked i
+      (called_by (by_lists i) y sees b found (steps_walk c true found b)) (called_by (by_digests i) d seen b x (steps_walk c true x b)) in
+      subst P (sym agree)
+      (inside_past y sees d seen c b found e h a.is_asked (sight_agrees meaning key barrier y d c agrees) sound placed_at
+      (subst (λ x. Counts true y (steps_walk c true x b).moves) agree counts))
+
+  inside_cut : (y : History) (d : Digests) (c : Course) (offer : List ℕ) (b : Batch) → y.is_open ≡ true → Agrees (opt meaning key barrier) y d
+      → (walked : Walked) (values : List (List ℕ)) (fault : StepFault)
+      → ((rest : Walked) → two_reads (c.fates 1).brings (c.fates 1).ends (c.fates 2).brings (c.fates 2).ends rest ≡ walked)
+      → walked.moves ≡ map Foreign values → walked.broken ≡ Some fault
+      → IsAsked all others asked (opt meaning key barrier) y (DigestsCall true d c offer b).moves offer b
+      → IsSameCall all others asked (opt meaning key barrier) (ListsCall true y c offer b) (DigestsCall true d c offer b)
+  inside_cut y d c offer b e agrees walked values fault is moves broken a =
+      let i = opt meaning key barrier in
+      let sees : History = all_made (by_lists i) y (before c) in
+      let seen : Digests = all_made (by_digests i) d (before c) in
+      let found : Result Found Refusal = found_in (Lists y c offer b) c.lacks in
+      let other : Result Found Refusal = found_in (ByDigests d c offer b) c.lacks in
+      let lists : steps_walk c true found b ≡ walked = is (walk c.fates 3 (changing true (is_fresh found) b)) in
+      let digests : steps_walk c true other b ≡ walked = is (walk c.fates 3 (changing true (is_fresh other) b)) in
+      let counts : Counts true y (steps_walk c true other b).moves = inside_counts y (steps_walk c true other b).moves offer b e a in
+      let h = holds_open meaning key barrier all others asked y d e agrees a.within in
+      let here : Counts true y (map Foreign values) = subst (Counts true y) moves (subst (λ x. Counts true y x.moves) digests counts) in
+      let fine = foreign_all meaning key barrier all others asked values y (subst (AllByRecursion (Contains others)) (foreign_in-foreign values) here.1) in
+      let end = holds_made meaning key barrier all others asked (map Foreign values) y d h fine here.0 in
+      let same = cut_call y sees d seen b found other walked values fault moves broken end.agrees
+      (within_of meaning key barrier all others asked (all_made (by_lists i) y (map Foreign values)) (all_made (by_digests i) d (map Foreign values)) end) in
+      subst (λ x. IsSameCall all others asked i (called_by (by_lists i) y sees b found x) (called_by (by_digests i) d seen b other (steps_walk c true other b))) (sym lists)
+      (subst (λ x. IsSameCall all others asked i (called_by (by_lists i) y sees b found walked) (called_by (by_digests i) d seen b other x)) (sym digests) same)
+
+  inside : (y : History) (d : Digests) (c : Course) (offer : List ℕ) (b : Batch) → y.is_open ≡ true → Agrees (opt meaning key barrier) y d
+      → IsAsked all others asked (opt meaning key barrier) y (DigestsCall true d c offer b).moves offer b
+      → IsSameCall all others asked (opt meaning key barrier) (ListsCall true y c offer b) (DigestsCall true d c offer b)
+  inside y d c offer b e agrees a =
+      elim (reading (c.fates 1).brings (c.fates 2).brings (c.fates 1).ends (c.fates 2).ends) [
+        | past p q ↦ inside_same y d c offer b e agrees p q a
+        | cut walked values fault is moves broken ↦ inside_cut y d c offer b e agrees walked values fault is moves broken a
+      ]
+
+  -- with no segment open
+
+  -- what stands after the moves of a call
+  shut_after : (y : History) (d : Digests) (fates : ℕ → Fate) (b : Batch) (fresh : Bool) (moves : List Move) → y.is_open ≡ false
+      → Agrees (opt meaning key barrier) y d → IsWithin all others asked (opt meaning key barrier) y
+      → (fresh ≡ true → IsDue all asked barrier (bare y) b × IsLive (bare y)) → Shape fates fresh b moves → Counts false (bare y) moves
+      → Agrees (opt meaning key barrier) (all_made (by_lists (opt meaning key barrier)) y moves) (all_made (by_digests (opt meaning key barrier)) d moves)
+      × IsWithin all others asked (opt meaning key barrier) (all_made (by_lists (opt meaning key barrier)) y moves)
+  shut_after y d fates b fresh moves e agrees within due (still values is) counts =
+      let i = opt meaning key barrier in
+      let W : History → Type 0 = IsWithin all others asked i in
+      let kept : W (all_made (by_lists i) y (map Foreign values)) =
+      subst W (sym (taking_is i values y)) (within_items meaning key barrier all others asked y (y.items ++ map Value values) e within) in
+      subst (λ m. Agrees i (all_made (by_lists i) y m) (all_made (by_digests i) d m) × W (all_made (by_lists i) y m)) (sym is)
+      (foreign_agrees meaning key barrier values y d agrees, kept)
+  shut_after y d fates b fresh moves e agrees within due (reset values rest is k) counts =
+      let i = opt meaning key barrier in
+      let O : List Move → Type 0 = λ m. AllByRecursion (Contains others) (foreign_in m) in
+      let begins : from_reset moves ≡ Reset ∷ rest = ap from_reset is ∙ from_reset-foreign values (Reset ∷ rest) in
+      let whole = subst (λ m. Within (moves_messages i (bare y) m) all) begins counts.0 in
+      let messages : Within (moves_messages i (bare y) rest) all =
+      each_right (Contains all) (move_messages i (bare y) Reset) (moves_messages i (bare y) rest) whole in
+      let outside : O rest = subst O begins counts.1 in
+      let F : List Move → Type 0 = AllFine all others asked i (bare y) in
+      let fine : F rest = elim k [
+        | inl none ↦ subst F (sym none) tt
+        | inr more ↦
+            subst F (sym more.1)
+            (walk_fine meaning key barrier all others asked fates (opening b) 4 (bare y) (own_opening b) (subst O more.1 outside)
+            (ready_opening meaning key barrier all others asked fates (bare y) b e refl (due more.0).1.clean (due more.0).0))
+      ] in
+      let end = holds_made meaning key barrier all others asked rest (bare y) (bare_digests d)
+      (holds_shut meaning key barrier all others asked y d e agrees within) fine messages in
+      let lists : all_made (by_lists i) y moves ≡ all_made (by_lists i) (bare y) rest =
+      ap (all_made (by_lists i) y) is ∙ foreign_made i values (Reset ∷ rest) y in
+      let digests : all_made (by_digests i) d moves ≡ all_made (by_digests i) (bare_digests d) rest =
+      ap (all_made (by_digests i) d) is ∙ foreign_reset i values rest d in (
+        subst (λ x. Agrees i x (all_made (by_digests i) d moves)) (sym lists)
+            (subst (λ x. Agrees i (all_made (by_lists i) (bare y) rest) x) (sym digests) end.agrees),
+        subst (IsWithin all others asked i) (sym lists)
+            (within_of meaning key barrier all others asked (all_made (by_lists i) (bare y) rest) (all_made (by_digests i) (bare_digests d) rest) end),
+      )
+
+  shut : (y : History) (d : Digests) (c : Course) (offer : List ℕ) (b : Batch) → y.is_open ≡ false → Agrees (opt meaning key barrier) y d
+      → IsAsked all others asked (opt meaning key barrier) y (DigestsCall false d c offer b).moves offer b
+      → IsSameCall all others asked (opt meaning key barrier) (ListsCall false y c offer b) (DigestsCall false d c offer b)
+  shut y d c offer b e agrees a =
+      let i = opt meaning key barrier in
+      let v = (c.fates 1).brings in
+      let w = (c.fates 2).brings in
+      let sees : History = all_made (by_lists i) y (before c) in
+      let seen : Digests = all_made (by_digests i) d (before c) in
+      let found : Result Found Refusal = found_in (Lists y c offer b) c.lacks in
+      let other : Result Found Refusal = found_in (ByDigests d c offer b) c.lacks in
+      let h = holds_shut meaning key barrier all others asked y d e agrees a.within in
+      let asking : Asking all i (bare y) offer b = record {
+        clear = a.clear;
+        listed = a.offered;
+        genuine = genuine_bare meaning key barrier y offer e a.within.sound a.genuine;
+      } in
+      let lists : Lists y c offer b ≡ found_at i (by_lists i) (bare y) b offer =
+      ap (λ x. found_at i (by_lists i) x b offer) (sight_is i y c)
+      ∙ found_lists meaning key barrier y ((y.items ++ map Value v) ++ map Value w) b offer e in
+      let register : List ℕ = fold extended_of (fold extended_of d.register v) w in
+      let seen_is : seen ≡ record d { register = register } =
+      foreign_digests i v (map Foreign w ++ []) d ∙ foreign_digests i w [] (record d { register = fold extended_of d.register v }) in
+      let digests : ByDigests d c offer b ≡ found_at i (by_digests i) (bare_digests d) b offer =
+      ap (λ x. found_at i (by_digests i) x b offer) seen_is ∙ found_digests meaning key barrier d register b offer (agrees.flag ∙ e) in
+      let agree : other ≡ found = ap (λ x. found_in x c.lacks)
+      (digests ∙ found_same meaning key barrier all others asked (bare y) (bare_digests d) offer b (apart_of y _ offer b a) a.is_asked h asking ∙ sym lists) in
+      let placed_at : (f : Found) → found ≡ Ok f → Placed all i (bare y) b f = λ f is.
+      placed meaning key barrier all (bare y) offer b asking f (sym lists ∙ unlacked (Lists y c offer b) c.lacks f is) in
+      let walked : Walked = steps_walk c false found b in
+      let counts : Counts false (bare y) walked.moves =
+      subst (λ x. Counts false (bare y) (steps_walk c false x b).moves) agree (shut_counts y (steps_walk c false other b).moves offer b e a) in
+      let after = shut_after y d c.fates b (is_fresh found) walked.moves e agrees a.within
+      (due_of (bare y) b found h.sound a.is_asked placed_at) (shape c.fates (is_fresh found) b) counts in
+      let ends = ends_of meaning key barrier all y (bare y) seen c b false found e refl placed_at
+      (λ f is x. cc) (sight_agrees meaning key barrier y d c agrees) in
+      let same : IsSameCall all others asked i (called_by (by_lists i) y sees b found walked) (called_by (by_digests i) d seen b found walked) = record {
+        ending = ending_same i y sees seen (all_made (by_digests i) d walked.moves) b walked walked.broken found refl ends (opt_commits c.fates false (is_fresh found) b);
+        moves = refl;
+        steps = refl;
+        writes = refl;
+        agrees = after.0;
+        within = after.1;
+      } in
+      let P : Result Found Refusal → Type 0 = λ x. IsSameCall all others asked i
+      (called_by (by_lists i) y sees b found walked) (called_by (by_digests i) d seen b x (steps_walk c false x b)) in
+      subst P (sym agree) same
+
+  by_flag : (flag : Bool) (y : History) (d : Digests) (c : Course) (offer : List ℕ) (b : Batch) → y.is_open ≡ flag → Agrees (opt meaning key barrier) y d
+      → IsAsked all others asked (opt meaning key barrier) y (DigestsCall flag d c offer b).moves offer b
+      → IsSameCall all others asked (opt meaning key barrier) (ListsCall flag y c offer b) (DigestsCall flag d c offer b)
+  by_flag true y d c offer b e agrees a = inside y d c offer b e agrees a
+  by_flag false y d c offer b e agrees a = shut y d c offer b e agrees a
+
+pub opt_calls_agree : OptCallsAgree
+opt_calls_agree meaning key barrier all others asked y d c offer b agrees a =
+    let i = opt meaning key barrier in
+    let sees : History = all_made (by_lists i) y (before c) in
+    let seen : Digests = all_made (by_digests i) d (before c) in
+    let found : Result Found Refusal = found_in (found_at i (by_lists i) sees b offer) c.lacks in
+    let other : Result Found Refusal = found_in (found_at i (by_digests i) seen b offer) c.lacks in
+    let Listed : List Step → Called History = λ steps. called_by (by_lists i) y sees b found (walk c.fates 1 steps) in
+    let Digested : List Step → Called Digests = λ steps. called_by (by_digests i) d seen b other (walk c.fates 1 steps) in
+    let lists : ask_steps Opt y.is_open (is_fresh found) b ≡ Reads ∷ Reads ∷ changing y.is_open (is_fresh found) b = asks y.is_open (is_fresh found) b in
+    let digests : ask_steps Opt d.flag (is_fresh other) b ≡ Reads ∷ Reads ∷ changing y.is_open (is_fresh other) b =
+    asks d.flag (is_fresh other) b ∙ ap (λ f. Reads ∷ Reads ∷ changing f (is_fresh other) b) agrees.flag in
+    let same = by_flag meaning key barrier all others asked y.is_open y d c offer b refl agrees
+    (subst (λ s. IsAsked all others asked i y (Digested s).moves offer b) digests a) in
+    subst (λ s. IsSameCall all others asked i (Listed s) (Digested (ask_steps Opt d.flag (is_fresh other) b))) (sym lists)
+    (subst (λ s. IsSameCall all others asked i (Listed (Reads ∷ Reads ∷ changing y.is_open (is_fresh found) b)) (Digested s)) (sym digests) same)

@@ -1,0 +1,181 @@
+-- Opt: while no segment is open, neither the register nor its items count.
+use Rattle.std.proofs.Common.{ℕ, ◌≡◌, ◌+◌, Bool, true, false, ◌&&◌, List, [], ◌∷◌, ◌++◌, map, Result, Err, refl, sym, ap, ◌∙◌, subst, inl, inr}
+use Rattle.std.specs.Prelude.{if◌then◌else◌, nat_eq}
+use Rattle.std.specs.List.{AllByRecursion, Contains, fold}
+use Rattle.mm_digest.specs.declared.variant.Variant.TheVariants.{Opt}
+use Rattle.mm_digest.specs.Messages.{zero_bytes, extended_of}
+use Rattle.mm_module.specs.Meaning.{Meaning}
+use Rattle.mm_module.specs.Batch.{Batch, size_of}
+use Rattle.mm_model.specs.Instance.{Instance, opt}
+use Rattle.mm_model.specs.History.{Entry, History, Move, Foreign, Reset, moved, joined, total_of}
+use Rattle.mm_model.specs.Life.{Life, life_by, life_of, is_empty, are_own, has_value, is_lost}
+use Rattle.mm_model.specs.Judge.{judged, is_last}
+use Rattle.mm_model.specs.Sound.{IsSound}
+use Rattle.mm_model.specs.Messages.{Within, history_messages, values_in}
+use Rattle.mm_model.specs.Moves.{Digests, made, MayMove, IsAllowed, Brings, IsOutside}
+use Rattle.mm_model.specs.declared.refusal.Refusal.{Refusal}
+use Rattle.mm_model.specs.declared.refusal.Refusal.TheVariants as refusal
+use Rattle.mm_seal.specs.Parts.{parts_of}
+use Rattle.mm_model.proofs.Moves.{sound_moved}
+use Rattle.mm_model.proofs.MovedDigests.{outside_moved}
+use Rattle.mm_call.specs.Levels.{Level, by_lists, by_digests, all_made, Agrees}
+use Rattle.mm_call.specs.Found.{Found, found_from, found_at}
+use Rattle.mm_call.specs.Asked.{counted_part, IsWithin}
+use Rattle.mm_call.proofs.OptMessages.{listing_of, listed_of}
+use Rattle.mm_call.proofs.OptHolding.{Holds, opt_agrees_moved, foreign_may}
+
+-- the history whose register is empty, and its digests
+abbrev pub bare : History → History
+bare y = record y { items = [] }
+
+abbrev pub bare_digests : Digests → Digests
+bare_digests d = record d { register = zero_bytes }
+
+pub counted_open : (y : History) → y.is_open ≡ true → counted_part y ≡ y
+counted_open y e = ap (λ f. record y { items = if f then y.items else [] }) e
+
+pub counted_shut : (y : History) → y.is_open ≡ false → counted_part y ≡ bare y
+counted_shut y e = ap (λ f. record y { items = if f then y.items else [] }) e
+
+-- the life of a history with no segment open
+life_shut : (a b c d marred : Bool) → life_by false a b marred ≡ life_by false c d marred
+life_shut a b c d false = refl
+life_shut a b c d true = refl
+
+pub life_bare : (y : History) (items : List Entry) → y.is_open ≡ false → life_of Opt (record y { items = items }) ≡ life_of Opt (bare y)
+life_bare y items e =
+    let marred = has_value (joined y.closed) in
+    ap (λ f. life_by f (is_empty items) (are_own items y.current) marred) e
+    ∙ life_shut (is_empty items) (are_own items y.current) true (are_own [] y.current) marred
+    ∙ ap (λ f. life_by f true (are_own [] y.current) marred) (sym e)
+
+-- what is found by lists at this life
+abbrev found_alive : Instance → History → Life → Batch → List ℕ → Result Found Refusal
+found_alive i y life b offer =
+    let level : Level History = record (by_lists i) {
+      verdict = λ z offered c. judged life (nat_eq offered.position (total_of y.batches))
+          (nat_eq (offered.position + size_of c) (total_of y.batches) && is_last y.batches c);
+    } in
+    if is_lost life then Err refusal.Lost else found_from i level y b (parts_of i.variant i.meaning.id offer)
+
+pub found_lists : (meaning : Meaning) (key barrier : List ℕ) (y : History) (items : List Entry) (b : Batch) (offer : List ℕ) → y.is_open ≡ false
+    → found_at (opt meaning key barrier) (by_lists (opt meaning key barrier)) (record y { items = items }) b offer
+    ≡ found_at (opt meaning key barrier) (by_lists (opt meaning key barrier)) (bare y) b offer
+found_lists meaning key barrier y items b offer e =
+    ap (λ life. found_alive (opt meaning key barrier) y life b offer) (life_bare y items e)
+
+pub found_digests : (meaning : Meaning) (key barrier : List ℕ) (d : Digests) (register : List ℕ) (b : Batch) (offer : List ℕ) → d.flag ≡ false
+    → found_at (opt meaning key barrier) (by_digests (opt meaning key barrier)) (record d { register = register }) b offer
+    ≡ found_at (opt meaning key barrier) (by_digests (opt meaning key barrier)) (bare_digests d) b offer
+found_digests meaning key barrier d register b offer e =
+    let i = opt meaning key barrier in
+    ap (λ f. found_at i (by_digests i) (record { digest = d.digest; flag = f; register = register; count = d.count }) b offer) e
+    ∙ ap (λ f. found_at i (by_digests i) (record { digest = d.digest; flag = f; register = zero_bytes; count = d.count }) b offer) (sym e)
+
+-- what others put into the register, by digests
+pub foreign_digests : (i : Instance) (values : List (List ℕ)) (moves : List Move) (d : Digests)
+    → all_made (by_digests i) d (map Foreign values ++ moves) ≡ all_made (by_digests i) (record d { register = fold extended_of d.register values }) moves
+foreign_digests i [] moves d = refl
+foreign_digests i (v ∷ values) moves d = foreign_digests i values moves (made i d (Foreign v))
+
+pub foreign_reset : (i : Instance) (values : List (List ℕ)) (moves : List Move) (d : Digests)
+    → all_made (by_digests i) d (map Foreign values ++ Reset ∷ moves) ≡ all_made (by_digests i) (bare_digests d) moves
+foreign_reset i values moves d = foreign_digests i values (Reset ∷ moves) d
+
+pub foreign_agrees : (meaning : Meaning) (key barrier : List ℕ) (values : List (List ℕ)) (y : History) (d : Digests) → Agrees (opt meaning key barrier) y d
+    → Agrees (opt meaning key barrier) (all_made (by_lists (opt meaning key barrier)) y (map Foreign values)) (all_made (by_digests (opt meaning key barrier)) d (map Foreign values))
+foreign_agrees meaning key barrier [] y d a = a
+foreign_agrees meaning key barrier (v ∷ values) y d a =
+    let i = opt meaning key barrier in
+    foreign_agrees meaning key barrier values (moved i y (Foreign v)) (made i d (Foreign v))
+    (opt_agrees_moved meaning key barrier y d (Foreign v) (foreign_may i y y.is_open v) a)
+
+-- a reset, while no segment is open
+pub reset_may : (meaning : Meaning) (key barrier : List ℕ) (y : History) → y.is_open ≡ false → MayMove (opt meaning key barrier) y Reset
+reset_may meaning key barrier y e =
+    let P : Bool → Type 0 = λ f. IsAllowed Opt f (opt meaning key barrier) y Reset in subst P (sym e) tt
+
+reset_brings : (others : List (List ℕ)) (y : History) (flag : Bool) → Brings Opt flag others y Reset
+reset_brings others y true = tt
+reset_brings others y false = tt
+
+-- the messages of a history with other items
+listed_bare : (meaning : Meaning) (key barrier : List ℕ) (all : List (List ℕ)) (y : History) → Within (history_messages (opt meaning key barrier) y) all
+    → Within (history_messages (opt meaning key barrier) (bare y)) all
+listed_bare meaning key barrier all y h =
+    let l = listing_of meaning key barrier all y h in
+    listed_of meaning key barrier all (bare y)
+    (record { starts = l.starts; guards = l.guards; runs = l.runs; closed = l.closed; items = tt; closings = l.closings })
+
+listed_counted : (meaning : Meaning) (key barrier : List ℕ) (all : List (List ℕ)) (y : History) (flag : Bool)
+    → Within (history_messages (opt meaning key barrier) y) all
+    → Within (history_messages (opt meaning key barrier) (record y { items = if flag then y.items else [] })) all
+listed_counted meaning key barrier all y true h = h
+listed_counted meaning key barrier all y false h = listed_bare meaning key barrier all y h
+
+module _ (meaning : Meaning) (key barrier : List ℕ) (all others : List (List ℕ)) (asked : List Batch) where
+  pub holds_open : (y : History) (d : Digests) → y.is_open ≡ true → Agrees (opt meaning key barrier) y d
+      → IsWithin all others asked (opt meaning key barrier) y → Holds all others asked (opt meaning key barrier) y d
+  holds_open y d e a w =
+      let P : History → Type 0 = λ x. Within (history_messages (opt meaning key barrier) x) all in record {
+        agrees = a;
+        sound = w.sound;
+        outside = w.outside;
+        listed = subst P (counted_open y e) w.listed;
+        batches = w.batches;
+      }
+
+  pub holds_shut : (y : History) (d : Digests) → y.is_open ≡ false → Agrees (opt meaning key barrier) y d
+      → IsWithin all others asked (opt meaning key barrier) y → Holds all others asked (opt meaning key barrier) (bare y) (bare_digests d)
+  holds_shut y d e a w =
+      let i = opt meaning key barrier in
+      let P : History → Type 0 = λ x. Within (history_messages i x) all in
+      let may = reset_may meaning key barrier y e in record {
+        agrees = opt_agrees_moved meaning key barrier y d Reset may a;
+        sound = sound_moved meaning key barrier y Reset w.sound may;
+        outside = outside_moved meaning key barrier others y Reset w.outside may (reset_brings others y y.is_open);
+        listed = subst P (counted_shut y e) w.listed;
+        batches = w.batches;
+      }
+
+  -- what holds is all that is asked of a history
+  pub within_of : (y : History) (d : Digests) → Holds all others asked (opt meaning key barrier) y d
+      → IsWithin all others asked (opt meaning key barrier) y
+  within_of y d h = record {
+    sound = h.sound;
+    outside = h.outside;
+    listed = listed_counted meaning key barrier all y y.is_open h.listed;
+    batches = h.batches;
+  }
+
+-- the items of a history with no segment open don't matter
+outside_items : (others : List (List ℕ)) (y : History) (items : List Entry) → y.is_open ≡ false → IsOutside others y → IsOutside others (record y { items = items })
+outside_items others y items e h =
+    let P : Bool → List Entry → Type 0 = λ f xs. AllByRecursion (Contains others) (values_in (joined y.closed ++ (if f then xs else []))) in
+    let shut : P false y.items = subst (λ f. P f y.items) e h in
+    subst (λ f. P f items) (sym e) shut
+
+sound_shut : (y : History) (items : List Entry) → y.is_open ≡ false → IsSound y → IsSound (record y { items = items })
+sound_shut y items e sound = record {
+  open_is = sound.open_is;
+  shut_is = sound.shut_is;
+  filled = sound.filled;
+  history = elim sound.history [
+    | inl c ↦ inl (record { clean = c.clean; batches = c.batches })
+    | inr m ↦ inr (record { before = m.before; last = m.last; rest = m.rest; split = m.split; clean = m.clean; marred = m.marred; shut = m.shut; batches = m.batches })
+  ];
+  register = λ is_open. let clash = sym e ∙ is_open in absurd (cc);
+}
+
+pub within_items : (meaning : Meaning) (key barrier : List ℕ) (all others : List (List ℕ)) (asked : List Batch) (y : History) (items : List Entry)
+    → y.is_open ≡ false → IsWithin all others asked (opt meaning key barrier) y
+    → IsWithin all others asked (opt meaning key barrier) (record y { items = items })
+within_items meaning key barrier all others asked y items e w =
+    let i = opt meaning key barrier in
+    let P : Bool → List Entry → Type 0 = λ f xs. Within (history_messages i (record y { items = if f then xs else [] })) all in
+    let shut : P false y.items = subst (λ f. P f y.items) e w.listed in record {
+      sound = sound_shut y items e w.sound;
+      outside = outside_items others y items e w.outside;
+      listed = subst (λ f. P f items) (sym e) shut;
+      batches = w.batches;
+    }

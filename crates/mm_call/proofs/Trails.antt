@@ -1,0 +1,315 @@
+-- A trail of device steps leads where its walk leads.
+use Rattle.std.proofs.Common.{◌≡◌, ℕ, ◌+◌, Bool, true, false, List, [], ◌∷◌, ◌++◌, map, Option, None, Some, refl, sym, ap, ◌∙◌, subst, append_assoc}
+use Rattle.std.specs.List.{fold}
+use Rattle.std.specs.Option.{option_map}
+use Rattle.std.proofs.lemmas.List.{append-nil, map-append}
+use Rattle.std.proofs.lemmas.List.Sums.{fold-append}
+use Rattle.mm_base.specs.Faults.{counted}
+use Rattle.mm_digest.specs.Messages.{zero_bytes, extended_of}
+use Rattle.mm_digest.specs.declared.variant.Variant.{Variant}
+use Rattle.mm_digest.specs.declared.variant.Variant.TheVariants.{Basic, Opt}
+use Rattle.mm_platform.specs.declared.fault.StepFault.{StepFault}
+use Rattle.mm_platform.specs.Standing.{Item, Standing, own_item, foreign_item, values_of, register_of}
+use Rattle.mm_platform.specs.Steps.{Act, ReadCell, WriteCell, ReadRegister, ResetRegister, ExtendRegister, beside, cell_after, items_after, writes_after}
+use Rattle.mm_seal.specs.declared.cell.Cell.{Cell}
+use Rattle.mm_seal.specs.Cell.{IsCell, cell_spelling}
+use Rattle.mm_model.specs.Instance.{Instance}
+use Rattle.mm_model.specs.History.{Move, Foreign}
+use Rattle.mm_model.specs.Moves.{Digests, made}
+use Rattle.mm_model.specs.Steps.{Step, Reads, Changes, Writes}
+use Rattle.mm_call.specs.Levels.{all_made, by_digests}
+use Rattle.mm_call.specs.Courses.{End, Done, Fails, Fate, Walked, walk, after_step, step_moves, writes_then}
+use Rattle.mm_call.specs.Standing.{cell_at, RegisterAt, StandsAt, shown_by, shown, counted_by}
+use Rattle.mm_call.specs.Trails.{register_by, items_by, IsChange, IsWrite, Makes, Stepped, Rest, Trail, Leads, TrailsLead}
+
+-- the register's value, where its items are told
+abbrev pub reads_of : Option (List Item) → Option (List ℕ)
+reads_of items = option_map (λ xs. register_of (values_of xs)) items
+
+-- where the register is read, its value goes on
+reads_then : (variant : Variant) (before now : Option (List ℕ)) (r s : List ℕ) → (before ≡ Some r → now ≡ Some s) → RegisterAt variant before r → RegisterAt variant now s
+reads_then Basic before now r s h e = tt
+reads_then Opt before now r s h e = h e
+
+foreign_values : (values : List (List ℕ)) → values_of (map foreign_item values) ≡ values
+foreign_values [] = refl
+foreign_values (v ∷ values) = ap (λ (vs : List (List ℕ)). v ∷ vs) (foreign_values values)
+
+read_more : (xs more : List Item) → register_of (values_of (xs ++ more)) ≡ fold extended_of (register_of (values_of xs)) (values_of more)
+read_more xs more =
+    ap (λ (vs : List (List ℕ)). register_of vs) (map-append (λ (item : Item). item.value) xs more)
+    ∙ fold-append extended_of zero_bytes (values_of xs) (values_of more)
+
+pub reads_beside : (items : Option (List Item)) (values : List (List ℕ)) (r : List ℕ) → reads_of items ≡ Some r → reads_of (beside values items) ≡ Some (fold extended_of r values)
+reads_beside None values r e = cc
+reads_beside (Some xs) values r e =
+    let f : register_of (values_of xs) ≡ r = cc in
+    ap (λ (v : List ℕ). Some v) (read_more xs (map foreign_item values)
+    ∙ ap (λ (vs : List (List ℕ)). fold extended_of (register_of (values_of xs)) vs) (foreign_values values)
+    ∙ ap (λ (s : List ℕ). fold extended_of s values) f)
+
+reads_after : (act : Act) (items : Option (List Item)) (r : List ℕ) → reads_of items ≡ Some r → reads_of (items_after act true items) ≡ Some (register_by act r)
+reads_after ResetRegister None r e = cc
+reads_after ResetRegister (Some xs) r e = refl
+reads_after (ExtendRegister value) None r e = cc
+reads_after (ExtendRegister value) (Some xs) r e =
+    let f : register_of (values_of xs) ≡ r = cc in
+    ap (λ (x : List ℕ). Some x) (read_more xs (own_item value ∷ []) ∙ ap (λ (s : List ℕ). extended_of s value) f)
+reads_after ReadCell items r e = e
+reads_after (WriteCell bytes) items r e = e
+reads_after ReadRegister items r e = e
+
+items_of : (act : Act) (items : Option (List Item)) → items_after act true items ≡ option_map (items_by act) items
+items_of ResetRegister None = refl
+items_of ResetRegister (Some xs) = refl
+items_of (ExtendRegister value) None = refl
+items_of (ExtendRegister value) (Some xs) = refl
+items_of ReadCell None = refl
+items_of ReadCell (Some xs) = refl
+items_of (WriteCell bytes) None = refl
+items_of (WriteCell bytes) (Some xs) = refl
+items_of ReadRegister None = refl
+items_of ReadRegister (Some xs) = refl
+
+-- values of others
+
+-- the digests with this register
+abbrev pub with_register : Digests → List ℕ → Digests
+with_register d register = record d { register = register }
+
+pub foreign_made : (i : Instance) (d : Digests) (values : List (List ℕ)) → all_made (by_digests i) d (map Foreign values) ≡ with_register d (fold extended_of d.register values)
+foreign_made i d [] = refl
+foreign_made i d (v ∷ values) = foreign_made i (with_register d (extended_of d.register v)) values
+
+foreign_shown : (i : Instance) (d : Digests) (values : List (List ℕ)) (items : List Item) → shown i d (map Foreign values) items ≡ items ++ map foreign_item values
+foreign_shown i d [] items = sym (append-nil items)
+foreign_shown i d (v ∷ values) items =
+    foreign_shown i (with_register d (extended_of d.register v)) values (items ++ foreign_item v ∷ [])
+    ∙ append_assoc items (foreign_item v ∷ []) (map foreign_item values)
+
+pub all_made-append : (i : Instance) (d : Digests) (xs ys : List Move) → all_made (by_digests i) d (xs ++ ys) ≡ all_made (by_digests i) (all_made (by_digests i) d xs) ys
+all_made-append i d [] ys = refl
+all_made-append i d (m ∷ xs) ys = all_made-append i (made i d m) xs ys
+
+shown-append : (i : Instance) (d : Digests) (xs ys : List Move) (items : List Item) → shown i d (xs ++ ys) items ≡ shown i (all_made (by_digests i) d xs) ys (shown i d xs items)
+shown-append i d [] ys items = refl
+shown-append i d (m ∷ xs) ys items = shown-append i (made i d m) xs ys (shown_by i.variant d.flag i m items)
+
+-- One step
+
+-- what one step leaves
+record StepLeads (i : Instance) (d : Digests) (moves : List Move) (old new : Standing) : Type 0 where
+  stands : StandsAt i new (all_made (by_digests i) d moves)
+  items : new.items ≡ option_map (shown i d moves) old.items
+
+abbrev at_cell : Instance → Option (List ℕ) → Digests → Type 0
+at_cell i cell d = cell ≡ Some (cell_spelling (cell_at i d))
+
+-- from the cell and the items
+leads_to : (i : Instance) (d e : Digests) (moves : List Move) (old new : Standing) → all_made (by_digests i) d moves ≡ e → IsCell (cell_at i e) → at_cell i new.cell e → RegisterAt i.variant (reads_of new.items) e.register → new.items ≡ option_map (shown i d moves) old.items → StepLeads i d moves old new
+leads_to i d e moves old new is spells cell reads items = record {
+  stands = subst (λ (x : Digests). StandsAt i new x) (sym is) (record { spells = spells; cell = cell; reads = reads });
+  items = items;
+}
+
+items_brought : (i : Instance) (d : Digests) (values : List (List ℕ)) (items : Option (List Item)) → beside values items ≡ option_map (shown i d (map Foreign values)) items
+items_brought i d values None = refl
+items_brought i d values (Some xs) = ap Some (sym (foreign_shown i d values xs))
+
+-- others' values alone
+brought : (i : Instance) (d : Digests) (values : List (List ℕ)) (old new : Standing) → StandsAt i old d → new.cell ≡ old.cell → new.items ≡ beside values old.items → StepLeads i d (map Foreign values) old new
+brought i d values old new s cell items =
+    leads_to i d (with_register d (fold extended_of d.register values)) (map Foreign values) old new (foreign_made i d values)
+    s.spells (cell ∙ s.cell)
+    (reads_then i.variant (reads_of old.items) (reads_of new.items) d.register (fold extended_of d.register values)
+    (λ e. ap reads_of items ∙ reads_beside old.items values d.register e) s.reads)
+    (items ∙ items_brought i d values old.items)
+
+change_shown : (i : Instance) (d : Digests) (act : Act) (m : Move) (values : List (List ℕ)) (items : Option (List Item)) → IsChange i d act m → items_after act true (beside values items) ≡ option_map (shown i d (map Foreign values ++ m ∷ [])) items
+change_shown i d act m values None c = items_of act None
+change_shown i d act m values (Some xs) c =
+    items_of act (Some (xs ++ map foreign_item values))
+    ∙ ap Some (sym (shown-append i d (map Foreign values) (m ∷ []) xs
+    ∙ ap (λ (e : Digests). shown i e (m ∷ []) (shown i d (map Foreign values) xs)) (foreign_made i d values)
+    ∙ ap (λ (ys : List Item). shown_by i.variant d.flag i m ys) (foreign_shown i d values xs)
+    ∙ c.shows (xs ++ map foreign_item values)))
+
+-- a change of the register
+changed : (i : Instance) (d : Digests) (act : Act) (m : Move) (values : List (List ℕ)) (old new : Standing) → StandsAt i old d → IsChange i d act m → new.cell ≡ old.cell → new.items ≡ items_after act true (beside values old.items) → StepLeads i d (map Foreign values ++ m ∷ []) old new
+changed i d act m values old new s c cell items =
+    let r : List ℕ = fold extended_of d.register values in
+    let e : Digests = made i (with_register d r) m in
+    let same : cell_at i e ≡ cell_at i d = c.cell r in
+    leads_to i d e (map Foreign values ++ m ∷ []) old new
+    (all_made-append i d (map Foreign values) (m ∷ []) ∙ ap (λ (x : Digests). made i x m) (foreign_made i d values))
+    (subst (λ (x : Cell). IsCell x) (sym same) s.spells)
+    (cell ∙ s.cell ∙ ap (λ (x : Cell). Some (cell_spelling x)) (sym same))
+    (reads_then i.variant (reads_of old.items) (reads_of new.items) d.register e.register
+    (λ h. ap reads_of items
+    ∙ reads_after act (beside values old.items) r (reads_beside old.items values d.register h)
+    ∙ ap (λ (x : List ℕ). Some x) (sym (c.register r))) s.reads)
+    (items ∙ change_shown i d act m values old.items c)
+
+write_shown : (i : Instance) (d : Digests) (bytes : List ℕ) (m : Move) (values : List (List ℕ)) (items : Option (List Item)) → IsWrite i d bytes m → beside values items ≡ option_map (shown i d (m ∷ map Foreign values)) items
+write_shown i d bytes m values None w = refl
+write_shown i d bytes m values (Some xs) w =
+    ap Some (sym (foreign_shown i (made i d m) values (shown_by i.variant d.flag i m xs)
+    ∙ ap (λ (ys : List Item). ys ++ map foreign_item values) (w.shows xs)))
+
+some_written : (bytes next : List ℕ) (cell : Option (List ℕ)) → cell ≡ Some next → option_map (λ _. bytes) cell ≡ Some bytes
+some_written bytes next None e = cc
+some_written bytes next (Some x) e = refl
+
+-- a write of the cell
+written : (i : Instance) (d : Digests) (bytes : List ℕ) (m : Move) (values : List (List ℕ)) (old new : Standing) → StandsAt i old d → IsWrite i d bytes m → new.cell ≡ option_map (λ _. bytes) old.cell → new.items ≡ beside values old.items → StepLeads i d (m ∷ map Foreign values) old new
+written i d bytes m values old new s w cell items =
+    let e : Digests = made i d m in
+    leads_to i d (with_register e (fold extended_of e.register values)) (m ∷ map Foreign values) old new
+    (foreign_made i e values) w.spells
+    (cell ∙ some_written bytes (cell_spelling (cell_at i d)) old.cell s.cell ∙ ap (λ (x : List ℕ). Some x) w.cell)
+    (reads_then i.variant (reads_of old.items) (reads_of new.items) d.register (fold extended_of e.register values)
+    (λ h. ap reads_of items ∙ reads_beside old.items values d.register h
+    ∙ ap (λ (x : List ℕ). Some (fold extended_of x values)) (sym w.register)) s.reads)
+    (items ∙ write_shown i d bytes m values old.items w)
+
+-- what a step leaves, by whether its effect was made
+step_leads : (act : Act) (step : Step) (is_made : Bool) (i : Instance) (d : Digests) (values : List (List ℕ)) (old new : Standing) → StandsAt i old d → Makes i d act step → new.cell ≡ cell_after act is_made old.cell → new.items ≡ items_after act is_made (beside values old.items) → StepLeads i d (step_moves step is_made values) old new
+step_leads ReadCell Reads is_made i d values old new s m cell items = brought i d values old new s cell items
+step_leads ReadRegister Reads is_made i d values old new s m cell items = brought i d values old new s cell items
+step_leads ResetRegister (Changes m) true i d values old new s c cell items = changed i d ResetRegister m values old new s c cell items
+step_leads ResetRegister (Changes m) false i d values old new s c cell items =
+    subst (λ (ms : List Move). StepLeads i d ms old new) (sym (append-nil (map Foreign values))) (brought i d values old new s cell items)
+step_leads (ExtendRegister value) (Changes m) true i d values old new s c cell items = changed i d (ExtendRegister value) m values old new s c cell items
+step_leads (ExtendRegister value) (Changes m) false i d values old new s c cell items =
+    subst (λ (ms : List Move). StepLeads i d ms old new) (sym (append-nil (map Foreign values))) (brought i d values old new s cell items)
+step_leads (WriteCell bytes) (Writes m) true i d values old new s w cell items = written i d bytes m values old new s w cell items
+step_leads (WriteCell bytes) (Writes m) false i d values old new s w cell items = brought i d values old new s cell items
+step_leads ReadCell (Changes m) is_made i d values old new s x cell items = absurd x
+step_leads ReadCell (Writes m) is_made i d values old new s x cell items = absurd x
+step_leads ReadRegister (Changes m) is_made i d values old new s x cell items = absurd x
+step_leads ReadRegister (Writes m) is_made i d values old new s x cell items = absurd x
+step_leads ResetRegister Reads is_made i d values old new s x cell items = absurd x
+step_leads ResetRegister (Writes m) is_made i d values old new s x cell items = absurd x
+step_leads (ExtendRegister value) Reads is_made i d values old new s x cell items = absurd x
+step_leads (ExtendRegister value) (Writes m) is_made i d values old new s x cell items = absurd x
+step_leads (WriteCell bytes) Reads is_made i d values old new s x cell items = absurd x
+step_leads (WriteCell bytes) (Changes m) is_made i d values old new s x cell items = absurd x
+
+-- the count of writes
+act_writes : (act : Act) (step : Step) (i : Instance) (d : Digests) (count rest : ℕ) → Makes i d act step → counted_by rest (writes_after act count) ≡ counted_by (writes_then step rest) count
+act_writes ReadCell Reads i d count rest m = refl
+act_writes ReadRegister Reads i d count rest m = refl
+act_writes ResetRegister (Changes m) i d count rest c = refl
+act_writes (ExtendRegister value) (Changes m) i d count rest c = refl
+act_writes (WriteCell bytes) (Writes m) i d count rest w = refl
+act_writes ReadCell (Changes m) i d count rest x = absurd x
+act_writes ReadCell (Writes m) i d count rest x = absurd x
+act_writes ReadRegister (Changes m) i d count rest x = absurd x
+act_writes ReadRegister (Writes m) i d count rest x = absurd x
+act_writes ResetRegister Reads i d count rest x = absurd x
+act_writes ResetRegister (Writes m) i d count rest x = absurd x
+act_writes (ExtendRegister value) Reads i d count rest x = absurd x
+act_writes (ExtendRegister value) (Writes m) i d count rest x = absurd x
+act_writes (WriteCell bytes) Reads i d count rest x = absurd x
+act_writes (WriteCell bytes) (Changes m) i d count rest x = absurd x
+
+-- a step that was made, with the room behind it
+record StepEnds (i : Instance) (d : Digests) (step : Step) (moves : List Move) (old new : Standing) : Type 0 where
+  leads : StepLeads i d moves old new
+  steps : new.steps ≡ counted old.steps
+  writes : (rest : ℕ) → counted_by rest new.writes ≡ counted_by (writes_then step rest) old.writes
+
+-- room changes nothing else
+roomier : (i : Instance) (d : Digests) (step : Step) (moves : List Move) (old after new : Standing) → new ≡ record after { spare = new.spare } → StepEnds i d step moves old after → StepEnds i d step moves old new
+roomier i d step moves old after new e s =
+    let cell : new.cell ≡ after.cell = ap (λ (x : Standing). x.cell) e in
+    let items : new.items ≡ after.items = ap (λ (x : Standing). x.items) e in
+    record {
+      leads = record {
+        stands = record {
+          spells = s.leads.stands.spells;
+          cell = cell ∙ s.leads.stands.cell;
+          reads = reads_then i.variant (reads_of after.items) (reads_of new.items) _ _ (λ h. ap reads_of items ∙ h) s.leads.stands.reads;
+        };
+        items = items ∙ s.leads.items;
+      };
+      steps = ap (λ (x : Standing). x.steps) e ∙ s.steps;
+      writes = λ (rest : ℕ). ap (λ (x : Standing). counted_by rest x.writes) e ∙ s.writes rest;
+    }
+
+step_ends : (i : Instance) (d : Digests) (fate : Fate) (step : Step) (old new : Standing) (fault : Option StepFault) → StandsAt i old d → (t : Stepped i d fate step old new fault) → StepEnds i d step (step_moves step t.goes.is_made fate.brings) old new
+step_ends i d fate step old new fault s t =
+    let items : t.after.items ≡ items_after t.act t.goes.is_made (beside fate.brings old.items) =
+    t.goes.items ∙ ap (λ (vs : List (List ℕ)). items_after t.act t.goes.is_made (beside vs old.items)) (sym t.brings) in
+    roomier i d step (step_moves step t.goes.is_made fate.brings) old t.after new t.room (record {
+      leads = step_leads t.act step t.goes.is_made i d fate.brings old t.after s t.makes t.goes.cell items;
+      steps = t.goes.steps;
+      writes = λ (rest : ℕ). ap (λ (n : ℕ). counted_by rest n) t.goes.writes ∙ act_writes t.act step i d old.writes rest t.makes;
+    })
+
+-- the step that failed is the last
+failed : (i : Instance) (d : Digests) (step : Step) (values : List (List ℕ)) (is_made : Bool) (fault : StepFault) (rest : Walked) (old new : Standing) → StepEnds i d step (step_moves step is_made values) old new → Leads i d (after_step step values (Fails fault is_made) rest) old new (Some fault)
+failed i d step values is_made fault rest old new s = record {
+  stands = s.leads.stands;
+  broken = refl;
+  steps = s.steps;
+  writes = s.writes 0;
+  items = s.leads.items;
+}
+
+map_twice : (f g : List Item → List Item) (items : Option (List Item)) → option_map g (option_map f items) ≡ option_map (λ (xs : List Item). g (f xs)) items
+map_twice f g None = refl
+map_twice f g (Some xs) = refl
+
+map_alike : (f g : List Item → List Item) (items : Option (List Item)) → ((xs : List Item) → f xs ≡ g xs) → option_map f items ≡ option_map g items
+map_alike f g None h = refl
+map_alike f g (Some xs) h = ap Some (h xs)
+
+-- a step that was done, and the rest
+done : (i : Instance) (d : Digests) (step : Step) (values : List (List ℕ)) (rest : Walked) (old middle new : Standing) (fault : Option StepFault) → StepEnds i d step (step_moves step true values) old middle → Leads i (all_made (by_digests i) d (step_moves step true values)) rest middle new fault → Leads i d (after_step step values Done rest) old new fault
+done i d step values rest old middle new fault s l =
+    let moves : List Move = step_moves step true values in
+    let e : Digests = all_made (by_digests i) d moves in
+    record {
+      stands = subst (λ (x : Digests). StandsAt i new x) (sym (all_made-append i d moves rest.moves)) l.stands;
+      broken = l.broken;
+      steps = l.steps ∙ ap (λ (n : ℕ). counted_by rest.steps n) s.steps;
+      writes = l.writes ∙ s.writes rest.writes;
+      items = l.items ∙ ap (λ (x : Option (List Item)). option_map (shown i e rest.moves) x) s.leads.items
+          ∙ map_twice (shown i d moves) (shown i e rest.moves) old.items
+          ∙ map_alike (λ (xs : List Item). shown i e rest.moves (shown i d moves xs)) (shown i d (moves ++ rest.moves)) old.items
+          (λ (xs : List Item). sym (shown-append i d moves rest.moves xs));
+    }
+
+-- the end of a step by its answer
+ended : (answer : Option StepFault) (i : Instance) (d : Digests) (fate : Fate) (step : Step) (rest : Walked) (old middle new : Standing) (fault : Option StepFault) (going : Type 0) → StandsAt i old d → Stepped i d fate step old middle answer
+    → (going → StandsAt i middle (all_made (by_digests i) d (step_moves step true fate.brings)) → Leads i (all_made (by_digests i) d (step_moves step true fate.brings)) rest middle new fault)
+    → Rest answer going ((new ≡ middle) × (fault ≡ answer)) → Leads i d (after_step step fate.brings fate.ends rest) old new fault
+ended None i d fate step rest old middle new fault going s t h r =
+    let ends : StepEnds i d step (step_moves step true fate.brings) old middle =
+    subst (λ (m : Bool). StepEnds i d step (step_moves step m fate.brings) old middle) t.goes.ends.made (step_ends i d fate step old middle None s t) in
+    subst (λ (x : End). Leads i d (after_step step fate.brings x rest) old new fault) (sym t.ends)
+    (done i d step fate.brings rest old middle new fault ends (h r ends.leads.stands))
+ended (Some f) i d fate step rest old middle new fault going s t h r =
+    let ends : StepEnds i d step (step_moves step t.goes.is_made fate.brings) old middle = step_ends i d fate step old middle (Some f) s t in
+    subst (λ (x : End). Leads i d (after_step step fate.brings x rest) old new fault) (sym t.ends)
+    (subst (λ (x : Standing). Leads i d (after_step step fate.brings (Fails f t.goes.is_made) rest) old x fault) (sym r.0)
+    (subst (λ (x : Option StepFault). Leads i d (after_step step fate.brings (Fails f t.goes.is_made) rest) old middle x) (sym r.1)
+    (failed i d step fate.brings t.goes.is_made f rest old middle ends)))
+
+same_items : (items : Option (List Item)) → option_map (λ (xs : List Item). xs) items ≡ items
+same_items None = refl
+same_items (Some xs) = refl
+
+-- no step
+none_leads : (i : Instance) (d : Digests) (old : Standing) → StandsAt i old d → Leads i d (record { moves = []; steps = 0; writes = 0; broken = None }) old old None
+none_leads i d old s = record { stands = s; broken = refl; steps = refl; writes = refl; items = sym (same_items old.items) }
+
+pub leads : TrailsLead
+leads i d fates n [] old new fault s t =
+    subst (λ (x : Standing). Leads i d (walk fates n []) old x fault) (sym t.0)
+    (subst (λ (x : Option StepFault). Leads i d (walk fates n []) old old x) (sym t.1) (none_leads i d old s))
+leads i d fates n (step ∷ steps) old new fault s t =
+    let e : Digests = all_made (by_digests i) d (step_moves step true (fates n).brings) in
+    ended t.1 i d (fates n) step (walk fates (n + 1) steps) old t.0 new fault (Trail i e fates (n + 1) steps t.0 new fault) s t.2
+    (λ (r : Trail i e fates (n + 1) steps t.0 new fault) (stands : StandsAt i t.0 e). leads i e fates (n + 1) steps t.0 new fault stands r) t.3

@@ -1,0 +1,172 @@
+-- What a walk over the steps of a call gives: what it commits, and which of its moves others made.
+use Rattle.std.proofs.Common.{ℕ, ◌≡◌, Bool, true, false, List, [], ◌∷◌, ◌++◌, map, None, refl, sym, ap, ◌∙◌, append_assoc}
+use Rattle.std.proofs.lemmas.List.{append-nil}
+use Rattle.mm_module.specs.Batch.{Batch}
+use Rattle.mm_digest.specs.declared.variant.Variant.TheVariants.{Basic, Opt}
+use Rattle.mm_model.specs.Instance.{Instance}
+use Rattle.mm_model.specs.History.{Value, History, Move, Commit, Foreign, Placed, Reset, Close, Power, moved}
+use Rattle.mm_model.specs.Steps.{Step, Reads, Changes, Writes, ask_steps}
+use Rattle.mm_model.specs.Messages.{move_messages}
+use Rattle.mm_call.specs.Levels.{Level, by_lists, all_made}
+use Rattle.mm_call.specs.Courses.{End, Done, Fails, Fate, Walked, step_moves, after_step, walk, commits}
+use Rattle.mm_call.specs.Asked.{moves_messages, foreign_in, from_reset}
+use Rattle.mm_call.proofs.Moving.{committed_in}
+
+pub committed-append : (xs ys : List Move) → committed_in (xs ++ ys) ≡ committed_in xs ++ committed_in ys
+committed-append [] ys = refl
+committed-append (Commit b ∷ xs) ys = ap (λ v. b ∷ v) (committed-append xs ys)
+committed-append (Foreign v ∷ xs) ys = committed-append xs ys
+committed-append (Placed b ∷ xs) ys = committed-append xs ys
+committed-append (Reset ∷ xs) ys = committed-append xs ys
+committed-append (Close ∷ xs) ys = committed-append xs ys
+committed-append (Power ∷ xs) ys = committed-append xs ys
+
+pub committed-foreign : (values : List (List ℕ)) → committed_in (map Foreign values) ≡ []
+committed-foreign [] = refl
+committed-foreign (v ∷ values) = committed-foreign values
+
+pub foreign_first : (values : List (List ℕ)) (rest : List Move) → committed_in (map Foreign values ++ rest) ≡ committed_in rest
+foreign_first values rest =
+    committed-append (map Foreign values) rest ∙ ap (λ v. v ++ committed_in rest) (committed-foreign values)
+
+pub commits-none : (moves : List Move) → committed_in moves ≡ [] → commits moves ≡ false
+commits-none [] e = refl
+commits-none (Commit b ∷ moves) e = cc
+commits-none (Foreign v ∷ moves) e = commits-none moves e
+commits-none (Placed b ∷ moves) e = commits-none moves e
+commits-none (Reset ∷ moves) e = commits-none moves e
+commits-none (Close ∷ moves) e = commits-none moves e
+commits-none (Power ∷ moves) e = commits-none moves e
+
+-- A walk commits nothing, or the batch; and it commits the batch where it isn't broken off and the batch is a new one.
+pub data Commits (b : Batch) (fresh : Bool) (walked : Walked) : Type 0 where
+  nothing : committed_in walked.moves ≡ [] → (walked.broken ≡ None → fresh ≡ false) → Commits b fresh walked
+  batch : committed_in walked.moves ≡ b ∷ [] → fresh ≡ true → Commits b fresh walked
+
+-- no more steps
+abbrev pub finished : Walked
+finished = record { moves = []; steps = 0; writes = 0; broken = None }
+
+-- a step that commits nothing
+abbrev pub IsQuiet : Step → Type 0
+IsQuiet step = (made : Bool) (values : List (List ℕ)) → committed_in (step_moves step made values) ≡ []
+
+quiet_reads : IsQuiet Reads
+quiet_reads made values = committed-foreign values
+
+quiet_reset : IsQuiet (Changes Reset)
+quiet_reset true values = foreign_first values (Reset ∷ [])
+quiet_reset false values = foreign_first values []
+
+quiet_placed : (b : Batch) → IsQuiet (Changes (Placed b))
+quiet_placed b true values = foreign_first values (Placed b ∷ [])
+quiet_placed b false values = foreign_first values []
+
+quiet_step : (step : Step) (values : List (List ℕ)) (ends : End) (rest : Walked) (b : Batch) (fresh : Bool) → IsQuiet step
+    → Commits b fresh rest → Commits b fresh (after_step step values ends rest)
+quiet_step step values Done rest b fresh quiet (nothing e unless) =
+    nothing (committed-append (step_moves step true values) rest.moves ∙ ap (λ v. v ++ committed_in rest.moves) (quiet true values) ∙ e) unless
+quiet_step step values Done rest b fresh quiet (batch e is) =
+    batch (committed-append (step_moves step true values) rest.moves ∙ ap (λ v. v ++ committed_in rest.moves) (quiet true values) ∙ e) is
+quiet_step step values (Fails fault made) rest b fresh quiet c = nothing (quiet made values) (λ e. cc)
+
+-- the step that commits the batch, the last one
+last_step : (step : Step) (values : List (List ℕ)) (ends : End) (b : Batch)
+    → committed_in (step_moves step true values) ≡ b ∷ [] → committed_in (step_moves step false values) ≡ []
+    → Commits b true (after_step step values ends finished)
+last_step step values Done b one none =
+    batch (committed-append (step_moves step true values) [] ∙ ap (λ v. v ++ []) one) refl
+last_step step values (Fails fault true) b one none = batch one refl
+last_step step values (Fails fault false) b one none = nothing none (λ e. cc)
+
+none_left : (b : Batch) → Commits b false finished
+none_left b = nothing refl (λ e. refl)
+
+written_one : (b : Batch) (values : List (List ℕ)) → committed_in (Commit b ∷ map Foreign values) ≡ b ∷ []
+written_one b values = ap (λ v. b ∷ v) (committed-foreign values)
+
+-- a call of Basic commits nothing, or its batch
+pub basic_commits : (fates : ℕ → Fate) (flag fresh : Bool) (b : Batch) → Commits b fresh (walk fates 1 (ask_steps Basic flag fresh b))
+basic_commits fates flag false b = quiet_step Reads (fates 1).brings (fates 1).ends finished b false quiet_reads (none_left b)
+basic_commits fates flag true b =
+    quiet_step Reads (fates 1).brings (fates 1).ends (walk fates 2 (Writes (Commit b) ∷ [])) b true quiet_reads
+    (last_step (Writes (Commit b)) (fates 2).brings (fates 2).ends b (written_one b (fates 2).brings) (committed-foreign (fates 2).brings))
+
+-- the steps of a call of Opt behind its reading steps
+abbrev pub changing : Bool → Bool → Batch → List Step
+changing flag false b = []
+changing true true b = Changes (Commit b) ∷ []
+changing false true b = Changes Reset ∷ Changes (Placed b) ∷ Writes (Commit b) ∷ []
+
+pub asks : (flag fresh : Bool) (b : Batch) → ask_steps Opt flag fresh b ≡ Reads ∷ Reads ∷ changing flag fresh b
+asks true true b = refl
+asks true false b = refl
+asks false true b = refl
+asks false false b = refl
+
+changing_commits : (fates : ℕ → Fate) (flag fresh : Bool) (b : Batch) → Commits b fresh (walk fates 3 (changing flag fresh b))
+changing_commits fates true false b = none_left b
+changing_commits fates false false b = none_left b
+changing_commits fates true true b =
+    last_step (Changes (Commit b)) (fates 3).brings (fates 3).ends b
+    (foreign_first (fates 3).brings (Commit b ∷ [])) (foreign_first (fates 3).brings [])
+changing_commits fates false true b =
+    quiet_step (Changes Reset) (fates 3).brings (fates 3).ends (walk fates 4 (Changes (Placed b) ∷ Writes (Commit b) ∷ [])) b true quiet_reset
+    (quiet_step (Changes (Placed b)) (fates 4).brings (fates 4).ends (walk fates 5 (Writes (Commit b) ∷ [])) b true (quiet_placed b)
+    (last_step (Writes (Commit b)) (fates 5).brings (fates 5).ends b (written_one b (fates 5).brings) (committed-foreign (fates 5).brings)))
+
+-- a call of Opt commits nothing, or its batch
+pub opt_commits : (fates : ℕ → Fate) (flag fresh : Bool) (b : Batch)
+    → Commits b fresh (walk fates 1 (Reads ∷ Reads ∷ changing flag fresh b))
+opt_commits fates flag fresh b =
+    quiet_step Reads (fates 1).brings (fates 1).ends (walk fates 2 (Reads ∷ changing flag fresh b)) b fresh quiet_reads
+    (quiet_step Reads (fates 2).brings (fates 2).ends (walk fates 3 (changing flag fresh b)) b fresh quiet_reads
+    (changing_commits fates flag fresh b))
+
+-- moves made one after another
+
+pub made-append : {S : Type 0} (level : Level S) (xs ys : List Move) (s : S)
+    → all_made level s (xs ++ ys) ≡ all_made level (all_made level s xs) ys
+made-append level [] ys s = refl
+made-append level (x ∷ xs) ys s = made-append level xs ys (level.made s x)
+
+-- the history after others extended the register
+abbrev pub taking : History → List (List ℕ) → History
+taking y values = record y { items = y.items ++ map Value values }
+
+pub taking_is : (i : Instance) (values : List (List ℕ)) (y : History) → all_made (by_lists i) y (map Foreign values) ≡ taking y values
+taking_is i [] y = ap (λ v. record y { items = v }) (sym (append-nil y.items))
+taking_is i (v ∷ values) y =
+    taking_is i values (moved i y (Foreign v)) ∙ ap (λ x. record y { items = x }) (append_assoc y.items (Value v ∷ []) (map Value values))
+
+pub foreign_made : (i : Instance) (values : List (List ℕ)) (moves : List Move) (y : History)
+    → all_made (by_lists i) y (map Foreign values ++ moves) ≡ all_made (by_lists i) (taking y values) moves
+foreign_made i values moves y = made-append (by_lists i) (map Foreign values) moves y ∙ ap (λ x. all_made (by_lists i) x moves) (taking_is i values y)
+
+-- what others put in among moves
+pub foreign_in-append : (xs ys : List Move) → foreign_in (xs ++ ys) ≡ foreign_in xs ++ foreign_in ys
+foreign_in-append [] ys = refl
+foreign_in-append (Foreign v ∷ xs) ys = ap (λ w. v ∷ w) (foreign_in-append xs ys)
+foreign_in-append (Commit b ∷ xs) ys = foreign_in-append xs ys
+foreign_in-append (Placed b ∷ xs) ys = foreign_in-append xs ys
+foreign_in-append (Reset ∷ xs) ys = foreign_in-append xs ys
+foreign_in-append (Close ∷ xs) ys = foreign_in-append xs ys
+foreign_in-append (Power ∷ xs) ys = foreign_in-append xs ys
+
+pub foreign_in-foreign : (values : List (List ℕ)) → foreign_in (map Foreign values) ≡ values
+foreign_in-foreign [] = refl
+foreign_in-foreign (v ∷ values) = ap (λ w. v ∷ w) (foreign_in-foreign values)
+
+pub foreign_in-first : (values : List (List ℕ)) (moves : List Move) → foreign_in (map Foreign values ++ moves) ≡ values ++ foreign_in moves
+foreign_in-first values moves = foreign_in-append (map Foreign values) moves ∙ ap (λ w. w ++ foreign_in moves) (foreign_in-foreign values)
+
+-- what counts begins with the reset
+pub from_reset-foreign : (values : List (List ℕ)) (moves : List Move) → from_reset (map Foreign values ++ moves) ≡ from_reset moves
+from_reset-foreign [] moves = refl
+from_reset-foreign (v ∷ values) moves = from_reset-foreign values moves
+
+pub messages-made : (i : Instance) (xs ys : List Move) (y : History)
+    → moves_messages i y (xs ++ ys) ≡ moves_messages i y xs ++ moves_messages i (all_made (by_lists i) y xs) ys
+messages-made i [] ys y = refl
+messages-made i (x ∷ xs) ys y =
+    ap (λ v. move_messages i y x ++ v) (messages-made i xs ys (moved i y x)) ∙ sym (append_assoc (move_messages i y x) _ _)

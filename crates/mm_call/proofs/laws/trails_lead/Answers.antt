@@ -1,0 +1,5 @@
+use Rattle.mm_call.proofs.Trails.{leads}
+use Rattle.mm_call.proofs.laws.trails_lead.Goals as goal
+
+pub returns : goal.returns
+returns c = leads

@@ -1,0 +1,98 @@
+-- How the device steps of a call make the steps of a walk.
+use Rattle.std.specs.Prelude.{◌≡◌, ℕ, ◌+◌, true, List, [], ◌∷◌, ◌++◌, Option, None, Some}
+use Rattle.std.specs.Option.{option_map}
+use Rattle.mm_digest.specs.Messages.{zero_bytes, extended_of}
+use Rattle.mm_platform.specs.declared.fault.StepFault.{StepFault}
+use Rattle.mm_platform.specs.Standing.{Item, own_item, Standing}
+use Rattle.mm_platform.specs.Steps.{Act, ReadCell, WriteCell, ReadRegister, ResetRegister, ExtendRegister, Goes}
+use Rattle.mm_seal.specs.Cell.{IsCell, cell_spelling}
+use Rattle.mm_model.specs.Instance.{Instance}
+use Rattle.mm_model.specs.History.{Move}
+use Rattle.mm_model.specs.Moves.{Digests, made}
+use Rattle.mm_model.specs.Steps.{Step, Reads, Changes, Writes}
+use Rattle.mm_call.specs.Levels.{all_made, by_digests}
+use Rattle.mm_call.specs.Courses.{Fate, Walked, walk, step_moves, end_of}
+use Rattle.mm_call.specs.Standing.{cell_at, StandsAt, shown_by, shown, counted_by}
+
+-- what a changing step does to a register, and to its items
+abbrev pub register_by : Act → List ℕ → List ℕ
+register_by ResetRegister register = zero_bytes
+register_by (ExtendRegister value) register = extended_of register value
+register_by ReadCell register = register
+register_by (WriteCell bytes) register = register
+register_by ReadRegister register = register
+
+abbrev pub items_by : Act → List Item → List Item
+items_by ResetRegister items = []
+items_by (ExtendRegister value) items = items ++ own_item value ∷ []
+items_by ReadCell items = items
+items_by (WriteCell bytes) items = items
+items_by ReadRegister items = items
+
+-- A changing step makes this move, whatever others put into the register before it: the cell is that of the digests
+-- after the move as it is that before, and the register and its items are as the step leaves them.
+pub record IsChange (i : Instance) (d : Digests) (act : Act) (m : Move) : Type 0 where
+  pub cell : (register : List ℕ) → cell_at i (made i (record d { register = register }) m) ≡ cell_at i d
+  pub register : (register : List ℕ) → (made i (record d { register = register }) m).register ≡ register_by act register
+  pub shows : (items : List Item) → shown_by i.variant d.flag i m items ≡ items_by act items
+
+-- A write of these bytes makes this move: they spell the cell of the digests after it, and the register is as before.
+pub record IsWrite (i : Instance) (d : Digests) (bytes : List ℕ) (m : Move) : Type 0 where
+  pub spells : IsCell (cell_at i (made i d m))
+  pub cell : bytes ≡ cell_spelling (cell_at i (made i d m))
+  pub register : (made i d m).register ≡ d.register
+  pub shows : (items : List Item) → shown_by i.variant d.flag i m items ≡ items
+
+-- The device step makes this step of a walk, from these digests.
+abbrev pub Makes : Instance → Digests → Act → Step → Type 0
+Makes i d ReadCell Reads = Unit {0}
+Makes i d ReadRegister Reads = Unit {0}
+Makes i d ResetRegister (Changes m) = IsChange i d ResetRegister m
+Makes i d (ExtendRegister value) (Changes m) = IsChange i d (ExtendRegister value) m
+Makes i d (WriteCell bytes) (Writes m) = IsWrite i d bytes m
+Makes i d ReadCell (Changes m) = ⊥
+Makes i d ReadCell (Writes m) = ⊥
+Makes i d ReadRegister (Changes m) = ⊥
+Makes i d ReadRegister (Writes m) = ⊥
+Makes i d ResetRegister Reads = ⊥
+Makes i d ResetRegister (Writes m) = ⊥
+Makes i d (ExtendRegister value) Reads = ⊥
+Makes i d (ExtendRegister value) (Writes m) = ⊥
+Makes i d (WriteCell bytes) Reads = ⊥
+Makes i d (WriteCell bytes) (Changes m) = ⊥
+
+-- A device step was made that makes this step of a walk. Its fate is read off it, and room may have been made after it.
+pub record Stepped (i : Instance) (d : Digests) (fate : Fate) (step : Step) (old new : Standing) (fault : Option StepFault) : Type 0 where
+  pub act : Act
+  pub after : Standing
+  pub goes : Goes act old after fault
+  pub makes : Makes i d act step
+  pub brings : fate.brings ≡ goes.others
+  pub ends : fate.ends ≡ end_of fault goes.is_made
+  pub room : new ≡ record after { spare = new.spare }
+
+-- after a step: the rest of a trail, where it didn't fail
+abbrev pub Rest : Option StepFault → Type 0 → Type 0 → Type 0
+Rest None goes_on is_over = goes_on
+Rest (Some fault) goes_on is_over = is_over
+
+-- These steps were made one after another, from the one of this number on, and none after one that failed.
+abbrev pub Trail : Instance → Digests → (ℕ → Fate) → ℕ → List Step → Standing → Standing → Option StepFault → Type 0
+Trail i d fates n [] old new fault = (new ≡ old) × (fault ≡ None)
+Trail i d fates n (step ∷ steps) old new fault =
+    (middle : Standing) × (answer : Option StepFault) × Stepped i d (fates n) step old middle answer
+    × Rest answer (Trail i (all_made (by_digests i) d (step_moves step true (fates n).brings)) fates (n + 1) steps middle new fault)
+    ((new ≡ middle) × (fault ≡ answer))
+
+-- The platform went from these digests as the walk says.
+pub record Leads (i : Instance) (d : Digests) (walked : Walked) (old new : Standing) (fault : Option StepFault) : Type 0 where
+  pub stands : StandsAt i new (all_made (by_digests i) d walked.moves)
+  pub broken : walked.broken ≡ fault
+  pub steps : new.steps ≡ counted_by walked.steps old.steps
+  pub writes : new.writes ≡ counted_by walked.writes old.writes
+  pub items : new.items ≡ option_map (shown i d walked.moves) old.items
+
+-- A trail of steps leads where its walk leads.
+abbrev pub TrailsLead : Type 0
+TrailsLead = (i : Instance) (d : Digests) (fates : ℕ → Fate) (n : ℕ) (steps : List Step) (old new : Standing) (fault : Option StepFault)
+    → StandsAt i old d → Trail i d fates n steps old new fault → Leads i d (walk fates n steps) old new fault

@@ -1,0 +1,20 @@
+//! The laws of calls, each the contract of a function that does nothing.
+
+ghost use Rattle.mm_call.specs.Laws.{BasicCallsAgree, OptCallsAgree};
+ghost use Rattle.mm_call.specs.Trails.{TrailsLead};
+
+/// A call of Basic is by digests what it is by lists, on every course, where no two messages of the history and the
+/// call share a digest and a right offer names a position.
+pub fn basic_calls_agree()
+    ensures { BasicCallsAgree }
+{}
+
+/// The same of Opt, where besides no value of others that counts is the guard of a batch.
+pub fn opt_calls_agree()
+    ensures { OptCallsAgree }
+{}
+
+/// A trail of device steps leads from the digests that a platform stands at to those that its walk gives.
+pub fn trails_lead()
+    ensures { TrailsLead }
+{}
