@@ -1,0 +1,4 @@
+pub mod Kept
+pub mod Matched
+pub mod Reading
+pub mod Taken

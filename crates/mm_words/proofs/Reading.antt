@@ -1,0 +1,71 @@
+-- Words and the commands that they spell.
+use Rattle.std.proofs.Common.{◌≡◌, ◌<◌, ◌≤◌, ◌∙◌, ℕ, Bool, true, false, List, [], ◌∷◌, length, refl, sym, ap, arith, codes}
+use Rattle.std.specs.Prelude.{Option, Some, None, option_map, map, ◌||◌}
+use Rattle.std.specs.Borrow.{Bor}
+use Rattle.std.specs.Cmp.Lexicographic.{pointwise, pointwise_decides}
+use Rattle.std.specs.List.{list_any}
+use Rattle.std.specs.Option.{option_map_or}
+use Rattle.std.specs.Str.{bytes_eq}
+use Rattle.std.proofs.lemmas.List.{length-map}
+use Rattle.std.proofs.lemmas.Slice.Eq.{bytes_eq-Decides}
+use Rattle.clap.specs.Walk.{Row, Text}
+use Rattle.mm_words.specs.Commands.{Spells}
+use Rattle.mm_words.specs.Forms.{IsMatched, is_refused}
+use Rattle.mm_words.specs.declared.command.Command.{Command}
+use Rattle.mm_words.specs.declared.command.Command.TheVariants.{Replay, Check, Gen, Bulk, Help}
+use Rattle.mm_words.proofs.Kept.{are_kept}
+
+pub same_words : (words others : List (List ℕ)) → pointwise bytes_eq words others ≡ true → words ≡ others
+same_words words others is = (pointwise_decides bytes_eq-Decides words others).0 is
+
+pub other_words : (words others : List (List ℕ)) → pointwise bytes_eq words others ≡ false → words ≡ others → ⊥
+other_words words others is same =
+    let clash : false ≡ true = sym is ∙ (pointwise_decides bytes_eq-Decides words others).1 same in cc
+
+-- where `--help` doesn't stand alone the command has a subcommand
+pub no_help : (words : List (List ℕ)) (command : Command) → Spells command words
+    → pointwise bytes_eq words (codes "--help" ∷ []) ≡ false → IsMatched command
+no_help words Replay spells is = tt
+no_help words Check spells is = tt
+no_help words (Gen it) spells is = tt
+no_help words (Bulk it) spells is = tt
+no_help words Help spells is = other_words words (codes "--help" ∷ []) is spells.spelled
+
+-- words that are refused spell none
+pub too_many : (words : List (Bor (List ℕ))) (command : Command) → Spells command (map (λ (word : Bor (List ℕ)). word.now) words)
+    → IsMatched command → 5 < length words → ⊥
+too_many words command spells matched many =
+    let texts : List (List ℕ) = map (λ (word : Bor (List ℕ)). word.now) words in
+    let few : length texts ≤ 5 = rw spells.spelled ((are_kept command spells.allowed matched).few) in
+    let same : length texts ≡ length words = length-map words (λ (word : Bor (List ℕ)). word.now) in
+    absurd (omega arith)
+
+pub one_refused : (words : List (List ℕ)) (command : Command) → Spells command words → IsMatched command
+    → list_any is_refused words ≡ true → ⊥
+one_refused words command spells matched is =
+    let none : list_any is_refused words ≡ false = rw spells.spelled ((are_kept command spells.allowed matched).kept) in
+    let clash : true ≡ false = sym is ∙ none in cc
+
+-- a test of texts, made of the references to them
+pub any_text : (words : List (Bor (List ℕ))) → list_any (λ (word : Bor (List ℕ)). is_refused word.now) words ≡ list_any is_refused (map (λ (word : Bor (List ℕ)). word.now) words)
+any_text [] = refl
+any_text (word ∷ words) = ap (λ (b : Bool). is_refused word.now || b) (any_text words)
+
+-- a name and rows that were read one by one are read together
+abbrev pub two_of : {B : Type 0} → (B → Text) → (B → List Row) → B → Text × List Row
+two_of name_in rows_in it = (name_in it, rows_in it)
+
+pub both_of : {B : Type 0} (name_in : B → Text) (rows_in : B → List Row) (s : Option B) (name : Text) (rows : List Row)
+    → option_map name_in s ≡ Some name → option_map (λ (p : Text × List Row). p.1) (option_map (two_of name_in rows_in) s) ≡ Some rows
+    → option_map (two_of name_in rows_in) s ≡ Some (name, rows)
+both_of name_in rows_in None name rows one two = cc
+both_of name_in rows_in (Some b) name rows one two =
+    let first : name_in b ≡ name = ap (λ (o : Option Text). option_map_or (λ (t : Text). t) o []) one in
+    let second : rows_in b ≡ rows = ap (λ (o : Option (List Row)). option_map_or (λ (r : List Row). r) o []) two in
+    rw (first, second) refl
+
+pub same_some : (one other : Command) → Some one ≡ Some other → one ≡ other
+same_some one other is = ap (λ (o : Option Command). option_map_or (λ (it : Command). it) o one) is
+
+pub none_some : (it : Command) → None ≡ Some it → ⊥
+none_some it is = cc

@@ -1,0 +1,37 @@
+-- The command line as `clap` is told of it: a command with one level of subcommands.
+use Rattle.std.specs.Prelude.{ℕ, Bool, true, Some, List, codes}
+use Rattle.clap.specs.Simple.{App, new_app, new_rule, on_top, with_rule, with_subcommand}
+use Rattle.clap.specs.Walk.{Rule}
+use Rattle.clap.specs.declared.builder.command.Command.{Command}
+use Rattle.clap.specs.declared.builder.command.Command.TheViews.{out-Command}
+use Rattle.clap.specs.declared.builder.action.ArgAction.TheVariants.{Set}
+
+-- whether an argument is for the subcommands too
+abbrev pub has_globals : Command → Bool
+has_globals command = (out-Command command).has_globals
+
+-- a word that has to stand there
+abbrev pub wanted_rule : List ℕ → Rule
+wanted_rule id = record (new_rule id) { required = true; action = Some Set }
+
+-- a subcommand with the four words of a generated schedule
+abbrev pub generating_app : List ℕ → App
+generating_app name =
+    with_rule (with_rule (with_rule (with_rule (new_app name) (wanted_rule (codes "NUMBER"))) (wanted_rule (codes "COUNT")))
+    (wanted_rule (codes "VARIANT"))) (wanted_rule (codes "MODULE"))
+
+-- a subcommand has to stand there, and nothing is taken for a call for help
+abbrev pub top_app : App
+top_app = on_top (λ top. record top {
+  no_binary_name = true;
+  subcommand_required = true;
+  disable_help_flag = true;
+  disable_help_subcommand = true;
+  disable_version_flag = true;
+}) (new_app (codes "memoir"))
+
+abbrev pub the_app : App
+the_app =
+    with_subcommand (with_subcommand (with_subcommand (with_subcommand top_app
+    (new_app (codes "replay")).top) (new_app (codes "check")).top)
+    (generating_app (codes "gen")).top) (generating_app (codes "bulk")).top

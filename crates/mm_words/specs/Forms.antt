@@ -1,0 +1,59 @@
+-- What `clap` matched, and the commands that it stands for.
+use Rattle.std.specs.Prelude.{◌≡◌, ℕ, Bool, ◌||◌, ◌==◌, nat_lt, true, List, [], ◌∷◌, Option, Some, None, Result, Ok, Err, if◌then◌else◌, codes}
+use Rattle.std.specs.Str.{bytes_eq}
+use Rattle.clap.specs.Words.{first_value}
+use Rattle.clap.specs.declared.parser.matches.Found.{Found}
+use Rattle.mm_base.specs.Decimals.{number_of}
+use Rattle.mm_modules.specs.Modules.{module_named}
+use Rattle.mm_schedule.specs.Headers.{variant_at}
+use Rattle.mm_schedule.specs.Words.{◌>>=◌}
+use Rattle.mm_words.specs.declared.command.Command.{Command}
+use Rattle.mm_words.specs.declared.command.Command.TheVariants.{Replay, Check, Gen, Bulk, Help}
+use Rattle.mm_words.specs.declared.command.Generated.{Generated}
+use Rattle.mm_words.specs.declared.fault.WordsFault.{WordsFault}
+use Rattle.mm_words.specs.declared.fault.WordsFault.TheVariants as fault
+
+-- a word that no subcommand has: an empty one, one that begins with `-`, or `help`
+abbrev pub is_refused : List ℕ → Bool
+is_refused [] = true
+is_refused (byte ∷ rest) = byte == 45 || bytes_eq (byte ∷ rest) (codes "help")
+
+-- a count of events
+abbrev pub count_at : List ℕ → Option ℕ
+count_at word = number_of word >>= λ count. if nat_lt 20000 count then None else Some count
+
+-- the four words of a generated schedule, each read as what it has to be
+unfoldable pub generated_in : Found → Option Generated
+generated_in found =
+    first_value found (codes "NUMBER") >>= λ number_word.
+    first_value found (codes "COUNT") >>= λ count_word.
+    first_value found (codes "VARIANT") >>= λ variant_word.
+    first_value found (codes "MODULE") >>= λ module_word.
+    number_of number_word >>= λ number.
+    count_at count_word >>= λ count.
+    variant_at variant_word >>= λ variant.
+    module_named module_word >>= λ module_read.
+    Some (record { number = number; count = count; header = record { variant = variant; «module» = module_read } })
+
+-- the command of a subcommand with this name, and what was matched behind it
+unfoldable pub command_in : List ℕ → Found → Option Command
+command_in name found =
+    if bytes_eq name (codes "replay") then Some Replay
+    else if bytes_eq name (codes "check") then Some Check
+    else if bytes_eq name (codes "gen") then (generated_in found >>= λ generated. Some (Gen generated))
+    else if bytes_eq name (codes "bulk") then (generated_in found >>= λ generated. Some (Bulk generated))
+    else None
+
+-- the command has a subcommand
+abbrev pub IsMatched : Command → Type 0
+IsMatched Replay = Unit {0}
+IsMatched Check = Unit {0}
+IsMatched (Gen it) = Unit {0}
+IsMatched (Bulk it) = Unit {0}
+IsMatched Help = ⊥
+
+-- this command comes, or memory was wanting
+abbrev pub Gets : Command → Result Command WordsFault → Type 0
+Gets command (Ok it) = it ≡ command
+Gets command (Err fault.Memory) = Unit {0}
+Gets command (Err fault.Usage) = ⊥

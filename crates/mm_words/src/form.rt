@@ -1,0 +1,69 @@
+//! Commands as `clap` matched them.
+
+ghost use Rattle.std.specs.Prelude.{◌≡◌, ◌≤◌, IfSome};
+ghost use Rattle.clap.specs.Words.{found_of};
+ghost use Rattle.mm_words.specs.Commands.{IsAllowed, IsGenerated};
+ghost use Rattle.mm_words.specs.Forms.{command_in, count_at, generated_in};
+
+use crate::command::{Command, Generated};
+use clap::ArgMatches;
+use mm_base::read_decimal;
+use mm_modules::by_name;
+use mm_schedule::{Header, read_variant};
+
+/// The most events of a generated schedule.
+const MOST: u64 = 20_000;
+
+/// The command of a subcommand with this name and these matches.
+#[tactic(auto, unfolding(crate::specs::Forms::command_in))]
+pub fn command_in(name: &str, matches: &ArgMatches<'_>) -> Option<Command>
+    ensures allowed { IfSome result IsAllowed }
+    ensures matched { result ≡ command_in name.now (found_of matches.now) }
+{
+    match name {
+        "replay" => Some(Command::Replay),
+        "check" => Some(Command::Check),
+        "gen" => {
+            let generated = generated_in(matches)?;
+            Some(Command::Gen(generated))
+        }
+        "bulk" => {
+            let generated = generated_in(matches)?;
+            Some(Command::Bulk(generated))
+        }
+        _ => None,
+    }
+}
+
+/// A generated schedule's words, None where one of them is not what it has to be.
+#[tactic(auto, unfolding(crate::specs::Forms::generated_in))]
+fn generated_in(matches: &ArgMatches<'_>) -> Option<Generated>
+    ensures allowed { IfSome result IsGenerated }
+    ensures matched { result ≡ generated_in (found_of matches.now) }
+{
+    let number = matches.get_str("NUMBER")?;
+    let count = matches.get_str("COUNT")?;
+    let variant = matches.get_str("VARIANT")?;
+    let module = matches.get_str("MODULE")?;
+    let number = read_decimal(number.as_bytes())?;
+    let count = read_count(count)?;
+    let variant = read_variant(variant.as_bytes())?;
+    let module = by_name(module.as_bytes())?;
+    Some(Generated {
+        number,
+        count,
+        header: Header { variant, module },
+    })
+}
+
+/// The number of events that a word writes, None where it is no decimal or over 20,000.
+fn read_count(word: &str) -> Option<u32>
+    ensures few { IfSome result (λ count. count ≤ 20000) }
+    ensures count { result ≡ count_at word.now }
+{
+    let count = read_decimal(word.as_bytes())?;
+    if count > MOST {
+        return None;
+    }
+    Some(count as u32)
+}

@@ -1,0 +1,16 @@
+//! The words that the program is started with.
+#![tactic(auto)]
+
+mod app;
+mod command;
+mod fault;
+mod form;
+mod help;
+mod read;
+#[cfg(test)]
+mod tests;
+
+pub use command::{Command, Generated};
+pub use fault::WordsFault;
+pub use help::help_text;
+pub use read::read_words;

@@ -1,0 +1,84 @@
+//! Words as a command.
+
+ghost use Rattle.std.specs.Prelude.{◌≡◌, Err, IfOk, map};
+ghost use Rattle.std.specs.List.{list_any};
+ghost use Rattle.clap.specs.Words.{kind_of};
+ghost use Rattle.mm_words.specs.Commands.{IsAllowed, Spells, words_of};
+ghost use Rattle.mm_words.specs.Forms.{Gets, IsMatched, is_refused};
+ghost use Rattle.mm_words.specs.declared.command.Command.{Command as Told};
+ghost use Rattle.mm_words.specs.declared.fault.WordsFault.TheVariants as fault;
+
+use crate::app::command_line;
+use crate::command::{Command, is_alone};
+use crate::fault::WordsFault;
+use crate::form::command_in;
+use clap::Error;
+use clap::error::ErrorKind;
+use std::alloc::Global;
+
+/// The most words of a command.
+const LONGEST: usize = 5;
+
+/// The command that these words spell, those after the program's name. `Usage` comes exactly where they spell none,
+/// but for want of memory.
+pub fn read_words(alloc: Global, words: &[&str]) -> Result<Command, WordsFault>
+    ensures ok { IfOk result (λ command. Spells command (map (λ s. s.now) words.now)) }
+    ensures usage { result ≡ Err fault.Usage → (command : Told) → Spells command (map (λ s. s.now) words.now) → ⊥ }
+{
+    if is_alone(words, "--help") {
+        return Ok(Command::Help);
+    }
+    if words.len() > LONGEST || has_refused(words) {
+        return Err(WordsFault::Usage);
+    }
+    let command = parsed(alloc, words)?;
+    if !command.is_spelled(words) {
+        return Err(WordsFault::Usage);
+    }
+    Ok(command)
+}
+
+/// Whether a word is empty, begins with `-` or is `help`: no command but `--help` has such a word.
+fn has_refused(words: &[&str]) -> bool
+    ensures { result ≡ list_any (λ word. is_refused word.now) words.now }
+{
+    words.iter().any(|word| is_refused(word))
+}
+
+fn is_refused(word: &str) -> bool
+    ensures { result ≡ is_refused word.now }
+{
+    word.is_empty() || word.as_bytes()[0] == b'-' || word == "help"
+}
+
+/// The command that `clap` finds in the words.
+fn parsed(alloc: Global, words: &[&str]) -> Result<Command, WordsFault>
+    ensures allowed { IfOk result IsAllowed }
+    ensures gets { (command : Told) → IsAllowed command → IsMatched command
+        → map (λ s. s.now) words.now ≡ words_of command → Gets command result }
+{
+    let Ok(line) = command_line(alloc) else {
+        return Err(WordsFault::Memory);
+    };
+    let matches = match line.try_get_matches_from(words) {
+        Ok(matches) => matches,
+        Err(error) => return Err(fault_of(&error)),
+    };
+    let Some((name, inner)) = matches.subcommand() else {
+        return Err(WordsFault::Usage);
+    };
+    match command_in(name, inner) {
+        Some(command) => Ok(command),
+        None => Err(WordsFault::Usage),
+    }
+}
+
+/// What an error of `clap` comes to.
+fn fault_of(error: &Error) -> WordsFault
+    ensures { kind_of error.now ≡ ErrorKind.OutOfMemory → result ≡ fault.Memory }
+{
+    match error.kind() {
+        ErrorKind::OutOfMemory => WordsFault::Memory,
+        _ => WordsFault::Usage,
+    }
+}
