@@ -1,5 +1,5 @@
 -- What a whole call leaves and counts.
-use Rattle.std.proofs.Common.{◌≡◌, ℕ, Bool, true, false, List, ◌∷◌, length, Option, None, Some, Result, Ok, Err, IfOk, refl, sym, ap, ◌∙◌, subst, arith, inl, inr}
+use Rattle.std.proofs.Common.{◌≡◌, ℕ, Bool, true, false, List, length, Option, None, Some, Result, Ok, Err, IfOk, refl, sym, ap, ◌∙◌, subst, arith, inl, inr}
 use Rattle.std.specs.Result.{result_err}
 use Rattle.mm_base.specs.Faults.{counted}
 use Rattle.mm_platform.specs.declared.fault.StepFault.{StepFault}
@@ -160,4 +160,3 @@ fits meaning lawful old new offer b result c = calls_fit (is_long b) meaning law
 pub one_output : (request : List ℕ) (result : Result BatchAnswer Refusal) → IsFitIn (One request) result → IfOk result (λ answer. length answer.outputs ≡ 1)
 one_output request (Ok answer) fit = fit.counted
 one_output request (Err why) fit = tt
-

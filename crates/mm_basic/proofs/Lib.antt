@@ -7,3 +7,5 @@ pub mod Verdicts
 pub mod Continuing
 pub mod Completeness
 pub mod Turning
+pub mod Calling
+pub mod Going

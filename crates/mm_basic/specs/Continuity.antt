@@ -1,5 +1,5 @@
 -- State continuity: what a call gives from any history that the platform stands for.
-use Rattle.std.specs.Prelude.{◌≡◌, ℕ, ◌-◌, ◌+◌, ◌≤◌, ◌^◌, Bool, true, false, List, Option, None, Some, Result, Ok, Err, ◌⊎◌}
+use Rattle.std.specs.Prelude.{◌≡◌, ℕ, ◌+◌, ◌≤◌, ◌^◌, Bool, true, false, List, Option, None, Some, Result, Ok, Err, ◌⊎◌}
 use Rattle.mm_digest.specs.declared.variant.Variant.TheVariants.{Basic}
 use Rattle.mm_platform.specs.declared.fault.StepFault.{StepFault}
 use Rattle.mm_platform.specs.Standing.{Standing}

@@ -2,11 +2,13 @@
 
 ghost use Rattle.std.specs.Prelude.{◌≡◌, true, false, Err, IfOk, length};
 ghost use Rattle.std.specs.Result.{result_err};
+ghost use Rattle.mm_digest.specs.declared.variant.Variant.TheVariants.{Basic};
 ghost use Rattle.mm_module.specs.Batch.{One};
 ghost use Rattle.mm_module.specs.Batches.{batch_of};
 ghost use Rattle.mm_model.specs.Long.{is_long};
 ghost use Rattle.mm_model.specs.Fit.{IsFit};
 ghost use Rattle.mm_call.specs.Refusals.{fault_in};
+ghost use Rattle.mm_call.specs.CallsOn.{CallsOn};
 ghost use Rattle.mm_basic.specs.Steps.{Reads};
 ghost use Rattle.mm_basic.specs.Continuity.{ReadContinues, CommitContinues, Continues, IsComplete};
 ghost use Rattle.mm_basic.specs.Asks.{Calls, Commits, CommitsFound, StepsBy};
@@ -171,6 +173,8 @@ pub fn ask_batch<M: Module, P: Platform>(
     ensures steps { is_long (batch_of batch.entry) ≡ false →
         StepsBy result (P.standing platform.old) (P.standing platform.new) }
     ensures fits { IfOk result (λ answer. IsFit (batch_of batch.entry) answer) }
+    ensures goes { is_long (batch_of batch.entry) ≡ false → CallsOn Basic (M.meaning «module».now)
+        (P.standing platform.old) (P.standing platform.new) offer.now (batch_of batch.entry) result }
     ensures continuity { Continues (M.meaning «module».now) (P.standing platform.old) (P.standing platform.new)
         offer.now (batch_of batch.entry) result }
     ensures complete { IsComplete (M.meaning «module».now) (P.standing platform.old) (P.standing platform.new)
@@ -194,6 +198,8 @@ pub fn ask<M: Module, P: Platform>(
     ensures steps { is_long (One request.now) ≡ false →
         StepsBy (whole_in result) (P.standing platform.old) (P.standing platform.new) }
     ensures fits { IfOk result (λ answer. IsFit (One request.now) (whole answer)) }
+    ensures goes { is_long (One request.now) ≡ false → CallsOn Basic (M.meaning «module».now)
+        (P.standing platform.old) (P.standing platform.new) offer.now (One request.now) (whole_in result) }
     ensures continuity { Continues (M.meaning «module».now) (P.standing platform.old) (P.standing platform.new)
         offer.now (One request.now) (whole_in result) }
     ensures complete { IsComplete (M.meaning «module».now) (P.standing platform.old) (P.standing platform.new)

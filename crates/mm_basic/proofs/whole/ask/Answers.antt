@@ -5,6 +5,7 @@ use Rattle.mm_model.specs.Fit.{IsFit}
 use Rattle.mm_basic.specs.Asks.{Calls}
 use Rattle.mm_call.specs.Leaving.{whole}
 use Rattle.mm_basic.proofs.Continuing.{continues}
+use Rattle.mm_basic.proofs.Going.{calls_on}
 use Rattle.mm_basic.proofs.Completeness.{complete}
 use Rattle.mm_basic.proofs.Asking.{untouched, blames, steps, fits}
 use Rattle.mm_call.proofs.Leaving.{wholly}
@@ -53,6 +54,21 @@ returns-in-Ok-clause-fits g c =
 pub returns-in-Ok-clause-continuity : goal.returns-in-Ok-clause-continuity
 returns-in-Ok-clause-continuity g c =
     continues (g.M.Module.meaning c.args.module.now) (g.P.Device.standing c.args.platform.now)
+    (g.P.Device.standing c.call_one.new.platform) c.args.offer.now (One c.args.request.now) (Ok (whole c.into_one.result))
+    (subst
+    (λ (a : BatchAnswer). Calls (g.M.Module.meaning c.args.module.now) (g.P.Device.standing c.args.platform.now)
+    (g.P.Device.standing c.call_one.new.platform) c.args.offer.now (One c.args.request.now) (Ok a))
+    (wholly c.in-Ok.answer c.into_one.result c.into_one.ensures.again c.into_one.ensures.position c.into_one.ensures.output c.into_one.ensures.snapshot)
+    c.in-Ok.ensures.calls)
+
+pub returns-in-Err-clause-goes : goal.returns-in-Err-clause-goes
+returns-in-Err-clause-goes g c =
+    calls_on (g.M.Module.meaning c.args.module.now) (g.P.Device.standing c.args.platform.now)
+    (g.P.Device.standing c.call_one.new.platform) c.args.offer.now (One c.args.request.now) (Err c.in-Err.refusal) c.in-Err.ensures.calls
+
+pub returns-in-Ok-clause-goes : goal.returns-in-Ok-clause-goes
+returns-in-Ok-clause-goes g c =
+    calls_on (g.M.Module.meaning c.args.module.now) (g.P.Device.standing c.args.platform.now)
     (g.P.Device.standing c.call_one.new.platform) c.args.offer.now (One c.args.request.now) (Ok (whole c.into_one.result))
     (subst
     (λ (a : BatchAnswer). Calls (g.M.Module.meaning c.args.module.now) (g.P.Device.standing c.args.platform.now)

@@ -1,5 +1,6 @@
 use Rattle.mm_module.specs.Batches.{batch_of}
 use Rattle.mm_basic.proofs.Continuing.{continues}
+use Rattle.mm_basic.proofs.Going.{calls_on}
 use Rattle.mm_basic.proofs.Completeness.{complete}
 use Rattle.mm_basic.proofs.Asking.{untouched, blames, steps, fits}
 use Rattle.mm_basic.proofs.whole.ask_batch.Goals as goal
@@ -32,4 +33,9 @@ returns-clause-continuity g c =
 pub returns-clause-complete : goal.returns-clause-complete
 returns-clause-complete g c =
     complete (g.M.Module.meaning c.args.module.now) (g.P.Device.standing c.args.platform.now)
+    (g.P.Device.standing c.call.new.platform) c.args.offer.now (batch_of c.args.batch) c.call.result c.call.ensures
+
+pub returns-clause-goes : goal.returns-clause-goes
+returns-clause-goes g c =
+    calls_on (g.M.Module.meaning c.args.module.now) (g.P.Device.standing c.args.platform.now)
     (g.P.Device.standing c.call.new.platform) c.args.offer.now (batch_of c.args.batch) c.call.result c.call.ensures
