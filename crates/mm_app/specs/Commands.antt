@@ -6,8 +6,8 @@ use Rattle.mm_base.specs.Streams.{Sends}
 use Rattle.mm_base.specs.declared.fault.WriteFault as write
 use Rattle.mm_base.specs.declared.replay_fault.ReplayFault.{ReplayFault}
 use Rattle.mm_replay.specs.declared.report.Report.{Report}
-use Rattle.mm_replay.specs.Plays.{IsBlamed, is_read_fault, is_write_fault}
-use Rattle.mm_replay.specs.Replays.{Replays, IsUnrefused}
+use Rattle.mm_play.specs.Plays.{IsBlamed, IsUnrefused, is_read_fault, is_write_fault}
+use Rattle.mm_replay.specs.Replays.{Replays}
 use Rattle.mm_app.specs.Status.{status_at, stop_line}
 use Rattle.mm_app.specs.declared.status.Status.{Status}
 use Rattle.mm_app.specs.declared.status.Status.TheVariants.{Done, WriteFault}

@@ -1,7 +1,7 @@
 //! The words of the command line.
 
 ghost use Rattle.std.specs.Prelude.{◌≡◌, ℕ, List, Some, Ok, ◌↔◌, IsTrue};
-ghost use Rattle.mm_replay.specs.Play.{run_of};
+ghost use Rattle.mm_play.specs.Play.{run_of};
 ghost use Rattle.mm_replay.specs.Schedule.{Stage, AtHeader, schedule_answer, schedule_closing};
 ghost use Rattle.mm_replay.specs.Machines.{machine_at};
 ghost use Rattle.mm_app.specs.Commands.{EndsUnrefused, IsReplay, Replayed, ReplaysAndStops, Stops};

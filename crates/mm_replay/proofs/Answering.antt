@@ -1,115 +1,200 @@
 -- A run over the lines of a schedule is the run of its events.
-use Rattle.std.proofs.Common.{◌≡◌, ◌∙◌, ◌+◌, ℕ, Bool, true, false, cond, List, [], ◌∷◌, ◌++◌, length, map, nat_lt, Ok, Err, Option, None, Some, refl, sym, ap}
+use Rattle.std.proofs.Common.{◌≡◌, ◌∙◌, ◌+◌, ◌≤◌, ◌<◌, ℕ, Bool, true, false, cond, ◌||◌, nat_le, nat_lt, List, [], ◌∷◌, ◌++◌, length, map, Result, Ok, Err, Option, None, Some, refl, sym, ap, subst, arith, inl, inr, ◌⊎◌}
+use Rattle.std.specs.List.{sum_by}
+use Rattle.std.proofs.lemmas.Bool.Decides.{nat_tests}
+use Rattle.std.proofs.lemmas.List.Sums.{sum_by-append}
 use Rattle.mm_base.specs.declared.replay_fault.ReplayFault.{ReplayFault}
 use Rattle.mm_base.specs.declared.replay_fault.ReplayFault.TheVariants.{LineLong}
 use Rattle.mm_modules.specs.declared.any.AnyModule.{AnyModule}
+use Rattle.mm_play.specs.declared.player.Refused.TheVariants.{Bad, Much}
+use Rattle.mm_play.specs.Play.{Told, told, stopped, after_writing, line_limit, refusal_at, answered, run}
+use Rattle.mm_play.proofs.Runs.{not_ok, ok_same}
 use Rattle.mm_schedule.specs.Events.{Event}
 use Rattle.mm_schedule.specs.Grammar.{event_at}
 use Rattle.mm_world.specs.Levels.{Digests, by_digests}
 use Rattle.mm_world.specs.Folds.{Followed, followed}
 use Rattle.mm_world.specs.Held.{world_of}
-use Rattle.mm_replay.specs.declared.player.Refused.TheVariants.{Bad, Much}
-use Rattle.mm_replay.specs.Play.{Told, stopped, after_writing, line_limit, refusal_at, answered, run}
-use Rattle.mm_replay.specs.Schedule.{Running, is_too_much, outcome_in, after_event, Stage, InEvents, event_answer, schedule_answer}
+use Rattle.mm_replay.specs.Schedule.{Running, most_events, most_kept, is_too_much, outcome_in, after_event, Stage, InEvents, event_answer, schedule_answer}
 use Rattle.mm_replay.specs.Text.{text_of, texts_of}
-use Rattle.mm_replay.proofs.Runs.{not_ok, ok_same}
 
-abbrev followed_in : Running → List Event → Followed Digests
+abbrev pub followed_in : Running → List Event → Followed Digests
 followed_in r events = followed (world_of r.machine) (by_digests (world_of r.machine)) r.digests r.issued events
 
--- The first lines were answered, each an event; where all were, the run stands behind the last.
-pub record AnswersFrom (r : Running) (lines : List (List ℕ)) (t : Told Stage) : Type 0 where
-  pub done : List (List ℕ)
-  pub rest : List (List ℕ)
+-- behind these lines and their events, the line is one too many
+abbrev pub IsOverFrom : Running → List (List ℕ) → List Event → List ℕ → Type 0
+IsOverFrom r before events line = (most_events ≤ r.events + length before)
+    ⊎ (most_kept < r.read + sum_by length before + length line + sum_by length (followed_in r events).issued)
+
+-- none of these lines was one too many
+abbrev pub IsWithinFrom : Running → List (List ℕ) → Type 0
+IsWithinFrom r lines = (before : List (List ℕ)) (line : List ℕ) (after : List (List ℕ)) (events : List Event)
+    → lines ≡ before ++ line ∷ after → map event_at before ≡ map Some events → IsOverFrom r before events line → ⊥
+
+-- The lines were answered, each an event.
+pub record AnswersFrom (r : Running) (lines : List (List ℕ)) (written : List ℕ) (p : Stage) : Type 0 where
   pub events : List Event
   pub last : Running
-  pub split : lines ≡ done ++ rest
-  pub read : map event_at done ≡ map Some events
-  pub sent : t.written ≡ texts_of (followed_in r events).replies
+  pub read : map event_at lines ≡ map Some events
+  pub sent : written ≡ texts_of (followed_in r events).replies
   pub state : last.digests ≡ (followed_in r events).state
   pub issued : last.issued ≡ (followed_in r events).issued
   pub machine : last.machine ≡ r.machine
-  pub whole : (p : Stage) → t.outcome ≡ Ok p → (rest ≡ []) × (p ≡ InEvents last)
+  pub counted : last.events ≡ r.events + length lines
+  pub bytes : last.read ≡ r.read + sum_by length lines
+  pub stands : p ≡ InEvents last
+  pub within : IsWithinFrom r lines
 
--- no line was answered
-answers_none : (r : Running) (lines : List (List ℕ)) (fault : ReplayFault) → AnswersFrom r lines (stopped fault)
-answers_none r lines fault = record {
-  done = [];
-  rest = lines;
-  events = [];
-  last = r;
-  split = refl;
-  read = refl;
-  sent = refl;
-  state = refl;
-  issued = refl;
-  machine = refl;
-  whole = λ p h. absurd (not_ok fault p h);
-}
+-- whether an event is one too many, in numbers
+pub over_of : (r : Running) (line : List ℕ) → is_too_much r line ≡ true
+    → (most_events ≤ r.events) ⊎ (most_kept < r.read + length line + sum_by length r.issued)
+over_of r line h = by_first (nat_le most_events r.events) refl h
+  where
+    by_first : (many : Bool) → nat_le most_events r.events ≡ many → (many || nat_lt most_kept (r.read + length line + sum_by length r.issued)) ≡ true
+        → (most_events ≤ r.events) ⊎ (most_kept < r.read + length line + sum_by length r.issued)
+    by_first true is h = inl (grind (arith, nat_tests))
+    by_first false is h = inr (grind (arith, nat_tests))
+
+not_over : (r : Running) (line : List ℕ) → is_too_much r line ≡ false
+    → (most_events ≤ r.events) ⊎ (most_kept < r.read + length line + sum_by length r.issued) → ⊥
+not_over r line h over = by_first (nat_le most_events r.events) refl h
+  where
+    by_first : (many : Bool) → nat_le most_events r.events ≡ many → (many || nat_lt most_kept (r.read + length line + sum_by length r.issued)) ≡ false → ⊥
+    by_first true is h = cc
+    by_first false is h = elim over [ inl few ↦ grind (arith, nat_tests) | inr few ↦ grind (arith, nat_tests) ]
+
+-- the bytes of one more line
+sums_more : (line : List ℕ) (lines : List (List ℕ)) → sum_by length (line ∷ lines) ≡ length line + sum_by length lines
+sums_more line lines =
+    let one : sum_by length (line ∷ []) ≡ length line = omega arith in
+    let both : sum_by length (line ∷ lines) ≡ sum_by length (line ∷ []) + sum_by length lines = sum_by-append length (line ∷ []) lines in
+    omega (arith, one, both)
+
+same_head : (a b : List ℕ) (us vs : List (List ℕ)) → a ∷ us ≡ b ∷ vs → a ≡ b
+same_head a b us vs h = cc
+
+same_tail : (a b : List ℕ) (us vs : List (List ℕ)) → a ∷ us ≡ b ∷ vs → us ≡ vs
+same_tail a b us vs h = cc
+
+-- no line is behind the last
+no_line : (before : List (List ℕ)) (line : List ℕ) (after : List (List ℕ)) → [] ≡ before ++ line ∷ after → ⊥
+no_line [] line after h = cc
+no_line (first ∷ before) line after h = cc
+
+event_head : (a b : Option Event) (us vs : List (Option Event)) → a ∷ us ≡ b ∷ vs → a ≡ b
+event_head a b us vs h = cc
+
+event_tail : (a b : Option Event) (us vs : List (Option Event)) → a ∷ us ≡ b ∷ vs → us ≡ vs
+event_tail a b us vs h = cc
+
+same_event : (a b : Event) → Some a ≡ Some b → a ≡ b
+same_event a b h = cc
+
+-- the first line was not one too many, and none behind it
+within_more : (r : Running) (line : List ℕ) (lines : List (List ℕ)) (event : Event) → event_at line ≡ Some event → is_too_much r line ≡ false
+    → IsWithinFrom (after_event r line event) lines → IsWithinFrom r (line ∷ lines)
+within_more r line lines event is few on [] l after [] split read over =
+    not_over r line few (subst (λ (x : List ℕ). (most_events ≤ r.events) ⊎ (most_kept < r.read + length x + sum_by length r.issued)) (sym (same_head line l lines after split))
+    (elim over [ inl h ↦ inl (omega (arith, h)) | inr h ↦ inr (omega (arith, h)) ]))
+within_more r line lines event is few on [] l after (e ∷ events) split read over = cc
+within_more r line lines event is few on (first ∷ before) l after [] split read over = cc
+within_more r line lines event is few on (first ∷ before) l after (e ∷ events) split read over =
+    let head : line ≡ first = same_head line first lines (before ++ l ∷ after) split in
+    let same : e ≡ event = same_event e event (sym (event_head (event_at first) (Some e) (map event_at before) (map Some events) read) ∙ ap event_at (sym head) ∙ is) in
+    let next = after_event r line event in
+    let issued : (followed_in r (e ∷ events)).issued ≡ (followed_in next events).issued = ap (λ (x : Event). (followed_in r (x ∷ events)).issued) same in
+    let sums : sum_by length (first ∷ before) ≡ length line + sum_by length before = sums_more first before ∙ ap (λ (x : List ℕ). length x + sum_by length before) (sym head) in
+    on before l after events (same_tail line first lines (before ++ l ∷ after) split)
+    (event_tail (event_at first) (Some e) (map event_at before) (map Some events) read)
+    (elim over [
+      | inl h ↦ inl (omega (arith, h))
+      | inr h ↦ inr (omega (arith, h, sums, ap (sum_by length) issued))
+    ])
+
+abbrev rest_of : (List ℕ → Option AnyModule) → List (List ℕ) → ℕ → Stage → Told Stage
+rest_of header lines number next = run (schedule_answer header) (number + 1) next lines
+
+written_of : (t u : Told Stage) → t ≡ u → t.written ≡ u.written
+written_of t u h = ap (λ (x : Told Stage). x.written) h
+
+outcome_is : (t u : Told Stage) → t ≡ u → t.outcome ≡ u.outcome
+outcome_is t u h = ap (λ (x : Told Stage). x.outcome) h
+
+told_both : (t : Told Stage) (written : List ℕ) (outcome : Result Stage ReplayFault) → t.written ≡ written → t.outcome ≡ outcome → t ≡ told written outcome
+told_both t written outcome w o = λ i. told (w i) (o i)
 
 -- one more line was answered in front
-answers_more : (r : Running) (line : List ℕ) (lines : List (List ℕ)) (event : Event) (t : Told Stage)
-    → event_at line ≡ Some event → AnswersFrom (after_event r line event) lines t
-    → AnswersFrom r (line ∷ lines) (after_writing (text_of (outcome_in r event).reply) t)
-answers_more r line lines event t is a = record {
-  done = line ∷ a.done;
-  rest = a.rest;
+answers_more : (r : Running) (line : List ℕ) (lines : List (List ℕ)) (event : Event) (written : List ℕ) (p : Stage)
+    → event_at line ≡ Some event → is_too_much r line ≡ false → AnswersFrom (after_event r line event) lines written p
+    → AnswersFrom r (line ∷ lines) (text_of (outcome_in r event).reply ++ written) p
+answers_more r line lines event written p is few a = record {
   events = event ∷ a.events;
   last = a.last;
-  split = ap (λ ls. line ∷ ls) a.split;
-  read = ap (λ first. first ∷ map event_at a.done) is ∙ ap (λ others. Some event ∷ others) a.read;
+  read = ap (λ first. first ∷ map event_at lines) is ∙ ap (λ others. Some event ∷ others) a.read;
   sent = ap (λ bytes. text_of (outcome_in r event).reply ++ bytes) a.sent;
   state = a.state;
   issued = a.issued;
   machine = a.machine;
-  whole = a.whole;
+  counted = omega (arith, a.counted);
+  bytes = omega (arith, a.bytes, sums_more line lines);
+  stands = a.stands;
+  within = within_more r line lines event is few a.within;
 }
 
 -- what comes behind the line's event
 abbrev Onward : (List ℕ → Option AnyModule) → Running → List ℕ → List (List ℕ) → ℕ → Type 0
 Onward header r line lines number =
-    (event : Event) → AnswersFrom (after_event r line event) lines (run (schedule_answer header) (number + 1) (InEvents (after_event r line event)) lines)
+    (event : Event) (written : List ℕ) (p : Stage) → rest_of header lines number (InEvents (after_event r line event)) ≡ told written (Ok p)
+    → AnswersFrom (after_event r line event) lines written p
 
-abbrev rest_of : (List ℕ → Option AnyModule) → List (List ℕ) → ℕ → Stage → Told Stage
-rest_of header lines number next = run (schedule_answer header) (number + 1) next lines
+not_stopped : (why : ReplayFault) (written : List ℕ) (p : Stage) → stopped why ≡ told written (Ok p) → ⊥
+not_stopped why written p h = not_ok why p (outcome_is (stopped why) (told written (Ok p)) h)
 
 -- by whether the event is one too many
-answers_event : (header : List ℕ → Option AnyModule) (r : Running) (line : List ℕ) (lines : List (List ℕ)) (number : ℕ) (event : Event) (much : Bool)
-    → event_at line ≡ Some event → Onward header r line lines number
-    → AnswersFrom r (line ∷ lines) (answered (rest_of header lines number) number
-    (cond much (Err Much) (Ok (text_of (outcome_in r event).reply, InEvents (after_event r line event)))))
-answers_event header r line lines number event true is on = answers_none r (line ∷ lines) (refusal_at number Much)
-answers_event header r line lines number event false is on =
-    answers_more r line lines event (rest_of header lines number (InEvents (after_event r line event))) is (on event)
+answers_event : (header : List ℕ → Option AnyModule) (r : Running) (line : List ℕ) (lines : List (List ℕ)) (number : ℕ) (event : Event) (written : List ℕ) (p : Stage) (much : Bool)
+    → is_too_much r line ≡ much → event_at line ≡ Some event → Onward header r line lines number
+    → answered (rest_of header lines number) number
+    (cond much (Err Much) (Ok (text_of (outcome_in r event).reply, InEvents (after_event r line event)))) ≡ told written (Ok p)
+    → AnswersFrom r (line ∷ lines) written p
+answers_event header r line lines number event written p true full is on h = absurd (not_stopped (refusal_at number Much) written p h)
+answers_event header r line lines number event written p false full is on h =
+    let t = rest_of header lines number (InEvents (after_event r line event)) in
+    let text = text_of (outcome_in r event).reply in
+    let went = told_both t t.written (Ok p) refl (outcome_is (after_writing text t) (told written (Ok p)) h) in
+    subst (λ (w : List ℕ). AnswersFrom r (line ∷ lines) w p) (written_of (after_writing text t) (told written (Ok p)) h)
+    (answers_more r line lines event t.written p is full (on event t.written p went))
 
 -- by what event the line is
-answers_found : (header : List ℕ → Option AnyModule) (r : Running) (line : List ℕ) (lines : List (List ℕ)) (number : ℕ) (found : Option Event)
+answers_found : (header : List ℕ → Option AnyModule) (r : Running) (line : List ℕ) (lines : List (List ℕ)) (number : ℕ) (written : List ℕ) (p : Stage) (found : Option Event)
     → event_at line ≡ found → Onward header r line lines number
-    → AnswersFrom r (line ∷ lines) (answered (rest_of header lines number) number (event_answer r line found))
-answers_found header r line lines number None is on = answers_none r (line ∷ lines) (refusal_at number Bad)
-answers_found header r line lines number (Some event) is on = answers_event header r line lines number event (is_too_much r line) is on
+    → answered (rest_of header lines number) number (event_answer r line found) ≡ told written (Ok p)
+    → AnswersFrom r (line ∷ lines) written p
+answers_found header r line lines number written p None is on h = absurd (not_stopped (refusal_at number Bad) written p h)
+answers_found header r line lines number written p (Some event) is on h =
+    answers_event header r line lines number event written p (is_too_much r line) refl is on h
 
 -- by whether the line is too long
-answers_line : (header : List ℕ → Option AnyModule) (r : Running) (line : List ℕ) (lines : List (List ℕ)) (number : ℕ) (long : Bool)
+answers_line : (header : List ℕ → Option AnyModule) (r : Running) (line : List ℕ) (lines : List (List ℕ)) (number : ℕ) (written : List ℕ) (p : Stage) (long : Bool)
     → Onward header r line lines number
-    → AnswersFrom r (line ∷ lines) (cond long (stopped (LineLong number)) (answered (rest_of header lines number) number (event_answer r line (event_at line))))
-answers_line header r line lines number true on = answers_none r (line ∷ lines) (LineLong number)
-answers_line header r line lines number false on = answers_found header r line lines number (event_at line) refl on
+    → cond long (stopped (LineLong number)) (answered (rest_of header lines number) number (event_answer r line (event_at line))) ≡ told written (Ok p)
+    → AnswersFrom r (line ∷ lines) written p
+answers_line header r line lines number written p true on h = absurd (not_stopped (LineLong number) written p h)
+answers_line header r line lines number written p false on h = answers_found header r line lines number written p (event_at line) refl on h
 
-pub answers_from : (header : List ℕ → Option AnyModule) (lines : List (List ℕ)) (number : ℕ) (r : Running)
-    → AnswersFrom r lines (run (schedule_answer header) number (InEvents r) lines)
-answers_from header [] number r = record {
-  done = [];
-  rest = [];
+pub answers_from : (header : List ℕ → Option AnyModule) (lines : List (List ℕ)) (number : ℕ) (r : Running) (written : List ℕ) (p : Stage)
+    → run (schedule_answer header) number (InEvents r) lines ≡ told written (Ok p) → AnswersFrom r lines written p
+answers_from header [] number r written p h = record {
   events = [];
   last = r;
-  split = refl;
   read = refl;
-  sent = refl;
+  sent = sym (written_of (told [] (Ok (InEvents r))) (told written (Ok p)) h);
   state = refl;
   issued = refl;
   machine = refl;
-  whole = λ p h. (refl, sym (ok_same (InEvents r) p h));
+  counted = omega arith;
+  bytes = omega arith;
+  stands = sym (ok_same (InEvents r) p (outcome_is (told [] (Ok (InEvents r))) (told written (Ok p)) h));
+  within = λ before line after events split read over. no_line before line after split;
 }
-answers_from header (line ∷ lines) number r =
-    answers_line header r line lines number (nat_lt line_limit (length line)) (λ event. answers_from header lines (number + 1) (after_event r line event))
+answers_from header (line ∷ lines) number r written p h =
+    answers_line header r line lines number written p (nat_lt line_limit (length line))
+    (λ event w q. answers_from header lines (number + 1) (after_event r line event) w q) h

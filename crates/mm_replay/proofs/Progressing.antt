@@ -13,10 +13,10 @@ use Rattle.mm_world.specs.Held as held
 use Rattle.std.specs.Io.KnownBytes.{Appends}
 use Rattle.mm_base.specs.Streams.{Sends}
 use Rattle.mm_base.specs.declared.fault.WriteFault.{WriteFault}
-use Rattle.mm_replay.specs.declared.player.Refused.{Refused}
-use Rattle.mm_replay.specs.declared.player.Refused.TheVariants.{Much}
+use Rattle.mm_play.specs.declared.player.Refused.{Refused}
+use Rattle.mm_play.specs.declared.player.Refused.TheVariants.{Much}
 use Rattle.mm_replay.specs.Issues.{Issues}
-use Rattle.mm_replay.specs.Takes.{IsFrontOf}
+use Rattle.mm_play.specs.Takes.{IsFrontOf}
 use Rattle.mm_replay.specs.Text.{text_of}
 use Rattle.mm_replay.specs.Schedule.{Running, outcome_in, after_event, is_too_much, event_answer, Stage, InEvents}
 use Rattle.mm_replay.proofs.Issuing.{outcome_issues}

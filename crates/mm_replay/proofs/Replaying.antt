@@ -1,34 +1,22 @@
 -- A replay of a whole schedule, from what the loop over its lines did.
-use Rattle.std.proofs.Common.{◌≡◌, ◌∙◌, ℕ, List, ◌++◌, length, Option, Some, None, Result, Ok, Err, inl, inr, sym, ap, subst, append-nil}
-use Rattle.std.specs.Io.KnownBytes.{Appends, Consumes}
+use Rattle.std.proofs.Common.{◌≡◌, ◌∙◌, ℕ, List, length, Option, Some, Result, Ok, Err, sym, ap, subst}
+use Rattle.std.specs.Io.KnownBytes.{Appends}
 use Rattle.mm_base.specs.Streams.{Sends}
 use Rattle.mm_base.specs.declared.fault.WriteFault as write
 use Rattle.mm_schedule.specs.Replies.{end_line}
 use Rattle.mm_replay.specs.declared.progress.Progress.{Progress}
 use Rattle.mm_replay.specs.Progress.{stage_of}
-use Rattle.mm_replay.specs.Takes.{IsFrontOf}
+use Rattle.mm_play.specs.Takes.{IsFrontOf}
 use Rattle.mm_base.specs.declared.replay_fault.ReplayFault.{ReplayFault}
-use Rattle.mm_base.specs.declared.replay_fault.ReplayFault.TheVariants.{Memory, ReadFault, WriteFault, BadLine, LineLong, TooMuch}
 use Rattle.mm_world.specs.Laws.{BasicIsExpected, ExpectedRuns}
 use Rattle.mm_replay.specs.declared.report.Report.{Report}
-use Rattle.mm_replay.specs.Play.{Told, told, run, run_of}
-use Rattle.mm_replay.specs.Plays.{ForWhole, Settles, Plays}
+use Rattle.mm_play.specs.Play.{Told, run, run_of}
+use Rattle.mm_play.specs.Plays.{IsUnrefused, Settles, Plays}
 use Rattle.mm_replay.specs.Schedule.{Stage, AtHeader, schedule_answer, schedule_closing}
 use Rattle.mm_replay.specs.Machines.{machine_at}
-use Rattle.mm_replay.specs.Replays.{Reports, Replays, IsUnrefused}
-use Rattle.mm_replay.proofs.Runs.{not_ok}
+use Rattle.mm_replay.specs.Replays.{Reports, Replays}
+use Rattle.mm_play.proofs.Completing.{completed, settles_err}
 use Rattle.mm_replay.proofs.Telling.{tells}
-
--- an answer other than Ok means the same for any call
-settles_err : {P : Type 0} (A B : Type 0) (lines : List (List ℕ) → Told P) (whole : List ℕ → Told P) (next : P) (left : Option (List ℕ)) (taken sent : List ℕ) (fault : ReplayFault)
-    → (let r : Result A ReplayFault = Err fault in Settles lines whole next left taken sent r)
-    → (let r : Result B ReplayFault = Err fault in Settles lines whole next left taken sent r)
-settles_err A B lines whole next left taken sent Memory s = s
-settles_err A B lines whole next left taken sent ReadFault s = s
-settles_err A B lines whole next left taken sent WriteFault s = s
-settles_err A B lines whole next left taken sent (BadLine n) s = s
-settles_err A B lines whole next left taken sent (LineLong n) s = s
-settles_err A B lines whole next left taken sent TooMuch s = s
 
 abbrev lines_run : List (List ℕ) → Told Stage
 lines_run lines = run (schedule_answer machine_at) 1 AtHeader lines
@@ -75,40 +63,11 @@ replays_err law runs first is_first left left' received received' next result fa
       reported = tt;
     }
 
--- what holds of the whole input holds of all bytes there were
-whole_holds : (left left' : Option (List ℕ)) (taken : List ℕ) (holds : List ℕ → Type 0) → Consumes left left' taken → ForWhole left' taken holds
-    → (bytes : List ℕ) → left ≡ Some bytes → holds bytes
-whole_holds None left' taken holds c w bytes is = absurd (none_some is)
-  where
-    none_some : (let o : Option (List ℕ) = None in o ≡ Some bytes) → ⊥
-    none_some h = cc
-whole_holds (Some xs) None taken holds c w bytes is = absurd c
-whole_holds (Some xs) (Some ys) taken holds c w bytes is =
-    let all : xs ≡ bytes = some_same xs bytes is in
-    elim w [
-      | inl h ↦ subst holds (sym c ∙ all) (h ys)
-      | inr h ↦ subst holds (sym (c ∙ ap (λ (l : List ℕ). taken ++ l) h.0 ∙ append-nil taken) ∙ all) h.1
-    ]
-  where
-    some_same : (a b : List ℕ) → (let o : Option (List ℕ) = Some a in o ≡ Some b) → a ≡ b
-    some_same a b h = cc
-
-clashes : (left left' : Option (List ℕ)) (taken sent : List ℕ) (fault : ReplayFault) → Consumes left left' taken
-    → ForWhole left' taken (λ input. whole_run input ≡ told sent (Err fault))
-    → (bytes : List ℕ) (end : Stage) → left ≡ Some bytes → (whole_run bytes).outcome ≡ Ok end → ⊥
-clashes left left' taken sent fault c w bytes end is ran =
-    not_ok fault end (sym (ap (λ (t : Told Stage). t.outcome) (whole_holds left left' taken (λ input. whole_run input ≡ told sent (Err fault)) c w bytes is)) ∙ ran)
-
 -- a schedule within the grammar and the limits is not refused
-pub completed : (left left' received received' : Option (List ℕ)) (result : Result Report ReplayFault) → Replays left left' received received' result
+pub unrefused : (left left' received received' : Option (List ℕ)) (result : Result Report ReplayFault) → Replays left left' received received' result
     → (bytes : List ℕ) (end : Stage) → left ≡ Some bytes → (run_of (schedule_answer machine_at) schedule_closing AtHeader bytes).outcome ≡ Ok end → IsUnrefused result
-completed left left' received received' (Ok report) r bytes end is ran = tt
-completed left left' received received' (Err Memory) r bytes end is ran = tt
-completed left left' received received' (Err ReadFault) r bytes end is ran = tt
-completed left left' received received' (Err WriteFault) r bytes end is ran = tt
-completed left left' received received' (Err (BadLine n)) r bytes end is ran = clashes left left' r.taken r.sent (BadLine n) r.consumed r.settled bytes end is ran
-completed left left' received received' (Err (LineLong n)) r bytes end is ran = clashes left left' r.taken r.sent (LineLong n) r.consumed r.settled bytes end is ran
-completed left left' received received' (Err TooMuch) r bytes end is ran = clashes left left' r.taken r.sent TooMuch r.consumed r.settled bytes end is ran
+unrefused left left' received received' result r bytes end is ran =
+    completed lines_run whole_run r.next left left' r.taken r.sent result r.consumed r.settled bytes end is ran
 
 -- the last line, or a front of it, went out
 pub cut_closing : (stage : Stage) (progress : Option Progress) (r : Progress) (old new : Option (List ℕ)) (result : Result (Unit {0}) write.WriteFault)

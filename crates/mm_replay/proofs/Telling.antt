@@ -1,11 +1,18 @@
 -- From a run over lines to what the whole schedule is answered.
-use Rattle.std.proofs.Common.{◌≡◌, ◌∙◌, ◌+◌, ℕ, Bool, true, false, cond, List, [], ◌∷◌, ◌++◌, length, map, nat_lt, Result, Ok, Err, Option, None, Some, refl, sym, ap, subst, append-nil, inl, inr, ◌⊎◌}
-use Rattle.mm_base.specs.Input.{lines_of, tail_of}
+use Rattle.std.proofs.Common.{◌≡◌, ◌∙◌, ◌+◌, ℕ, Bool, true, false, cond, List, [], ◌∷◌, ◌++◌, length, nat_lt, Result, Ok, Err, Option, None, Some, refl, sym, ap, subst, append-nil, arith, inl, inr, ◌⊎◌}
+use Rattle.std.specs.List.{sum_by}
 use Rattle.mm_base.specs.declared.replay_fault.ReplayFault.{ReplayFault}
-use Rattle.mm_base.specs.declared.replay_fault.ReplayFault.TheVariants.{Memory, ReadFault, WriteFault, BadLine, LineLong, TooMuch}
+use Rattle.mm_base.specs.declared.replay_fault.ReplayFault.TheVariants.{LineLong}
 use Rattle.mm_modules.specs.declared.any.AnyModule.{AnyModule}
 use Rattle.mm_modules.specs.Modules.{meaning_of}
 use Rattle.mm_model.specs.History.{requests_of}
+use Rattle.mm_play.specs.declared.player.Refused.{Refused}
+use Rattle.mm_play.specs.declared.player.Refused.TheVariants.{Bad, Much}
+use Rattle.mm_play.specs.Play.{Told, told, stopped, line_limit, refusal_at, answered, run, run_of}
+use Rattle.mm_play.specs.Plays.{Settles}
+use Rattle.mm_play.specs.Tells.{Answered, Finished, RefusesMuch}
+use Rattle.mm_play.proofs.Runs.{not_ok, ok_same}
+use Rattle.mm_play.proofs.Telling.{tells_by, tells_more}
 use Rattle.mm_schedule.specs.Events.{Event}
 use Rattle.mm_schedule.specs.Grammar.{event_at}
 use Rattle.mm_schedule.specs.Machine.{Runs}
@@ -13,15 +20,10 @@ use Rattle.mm_schedule.specs.Replies.{end_line}
 use Rattle.mm_world.specs.Folds.{expected, replies_by_digests}
 use Rattle.mm_world.specs.Held.{world_key, world_of}
 use Rattle.mm_world.specs.Laws.{BasicIsExpected, ExpectedRuns}
-use Rattle.mm_replay.specs.declared.player.Refused.TheVariants.{Bad}
-use Rattle.mm_replay.specs.Play.{Told, told, stopped, after_writing, line_limit, refusal_at, answered, run, ended, goes_on, run_of}
-use Rattle.mm_replay.specs.Plays.{ForWhole, Settles}
-use Rattle.mm_replay.specs.Schedule.{begun, Stage, AtHeader, InEvents, header_answer, schedule_answer, schedule_closing}
-use Rattle.mm_replay.specs.Takes.{IsFrontOf}
-use Rattle.mm_replay.specs.Text.{texts_of}
-use Rattle.mm_replay.specs.Headline.{IsContinuous, AnswersEvents, AnswersLines, AnswersAll, AnswersFirst, Tells}
-use Rattle.mm_replay.proofs.Runs.{not_ok, ok_same}
-use Rattle.mm_replay.proofs.Answering.{AnswersFrom, answers_from}
+use Rattle.mm_replay.specs.Schedule.{Running, begun, is_too_much, outcome_in, after_event, Stage, AtHeader, InEvents, event_answer, header_answer, schedule_answer, schedule_closing}
+use Rattle.mm_replay.specs.Text.{text_of, texts_of}
+use Rattle.mm_replay.specs.Headline.{IsContinuous, IsWithinLimits, AnswersEvents, AnswersLines, AnswersAll, IsTooMuch, Tells, unended}
+use Rattle.mm_replay.proofs.Answering.{AnswersFrom, answers_from, over_of}
 
 -- the laws of whole runs give the headline
 continuous : BasicIsExpected → ExpectedRuns → (machine : AnyModule) (events : List Event) → IsContinuous (world_of machine) events
@@ -32,166 +34,158 @@ continuous law runs machine events = λ clear genuine.
       runs = subst (λ rs. Runs (meaning_of machine) [] events rs (requests_of (expected (world_of machine) events).state.batches)) (sym a.replies) (runs (world_of machine) events);
       judged = a.replies;
       count = a.stands.count;
+      shown = ap length a.issued;
     }
 
--- where a run over all lines stands
-abbrev EndsAt : (List ℕ → Option AnyModule) → List (List ℕ) → List ℕ → Stage → Type 0
-EndsAt header lines written AtHeader = lines ≡ []
-EndsAt header lines written (InEvents last) = AnswersEvents header lines (written ++ end_line last.digests.count (length last.issued)) end_line
+-- The header was answered, and the lines behind it.
+record HeadedFrom (header : List ℕ → Option AnyModule) (lines : List (List ℕ)) (written : List ℕ) (p : Stage) : Type 0 where
+  first : List ℕ
+  others : List (List ℕ)
+  machine : AnyModule
+  split : lines ≡ first ∷ others
+  headed : header first ≡ Some machine
+  answers : AnswersFrom (begun machine) others written p
 
--- The first lines were answered; where all were, the run stands behind them.
-record StartsOut (header : List ℕ → Option AnyModule) (lines : List (List ℕ)) (t : Told Stage) : Type 0 where
-  done : List (List ℕ)
-  rest : List (List ℕ)
-  split : lines ≡ done ++ rest
-  answers : AnswersLines header done t.written
-  whole : (p : Stage) → t.outcome ≡ Ok p → (rest ≡ []) × EndsAt header lines t.written p
+-- a run over lines that were all answered: there is none, or a header is the first
+abbrev Headed : (List ℕ → Option AnyModule) → List (List ℕ) → List ℕ → Stage → Type 0
+Headed header lines written p = ((lines ≡ []) × (written ≡ []) × (p ≡ AtHeader)) ⊎ HeadedFrom header lines written p
 
-starts_none : (header : List ℕ → Option AnyModule) (lines : List (List ℕ)) (fault : ReplayFault) → StartsOut header lines (stopped fault)
-starts_none header lines fault = record {
-  done = [];
-  rest = lines;
+outcome_is : (t u : Told Stage) → t ≡ u → t.outcome ≡ u.outcome
+outcome_is t u h = ap (λ (x : Told Stage). x.outcome) h
+
+headed_found : (header : List ℕ → Option AnyModule) (first : List ℕ) (others : List (List ℕ)) (written : List ℕ) (p : Stage) (found : Option AnyModule) → header first ≡ found
+    → answered (λ next. run (schedule_answer header) (1 + 1) next others) 1 (header_answer found) ≡ told written (Ok p)
+    → Headed header (first ∷ others) written p
+headed_found header first others written p None is h =
+    absurd (not_ok (refusal_at 1 Bad) p (outcome_is (stopped (refusal_at 1 Bad)) (told written (Ok p)) h))
+headed_found header first others written p (Some machine) is h = inr (record {
+  first = first;
+  others = others;
+  machine = machine;
   split = refl;
-  answers = inl (refl, refl);
-  whole = λ p h. absurd (not_ok fault p h);
-}
+  headed = is;
+  answers = answers_from header others (1 + 1) (begun machine) written p h;
+})
 
-starts_events : BasicIsExpected → ExpectedRuns → (header : List ℕ → Option AnyModule) (first : List ℕ) (others : List (List ℕ)) (i : AnyModule) (t : Told Stage)
-    → header first ≡ Some i → AnswersFrom (begun i) others t → StartsOut header (first ∷ others) t
-starts_events law runs header first others i t is a = record {
-  done = first ∷ a.done;
-  rest = a.rest;
-  split = ap (λ ls. first ∷ ls) a.split;
-  answers = inr (record {
-    first = first;
-    others = a.done;
-    machine = i;
-    events = a.events;
-    split = refl;
-    headed = is;
-    read = a.read;
-    told = a.sent ∙ sym (append-nil (texts_of (replies_by_digests (world_of i) a.events).replies));
-    headline = continuous law runs i a.events;
-  });
-  whole = λ p h. let w = a.whole p h in (
-    w.0,
-    subst (EndsAt header (first ∷ others) t.written) (sym w.1) (record {
-      first = first;
-      others = others;
-      machine = i;
+headed_line : (header : List ℕ → Option AnyModule) (first : List ℕ) (others : List (List ℕ)) (written : List ℕ) (p : Stage) (long : Bool)
+    → cond long (stopped (LineLong 1)) (answered (λ next. run (schedule_answer header) (1 + 1) next others) 1 (header_answer (header first))) ≡ told written (Ok p)
+    → Headed header (first ∷ others) written p
+headed_line header first others written p true h =
+    absurd (not_ok (LineLong 1) p (outcome_is (stopped (LineLong 1)) (told written (Ok p)) h))
+headed_line header first others written p false h = headed_found header first others written p (header first) refl h
+
+headed : (header : List ℕ → Option AnyModule) (lines : List (List ℕ)) (written : List ℕ) (p : Stage)
+    → run (schedule_answer header) 1 AtHeader lines ≡ told written (Ok p) → Headed header lines written p
+headed header [] written p h = inl (
+  refl,
+  sym (ap (λ (t : Told Stage). t.written) h),
+  sym (ok_same AtHeader p (outcome_is (told [] (Ok AtHeader)) (told written (Ok p)) h)),
+)
+headed header (first ∷ others) written p h = headed_line header first others written p (nat_lt line_limit (length first)) h
+
+-- the limits, from the header on
+within_limits : (machine : AnyModule) (others : List (List ℕ)) (written : List ℕ) (p : Stage) → AnswersFrom (begun machine) others written p → IsWithinLimits machine others
+within_limits machine others written p a before line after events split read over =
+    a.within before line after events split read (elim over [ inl h ↦ inl (omega (arith, h)) | inr h ↦ inr (omega (arith, h)) ])
+
+-- these lines were answered: what was written, and what any last line adds
+answers_events : (law : BasicIsExpected) (runs : ExpectedRuns) (header : List ℕ → Option AnyModule) (lines : List (List ℕ)) (said written : List ℕ) (p : Stage) (last : ℕ → ℕ → List ℕ)
+    (h : HeadedFrom header lines said p)
+    → written ≡ said ++ last h.answers.last.digests.count (length h.answers.last.issued)
+    → AnswersEvents header lines written last
+answers_events law runs header lines said written p last h whole =
+    let a = h.answers in
+    let r = replies_by_digests (world_of h.machine) a.events in
+    record {
+      first = h.first;
+      others = h.others;
+      machine = h.machine;
       events = a.events;
-      split = refl;
-      headed = is;
-      read = ap (map event_at) (a.split ∙ ap (λ r. a.done ++ r) w.0 ∙ append-nil a.done) ∙ a.read;
-      told = ap (λ w. w ++ end_line a.last.digests.count (length a.last.issued)) a.sent
-          ∙ ap (λ n. texts_of (replies_by_digests (world_of i) a.events).replies ++ n)
-          (ap (λ d. end_line d.count (length a.last.issued)) a.state ∙ ap (λ ss. end_line (replies_by_digests (world_of i) a.events).state.count (length ss)) a.issued);
-      headline = continuous law runs i a.events;
-    }),
-  );
-}
+      split = h.split;
+      headed = h.headed;
+      read = a.read;
+      told = whole ∙ ap (λ (w : List ℕ). w ++ last a.last.digests.count (length a.last.issued)) a.sent
+          ∙ ap (λ (n : List ℕ). texts_of r.replies ++ n)
+          (ap (λ (n : ℕ). last n (length a.last.issued)) (ap (λ d. d.count) a.state) ∙ ap (λ (ss : List (List ℕ)). last r.state.count (length ss)) a.issued);
+      within = within_limits h.machine h.others said p a;
+      headline = continuous law runs h.machine a.events;
+    }
 
-starts_found : BasicIsExpected → ExpectedRuns → (header : List ℕ → Option AnyModule) (first : List ℕ) (others : List (List ℕ)) (found : Option AnyModule)
-    → header first ≡ found
-    → StartsOut header (first ∷ others) (answered (λ next. run (schedule_answer header) (1 + 1) next others) 1 (header_answer found))
-starts_found law runs header first others None is = starts_none header (first ∷ others) (refusal_at 1 Bad)
-starts_found law runs header first others (Some i) is =
-    starts_events law runs header first others i (run (schedule_answer header) (1 + 1) (InEvents (begun i)) others) is (answers_from header others (1 + 1) (begun i))
+answers_lines : (law : BasicIsExpected) (runs : ExpectedRuns) (header : List ℕ → Option AnyModule) (lines : List (List ℕ)) (written : List ℕ)
+    → Answered (schedule_answer header) AtHeader lines written → AnswersLines header lines written
+answers_lines law runs header lines written a = elim (headed header lines written a.0 a.1) [
+  | inl none ↦ inl (none.0, none.1)
+  | inr h ↦ inr (answers_events law runs header lines written written a.0 unended h (sym (append-nil written)))
+]
 
-starts_line : BasicIsExpected → ExpectedRuns → (header : List ℕ → Option AnyModule) (first : List ℕ) (others : List (List ℕ)) (long : Bool)
-    → StartsOut header (first ∷ others) (cond long (stopped (LineLong 1)) (answered (λ next. run (schedule_answer header) (1 + 1) next others) 1 (header_answer (header first))))
-starts_line law runs header first others true = starts_none header (first ∷ others) (LineLong 1)
-starts_line law runs header first others false = starts_found law runs header first others (header first) refl
+-- the last line needs a header
+closes_none : (p : Stage) (last : List ℕ) → p ≡ AtHeader → schedule_closing p ≡ Some last → ⊥
+closes_none AtHeader last is h = cc
+closes_none (InEvents r) last is h = cc
 
--- the run over the lines of a schedule
-starts_out : BasicIsExpected → ExpectedRuns → (header : List ℕ → Option AnyModule) (lines : List (List ℕ))
-    → StartsOut header lines (run (schedule_answer header) 1 AtHeader lines)
-starts_out law runs header [] = record {
-  done = [];
-  rest = [];
-  split = refl;
-  answers = inl (refl, refl);
-  whole = λ p h. (refl, subst (EndsAt header [] []) (ok_same AtHeader p h) refl);
-}
-starts_out law runs header (first ∷ others) = starts_line law runs header first others (nat_lt line_limit (length first))
-
--- what a whole run wrote, by how it ended
-abbrev ToldOf : (List ℕ → Option AnyModule) → List (List ℕ) → List ℕ → Result Stage ReplayFault → Type 0
-ToldOf header lines written (Ok p) = AnswersAll header lines written
-ToldOf header lines written (Err fault) = AnswersFirst header lines written
-
-told_first : (header : List ℕ → Option AnyModule) (lines : List (List ℕ)) (t : Told Stage) (fault : ReplayFault) → StartsOut header lines t → AnswersFirst header lines t.written
-told_first header lines t fault s = record { done = s.done; rest = s.rest; split = s.split; answers = s.answers }
-
-told_end : (header : List ℕ → Option AnyModule) (lines : List (List ℕ)) (t : Told Stage) (number : ℕ) (tail : List ℕ) (p : Stage)
-    → StartsOut header lines t → t.outcome ≡ Ok p
-    → (let e = after_writing t.written (ended schedule_closing number tail p) in ToldOf header lines e.written e.outcome)
-told_end header lines t number [] AtHeader s is = by_none s
+closes_with : (r : Running) (p : Stage) (last : List ℕ) → p ≡ InEvents r → schedule_closing p ≡ Some last → last ≡ end_line r.digests.count (length r.issued)
+closes_with r p last is h = some_same (sym h ∙ ap schedule_closing is)
   where
-    by_none : StartsOut header lines t → AnswersFirst header lines (t.written ++ [])
-    by_none s = subst (AnswersFirst header lines) (sym (append-nil t.written)) (told_first header lines t (BadLine number) s)
-told_end header lines t number [] (InEvents last) s is = (s.whole (InEvents last) is).1
-told_end header lines t number (byte ∷ bytes) p s is = by_tail (nat_lt line_limit (length (byte ∷ bytes)))
+    some_same : Some last ≡ Some (end_line r.digests.count (length r.issued)) → last ≡ end_line r.digests.count (length r.issued)
+    some_same e = cc
+
+answers_all : (law : BasicIsExpected) (runs : ExpectedRuns) (header : List ℕ → Option AnyModule) (lines : List (List ℕ)) (written : List ℕ)
+    → Finished (schedule_answer header) schedule_closing AtHeader lines written → AnswersAll header lines written
+answers_all law runs header lines written f = elim (headed header lines f.said f.next f.ran) [
+  | inl none ↦ absurd (closes_none f.next f.last none.2 f.closed)
+  | inr h ↦ answers_events law runs header lines f.said written f.next end_line h
+      (f.whole ∙ ap (λ (l : List ℕ). f.said ++ l) (closes_with h.answers.last f.next f.last h.answers.stands f.closed))
+]
+
+-- a header is no event too many
+header_refuses : (found : Option AnyModule) → header_answer found ≡ Err Much → ⊥
+header_refuses None h = cc
+header_refuses (Some machine) h = cc
+
+full_event : (r : Running) (line : List ℕ) (event : Event) (much : Bool)
+    → (let a : Result (List ℕ × Stage) Refused = cond much (Err Much) (Ok (text_of (outcome_in r event).reply, InEvents (after_event r line event))) in a ≡ Err Much)
+    → much ≡ true
+full_event r line event true h = refl
+full_event r line event false h = cc
+
+refuses_event : (r : Running) (line : List ℕ) (found : Option Event) → event_answer r line found ≡ Err Much → is_too_much r line ≡ true
+refuses_event r line None h = cc
+refuses_event r line (Some event) h = full_event r line event (is_too_much r line) h
+
+-- the next event is one too many
+too_much : (header : List ℕ → Option AnyModule) (done rest : List (List ℕ)) → RefusesMuch (schedule_answer header) AtHeader done rest → IsTooMuch header done rest
+too_much header done rest m = elim (headed header done m.said m.next m.ran) [
+  | inl none ↦ absurd (header_refuses (header m.line) (ap (λ (p : Stage). schedule_answer header p m.line) (sym none.2) ∙ m.refused))
+  | inr h ↦ behind h
+]
   where
-    by_tail : (long : Bool) → (let e = after_writing t.written (cond long (stopped {P = Stage} (LineLong number)) (stopped (BadLine number))) in ToldOf header lines e.written e.outcome)
-    by_tail true = subst (AnswersFirst header lines) (sym (append-nil t.written)) (told_first header lines t (LineLong number) s)
-    by_tail false = subst (AnswersFirst header lines) (sym (append-nil t.written)) (told_first header lines t (BadLine number) s)
-
-told_then : (header : List ℕ → Option AnyModule) (lines : List (List ℕ)) (t : Told Stage) (number : ℕ) (tail : List ℕ) (outcome : Result Stage ReplayFault)
-    → StartsOut header lines t → t.outcome ≡ outcome
-    → (let e = goes_on (ended schedule_closing number tail) t.written outcome in ToldOf header lines e.written e.outcome)
-told_then header lines t number tail (Ok p) s is = told_end header lines t number tail p s is
-told_then header lines t number tail (Err fault) s is = told_first header lines t fault s
-
--- the run over a whole input
-told_whole : BasicIsExpected → ExpectedRuns → (header : List ℕ → Option AnyModule) (input : List ℕ)
-    → (let e = run_of (schedule_answer header) schedule_closing AtHeader input in ToldOf header (lines_of input) e.written e.outcome)
-told_whole law runs header input =
-    let t = run (schedule_answer header) 1 AtHeader (lines_of input) in
-    told_then header (lines_of input) t (1 + length (lines_of input)) (tail_of input) t.outcome (starts_out law runs header (lines_of input)) refl
-
--- it holds of the whole input, and so does what follows from it
-for_whole : (left : Option (List ℕ)) (taken : List ℕ) (P Q : List ℕ → Type 0) → ((input : List ℕ) → P input → Q input) → ForWhole left taken P → ForWhole left taken Q
-for_whole left taken P Q lift w = elim w [ inl h ↦ inl (λ rest. lift (taken ++ rest) (h rest)) | inr h ↦ inr (h.0, lift taken h.1) ]
-
--- the lines were all answered
-told_lines : (law : BasicIsExpected) (runs : ExpectedRuns) (header : List ℕ → Option AnyModule) (lines : List (List ℕ)) (sent : List ℕ) (after : Stage)
-    → run (schedule_answer header) 1 AtHeader lines ≡ told sent (Ok after) → AnswersLines header lines sent
-told_lines law runs header lines sent after ran =
-    let s = starts_out law runs header lines in
-    let none = (s.whole after (ap (λ (t : Told Stage). t.outcome) ran)).0 in
-    subst (λ ls. AnswersLines header ls sent) (sym (s.split ∙ ap (λ r. s.done ++ r) none ∙ append-nil s.done))
-    (subst (AnswersLines header s.done) (ap (λ (t : Told Stage). t.written) ran) s.answers)
-
--- some written bytes of which these are a front
-told_front : (header : List ℕ → Option AnyModule) (lines : List (List ℕ)) (sent written : List ℕ) (outcome : Result Stage ReplayFault)
-    → ToldOf header lines written outcome → IsFrontOf sent written
-    → (all : List ℕ) × IsFrontOf sent all × (AnswersFirst header lines all ⊎ AnswersAll header lines all)
-told_front header lines sent written (Ok p) told front = (written, front, inr told)
-told_front header lines sent written (Err fault) told front = (written, front, inl told)
-
-told_at : (law : BasicIsExpected) (runs : ExpectedRuns) (header : List ℕ → Option AnyModule) (input sent : List ℕ) (outcome : Result Stage ReplayFault)
-    → run_of (schedule_answer header) schedule_closing AtHeader input ≡ told sent outcome → ToldOf header (lines_of input) sent outcome
-told_at law runs header input sent outcome is =
-    subst (λ (t : Told Stage). ToldOf header (lines_of input) t.written t.outcome) is (told_whole law runs header input)
+    behind : HeadedFrom header done m.said m.next → IsTooMuch header done rest
+    behind h =
+        let a = h.answers in
+        let full = refuses_event a.last m.line (event_at m.line) (ap (λ (p : Stage). schedule_answer header p m.line) (sym a.stands) ∙ m.refused) in
+        record {
+          first = h.first;
+          others = h.others;
+          machine = h.machine;
+          events = a.events;
+          line = m.line;
+          more = m.more;
+          split = h.split;
+          headed = h.headed;
+          read = a.read;
+          follows = m.follows;
+          over = elim (over_of a.last m.line full) [
+            | inl over ↦ inl (omega (arith, over, a.counted))
+            | inr over ↦ inr (omega (arith, over, a.bytes, ap (sum_by length) a.issued))
+          ];
+        }
 
 -- What is out tells the events.
 pub tells : {T : Type 0} (law : BasicIsExpected) (runs : ExpectedRuns) (header : List ℕ → Option AnyModule) (next : Stage) (left : Option (List ℕ)) (taken sent : List ℕ) (result : Result T ReplayFault)
     → Settles (run (schedule_answer header) 1 AtHeader) (run_of (schedule_answer header) schedule_closing AtHeader) next left taken sent result
     → Tells header left taken sent result
-tells law runs header next left taken sent (Ok _) s = told_at law runs header taken sent (Ok next) s.1
-tells law runs header next left taken sent (Err ReadFault) s = told_lines law runs header (lines_of taken) sent s.0 s.1
-tells law runs header next left taken sent (Err WriteFault) s =
-    for_whole left taken (λ input. IsFrontOf sent (run_of (schedule_answer header) schedule_closing AtHeader input).written) _
-    (λ input front. let t = run_of (schedule_answer header) schedule_closing AtHeader input in
-    told_front header (lines_of input) sent t.written t.outcome (told_whole law runs header input) front) s
-tells law runs header next left taken sent (Err Memory) s = (s.0, s.1, told_lines law runs header (lines_of s.0) sent s.2 s.3)
-tells law runs header next left taken sent (Err (BadLine n)) s =
-    for_whole left taken (λ input. run_of (schedule_answer header) schedule_closing AtHeader input ≡ told sent (Err (BadLine n))) _
-    (λ input is. told_at law runs header input sent (Err (BadLine n)) is) s
-tells law runs header next left taken sent (Err (LineLong n)) s =
-    for_whole left taken (λ input. run_of (schedule_answer header) schedule_closing AtHeader input ≡ told sent (Err (LineLong n))) _
-    (λ input is. told_at law runs header input sent (Err (LineLong n)) is) s
-tells law runs header next left taken sent (Err TooMuch) s =
-    for_whole left taken (λ input. run_of (schedule_answer header) schedule_closing AtHeader input ≡ told sent (Err TooMuch)) _
-    (λ input is. told_at law runs header input sent (Err TooMuch) is) s
+tells law runs header next left taken sent result s =
+    tells_more (Answered (schedule_answer header) AtHeader) (AnswersLines header) (Finished (schedule_answer header) schedule_closing AtHeader) (AnswersAll header)
+    (RefusesMuch (schedule_answer header) AtHeader) (IsTooMuch header) left taken sent result
+    (answers_lines law runs header) (answers_all law runs header) (too_much header)
+    (tells_by (schedule_answer header) schedule_closing AtHeader next left taken sent result s)

@@ -1,9 +1,12 @@
 -- A replay among its events, as contracts see it.
-use Rattle.std.specs.Prelude.{◌≡◌, ℕ, List, [], Option, None, Some, Result, Ok, Err}
-use Rattle.mm_replay.specs.Schedule.{Running, Stage, AtHeader, InEvents}
-use Rattle.mm_replay.specs.declared.player.Refused.{Refused}
-use Rattle.mm_replay.specs.declared.player.TakeFault.{TakeFault}
-use Rattle.mm_replay.specs.declared.player.TakeFault.TheVariants as fault
+use Rattle.std.specs.Prelude.{◌≡◌, ℕ, true, false, List, [], Option, None, Some, Result, Ok, Err}
+use Rattle.mm_play.specs.declared.player.Refused.{Refused}
+use Rattle.mm_play.specs.declared.player.Refused.TheVariants.{Bad, Much}
+use Rattle.mm_play.specs.declared.player.TakeFault.{TakeFault}
+use Rattle.mm_play.specs.declared.player.TakeFault.TheVariants as fault
+use Rattle.mm_schedule.specs.Events.{Event}
+use Rattle.mm_schedule.specs.declared.reply.Reply.{Reply}
+use Rattle.mm_replay.specs.Schedule.{Running, is_too_much, outcome_in, after_event, Stage, AtHeader, InEvents}
 use Rattle.mm_replay.specs.declared.progress.Progress.{Progress}
 
 -- what stands, by digests
@@ -27,3 +30,12 @@ Begins answer (Ok progress) = answer ≡ Ok ([], InEvents (running progress))
 Begins answer (Err fault.Memory) = Unit {0}
 Begins answer (Err fault.WriteFault) = ⊥
 Begins answer (Err (fault.Refused why)) = answer ≡ Err why
+
+-- The event of this line was answered, or it is one too many and nothing has changed.
+abbrev pub AnswersEvent : Running → Running → List ℕ → Event → Result Reply TakeFault → Type 0
+AnswersEvent old new line event (Ok reply) =
+    (is_too_much old line ≡ false) × (reply ≡ (outcome_in old event).reply) × (new ≡ after_event old line event)
+AnswersEvent old new line event (Err fault.Memory) = Unit {0}
+AnswersEvent old new line event (Err fault.WriteFault) = ⊥
+AnswersEvent old new line event (Err (fault.Refused Bad)) = ⊥
+AnswersEvent old new line event (Err (fault.Refused Much)) = (is_too_much old line ≡ true) × (new ≡ old)

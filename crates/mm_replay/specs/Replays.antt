@@ -2,10 +2,9 @@
 use Rattle.std.specs.Prelude.{◌≡◌, ℕ, List, length, Option, Result, Ok, Err}
 use Rattle.std.specs.Io.KnownBytes.{Appends, Consumes}
 use Rattle.mm_base.specs.declared.replay_fault.ReplayFault.{ReplayFault}
-use Rattle.mm_base.specs.declared.replay_fault.ReplayFault.TheVariants.{Memory, ReadFault, WriteFault, BadLine, LineLong, TooMuch}
 use Rattle.mm_replay.specs.declared.report.Report.{Report}
-use Rattle.mm_replay.specs.Play.{run, run_of}
-use Rattle.mm_replay.specs.Plays.{Settles}
+use Rattle.mm_play.specs.Play.{run, run_of}
+use Rattle.mm_play.specs.Plays.{Settles}
 use Rattle.mm_replay.specs.Schedule.{Stage, AtHeader, InEvents, schedule_answer, schedule_closing}
 use Rattle.mm_replay.specs.Headline.{Tells}
 use Rattle.mm_replay.specs.Machines.{machine_at}
@@ -30,13 +29,3 @@ pub record Replays (left left' received received' : Option (List ℕ)) (result :
   pub settled : Settles (run (schedule_answer machine_at) 1 AtHeader) (run_of (schedule_answer machine_at) schedule_closing AtHeader) next left' taken sent result
   pub told : Tells machine_at left' taken sent result
   pub reported : IsReported next result
-
--- no line was refused
-abbrev pub IsUnrefused : {T : Type 0} → Result T ReplayFault → Type 0
-IsUnrefused (Ok _) = Unit {0}
-IsUnrefused (Err Memory) = Unit {0}
-IsUnrefused (Err ReadFault) = Unit {0}
-IsUnrefused (Err WriteFault) = Unit {0}
-IsUnrefused (Err (BadLine line)) = ⊥
-IsUnrefused (Err (LineLong line)) = ⊥
-IsUnrefused (Err TooMuch) = ⊥

@@ -8,8 +8,8 @@ use Rattle.mm_schedule.specs.Replies.{end_line}
 use Rattle.mm_world.specs.Levels.{Digests, by_digests, first_digests}
 use Rattle.mm_world.specs.Folds.{Outcome, outcome_of, first_issued}
 use Rattle.mm_world.specs.Held.{world_of}
-use Rattle.mm_replay.specs.declared.player.Refused.{Refused}
-use Rattle.mm_replay.specs.declared.player.Refused.TheVariants.{Bad, Much}
+use Rattle.mm_play.specs.declared.player.Refused.{Refused}
+use Rattle.mm_play.specs.declared.player.Refused.TheVariants.{Bad, Much}
 use Rattle.mm_replay.specs.Text.{text_of}
 
 -- the most events, and the most bytes of event lines and issued snapshots together

@@ -1,15 +1,12 @@
 //! Schedules, from bytes to bytes: each line is answered before the next is read.
 #![tactic(auto)]
 
-mod lines;
-mod player;
 mod progress;
 mod report;
 mod schedules;
 mod write;
 
-pub use lines::play;
-pub use player::{Player, Refused, TakeFault};
+pub use progress::Progress;
 pub use report::Report;
 pub use schedules::replay;
 pub use write::{write_end, write_reply};

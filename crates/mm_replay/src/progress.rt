@@ -4,10 +4,10 @@ ghost use Rattle.std.specs.Prelude.{◌≡◌, ◌≤◌, ◌<◌, ◌+◌, ◌*
 ghost use Rattle.std.specs.List.{sum_by};
 ghost use Rattle.mm_digest.specs.declared.variant.Variant.TheVariants.{Basic};
 
-use crate::player::{Refused, TakeFault};
 use crate::report::Report;
 use crate::write::{write_end, write_reply};
 use mm_base::{Memory, Sink, WriteFault};
+use mm_play::{Refused, TakeFault};
 use mm_schedule::{Event, EventFault, Header, Reply, read_event};
 use mm_world::World;
 use std::alloc::Global;
@@ -30,7 +30,7 @@ fn snapshot_length(world: &World, number: u32) -> u64
     }
 }
 
-/// A world, and what counts against the limits.
+/// A replay among its events: a world, and what counts against the limits.
 #[derive(Drop)]
 pub struct Progress {
     world: World,
@@ -49,14 +49,14 @@ pub struct Progress {
 }
 
 impl Progress {
-    ghost use Rattle.mm_replay.specs.Progress.{running};
+    ghost use Rattle.mm_replay.specs.Progress.{running, AnswersEvent};
     ghost use Rattle.mm_replay.specs.Schedule.{begun, is_too_much, event_answer, InEvents, after_event, outcome_in};
     ghost use Rattle.mm_schedule.specs.Events.{event_of};
     ghost use Rattle.mm_schedule.specs.Grammar.{event_at};
     ghost use Rattle.mm_schedule.specs.Replies.{IsPrintable, end_line};
     ghost use Rattle.mm_base.specs.Streams.{Sends};
     ghost use Rattle.mm_base.specs.Faults.{CountsFaults};
-    ghost use Rattle.mm_replay.specs.Takes.{Takes, CountsWrites};
+    ghost use Rattle.mm_play.specs.Takes.{Takes, CountsWrites};
     ghost use Rattle.mm_replay.specs.Replays.{Reports};
 
     /// A replay at its first event.
@@ -101,6 +101,22 @@ impl Progress {
         Ok(reply)
     }
 
+    /// Answers an event, which this line of at most 8,400 bytes spells. `Refused::Much` comes exactly where it is event
+    /// 20,001, or where the event lines and the snapshots issued have more than 268,435,456 bytes; it isn't run then.
+    pub fn answer(&mut self, line: &[u8], event: &Event) -> Result<Reply, TakeFault>
+        requires { length line.now ≤ 8400 }
+        ensures answers { AnswersEvent (running self.old) (running self.new) line.now (event_of event.now) result }
+        ensures printable { IfOk result IsPrintable }
+    {
+        if self.is_full(line) {
+            return Err(TakeFault::Refused(Refused::Much));
+        }
+        match self.run(line, event) {
+            Ok(reply) => Ok(reply),
+            Err(_) => Err(TakeFault::Memory),
+        }
+    }
+
     /// Answers an event line.
     pub fn take<K: Sink>(
         &mut self,
@@ -118,12 +134,9 @@ impl Progress {
             Err(EventFault::Memory) => return Err(TakeFault::Memory),
             Err(EventFault::Bad) => return Err(TakeFault::Refused(Refused::Bad)),
         };
-        if self.is_full(line) {
-            return Err(TakeFault::Refused(Refused::Much));
-        }
-        let reply = match self.run(line, &event) {
+        let reply = match self.answer(line, &event) {
             Ok(reply) => reply,
-            Err(_) => return Err(TakeFault::Memory),
+            Err(fault) => return Err(fault),
         };
         match write_reply(&reply, out) {
             Ok(()) => Ok(()),

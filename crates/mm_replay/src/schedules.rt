@@ -2,20 +2,19 @@
 
 ghost use Rattle.std.specs.Prelude.{◌≡◌, ℕ, List, Some, Ok, OnOk};
 ghost use Rattle.mm_schedule.specs.Headers.{header_at};
-ghost use Rattle.mm_replay.specs.Play.{run_of};
-ghost use Rattle.mm_replay.specs.Plays.{IsBlamed, is_read_fault, is_write_fault};
+ghost use Rattle.mm_play.specs.Play.{run_of};
+ghost use Rattle.mm_play.specs.Plays.{IsBlamed, IsUnrefused, is_read_fault, is_write_fault};
 ghost use Rattle.mm_replay.specs.Schedule.{Stage, AtHeader, header_answer, schedule_answer, schedule_closing, lines_left_at};
 ghost use Rattle.mm_replay.specs.Counting.{schedule_counts_down, schedule_is_short};
 ghost use Rattle.mm_replay.specs.Machines.{machine_at};
 ghost use Rattle.mm_replay.specs.Progress.{stage_of, Begins};
-ghost use Rattle.mm_replay.specs.Replays.{Replays, Reports, IsUnrefused};
+ghost use Rattle.mm_replay.specs.Replays.{Replays, Reports};
 
-use crate::lines::play;
-use crate::player::{Player, Refused, TakeFault};
 use crate::progress::Progress;
 use crate::report::Report;
 use mm_base::{ReplayFault, Sink, Source, WriteFault};
 use mm_digest::Variant;
+use mm_play::{Player, Refused, TakeFault, play};
 use mm_schedule::read_header;
 use mm_world::laws::{basic_is_expected, expected_runs};
 use std::alloc::Global;

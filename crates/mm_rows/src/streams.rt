@@ -1,8 +1,12 @@
-//! The program's input and output over a reader and a writer of which one call fails.
+//! The program's input and output over a reader and a writer of which one call fails; and an input that waits for
+//! replies.
+
+ghost use Rattle.std.specs.Prelude.{None};
 
 use crate::run::{ROOM, replay};
 use mm_app::{StdSink, StdSource};
-use mm_base::{MemSink, MemSource};
+use mm_base::{Failed, MemSink, MemSource, Sink, Source};
+use std::cell::Cell;
 use std::io;
 use std::io::{ErrorKind, Read, Write};
 use std::test::Fail;
@@ -96,5 +100,71 @@ fn an_error_of_the_writer_is_no_write(rt: HostRuntime) -> Result<(), Fail> {
         assert!(&rt; replay(rt.alloc(), &mut input, &mut out) == code);
         assert!(&rt; writer.received.as_slice() == written);
     }
+    Ok(())
+}
+
+/// A source that gives one line a call, a header and three events, and fails where an event that it gave was not
+/// answered yet.
+#[derive(Drop)]
+struct Waiting<'a> {
+    given: u64,
+    replies: &'a Cell<u64>,
+    faults: u64,
+}
+
+impl Source for Waiting<'_> {
+    ghost left = { λ _. None };
+
+    ghost faults = { λ source. source.faults };
+
+    fn take(&mut self, buf: &mut [u8]) -> Result<usize, Failed> {
+        if self.replies.get() < self.given.saturating_sub(1) {
+            self.faults = self.faults.saturating_add(1);
+            return Err(Failed);
+        }
+        let line: &[u8] = match self.given {
+            0 => b"memoir 1 basic counter\n",
+            1..=3 => b"ask last add 5\n",
+            _ => return Ok(0),
+        };
+        self.given += 1;
+        let count = line.len().min(buf.len());
+        let (given, _) = line.split_at(count);
+        let (front, _) = buf.split_at_mut(count);
+        front.copy_from_slice(given);
+        Ok(count)
+    }
+}
+
+/// A sink that counts the lines that it receives.
+#[derive(Drop)]
+struct Counting<'a> {
+    replies: &'a Cell<u64>,
+}
+
+impl Sink for Counting<'_> {
+    ghost received = { λ _. None };
+
+    ghost faults = { λ _. 0 };
+
+    fn give(&mut self, piece: &[u8]) -> Result<usize, Failed> {
+        let lines = piece.iter().filter(|byte| **byte == b'\n').count() as u64;
+        self.replies.set(self.replies.get().saturating_add(lines));
+        Ok(piece.len())
+    }
+}
+
+/// Source and sink are two values, so that no contract on both tells which was called first.
+#[test]
+fn each_reply_is_out_before_the_source_is_asked_again(rt: HostRuntime) -> Result<(), Fail> {
+    let replies = Cell::new(0);
+    let mut input = Waiting {
+        given: 0,
+        replies: &replies,
+        faults: 0,
+    };
+    let mut out = Counting { replies: &replies };
+    assert!(&rt; replay(rt.alloc(), &mut input, &mut out) == 0);
+    assert!(&rt; replies.get() == 4);
     Ok(())
 }

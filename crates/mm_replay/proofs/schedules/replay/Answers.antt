@@ -1,4 +1,4 @@
-use Rattle.mm_replay.proofs.Replaying.{replays_ok, replays_err, completed}
+use Rattle.mm_replay.proofs.Replaying.{replays_ok, replays_err, unrefused}
 use Rattle.mm_replay.proofs.schedules.replay.Goals as goal
 
 pub returns-clause-replays : goal.returns-clause-replays
@@ -13,6 +13,6 @@ returns-in-Ok-clause-replays g c =
 
 pub returns-clause-complete : goal.returns-clause-complete
 returns-clause-complete g c =
-    completed _ (g.S.Source.left c.play.new.input) (g.K.Sink.received c.args.out.now) (g.K.Sink.received c.play.new.out) _
+    unrefused _ (g.S.Source.left c.play.new.input) (g.K.Sink.received c.args.out.now) (g.K.Sink.received c.play.new.out) _
     (replays_err c.basic_is_expected.ensures c.expected_runs.ensures c.new-player.result c.new-player.ensures _ _ _ _ c.play.new.player c.play.result c.in-Err.fault
     c.play.ensures.plays c.in-Err.is)

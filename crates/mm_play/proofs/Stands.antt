@@ -7,12 +7,12 @@ use Rattle.mm_base.specs.Input.{IsUnbroken, lines_of, joined}
 use Rattle.mm_base.proofs.Input.{lines_of-joined, lines_of-unbroken, joined-append}
 use Rattle.mm_base.specs.declared.replay_fault.ReplayFault.{ReplayFault}
 use Rattle.mm_base.specs.declared.replay_fault.ReplayFault.TheVariants.{Memory, ReadFault, WriteFault, BadLine, LineLong, TooMuch}
-use Rattle.mm_replay.specs.declared.player.Refused.{Refused}
-use Rattle.mm_replay.specs.Play.{Told, told, stopped, after_writing, run, run_from, run_of}
-use Rattle.mm_replay.specs.Takes.{IsFrontOf}
-use Rattle.mm_replay.specs.Plays.{ForWhole, Settles, Plays}
-use Rattle.mm_replay.specs.Turns.{Went, Turns}
-use Rattle.mm_replay.proofs.Runs.{run-more, run_from-joined}
+use Rattle.mm_play.specs.declared.player.Refused.{Refused}
+use Rattle.mm_play.specs.Play.{Told, told, stopped, after_writing, run, run_from, run_of}
+use Rattle.mm_play.specs.Takes.{IsFrontOf}
+use Rattle.mm_play.specs.Plays.{ForWhole, Settles, Plays}
+use Rattle.mm_play.specs.Turns.{Went, Turns}
+use Rattle.mm_play.proofs.Runs.{run-more, run_from-joined}
 
 -- These lines were answered, and some bytes are held.
 pub record Stands {P : Type 0} (answer : P → List ℕ → Result (List ℕ × P) Refused) (first player : P) (number : ℕ)

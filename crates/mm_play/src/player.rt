@@ -1,8 +1,8 @@
 //! Who answers the lines of an input.
 
 ghost use Rattle.std.specs.Prelude.{◌≡◌, ◌≤◌, ◌<◌, ◌^◌, ℕ, List, Option, Result, Ok, length};
-ghost use Rattle.mm_replay.specs.declared.player.Refused.{Refused};
-ghost use Rattle.mm_replay.specs.Takes.{Takes, Closes, CountsWrites};
+ghost use Rattle.mm_play.specs.declared.player.Refused.{Refused};
+ghost use Rattle.mm_play.specs.Takes.{Takes, Closes, CountsWrites};
 ghost use Rattle.mm_base.specs.Faults.{CountsFaults};
 
 use mm_base::{Memory, Sink, WriteFault};

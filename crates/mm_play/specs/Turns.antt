@@ -4,10 +4,10 @@ use Rattle.std.specs.Io.KnownBytes.{Appends, Consumes, IsAtEnd}
 use Rattle.mm_base.specs.Input.{IsUnbroken}
 use Rattle.mm_base.specs.declared.replay_fault.ReplayFault.{ReplayFault}
 use Rattle.mm_base.specs.declared.replay_fault.ReplayFault.TheVariants.{Memory, ReadFault, WriteFault, BadLine, LineLong, TooMuch}
-use Rattle.mm_replay.specs.declared.player.Refused.{Refused}
-use Rattle.mm_replay.specs.Play.{Told, told, stopped, line_limit, refusal_at, run_from}
-use Rattle.mm_replay.specs.Takes.{IsFrontOf}
-use Rattle.mm_replay.specs.Plays.{ForWhole}
+use Rattle.mm_play.specs.declared.player.Refused.{Refused}
+use Rattle.mm_play.specs.Play.{Told, told, stopped, line_limit, refusal_at, run_from}
+use Rattle.mm_play.specs.Takes.{IsFrontOf}
+use Rattle.mm_play.specs.Plays.{ForWhole}
 
 -- A player answered a line, the turn's, or didn't: by what went out.
 abbrev pub Answers : {P : Type 0} → ℕ → Result (List ℕ × P) Refused → P → List ℕ → Result Bool ReplayFault → Type 0

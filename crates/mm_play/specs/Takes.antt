@@ -3,9 +3,9 @@ use Rattle.std.specs.Prelude.{◌≡◌, ℕ, List, ◌++◌, Option, Some, None
 use Rattle.std.specs.Io.KnownBytes.{Appends, Keeps}
 use Rattle.mm_base.specs.Faults.{Rose}
 use Rattle.mm_base.specs.declared.fault.WriteFault.{WriteFault}
-use Rattle.mm_replay.specs.declared.player.Refused.{Refused}
-use Rattle.mm_replay.specs.declared.player.TakeFault.{TakeFault}
-use Rattle.mm_replay.specs.declared.player.TakeFault.TheVariants as fault
+use Rattle.mm_play.specs.declared.player.Refused.{Refused}
+use Rattle.mm_play.specs.declared.player.TakeFault.{TakeFault}
+use Rattle.mm_play.specs.declared.player.TakeFault.TheVariants as fault
 
 -- the first bytes of these
 abbrev pub IsFrontOf : List ℕ → List ℕ → Type 0

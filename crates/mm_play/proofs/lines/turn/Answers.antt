@@ -1,5 +1,5 @@
-use Rattle.mm_replay.proofs.TurnLemmas.{turned_by_line, turned_by_tail, turned_by_end, turned_by_long}
-use Rattle.mm_replay.proofs.lines.turn.Goals as goal
+use Rattle.mm_play.proofs.TurnLemmas.{turned_by_line, turned_by_tail, turned_by_end, turned_by_long}
+use Rattle.mm_play.proofs.lines.turn.Goals as goal
 
 pub returns-in-Ok-Line-clause-turns : goal.returns-in-Ok-Line-clause-turns
 returns-in-Ok-Line-clause-turns g c =

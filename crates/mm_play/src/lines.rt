@@ -2,8 +2,8 @@
 
 ghost use Rattle.std.specs.Prelude.{◌≡◌, ◌+◌, ◌≤◌, ◌<◌, ◌^◌, ℕ, List, length};
 ghost use Rattle.std.specs.Io.KnownBytes.{Appends, IsAtEnd};
-ghost use Rattle.mm_replay.specs.Turns.{Answers, Ends, Turns};
-ghost use Rattle.mm_replay.specs.Plays.{Plays, IsBlamed, is_read_fault, is_write_fault};
+ghost use Rattle.mm_play.specs.Turns.{Answers, Ends, Turns};
+ghost use Rattle.mm_play.specs.Plays.{Plays, IsBlamed, is_read_fault, is_write_fault};
 
 use crate::player::{Player, Refused, TakeFault};
 use mm_base::{LineFault, LineReader, Read, ReplayFault, Sink, Source};

@@ -10,11 +10,11 @@ use Rattle.mm_base.specs.declared.lines.Read.{Read}
 use Rattle.mm_base.specs.declared.lines.Read.TheVariants.{Line, Tail, End}
 use Rattle.mm_base.specs.declared.replay_fault.ReplayFault.{ReplayFault}
 use Rattle.mm_base.specs.declared.replay_fault.ReplayFault.TheVariants.{Memory, ReadFault, WriteFault, BadLine, LineLong, TooMuch}
-use Rattle.mm_replay.specs.declared.player.Refused.{Refused}
-use Rattle.mm_replay.specs.Play.{Told, told, stopped, line_limit, closed, run_from}
-use Rattle.mm_replay.specs.Takes.{IsFrontOf}
-use Rattle.mm_replay.specs.Turns.{Answers, Ends, Went, Turns}
-use Rattle.mm_replay.proofs.Runs.{run_from-answered, run_from-refused, run_from-long, run_from-end, run_from-tail}
+use Rattle.mm_play.specs.declared.player.Refused.{Refused}
+use Rattle.mm_play.specs.Play.{Told, told, stopped, line_limit, closed, run_from}
+use Rattle.mm_play.specs.Takes.{IsFrontOf}
+use Rattle.mm_play.specs.Turns.{Answers, Ends, Went, Turns}
+use Rattle.mm_play.proofs.Runs.{run_from-answered, run_from-refused, run_from-long, run_from-end, run_from-tail}
 
 -- a line and what follows it, in one grouping
 line_first : (held taken line held' : List ℕ) → held ++ taken ≡ (line ++ 10 ∷ []) ++ held' → held ++ taken ≡ line ++ 10 ∷ held'

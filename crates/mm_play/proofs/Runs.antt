@@ -6,8 +6,8 @@ use Rattle.mm_base.specs.Input.{IsUnbroken, lines_of, tail_of, joined, onto_firs
 use Rattle.mm_base.proofs.Input.{lines_of-append, tail_of-append, lines_of-line, tail_of-line, lines_of-joined, tail_of-joined, lines_of-unbroken, tail_of-unbroken}
 use Rattle.mm_base.specs.declared.replay_fault.ReplayFault.{ReplayFault}
 use Rattle.mm_base.specs.declared.replay_fault.ReplayFault.TheVariants.{BadLine, LineLong}
-use Rattle.mm_replay.specs.declared.player.Refused.{Refused}
-use Rattle.mm_replay.specs.Play.{line_limit, Told, told, stopped, after_writing, refusal_at, answered, run, closed, ended, goes_on, and_then, run_from, run_of}
+use Rattle.mm_play.specs.declared.player.Refused.{Refused}
+use Rattle.mm_play.specs.Play.{line_limit, Told, told, stopped, after_writing, refusal_at, answered, run, closed, ended, goes_on, and_then, run_from, run_of}
 
 is_long : {n : ℕ} → line_limit < n → nat_lt line_limit n ≡ true
 is_long h = grind (arith, nat_tests)

@@ -1,7 +1,7 @@
 use Rattle.std.proofs.Common.{◌<◌, ◌∙◌, ap, Ok, arith}
 use Rattle.std.proofs.lemmas.Result.{err_from_is_err_and}
-use Rattle.mm_replay.proofs.Stands.{stands_on, plays_stopped, plays_ended, plays_nothing, answered_line}
-use Rattle.mm_replay.proofs.lines.play.Goals as goal
+use Rattle.mm_play.proofs.Stands.{stands_on, plays_stopped, plays_ended, plays_nothing, answered_line}
+use Rattle.mm_play.proofs.lines.play.Goals as goal
 
 pub returns-in_err-reader-clause-plays : goal.returns-in_err-reader-clause-plays
 returns-in_err-reader-clause-plays g c =

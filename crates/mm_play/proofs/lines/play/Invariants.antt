@@ -1,6 +1,6 @@
 use Rattle.std.proofs.Common.{◌≡◌, ◌+◌, ◌≤◌, ◌^◌}
-use Rattle.mm_replay.proofs.Stands.{Stands}
-use Rattle.mm_replay.proofs.lines.play.Given as goal
+use Rattle.mm_play.proofs.Stands.{Stands}
+use Rattle.mm_play.proofs.lines.play.Given as goal
 
 -- where the run stands; the counts are as before; and the lines left keep the number small
 abbrev pub invariant-lines : goal.invariant-lines

@@ -5,9 +5,9 @@ use Rattle.mm_base.specs.Faults.{Rose}
 use Rattle.mm_base.specs.Input.{lines_of}
 use Rattle.mm_base.specs.declared.replay_fault.ReplayFault.{ReplayFault}
 use Rattle.mm_base.specs.declared.replay_fault.ReplayFault.TheVariants.{Memory, ReadFault, WriteFault, BadLine, LineLong, TooMuch}
-use Rattle.mm_replay.specs.declared.player.Refused.{Refused}
-use Rattle.mm_replay.specs.Play.{Told, told, run, run_of}
-use Rattle.mm_replay.specs.Takes.{IsFrontOf}
+use Rattle.mm_play.specs.declared.player.Refused.{Refused}
+use Rattle.mm_play.specs.Play.{Told, told, run, run_of}
+use Rattle.mm_play.specs.Takes.{IsFrontOf}
 
 -- It holds of the whole input, of which these bytes were taken: whatever follows them, or nothing, where the source
 -- is at its end.
@@ -53,6 +53,16 @@ is_write_fault (Err (BadLine number)) = false
 is_write_fault (Err (LineLong number)) = false
 is_write_fault (Err TooMuch) = false
 is_write_fault (Ok _) = false
+
+-- no line was refused
+abbrev pub IsUnrefused : {T : Type 0} → Result T ReplayFault → Type 0
+IsUnrefused (Ok _) = Unit {0}
+IsUnrefused (Err Memory) = Unit {0}
+IsUnrefused (Err ReadFault) = Unit {0}
+IsUnrefused (Err WriteFault) = Unit {0}
+IsUnrefused (Err (BadLine number)) = ⊥
+IsUnrefused (Err (LineLong number)) = ⊥
+IsUnrefused (Err TooMuch) = ⊥
 
 -- A call took these bytes of the input and wrote those, and its answer fits.
 pub record Plays {P T : Type 0} (answer : P → List ℕ → Result (List ℕ × P) Refused) (closing : P → Option (List ℕ)) (player next : P)

@@ -1,0 +1,5 @@
+pub mod Runs
+pub mod TurnLemmas
+pub mod Stands
+pub mod Telling
+pub mod Completing

@@ -1,0 +1,5 @@
+pub mod Play
+pub mod Takes
+pub mod Plays
+pub mod Turns
+pub mod Tells
