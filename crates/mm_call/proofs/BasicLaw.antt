@@ -63,7 +63,7 @@ walk_basic fates flag true b =
     (step_basic (Writes (Commit b)) (fates 2).brings (fates 2).ends finished (writes_basic b) tt)
 
 -- a plain history has no values that count
-plain_outside : (others : List (List ℕ)) (closed : List (List Entry)) (is_open : Bool) (items : List Entry) → closed ≡ [] → is_open ≡ false
+pub plain_outside : (others : List (List ℕ)) (closed : List (List Entry)) (is_open : Bool) (items : List Entry) → closed ≡ [] → is_open ≡ false
     → AllByRecursion (Contains others) (values_in (joined closed ++ (if is_open then items else [])))
 plain_outside others closed is_open items none shut =
     let P : List (List Entry) → Type 0 = λ c. AllByRecursion (Contains others) (values_in (joined c ++ (if is_open then items else []))) in

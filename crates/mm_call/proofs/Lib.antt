@@ -22,3 +22,4 @@ pub mod OptShapes
 pub mod OptShut
 pub mod OptLaw
 pub mod Continuing
+pub mod Checkpoints

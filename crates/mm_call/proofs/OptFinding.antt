@@ -97,12 +97,12 @@ found_from_same meaning key barrier all others asked y d bytes b (Ok snapshot) e
 
 -- power was lost inside an open segment: the register reads zero
 pub lost_same : (meaning : Meaning) (key barrier : List ℕ) (all others : List (List ℕ)) (asked : List Batch) (y : History) (d : Digests)
-    → IsApart all others asked barrier → Holds all others asked (opt meaning key barrier) y d
+    → IsClear all → Holds all others asked (opt meaning key barrier) y d
     → (by_digests (opt meaning key barrier)).is_lost d ≡ (by_lists (opt meaning key barrier)).is_lost y
 lost_same meaning key barrier all others asked y d c h =
     ap (λ f. f && bytes_eq d.register zero_bytes) h.agrees.flag
     ∙ ap (λ r. y.is_open && bytes_eq r zero_bytes) h.agrees.register
-    ∙ lost_is_zero meaning key barrier y all c.clear h.listed
+    ∙ lost_is_zero meaning key barrier y all c h.listed
 
 pub found_same : (meaning : Meaning) (key barrier : List ℕ) (all others : List (List ℕ)) (asked : List Batch) (y : History) (d : Digests) (bytes : List ℕ) (b : Batch)
     → IsApart all others asked barrier → Contains asked b
@@ -110,7 +110,7 @@ pub found_same : (meaning : Meaning) (key barrier : List ℕ) (all others : List
     → found_at (opt meaning key barrier) (by_digests (opt meaning key barrier)) d b bytes ≡ found_at (opt meaning key barrier) (by_lists (opt meaning key barrier)) y b bytes
 found_same meaning key barrier all others asked y d bytes b c is_asked h asking =
     let i = opt meaning key barrier in
-    ap (λ f. if f then Err refusal.Lost else found_from i (by_digests i) d b (parts_of Opt meaning.id bytes)) (lost_same meaning key barrier all others asked y d c h)
+    ap (λ f. if f then Err refusal.Lost else found_from i (by_digests i) d b (parts_of Opt meaning.id bytes)) (lost_same meaning key barrier all others asked y d c.clear h)
     ∙ ap (λ x. if is_lost (life_of Opt y) then Err refusal.Lost else x)
     (found_from_same meaning key barrier all others asked y d bytes b (parts_of Opt meaning.id bytes) refl c is_asked h asking)
 

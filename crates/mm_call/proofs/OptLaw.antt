@@ -26,7 +26,7 @@ use Rattle.mm_call.specs.Levels.{Level, by_lists, by_digests, all_made, Agrees}
 use Rattle.mm_call.specs.Found.{Found, found_at, found_in, is_fresh}
 use Rattle.mm_call.specs.Courses.{Done, Fate, Course, Walked, walk}
 use Rattle.mm_call.specs.Called.{Called, Breaks, kept_at, ended_by, called_by}
-use Rattle.mm_call.specs.Asked.{counted_moves, from_reset, moves_messages, foreign_in, IsWithin, IsAsked}
+use Rattle.mm_call.specs.Asked.{counted_part, counted_moves, from_reset, moves_messages, foreign_in, IsWithin, IsAsked}
 use Rattle.mm_call.specs.Laws.{IsSameCall, OptCallsAgree}
 use Rattle.mm_call.proofs.Moving.{committed_in}
 use Rattle.mm_call.proofs.Finding.{Asking}
@@ -172,18 +172,23 @@ module _ (meaning : Meaning) (key barrier : List ℕ) (all others : List (List �
       }
 
   -- what counts of the moves of a call inside a segment, and of one with none open
-  abbrev Counts : Bool → History → List Move → Type 0
+  abbrev pub Counts : Bool → History → List Move → Type 0
   Counts flag y moves =
       Within (moves_messages (opt meaning key barrier) y (counted_moves flag moves)) all
       × AllByRecursion (Contains others) (foreign_in (counted_moves flag moves))
 
-  inside_counts : (y : History) (moves : List Move) (offer : List ℕ) (b : Batch) → y.is_open ≡ true
-      → IsAsked all others asked (opt meaning key barrier) y moves offer b → Counts true y moves
-  inside_counts y moves offer b e a =
+  pub counts_open : (y : History) (moves : List Move) → y.is_open ≡ true
+      → Within (moves_messages (opt meaning key barrier) (counted_part y) (counted_moves y.is_open moves)) all
+      → AllByRecursion (Contains others) (foreign_in (counted_moves y.is_open moves)) → Counts true y moves
+  counts_open y moves e messages values =
       let i = opt meaning key barrier in
       let P : Bool → Type 0 = λ f. Within (moves_messages i (record y { items = if f then y.items else [] }) (counted_moves f moves)) all
       × AllByRecursion (Contains others) (foreign_in (counted_moves f moves)) in
-      subst P e (a.messages, a.values)
+      subst P e (messages, values)
+
+  inside_counts : (y : History) (moves : List Move) (offer : List ℕ) (b : Batch) → y.is_open ≡ true
+      → IsAsked all others asked (opt meaning key barrier) y moves offer b → Counts true y moves
+  inside_counts y moves offer b e a = counts_open y moves e a.messages a.values
 
   shut_counts : (y : History) (moves : List Move) (offer : List ℕ) (b : Batch) → y.is_open ≡ false
       → IsAsked all others asked (opt meaning key barrier) y moves offer b → Counts false (bare y) moves
@@ -196,7 +201,7 @@ module _ (meaning : Meaning) (key barrier : List ℕ) (all others : List (List �
   -- inside a segment
 
   -- what others put in before the last reading step was put in by moves that may be made, and their messages are listed
-  seen_holds : (y : History) (d : Digests) (v w : List (List ℕ)) (rest : List Move) → Holds all others asked (opt meaning key barrier) y d
+  pub seen_holds : (y : History) (d : Digests) (v w : List (List ℕ)) (rest : List Move) → Holds all others asked (opt meaning key barrier) y d
       → Counts true y (map Foreign v ++ (map Foreign w ++ rest))
       → Holds all others asked (opt meaning key barrier)
       (all_made (by_lists (opt meaning key barrier)) y (map Foreign v ++ (map Foreign w ++ [])))

@@ -12,3 +12,4 @@ pub mod Asked
 pub mod CallsOn
 pub mod Trails
 pub mod Laws
+pub mod Checkpoints

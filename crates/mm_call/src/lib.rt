@@ -13,5 +13,7 @@ mod run;
 
 pub use examining::{examine, has_tab};
 pub use first::Provisioned;
-pub use laws::{basic_calls_agree, opt_calls_agree, trails_lead};
+pub use laws::{
+    basic_calls_agree, basic_checkpoints_agree, opt_calls_agree, opt_checkpoints_agree, trails_lead,
+};
 pub use run::{Ran, answer, run_batch};
