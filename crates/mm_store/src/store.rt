@@ -1,0 +1,32 @@
+//! A store of four slots.
+
+ghost use Rattle.std.specs.Prelude.{◌<◌, ◌≤◌, length};
+ghost use Rattle.mm_store.specs.Kept.{Kept};
+ghost use Rattle.mm_store.specs.Calls.{ReadsSlot, WritesSlot};
+
+use crate::fault::StoreFault;
+use mm_base::Bytes;
+use std::alloc::Global;
+
+/// The most bytes that a slot is read with, and that are written to it.
+pub const LONGEST_SLOT: usize = 1_100_000;
+
+/// Four slots of bytes, numbered from 0 to 3, each of at most 1,100,000 bytes.
+///
+/// `kept` is what the store holds: the slots where it tells them, whether it is honest, and its count of
+/// faults.
+pub trait Store {
+    ghost kept: { Self → Kept };
+
+    /// The first 1,100,000 bytes of a slot. No slot changes.
+    fn read(&mut self, alloc: Global, slot: u8) -> Result<Bytes, StoreFault>
+        requires { slot < 4 }
+        ensures reads { ReadsSlot slot (kept self.old) (kept self.new) result };
+
+    /// Puts at most 1,100,000 bytes in place of a slot's. The slot of an honest store holds them
+    /// afterwards; after `Failed` it may hold any bytes. Its other slots stay.
+    fn write(&mut self, slot: u8, bytes: &[u8]) -> Result<(), StoreFault>
+        requires slot { slot < 4 }
+        requires short { length bytes.now ≤ LONGEST_SLOT }
+        ensures writes { WritesSlot slot bytes.now (kept self.old) (kept self.new) result };
+}
