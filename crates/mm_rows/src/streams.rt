@@ -15,6 +15,7 @@ use std::test::Fail;
 const SCHEDULE: &[u8] = b"memoir 1 basic counter\nask last add 5\n";
 
 /// A reader of at most 7 bytes a call, of which the call with the number `failing` fails.
+#[derive(Drop)]
 struct FailingReader<'a> {
     left: &'a [u8],
     calls: u64,
@@ -37,6 +38,7 @@ impl Read for FailingReader<'_> {
 }
 
 /// A writer of at most 3 bytes a call, of which the call with the number `failing` fails.
+#[derive(Drop)]
 struct FailingWriter {
     received: Vec<u8>,
     calls: u64,
