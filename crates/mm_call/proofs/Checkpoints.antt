@@ -120,46 +120,47 @@ module _ (meaning : Meaning) (key barrier : List ℕ) (all others : List (List �
   Within_ y moves = IsClosedWithin all others asked (opt meaning key barrier) y moves
 
   open_past : (y : History) (d : Digests) (c : Course) → y.is_open ≡ true → Agrees (opt meaning key barrier) y d
-      → (c.fates 1).ends ≡ Done → (c.fates 2).ends ≡ Done → Within_ y (close_walk c (LostDigests d c)).moves
+      → (c.fates 1).ends ≡ Done → (c.fates 2).ends ≡ Done → (x : Bool) → (LostDigests d c ≡ LostLists y c → x ≡ LostLists y c)
+      → Within_ y (close_walk c x).moves
       → Same (checkpointed_by (by_lists (opt meaning key barrier)) y (closing_of Opt true (LostLists y c)) (close_walk c (LostLists y c)))
       (checkpointed_by (by_digests (opt meaning key barrier)) d (closing_of Opt true (LostDigests d c)) (close_walk c (LostDigests d c)))
-  open_past y d c e agrees p q a =
+  open_past y d c e agrees p q x k a =
       let i = opt meaning key barrier in
       let v = (c.fates 1).brings in
       let w = (c.fates 2).brings in
       let sees : History = all_made (by_lists i) y (before c) in
       let seen : Digests = all_made (by_digests i) d (before c) in
       let C : List Move → Type 0 = Counts meaning key barrier all others asked true y in
-      let rest : Walked = walk c.fates 3 (closing_steps (LostDigests d c)) in
+      let rest : Walked = walk c.fates 3 (closing_steps x) in
       let h = holds_open meaning key barrier all others asked y d e agrees a.within in
-      let counts : C (close_walk c (LostDigests d c)).moves =
-      counts_open meaning key barrier all others asked y (close_walk c (LostDigests d c)).moves e a.messages a.values in
-      let first : C (two_reads v Done w (c.fates 2).ends rest).moves = subst (λ x. C (two_reads v x w (c.fates 2).ends rest).moves) p counts in
-      let both : C (two_reads v Done w Done rest).moves = subst (λ x. C (two_reads v Done w x rest).moves) q first in
+      let counts : C (close_walk c x).moves = counts_open meaning key barrier all others asked y (close_walk c x).moves e a.messages a.values in
+      let first : C (two_reads v Done w (c.fates 2).ends rest).moves = subst (λ z. C (two_reads v z w (c.fates 2).ends rest).moves) p counts in
+      let both : C (two_reads v Done w Done rest).moves = subst (λ z. C (two_reads v Done w z rest).moves) q first in
       let hs = seen_holds meaning key barrier all others asked y d v w rest.moves h both in
       let agree : LostDigests d c ≡ LostLists y c = lost_same meaning key barrier all others asked sees seen a.clear hs in
       let held : LostLists y c ≡ false → is_empty (sight y c).items ≡ false = λ f.
       not_lost (sight y c) (ap (λ x. is_lost (life_of Opt x)) (sym (sight_is i y c)) ∙ f) e in
       let P : Bool → Type 0 = λ x. Same (checkpointed_by (by_lists i) y (closing_of Opt true (LostLists y c)) (close_walk c (LostLists y c)))
       (checkpointed_by (by_digests i) d (closing_of Opt true x) (close_walk c x)) in
-      subst P (sym agree) (close_past y d c (LostLists y c) e h held (subst (λ x. C (close_walk c x).moves) agree counts))
+      subst P (sym agree) (close_past y d c (LostLists y c) e h held (subst (λ z. C (close_walk c z).moves) (k agree) counts))
 
   open_cut : (y : History) (d : Digests) (c : Course) → y.is_open ≡ true → Agrees (opt meaning key barrier) y d
       → (walked : Walked) (values : List (List ℕ)) (fault : StepFault)
       → ((rest : Walked) → two_reads (c.fates 1).brings (c.fates 1).ends (c.fates 2).brings (c.fates 2).ends rest ≡ walked)
-      → walked.moves ≡ map Foreign values → walked.broken ≡ Some fault → Within_ y (close_walk c (LostDigests d c)).moves
+      → walked.moves ≡ map Foreign values → walked.broken ≡ Some fault → (x : Bool) → Within_ y (close_walk c x).moves
       → Same (checkpointed_by (by_lists (opt meaning key barrier)) y (closing_of Opt true (LostLists y c)) (close_walk c (LostLists y c)))
       (checkpointed_by (by_digests (opt meaning key barrier)) d (closing_of Opt true (LostDigests d c)) (close_walk c (LostDigests d c)))
-  open_cut y d c e agrees walked values fault is moves broken a =
+  open_cut y d c e agrees walked values fault is moves broken x a =
       let i = opt meaning key barrier in
       let C : List Move → Type 0 = Counts meaning key barrier all others asked true y in
       let lost : Bool = LostLists y c in
       let other : Bool = LostDigests d c in
       let lists : close_walk c lost ≡ walked = is (walk c.fates 3 (closing_steps lost)) in
       let digests : close_walk c other ≡ walked = is (walk c.fates 3 (closing_steps other)) in
-      let counts : C (close_walk c other).moves = counts_open meaning key barrier all others asked y (close_walk c other).moves e a.messages a.values in
+      let reached : close_walk c x ≡ walked = is (walk c.fates 3 (closing_steps x)) in
+      let counts : C (close_walk c x).moves = counts_open meaning key barrier all others asked y (close_walk c x).moves e a.messages a.values in
       let h = holds_open meaning key barrier all others asked y d e agrees a.within in
-      let here : C (map Foreign values) = subst C moves (subst (λ (x : Walked). C x.moves) digests counts) in
+      let here : C (map Foreign values) = subst C moves (subst (λ (z : Walked). C z.moves) reached counts) in
       let fine = foreign_all meaning key barrier all others asked values y (subst (AllByRecursion (Contains others)) (foreign_in-foreign values) here.1) in
       let end = holds_made meaning key barrier all others asked (map Foreign values) y d h fine here.0 in
       let kept = within_of meaning key barrier all others asked (all_made (by_lists i) y (map Foreign values)) (all_made (by_digests i) d (map Foreign values)) end in
@@ -197,32 +198,51 @@ module _ (meaning : Meaning) (key barrier : List ℕ) (all others : List (List �
   -- by whether a segment is open
   abbrev FlagCall : Bool → History → Digests → Course → Type 0
   FlagCall flag y d c =
-      Within_ y (walk c.fates 1 (checkpoint_steps Opt flag (LostDigests d c))).moves
+      (x : Bool) → (LostDigests d c ≡ LostLists y c → x ≡ LostLists y c)
+      → Within_ y (walk c.fates 1 (checkpoint_steps Opt flag x)).moves
       → Same (checkpointed_by (by_lists (opt meaning key barrier)) y (closing_of Opt flag (LostLists y c)) (walk c.fates 1 (checkpoint_steps Opt flag (LostLists y c))))
       (checkpointed_by (by_digests (opt meaning key barrier)) d (closing_of Opt flag (LostDigests d c)) (walk c.fates 1 (checkpoint_steps Opt flag (LostDigests d c))))
 
   by_flag : (flag : Bool) (y : History) (d : Digests) (c : Course) → y.is_open ≡ flag → Agrees (opt meaning key barrier) y d → FlagCall flag y d c
-  by_flag false y d c e agrees a = shut_once y d c (LostLists y c) (LostDigests d c) e agrees a.within
-  by_flag true y d c e agrees a =
+  by_flag false y d c e agrees x k a = shut_once y d c (LostLists y c) (LostDigests d c) e agrees a.within
+  by_flag true y d c e agrees x k a =
       let i = opt meaning key barrier in
       let lost : Bool = LostLists y c in
       let other : Bool = LostDigests d c in
-      let here = subst (λ s. Within_ y (walk c.fates 1 s).moves) (checks other) a in
+      let here = subst (λ s. Within_ y (walk c.fates 1 s).moves) (checks x) a in
       let same : Same (checkpointed_by (by_lists i) y (closing_of Opt true lost) (close_walk c lost)) (checkpointed_by (by_digests i) d (closing_of Opt true other) (close_walk c other)) =
       elim (reading (c.fates 1).brings (c.fates 2).brings (c.fates 1).ends (c.fates 2).ends) [
-        | past p q ↦ open_past y d c e agrees p q here
-        | cut walked values fault is moves broken ↦ open_cut y d c e agrees walked values fault is moves broken here
+        | past p q ↦ open_past y d c e agrees p q x k here
+        | cut walked values fault is moves broken ↦ open_cut y d c e agrees walked values fault is moves broken x here
       ] in
       subst (λ s. Same (checkpointed_by (by_lists i) y (closing_of Opt true lost) (walk c.fates 1 s)) (checkpointed_by (by_digests i) d (closing_of Opt true other) (walk c.fates 1 (checkpoint_steps Opt true other)))) (sym (checks lost))
       (subst (λ s. Same (checkpointed_by (by_lists i) y (closing_of Opt true lost) (close_walk c lost)) (checkpointed_by (by_digests i) d (closing_of Opt true other) (walk c.fates 1 s))) (sym (checks other)) same)
 
-pub opt_checkpoints_agree : OptCheckpointsAgree
-opt_checkpoints_agree meaning key barrier all others asked y d c agrees a =
+-- the law, by the moves of the steps that follow from what is seen by digests or by lists
+checkpoints_by : (meaning : Meaning) (key barrier : List ℕ) (all others : List (List ℕ)) (asked : List Batch) (y : History) (d : Digests) (c : Course)
+    → Agrees (opt meaning key barrier) y d → (x flag : Bool) → flag ≡ y.is_open
+    → (LostDigests meaning key barrier all others asked d c ≡ LostLists meaning key barrier all others asked y c → x ≡ LostLists meaning key barrier all others asked y c)
+    → IsClosedWithin all others asked (opt meaning key barrier) y (walk c.fates 1 (checkpoint_steps Opt flag x)).moves
+    → IsSameCheckpoint all others asked (opt meaning key barrier) (checkpointed (opt meaning key barrier) (by_lists (opt meaning key barrier)) y c)
+    (checkpointed (opt meaning key barrier) (by_digests (opt meaning key barrier)) d c)
+checkpoints_by meaning key barrier all others asked y d c agrees x flag same_flag k a =
     let i = opt meaning key barrier in
     let other : Bool = LostDigests meaning key barrier all others asked d c in
-    let lists = checkpointed i (by_lists i) y c in
+    let here = subst (λ f. IsClosedWithin all others asked i y (walk c.fates 1 (checkpoint_steps Opt f x)).moves) same_flag a in
     let P : Bool → Type 0 = λ f.
-    IsClosedWithin all others asked i y (walk c.fates 1 (checkpoint_steps Opt f other)).moves
-    → IsSameCheckpoint all others asked i lists
+    IsSameCheckpoint all others asked i (checkpointed i (by_lists i) y c)
     (checkpointed_by (by_digests i) d (closing_of Opt f other) (walk c.fates 1 (checkpoint_steps Opt f other))) in
-    subst P (sym agrees.flag) (by_flag meaning key barrier all others asked y.is_open y d c refl agrees) a
+    subst P (sym agrees.flag) (by_flag meaning key barrier all others asked y.is_open y d c refl agrees x k here)
+
+pub opt_checkpoints_agree : OptCheckpointsAgree
+opt_checkpoints_agree meaning key barrier all others asked y d c agrees a =
+    checkpoints_by meaning key barrier all others asked y d c agrees (LostDigests meaning key barrier all others asked d c) d.flag agrees.flag (λ e. e) a
+
+-- the same, by the moves of the checkpoint by lists
+pub opt_checkpoints_agree_by_lists : (meaning : Meaning) (key barrier : List ℕ) (all others : List (List ℕ)) (asked : List Batch) (y : History) (d : Digests) (c : Course)
+    → Agrees (opt meaning key barrier) y d
+    → IsClosedWithin all others asked (opt meaning key barrier) y (checkpointed (opt meaning key barrier) (by_lists (opt meaning key barrier)) y c).moves
+    → IsSameCheckpoint all others asked (opt meaning key barrier) (checkpointed (opt meaning key barrier) (by_lists (opt meaning key barrier)) y c)
+    (checkpointed (opt meaning key barrier) (by_digests (opt meaning key barrier)) d c)
+opt_checkpoints_agree_by_lists meaning key barrier all others asked y d c agrees a =
+    checkpoints_by meaning key barrier all others asked y d c agrees (LostLists meaning key barrier all others asked y c) y.is_open refl (λ e. refl) a

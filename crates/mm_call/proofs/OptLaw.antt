@@ -282,9 +282,10 @@ module _ (meaning : Meaning) (key barrier : List ℕ) (all others : List (List �
 
   inside_same : (y : History) (d : Digests) (c : Course) (offer : List ℕ) (b : Batch) → y.is_open ≡ true → Agrees (opt meaning key barrier) y d
       → (c.fates 1).ends ≡ Done → (c.fates 2).ends ≡ Done
-      → IsAsked all others asked (opt meaning key barrier) y (DigestsCall true d c offer b).moves offer b
+      → (x : Result Found Refusal) → (found_in (ByDigests d c offer b) c.lacks ≡ found_in (Lists y c offer b) c.lacks → x ≡ found_in (Lists y c offer b) c.lacks)
+      → IsAsked all others asked (opt meaning key barrier) y (steps_walk c true x b).moves offer b
       → IsSameCall all others asked (opt meaning key barrier) (ListsCall true y c offer b) (DigestsCall true d c offer b)
-  inside_same y d c offer b e agrees p q a =
+  inside_same y d c offer b e agrees p q x k a =
       let i = opt meaning key barrier in
       let v = (c.fates 1).brings in
       let w = (c.fates 2).brings in
@@ -292,11 +293,11 @@ module _ (meaning : Meaning) (key barrier : List ℕ) (all others : List (List �
       let seen : Digests = all_made (by_digests i) d (before c) in
       let found : Result Found Refusal = found_in (Lists y c offer b) c.lacks in
       let other : Result Found Refusal = found_in (ByDigests d c offer b) c.lacks in
-      let rest : Walked = walk c.fates 3 (changing true (is_fresh other) b) in
+      let rest : Walked = walk c.fates 3 (changing true (is_fresh x) b) in
       let h = holds_open meaning key barrier all others asked y d e agrees a.within in
-      let counts : Counts true y (steps_walk c true other b).moves = inside_counts y (steps_walk c true other b).moves offer b e a in
-      let first : Counts true y (two_reads v Done w (c.fates 2).ends rest).moves = subst (λ x. Counts true y (two_reads v x w (c.fates 2).ends rest).moves) p counts in
-      let both : Counts true y (two_reads v Done w Done rest).moves = subst (λ x. Counts true y (two_reads v Done w x rest).moves) q first in
+      let counts : Counts true y (steps_walk c true x b).moves = inside_counts y (steps_walk c true x b).moves offer b e a in
+      let first : Counts true y (two_reads v Done w (c.fates 2).ends rest).moves = subst (λ z. Counts true y (two_reads v z w (c.fates 2).ends rest).moves) p counts in
+      let both : Counts true y (two_reads v Done w Done rest).moves = subst (λ z. Counts true y (two_reads v Done w z rest).moves) q first in
       let hs = seen_holds y d v w rest.moves h both in
       let sound : IsSound (sight y c) = sound_taking meaning key barrier w (taking y v) (sound_taking meaning key barrier v y h.sound) in
       let named : IsGenuine i (sight y c) offer = λ content right.
@@ -315,15 +316,16 @@ module _ (meaning : Meaning) (key barrier : List ℕ) (all others : List (List �
       (called_by (by_lists i) y sees b found (steps_walk c true found b)) (called_by (by_digests i) d seen b x (steps_walk c true x b)) in
       subst P (sym agree)
       (inside_past y sees d seen c b found e h a.is_asked (sight_agrees meaning key barrier y d c agrees) sound placed_at
-      (subst (λ x. Counts true y (steps_walk c true x b).moves) agree counts))
+      (subst (λ z. Counts true y (steps_walk c true z b).moves) (k agree) counts))
 
   inside_cut : (y : History) (d : Digests) (c : Course) (offer : List ℕ) (b : Batch) → y.is_open ≡ true → Agrees (opt meaning key barrier) y d
       → (walked : Walked) (values : List (List ℕ)) (fault : StepFault)
       → ((rest : Walked) → two_reads (c.fates 1).brings (c.fates 1).ends (c.fates 2).brings (c.fates 2).ends rest ≡ walked)
       → walked.moves ≡ map Foreign values → walked.broken ≡ Some fault
-      → IsAsked all others asked (opt meaning key barrier) y (DigestsCall true d c offer b).moves offer b
+      → (x : Result Found Refusal) → (found_in (ByDigests d c offer b) c.lacks ≡ found_in (Lists y c offer b) c.lacks → x ≡ found_in (Lists y c offer b) c.lacks)
+      → IsAsked all others asked (opt meaning key barrier) y (steps_walk c true x b).moves offer b
       → IsSameCall all others asked (opt meaning key barrier) (ListsCall true y c offer b) (DigestsCall true d c offer b)
-  inside_cut y d c offer b e agrees walked values fault is moves broken a =
+  inside_cut y d c offer b e agrees walked values fault is moves broken x k a =
       let i = opt meaning key barrier in
       let sees : History = all_made (by_lists i) y (before c) in
       let seen : Digests = all_made (by_digests i) d (before c) in
@@ -331,9 +333,10 @@ module _ (meaning : Meaning) (key barrier : List ℕ) (all others : List (List �
       let other : Result Found Refusal = found_in (ByDigests d c offer b) c.lacks in
       let lists : steps_walk c true found b ≡ walked = is (walk c.fates 3 (changing true (is_fresh found) b)) in
       let digests : steps_walk c true other b ≡ walked = is (walk c.fates 3 (changing true (is_fresh other) b)) in
-      let counts : Counts true y (steps_walk c true other b).moves = inside_counts y (steps_walk c true other b).moves offer b e a in
+      let counts : Counts true y (steps_walk c true x b).moves = inside_counts y (steps_walk c true x b).moves offer b e a in
+      let reached : steps_walk c true x b ≡ walked = is (walk c.fates 3 (changing true (is_fresh x) b)) in
       let h = holds_open meaning key barrier all others asked y d e agrees a.within in
-      let here : Counts true y (map Foreign values) = subst (Counts true y) moves (subst (λ x. Counts true y x.moves) digests counts) in
+      let here : Counts true y (map Foreign values) = subst (Counts true y) moves (subst (λ (z : Walked). Counts true y z.moves) reached counts) in
       let fine = foreign_all meaning key barrier all others asked values y (subst (AllByRecursion (Contains others)) (foreign_in-foreign values) here.1) in
       let end = holds_made meaning key barrier all others asked (map Foreign values) y d h fine here.0 in
       let same = cut_call y sees d seen b found other walked values fault moves broken end.agrees
@@ -342,12 +345,13 @@ module _ (meaning : Meaning) (key barrier : List ℕ) (all others : List (List �
       (subst (λ x. IsSameCall all others asked i (called_by (by_lists i) y sees b found walked) (called_by (by_digests i) d seen b other x)) (sym digests) same)
 
   inside : (y : History) (d : Digests) (c : Course) (offer : List ℕ) (b : Batch) → y.is_open ≡ true → Agrees (opt meaning key barrier) y d
-      → IsAsked all others asked (opt meaning key barrier) y (DigestsCall true d c offer b).moves offer b
+      → (x : Result Found Refusal) → (found_in (ByDigests d c offer b) c.lacks ≡ found_in (Lists y c offer b) c.lacks → x ≡ found_in (Lists y c offer b) c.lacks)
+      → IsAsked all others asked (opt meaning key barrier) y (steps_walk c true x b).moves offer b
       → IsSameCall all others asked (opt meaning key barrier) (ListsCall true y c offer b) (DigestsCall true d c offer b)
-  inside y d c offer b e agrees a =
+  inside y d c offer b e agrees x k a =
       elim (reading (c.fates 1).brings (c.fates 2).brings (c.fates 1).ends (c.fates 2).ends) [
-        | past p q ↦ inside_same y d c offer b e agrees p q a
-        | cut walked values fault is moves broken ↦ inside_cut y d c offer b e agrees walked values fault is moves broken a
+        | past p q ↦ inside_same y d c offer b e agrees p q x k a
+        | cut walked values fault is moves broken ↦ inside_cut y d c offer b e agrees walked values fault is moves broken x k a
       ]
 
   -- with no segment open
@@ -394,9 +398,10 @@ module _ (meaning : Meaning) (key barrier : List ℕ) (all others : List (List �
       )
 
   shut : (y : History) (d : Digests) (c : Course) (offer : List ℕ) (b : Batch) → y.is_open ≡ false → Agrees (opt meaning key barrier) y d
-      → IsAsked all others asked (opt meaning key barrier) y (DigestsCall false d c offer b).moves offer b
+      → (x : Result Found Refusal) → (found_in (ByDigests d c offer b) c.lacks ≡ found_in (Lists y c offer b) c.lacks → x ≡ found_in (Lists y c offer b) c.lacks)
+      → IsAsked all others asked (opt meaning key barrier) y (steps_walk c false x b).moves offer b
       → IsSameCall all others asked (opt meaning key barrier) (ListsCall false y c offer b) (DigestsCall false d c offer b)
-  shut y d c offer b e agrees a =
+  shut y d c offer b e agrees x k a =
       let i = opt meaning key barrier in
       let v = (c.fates 1).brings in
       let w = (c.fates 2).brings in
@@ -424,7 +429,7 @@ module _ (meaning : Meaning) (key barrier : List ℕ) (all others : List (List �
       placed meaning key barrier all (bare y) offer b asking f (sym lists ∙ unlacked (Lists y c offer b) c.lacks f is) in
       let walked : Walked = steps_walk c false found b in
       let counts : Counts false (bare y) walked.moves =
-      subst (λ x. Counts false (bare y) (steps_walk c false x b).moves) agree (shut_counts y (steps_walk c false other b).moves offer b e a) in
+      subst (λ z. Counts false (bare y) (steps_walk c false z b).moves) (k agree) (shut_counts y (steps_walk c false x b).moves offer b e a) in
       let after = shut_after y d c.fates b (is_fresh found) walked.moves e agrees a.within
       (due_of (bare y) b found h.sound a.is_asked placed_at) (shape c.fates (is_fresh found) b) counts in
       let ends = ends_of meaning key barrier all y (bare y) seen c b false found e refl placed_at
@@ -442,13 +447,21 @@ module _ (meaning : Meaning) (key barrier : List ℕ) (all others : List (List �
       subst P (sym agree) same
 
   by_flag : (flag : Bool) (y : History) (d : Digests) (c : Course) (offer : List ℕ) (b : Batch) → y.is_open ≡ flag → Agrees (opt meaning key barrier) y d
-      → IsAsked all others asked (opt meaning key barrier) y (DigestsCall flag d c offer b).moves offer b
+      → (x : Result Found Refusal) → (found_in (ByDigests d c offer b) c.lacks ≡ found_in (Lists y c offer b) c.lacks → x ≡ found_in (Lists y c offer b) c.lacks)
+      → IsAsked all others asked (opt meaning key barrier) y (steps_walk c flag x b).moves offer b
       → IsSameCall all others asked (opt meaning key barrier) (ListsCall flag y c offer b) (DigestsCall flag d c offer b)
-  by_flag true y d c offer b e agrees a = inside y d c offer b e agrees a
-  by_flag false y d c offer b e agrees a = shut y d c offer b e agrees a
+  by_flag true y d c offer b e agrees x k a = inside y d c offer b e agrees x k a
+  by_flag false y d c offer b e agrees x k a = shut y d c offer b e agrees x k a
 
-pub opt_calls_agree : OptCallsAgree
-opt_calls_agree meaning key barrier all others asked y d c offer b agrees a =
+-- the law, by the moves of the steps that follow from what is found by digests or by lists
+agree_by : (meaning : Meaning) (key barrier : List ℕ) (all others : List (List ℕ)) (asked : List Batch) (y : History) (d : Digests) (c : Course) (offer : List ℕ) (b : Batch)
+    → Agrees (opt meaning key barrier) y d → (x : Result Found Refusal) (flag : Bool) → flag ≡ y.is_open
+    → (found_in (ByDigests meaning key barrier all others asked d c offer b) c.lacks ≡ found_in (Lists meaning key barrier all others asked y c offer b) c.lacks
+    → x ≡ found_in (Lists meaning key barrier all others asked y c offer b) c.lacks)
+    → IsAsked all others asked (opt meaning key barrier) y (walk c.fates 1 (ask_steps Opt flag (is_fresh x) b)).moves offer b
+    → IsSameCall all others asked (opt meaning key barrier) (called (opt meaning key barrier) (by_lists (opt meaning key barrier)) y c offer b)
+    (called (opt meaning key barrier) (by_digests (opt meaning key barrier)) d c offer b)
+agree_by meaning key barrier all others asked y d c offer b agrees x flag same_flag k a =
     let i = opt meaning key barrier in
     let sees : History = all_made (by_lists i) y (before c) in
     let seen : Digests = all_made (by_digests i) d (before c) in
@@ -456,10 +469,22 @@ opt_calls_agree meaning key barrier all others asked y d c offer b agrees a =
     let other : Result Found Refusal = found_in (found_at i (by_digests i) seen b offer) c.lacks in
     let Listed : List Step → Called History = λ steps. called_by (by_lists i) y sees b found (walk c.fates 1 steps) in
     let Digested : List Step → Called Digests = λ steps. called_by (by_digests i) d seen b other (walk c.fates 1 steps) in
-    let lists : ask_steps Opt y.is_open (is_fresh found) b ≡ Reads ∷ Reads ∷ changing y.is_open (is_fresh found) b = asks y.is_open (is_fresh found) b in
-    let digests : ask_steps Opt d.flag (is_fresh other) b ≡ Reads ∷ Reads ∷ changing y.is_open (is_fresh other) b =
-    asks d.flag (is_fresh other) b ∙ ap (λ f. Reads ∷ Reads ∷ changing f (is_fresh other) b) agrees.flag in
-    let same = by_flag meaning key barrier all others asked y.is_open y d c offer b refl agrees
-    (subst (λ s. IsAsked all others asked i y (Digested s).moves offer b) digests a) in
-    subst (λ s. IsSameCall all others asked i (Listed s) (Digested (ask_steps Opt d.flag (is_fresh other) b))) (sym lists)
-    (subst (λ s. IsSameCall all others asked i (Listed (Reads ∷ Reads ∷ changing y.is_open (is_fresh found) b)) (Digested s)) (sym digests) same)
+    let to : (f : Bool) (z : Result Found Refusal) → f ≡ y.is_open → ask_steps Opt f (is_fresh z) b ≡ Reads ∷ Reads ∷ changing y.is_open (is_fresh z) b =
+    λ f z e. asks f (is_fresh z) b ∙ ap (λ g. Reads ∷ Reads ∷ changing g (is_fresh z) b) e in
+    let same = by_flag meaning key barrier all others asked y.is_open y d c offer b refl agrees x k
+    (subst (λ s. IsAsked all others asked i y (walk c.fates 1 s).moves offer b) (to flag x same_flag) a) in
+    subst (λ s. IsSameCall all others asked i (Listed s) (Digested (ask_steps Opt d.flag (is_fresh other) b))) (sym (to y.is_open found refl))
+    (subst (λ s. IsSameCall all others asked i (Listed (Reads ∷ Reads ∷ changing y.is_open (is_fresh found) b)) (Digested s)) (sym (to d.flag other agrees.flag)) same)
+
+pub opt_calls_agree : OptCallsAgree
+opt_calls_agree meaning key barrier all others asked y d c offer b agrees a =
+    agree_by meaning key barrier all others asked y d c offer b agrees (found_in (ByDigests meaning key barrier all others asked d c offer b) c.lacks) d.flag agrees.flag (λ e. e) a
+
+-- the same, by the moves of the call by lists
+pub opt_calls_agree_by_lists : (meaning : Meaning) (key barrier : List ℕ) (all others : List (List ℕ)) (asked : List Batch) (y : History) (d : Digests) (c : Course) (offer : List ℕ) (b : Batch)
+    → Agrees (opt meaning key barrier) y d
+    → IsAsked all others asked (opt meaning key barrier) y (called (opt meaning key barrier) (by_lists (opt meaning key barrier)) y c offer b).moves offer b
+    → IsSameCall all others asked (opt meaning key barrier) (called (opt meaning key barrier) (by_lists (opt meaning key barrier)) y c offer b)
+    (called (opt meaning key barrier) (by_digests (opt meaning key barrier)) d c offer b)
+opt_calls_agree_by_lists meaning key barrier all others asked y d c offer b agrees a =
+    agree_by meaning key barrier all others asked y d c offer b agrees (found_in (Lists meaning key barrier all others asked y c offer b) c.lacks) y.is_open refl (λ e. refl) a

@@ -1,0 +1,193 @@
+-- A schedule followed by a level: each event's reply, and what stands after it.
+use Rattle.std.specs.Prelude.{ℕ, ◌+◌, ◌-◌, Bool, true, false, List, [], ◌∷◌, ◌++◌, length, Option, None, Some, if◌then◌else◌}
+use Rattle.mm_digest.specs.Messages.{zero_bytes, start_of}
+use Rattle.mm_module.specs.Batch.{Batch, normal}
+use Rattle.mm_platform.specs.declared.plan.Meddle.{Meddle}
+use Rattle.mm_platform.specs.declared.plan.Stop.{Stop}
+use Rattle.mm_platform.specs.declared.plan.Stop.TheVariants.{Quiet, Cut, Drop, Fail}
+use Rattle.mm_platform.specs.Standing.{Plan}
+use Rattle.mm_model.specs.Instance.{Instance}
+use Rattle.mm_model.specs.History.{History, Move, Foreign, Power as PowerMove, first_history}
+use Rattle.mm_model.specs.Long.{is_long}
+use Rattle.mm_model.specs.Moves.{Digests}
+use Rattle.mm_model.specs.Standing.{issued_bytes}
+use Rattle.mm_model.specs.declared.answer.BatchAnswer.{BatchAnswer}
+use Rattle.mm_model.specs.declared.refusal.Refusal.{Refusal}
+use Rattle.mm_model.specs.declared.refusal.Refusal.TheVariants as refusal
+use Rattle.mm_call.specs.Levels.{Level, all_made, by_lists, by_digests}
+use Rattle.mm_call.specs.Courses.{Course, planned}
+use Rattle.mm_call.specs.Called.{Ending, Answers, Refuses, Breaks, Called, called}
+use Rattle.mm_call.specs.Checkpoints.{Closing, Closes, HasNone, NoSegment, LostPower, Stops, Checkpointed, checkpointed}
+use Rattle.mm_schedule.specs.Events.{Event, Ask, Checkpoint, Power, Extend}
+use Rattle.mm_schedule.specs.declared.reply.Way.{Way}
+use Rattle.mm_schedule.specs.declared.reply.Way.TheVariants as way
+use Rattle.mm_schedule.specs.declared.reply.Cause.{Cause}
+use Rattle.mm_schedule.specs.declared.reply.Cause.TheVariants as cause
+use Rattle.mm_schedule.specs.declared.reply.Reply.{Reply}
+use Rattle.mm_schedule.specs.declared.reply.Reply.TheVariants as reply
+use Rattle.mm_run.specs.Offered.{offered_bytes}
+
+-- what stands after an event, with the snapshots issued so far; its reply; and the steps that it called, and those of
+-- them that were to write the cell
+pub record Outcome (S : Type 0) : Type 0 where
+  pub state : S
+  pub issued : List (List ℕ)
+  pub reply : Reply
+  pub steps : ℕ
+  pub writes : ℕ
+
+-- how a call is broken off
+abbrev pub way_of : Stop → Way
+way_of Quiet = way.Fault
+way_of (Cut step) = way.Cut
+way_of (Drop step) = way.Drop
+way_of (Fail step done) = way.Fault
+
+-- power is lost where the call is cut, and comes back
+abbrev pub after_stop : Stop → List Move
+after_stop (Cut step) = PowerMove ∷ []
+after_stop Quiet = []
+after_stop (Drop step) = []
+after_stop (Fail step done) = []
+
+-- the course that a schedule plans for a call
+abbrev pub plan_of : Stop → List Meddle → Plan
+plan_of stop meddles = record { stop = stop; meddles = meddles; at = 0 }
+
+abbrev pub course_of : Stop → List Meddle → Course
+course_of stop meddles = record { fates = planned (plan_of stop meddles); lacks = false }
+
+-- the cause that a reply names. A planned call is refused for no other reason.
+abbrev pub cause_of : Refusal → Cause
+cause_of refusal.Lost = cause.Lost
+cause_of refusal.Form = cause.Form
+cause_of refusal.Kind = cause.Kind
+cause_of refusal.State = cause.State
+cause_of refusal.Tag = cause.Tag
+cause_of refusal.Stale = cause.Stale
+cause_of refusal.Full = cause.Full
+cause_of refusal.Memory = cause.Long
+cause_of refusal.Long = cause.Long
+cause_of (refusal.Device fault) = cause.Long
+cause_of refusal.Blank = cause.Long
+cause_of refusal.Cell = cause.Long
+
+-- a call that was broken off: with the position after its batch, if that was committed
+abbrev pub broken_reply : Way → Option ℕ → Reply
+broken_reply how (Some position) = reply.Kept how position
+broken_reply how None = reply.Nothing how
+
+-- the answer's reply tells the position before the batch
+abbrev pub told_reply : BatchAnswer → Reply
+told_reply answer = reply.Told answer.again (answer.position - length answer.outputs) answer.outputs
+
+abbrev pub reply_of : Way → Ending → Reply
+reply_of how (Answers answer) = told_reply answer
+reply_of how (Refuses why) = reply.No (cause_of why)
+reply_of how (Breaks fault kept) = broken_reply how kept
+
+-- an answer hands out a snapshot
+abbrev pub snapshots_of : Ending → List (List ℕ)
+snapshots_of (Answers answer) = answer.snapshot ∷ []
+snapshots_of (Refuses why) = []
+snapshots_of (Breaks fault kept) = []
+
+-- what follows a call that is broken off
+abbrev pub moves_then : Stop → Ending → List Move
+moves_then stop (Answers answer) = []
+moves_then stop (Refuses why) = []
+moves_then stop (Breaks fault kept) = after_stop stop
+
+-- what a call comes to in a schedule
+abbrev pub outcome_by : {S : Type 0} → Level S → Stop → List (List ℕ) → Called S → Outcome S
+outcome_by level stop issued o = record {
+  state = all_made level o.state (moves_then stop o.ending);
+  issued = issued ++ snapshots_of o.ending;
+  reply = reply_of (way_of stop) o.ending;
+  steps = o.steps;
+  writes = o.writes;
+}
+
+-- nothing was called
+abbrev pub uncalled : {S : Type 0} → S → List (List ℕ) → Reply → Outcome S
+uncalled s issued said = record { state = s; issued = issued; reply = said; steps = 0; writes = 0 }
+
+-- the number isn't issued, or the batch is too long: then nothing is called, and nothing meddles
+abbrev pub asked : {S : Type 0} → Instance → Level S → S → List (List ℕ) → List Meddle → Stop → Option (List ℕ) → Batch → Outcome S
+asked i level s issued meddles stop None b = uncalled s issued (reply.No cause.Snapshot)
+asked i level s issued meddles stop (Some bytes) b =
+    if is_long b then uncalled s issued (reply.No cause.Long)
+    else outcome_by level stop issued (called i level s (course_of stop meddles) bytes (normal b))
+
+-- a checkpoint that was broken off: whether its segment was closed
+abbrev pub stopped_reply : Way → Bool → Reply
+stopped_reply how true = reply.Closed how
+stopped_reply how false = reply.Nothing how
+
+abbrev pub closing_reply : Way → Closing → Reply
+closing_reply how Closes = reply.Checkpointed
+closing_reply how HasNone = reply.No cause.Kind
+closing_reply how NoSegment = reply.No cause.Segment
+closing_reply how LostPower = reply.No cause.Lost
+closing_reply how (Stops fault closed) = stopped_reply how closed
+
+abbrev pub closing_then : Stop → Closing → List Move
+closing_then stop Closes = []
+closing_then stop HasNone = []
+closing_then stop NoSegment = []
+closing_then stop LostPower = []
+closing_then stop (Stops fault closed) = after_stop stop
+
+-- what a checkpoint comes to in a schedule
+abbrev pub closed_outcome : {S : Type 0} → Level S → Stop → List (List ℕ) → Checkpointed S → Outcome S
+closed_outcome level stop issued o = record {
+  state = all_made level o.state (closing_then stop o.ending);
+  issued = issued;
+  reply = closing_reply (way_of stop) o.ending;
+  steps = o.steps;
+  writes = o.writes;
+}
+
+-- one event
+abbrev pub outcome_of : {S : Type 0} → Instance → Level S → S → List (List ℕ) → Event → Outcome S
+outcome_of i level s issued (Ask meddles stop offer b) = asked i level s issued meddles stop (offered_bytes issued offer) b
+outcome_of i level s issued (Checkpoint meddles stop) =
+    closed_outcome level stop issued (checkpointed i level s (course_of stop meddles))
+outcome_of i level s issued Power = uncalled (level.made s PowerMove) issued reply.Power
+outcome_of i level s issued (Extend value) = uncalled (level.made s (Foreign value)) issued reply.Extended
+
+-- What stands after some events, with the replies so far and the counts of steps and of writes of the cell.
+pub record Followed (S : Type 0) : Type 0 where
+  pub state : S
+  pub issued : List (List ℕ)
+  pub replies : List Reply
+  pub steps : ℕ
+  pub writes : ℕ
+
+abbrev pub after_event : {S : Type 0} → Outcome S → Followed S → Followed S
+after_event o rest = record {
+  state = rest.state;
+  issued = rest.issued;
+  replies = o.reply ∷ rest.replies;
+  steps = o.steps + rest.steps;
+  writes = o.writes + rest.writes;
+}
+
+abbrev pub followed : {S : Type 0} → Instance → Level S → S → List (List ℕ) → List Event → Followed S
+followed i level s issued [] = record { state = s; issued = issued; replies = []; steps = 0; writes = 0 }
+followed i level s issued (event ∷ events) =
+    let o = outcome_of i level s issued event in after_event o (followed i level o.state o.issued events)
+
+-- the first snapshot of an instance, and its first digests
+abbrev pub first_issued : Instance → List (List ℕ)
+first_issued i = issued_bytes i first_history ∷ []
+
+abbrev pub first_digests : Instance → Digests
+first_digests i = record { digest = start_of i.variant i.meaning.id; flag = false; register = zero_bytes; count = 0 }
+
+-- a schedule from the start: by lists, which gives the expected replies; and by digests
+abbrev pub expected : Instance → List Event → Followed History
+expected i events = followed i (by_lists i) first_history (first_issued i) events
+
+abbrev pub replies_by_digests : Instance → List Event → Followed Digests
+replies_by_digests i events = followed i (by_digests i) (first_digests i) (first_issued i) events

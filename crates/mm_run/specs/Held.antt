@@ -1,0 +1,85 @@
+-- A world as contracts see it: a platform with a module on it that follows a schedule, by digests.
+use Rattle.std.specs.Prelude.{◌≡◌, ℕ, ◌+◌, ◌-◌, ◌^◌, List, length, min, ◌⊎◌}
+use Rattle.std.specs.List.{range_with_len}
+use Rattle.mm_digest.specs.declared.variant.Variant.{Variant}
+use Rattle.mm_module.specs.Batch.{Batch, normal}
+use Rattle.mm_platform.specs.declared.plan.Meddle.{Meddle}
+use Rattle.mm_platform.specs.declared.plan.Stop.{Stop}
+use Rattle.mm_modules.specs.Modules.{meaning_of}
+use Rattle.mm_schedule.specs.declared.header.Header.{Header}
+use Rattle.mm_schedule.specs.declared.reply.Reply.{Reply}
+use Rattle.mm_schedule.specs.Events.{Event, Ask, Checkpoint, Power, Extend}
+use Rattle.mm_model.specs.Instance.{Instance}
+use Rattle.mm_model.specs.Moves.{Digests}
+use Rattle.mm_call.specs.Levels.{by_digests}
+use Rattle.mm_call.specs.Called.{seen_at, reading_steps}
+use Rattle.mm_call.specs.Standing.{instance_by, counted_by}
+use Rattle.mm_run.specs.Folds.{Outcome, course_of, outcome_of, first_issued, first_digests}
+
+-- 32 bytes in rising order, from this one on
+unfoldable pub rising_from : ℕ → List ℕ
+rising_from first = range_with_len first 32
+
+-- the key of each world, and its barrier
+unfoldable pub world_key : List ℕ
+world_key = rising_from 0x00
+
+unfoldable pub world_barrier : List ℕ
+world_barrier = rising_from 0x20
+
+-- the instance that a world with this header is
+abbrev pub world_of : Header → Instance
+world_of header = instance_by header.variant (meaning_of header.«module») world_key world_barrier
+
+-- the header; where the world stands by digests; the issued snapshots by their numbers; and how many steps were called,
+-- and how many of them were to write the cell
+pub record Held : Type 0 where
+  pub header : Header
+  pub digests : Digests
+  pub issued : List (List ℕ)
+  pub steps : ℕ
+  pub writes : ℕ
+
+abbrev pub instance_of : Held → Instance
+instance_of world = world_of world.header
+
+-- a new world
+abbrev pub first_held : Header → Held
+first_held header = record {
+  header = header;
+  digests = first_digests (world_of header);
+  issued = first_issued (world_of header);
+  steps = 0;
+  writes = 0;
+}
+
+-- what an event comes to in a world
+abbrev pub outcome_in : Held → Event → Outcome Digests
+outcome_in world event = outcome_of (instance_of world) (by_digests (instance_of world)) world.digests world.issued event
+
+-- a count of 64 bits stays at the greatest once it is there
+abbrev pub within_bits : Digests → Digests
+within_bits d = record d { count = min d.count (2 ^ 64 - 1) }
+
+-- The world went on by this outcome of an event.
+pub record Follows (o : Outcome Digests) (old new : Held) (said : Reply) : Type 0 where
+  pub reply : said ≡ o.reply
+  pub header : new.header ≡ old.header
+  pub digests : new.digests ≡ within_bits o.state
+  pub issued : new.issued ≡ o.issued
+  pub steps : new.steps ≡ counted_by o.steps old.steps
+  pub writes : new.writes ≡ counted_by o.writes old.writes
+
+-- a world whose call has made its reading steps, and nothing else
+abbrev pub having_read : Stop → List Meddle → Held → Held
+having_read stop meddles world = record world {
+  digests = seen_at (instance_of world) (by_digests (instance_of world)) world.digests (course_of stop meddles);
+  steps = counted_by (length (reading_steps (instance_of world).variant)) world.steps;
+}
+
+-- Memory was wanting for this event: nothing has changed, but that a call may have made its reading steps.
+abbrev pub Wants : Event → Held → Held → Type 0
+Wants (Ask meddles stop offer b) old new = (new ≡ old) ⊎ (new ≡ having_read stop meddles old)
+Wants (Checkpoint meddles stop) old new = new ≡ old
+Wants Power old new = ⊥
+Wants (Extend value) old new = new ≡ old

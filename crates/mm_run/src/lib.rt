@@ -1,0 +1,8 @@
+//! Whole runs: what a schedule is answered, by lists, which know no digest, and by digests, which know no list; what is
+//! asked of a run; and the laws that join the two. Nothing here runs a schedule: the definitions stand apart from the
+//! code that is proved against them.
+#![tactic(auto)]
+
+mod laws;
+
+pub use laws::schedules_go_on;
