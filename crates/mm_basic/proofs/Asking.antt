@@ -57,7 +57,7 @@ commit_blamed (Repeat answer) old new written c =
     subst (λ (w : Result BatchAnswer StepFault). Blames (result_err w) old.faults new.faults) (sym c.1) (ap (λ (s : Standing). s.faults) c.0)
 commit_blamed (Change ready) old new written c = blamed (result_err written) old new c.goes.is_made c.goes.ends
 
-ends_blamed : (found : Result Found Refusal) (old middle new : Standing) (result : Result BatchAnswer Refusal) → Goes ReadCell old middle (fault_in found) → Ends found middle new result → Blames (fault_in result) old.faults new.faults
+pub ends_blamed : (found : Result Found Refusal) (old middle new : Standing) (result : Result BatchAnswer Refusal) → Goes ReadCell old middle (fault_in found) → Ends found middle new result → Blames (fault_in result) old.faults new.faults
 ends_blamed (Err why) old middle new result g e =
     subst (λ (r : Result BatchAnswer Refusal). Blames (fault_in r) old.faults new.faults) (sym e.1)
     (subst (λ (s : Standing). Blames (fault_of why) old.faults s.faults) (sym e.0) (blamed (fault_of why) old middle g.is_made g.ends))

@@ -1,5 +1,5 @@
 -- A call of Basic is the walk of its steps on a course, by digests and by lists.
-use Rattle.std.proofs.Common.{◌≡◌, ℕ, Bool, true, false, List, [], ◌∷◌, map, Option, Some, None, Result, Ok, Err, IfOk, refl, sym, ap, ◌∙◌, subst}
+use Rattle.std.proofs.Common.{◌≡◌, ℕ, ◌+◌, Bool, true, false, List, [], ◌∷◌, ◌++◌, map, Option, Some, None, Result, Ok, Err, IfOk, refl, sym, ap, ◌∙◌, subst}
 use Rattle.std.specs.List.{fold}
 use Rattle.std.specs.Result.{result_err}
 use Rattle.std.proofs.lemmas.List.{append-nil}
@@ -10,25 +10,28 @@ use Rattle.mm_platform.specs.Standing.{Item, Plan, Standing}
 use Rattle.mm_platform.specs.Steps.{Act, ReadCell, WriteCell, Goes}
 use Rattle.mm_platform.specs.Told.{plan_of}
 use Rattle.mm_module.specs.Meaning.{Meaning}
-use Rattle.mm_module.specs.Batch.{Batch, normal}
+use Rattle.mm_module.specs.Batch.{Batch, normal, size_of}
 use Rattle.mm_seal.specs.Cell.{IsCell, cell_spelling}
 use Rattle.mm_seal.specs.Snapshot.{Content}
 use Rattle.mm_model.specs.Instance.{Instance, basic}
 use Rattle.mm_model.specs.History.{History, Move, Foreign, Commit}
-use Rattle.mm_model.specs.Long.{is_long}
 use Rattle.mm_model.specs.Moves.{Digests, made}
 use Rattle.mm_model.specs.Steps.{Reads as Reading, Writes as Writing, ask_steps}
 use Rattle.mm_model.specs.declared.answer.BatchAnswer.{BatchAnswer}
 use Rattle.mm_model.specs.declared.refusal.Refusal.{Refusal}
-use Rattle.mm_model.specs.declared.refusal.Refusal.TheVariants.{Memory, Long, Device, Blank, Cell, Lost, Form, Kind, State, Tag, Stale, Full}
+use Rattle.mm_model.specs.declared.refusal.Refusal.TheVariants.{Device}
 use Rattle.mm_model.proofs.Chains.{length-link}
 use Rattle.mm_call.specs.Refusals.{fault_of, handed_on}
 use Rattle.mm_call.specs.Levels.{all_made, by_digests}
 use Rattle.mm_call.specs.Found as call
-use Rattle.mm_call.specs.Courses.{Fate, Course, end_of, AreTold}
-use Rattle.mm_call.specs.Called.{called, ended_by, told}
+use Rattle.mm_call.specs.Courses.{Fails, Fate, Course, Walked, walk, made_move, end_of, AreTold}
+use Rattle.mm_call.specs.Called.{Breaks, called, called_with, ended_by, kept_at, position_of, told}
 use Rattle.mm_call.specs.Standing.{cell_at, StandsAt}
 use Rattle.mm_call.specs.CallsOn.{GoesBy, CallsOn}
+use Rattle.mm_call.specs.declared.ended.Ended.{Ended}
+use Rattle.mm_call.specs.declared.ended.Ended.TheVariants.{Answered, Refused, Broken}
+use Rattle.mm_call.specs.Ended.{result_of, ended_with, refused_as, committed_as, kept_by, KeepsAs, CallsTo}
+use Rattle.mm_call.proofs.Keeping.{committed_result, foreign_commits, commits_then, written_commits, kept_none, kept_some}
 use Rattle.mm_call.proofs.BasicLaw.{basic_calls_agree}
 use Rattle.mm_call.proofs.Continuing.{continues_by}
 use Rattle.mm_call.specs.Trails.{IsWrite, Stepped, Trail}
@@ -38,7 +41,7 @@ use Rattle.mm_basic.specs.declared.found.Found.{Found}
 use Rattle.mm_basic.specs.declared.found.Found.TheVariants.{Repeat, Change}
 use Rattle.mm_basic.specs.declared.found.Ready.{Ready}
 use Rattle.mm_basic.specs.Steps.{Finds, Reads, Writes}
-use Rattle.mm_basic.specs.Asks.{Ends, Calls}
+use Rattle.mm_basic.specs.Asks.{EndsTo, AsksTo, Finishes}
 use Rattle.mm_basic.proofs.Calling.{IsFound, found_here, answered, is_ready, lacks_by, refused}
 
 -- the fate of a step that was made
@@ -151,7 +154,7 @@ change_goes meaning key d plan offer b old middle new ready written g f h gives 
     (λ (moves : List Move). written_gives written i (sees i d c) (all_made (by_digests i) d moves) (normal b) a.offered moves ready.answer gives a.answer_is)
 
 -- a call that goes so on a course
-called_on : (meaning : Meaning) (c : Course) (offer : List ℕ) (b : Batch) (old new : Standing) (result : Result BatchAnswer Refusal) → AreTold old c.fates
+abbrev called_on : (meaning : Meaning) (c : Course) (offer : List ℕ) (b : Batch) (old new : Standing) (result : Result BatchAnswer Refusal) → AreTold old c.fates
     → ((key : List ℕ) (d : Digests) → StandsAt (basic meaning key) old d → GoesBy (basic meaning key) d (called (basic meaning key) (by_digests (basic meaning key)) d c offer (normal b)) old new result)
     → CallsOn Basic meaning old new offer b result
 called_on meaning c offer b old new result tells goes = record {
@@ -175,61 +178,97 @@ two_told old middle new next fault g h =
       (met_at (WriteCell next) middle new fault plan 1 (then_at ReadCell old middle plan 0 (begins_at old plan on known at) g) h, tt),
     ))
 
-failed_on : (meaning : Meaning) (offer : List ℕ) (b : Batch) (old new : Standing) (fault : StepFault) → Goes ReadCell old new (Some fault) → CallsOn Basic meaning old new offer b (Err (Device fault))
-failed_on meaning offer b old new fault g =
-    called_on meaning (course (fate_of ReadCell old new (Some fault) g ∷ []) (plan_of old) false) offer b old new (Err (Device fault)) (one_told old new (Some fault) g)
-    (λ (key : List ℕ) (d : Digests) s. failed_goes meaning key d (plan_of old) false offer (normal b) old new fault g s)
+-- The ways in which a call ends
 
-refused_on : (meaning : Meaning) (offer : List ℕ) (b : Batch) (old new : Standing) (why : Refusal) → Goes ReadCell old new None → Finds meaning old offer b (Err why) → CallsOn Basic meaning old new offer b (Err why)
-refused_on meaning offer b old new why g f =
-    called_on meaning (course (fate_of ReadCell old new None g ∷ []) (plan_of old) (lacks_by why)) offer b old new (Err why) (one_told old new None g)
-    (λ (key : List ℕ) (d : Digests) s. refused_goes meaning key d (plan_of old) offer b old new why g f s)
+-- The reading step failed: nothing was committed.
+failed_ends : (fresh flag : Bool) (i : Instance) (d seen : Digests) (b : Batch) (found : Result call.Found Refusal) (plan : Plan) (lacks : Bool) (old new : Standing) (fault : StepFault) → (g : Goes ReadCell old new (Some fault)) → let c : Course = course (fate_of ReadCell old new (Some fault) g ∷ []) plan lacks in let w : Walked = walk c.fates 1 (ask_steps Basic flag fresh b) in
+    ended_by (by_digests i) seen (all_made (by_digests i) d w.moves) b found w.moves w.broken ≡ Breaks fault (kept_by (c.fates w.steps).ends None)
+failed_ends false flag i d seen b found plan lacks old new fault g =
+    ap (λ (m : Bool). Breaks fault (kept_at m (position_of (by_digests i) seen (all_made (by_digests i) d (map Foreign g.others)) b found))) (foreign_commits g.others)
+    ∙ ap (λ (k : Option ℕ). Breaks fault k) (kept_none fault g.is_made)
+failed_ends true flag i d seen b found plan lacks old new fault g =
+    ap (λ (m : Bool). Breaks fault (kept_at m (position_of (by_digests i) seen (all_made (by_digests i) d (map Foreign g.others)) b found))) (foreign_commits g.others)
+    ∙ ap (λ (k : Option ℕ). Breaks fault k) (kept_none fault g.is_made)
 
-repeat_on : (meaning : Meaning) (offer : List ℕ) (b : Batch) (old new : Standing) (answer : BatchAnswer) → Goes ReadCell old new None → Finds meaning old offer b (Ok (Repeat answer)) → CallsOn Basic meaning old new offer b (Ok answer)
-repeat_on meaning offer b old new answer g f =
-    called_on meaning (course (fate_of ReadCell old new None g ∷ []) (plan_of old) false) offer b old new (Ok answer) (one_told old new None g)
-    (λ (key : List ℕ) (d : Digests) s. repeat_goes meaning key d (plan_of old) offer b old new answer g f s)
+failed_to : (meaning : Meaning) (offer : List ℕ) (b : Batch) (old new : Standing) (fault : StepFault) → Goes ReadCell old new (Some fault) → CallsTo Basic meaning old new offer b (Broken fault None)
+failed_to meaning offer b old new fault g = record {
+  calls = called_on meaning (course (fate_of ReadCell old new (Some fault) g ∷ []) (plan_of old) false) offer b old new (Err (Device fault)) (one_told old new (Some fault) g)
+      (λ (key : List ℕ) (d : Digests) s. failed_goes meaning key d (plan_of old) false offer (normal b) old new fault g s);
+  keeps = λ (key barrier : List ℕ) (d : Digests) s. let i : Instance = basic meaning key in let c : Course = course (fate_of ReadCell old new (Some fault) g ∷ []) (plan_of old) false in
+      failed_ends (call.is_fresh (finds i d c offer (normal b))) d.flag i d (sees i d c) (normal b) (finds i d c offer (normal b)) (plan_of old) false old new fault g;
+}
 
-change_on : (meaning : Meaning) (offer : List ℕ) (b : Batch) (old middle new : Standing) (ready : Ready) (written : Result BatchAnswer StepFault) → Goes ReadCell old middle None → Finds meaning old offer b (Ok (Change ready)) → Writes ready middle new written → CallsOn Basic meaning old new offer b (handed_on written)
-change_on meaning offer b old middle new ready written g f w =
-    called_on meaning (course (fate_of ReadCell old middle None g ∷ fate_of (WriteCell ready.next) middle new (result_err written) w.goes ∷ []) (plan_of old) false) offer b old new (handed_on written)
-    (two_told old middle new ready.next (result_err written) g w.goes)
-    (λ (key : List ℕ) (d : Digests) s. change_goes meaning key d (plan_of old) offer b old middle new ready written g f w.goes w.gives s)
+refused_to : (meaning : Meaning) (offer : List ℕ) (b : Batch) (old new : Standing) (why : Refusal) → fault_of why ≡ None → Goes ReadCell old new None → Finds meaning old offer b (Err why) → CallsTo Basic meaning old new offer b (Refused why)
+refused_to meaning offer b old new why e g f = record {
+  calls = called_on meaning (course (fate_of ReadCell old new None g ∷ []) (plan_of old) (lacks_by why)) offer b old new (Err why) (one_told old new None g)
+      (λ (key : List ℕ) (d : Digests) s. refused_goes meaning key d (plan_of old) offer b old new why g f s);
+  keeps = λ (key barrier : List ℕ) (d : Digests) s. e;
+}
 
--- the fault of a refusal is that of a device
-device_only : (why : Refusal) (fault : StepFault) → fault_of why ≡ Some fault → why ≡ Device fault
-device_only (Device other) fault e = let same : other ≡ fault = cc in ap (λ (f : StepFault). Device f) same
-device_only Memory fault e = absurd (cc)
-device_only Long fault e = absurd (cc)
-device_only Blank fault e = absurd (cc)
-device_only Cell fault e = absurd (cc)
-device_only Lost fault e = absurd (cc)
-device_only Form fault e = absurd (cc)
-device_only Kind fault e = absurd (cc)
-device_only State fault e = absurd (cc)
-device_only Tag fault e = absurd (cc)
-device_only Stale fault e = absurd (cc)
-device_only Full fault e = absurd (cc)
+repeat_to : (meaning : Meaning) (offer : List ℕ) (b : Batch) (old new : Standing) (answer : BatchAnswer) → Goes ReadCell old new None → Finds meaning old offer b (Ok (Repeat answer)) → CallsTo Basic meaning old new offer b (Answered answer)
+repeat_to meaning offer b old new answer g f = record {
+  calls = called_on meaning (course (fate_of ReadCell old new None g ∷ []) (plan_of old) false) offer b old new (Ok answer) (one_told old new None g)
+      (λ (key : List ℕ) (d : Digests) s. repeat_goes meaning key d (plan_of old) offer b old new answer g f s);
+  keeps = λ (key barrier : List ℕ) (d : Digests) s. tt;
+}
 
-reads_on : (fault : Option StepFault) (meaning : Meaning) (offer : List ℕ) (b : Batch) (old new : Standing) (why : Refusal) → fault_of why ≡ fault → Goes ReadCell old new fault → (fault ≡ None → Finds meaning old offer b (Err why)) → CallsOn Basic meaning old new offer b (Err why)
-reads_on None meaning offer b old new why e g f = refused_on meaning offer b old new why g (f refl)
-reads_on (Some fault) meaning offer b old new why e g f =
-    subst (λ (w : Refusal). CallsOn Basic meaning old new offer b (Err w)) (sym (device_only why fault e)) (failed_on meaning offer b old new fault g)
+-- The writing step failed: it has committed the batch where its effect was made.
+broken_ends : (i : Instance) (d seen : Digests) (flag : Bool) (b : Batch) (offered : Content) (plan : Plan) (old middle new : Standing) (next : List ℕ) (position : ℕ) (fault : StepFault) → (g : Goes ReadCell old middle None) (h : Goes (WriteCell next) middle new (Some fault)) → position ≡ offered.position + size_of b → let c : Course = course (fate_of ReadCell old middle None g ∷ fate_of (WriteCell next) middle new (Some fault) h ∷ []) plan false in let w : Walked = walk c.fates 1 (ask_steps Basic flag true b) in
+    ended_by (by_digests i) seen (all_made (by_digests i) d w.moves) b (Ok (record { offered = offered; again = false })) w.moves w.broken ≡ Breaks fault (kept_by (c.fates w.steps).ends (Some position))
+broken_ends i d seen flag b offered plan old middle new next position fault g h e =
+    ap (λ (m : Bool). Breaks fault (kept_at m (offered.position + size_of b)))
+    (commits_then g.others (made_move h.is_made (Commit b) ++ map Foreign h.others) ∙ written_commits h.is_made b h.others)
+    ∙ ap (λ (k : Option ℕ). Breaks fault k) (kept_some fault h.is_made (offered.position + size_of b))
+    ∙ ap (λ (p : ℕ). Breaks fault (kept_by (Fails fault h.is_made) (Some p))) (sym e)
 
-found_on : (meaning : Meaning) (offer : List ℕ) (b : Batch) (old middle new : Standing) (found : Result Found Refusal) (result : Result BatchAnswer Refusal) → Reads meaning old middle offer b found → Ends found middle new result → CallsOn Basic meaning old new offer b result
-found_on meaning offer b old middle new (Err why) result r e =
-    subst (λ (x : Result BatchAnswer Refusal). CallsOn Basic meaning old new offer b x) (sym e.1)
-    (subst (λ (s : Standing). CallsOn Basic meaning old s offer b (Err why)) (sym e.0)
-    (reads_on (fault_of why) meaning offer b old middle why refl r.goes r.finds))
-found_on meaning offer b old middle new (Ok (Repeat answer)) result r e =
-    subst (λ (x : Result BatchAnswer Refusal). CallsOn Basic meaning old new offer b x) (sym (e.gives ∙ ap handed_on e.commits.1))
-    (subst (λ (s : Standing). CallsOn Basic meaning old s offer b (Ok answer)) (sym e.commits.0)
-    (repeat_on meaning offer b old middle answer r.goes (r.finds refl)))
-found_on meaning offer b old middle new (Ok (Change ready)) result r e =
-    subst (λ (x : Result BatchAnswer Refusal). CallsOn Basic meaning old new offer b x) (sym e.gives)
-    (change_on meaning offer b old middle new ready e.written r.goes (r.finds refl) e.commits)
+change_keeps : (written : Result BatchAnswer StepFault) (meaning : Meaning) (key : List ℕ) (d : Digests) (plan : Plan) (offer : List ℕ) (b : Batch) (old middle new : Standing) (ready : Ready) → (g : Goes ReadCell old middle None) → Finds meaning old offer b (Ok (Change ready)) → (h : Goes (WriteCell ready.next) middle new (result_err written)) → StandsAt (basic meaning key) old d
+    → let c : Course = course (fate_of ReadCell old middle None g ∷ fate_of (WriteCell ready.next) middle new (result_err written) h ∷ []) plan false in KeepsAs c.fates (called (basic meaning key) (by_digests (basic meaning key)) d c offer (normal b)) (committed_as (Some ready.answer.position) written)
+change_keeps (Ok answer) meaning key d plan offer b old middle new ready g f h s = tt
+change_keeps (Err fault) meaning key d plan offer b old middle new ready g f h s =
+    let i : Instance = basic meaning key in
+    let fate : Fate = fate_of ReadCell old middle None g in
+    let last : Fate = fate_of (WriteCell ready.next) middle new (Some fault) h in
+    let c : Course = course (fate ∷ last ∷ []) plan false in
+    let a = is_ready i (sees i d c) (normal b) (call.found_at i (by_digests i) (sees i d c) (normal b) offer) ready
+    (found_seen meaning key d fate (last ∷ []) plan false old offer b (Ok (Change ready)) s f) in
+    let e : finds i d c offer (normal b) ≡ Ok (record { offered = a.offered; again = false }) = ap (λ (x : Result call.Found Refusal). call.found_in x false) a.found_is in
+    subst (λ (x : Result call.Found Refusal). KeepsAs c.fates (called_with i (by_digests i) d (sees i d c) c (normal b) x) (Broken fault (Some ready.answer.position))) (sym e)
+    (broken_ends i d (sees i d c) d.flag (normal b) a.offered plan old middle new ready.next ready.answer.position fault g h
+    (ap (λ (x : BatchAnswer). x.position) a.answer_is))
 
--- a call that isn't too long
-pub calls_on : (meaning : Meaning) (old new : Standing) (offer : List ℕ) (b : Batch) (result : Result BatchAnswer Refusal) → Calls meaning old new offer b result → is_long b ≡ false → CallsOn Basic meaning old new offer b result
-calls_on meaning old new offer b result c short =
-    let a = c.asks short in found_on meaning offer b old a.middle new a.found result a.reads a.ends
+change_to : (meaning : Meaning) (offer : List ℕ) (b : Batch) (old middle new : Standing) (ready : Ready) (written : Result BatchAnswer StepFault) → Goes ReadCell old middle None → Finds meaning old offer b (Ok (Change ready)) → Writes ready middle new written → CallsTo Basic meaning old new offer b (committed_as (Some ready.answer.position) written)
+change_to meaning offer b old middle new ready written g f w =
+    let c : Course = course (fate_of ReadCell old middle None g ∷ fate_of (WriteCell ready.next) middle new (result_err written) w.goes ∷ []) (plan_of old) false in
+    let r : Result BatchAnswer Refusal = result_of (committed_as (Some ready.answer.position) written) in
+    record {
+      calls = called_on meaning c offer b old new r (two_told old middle new ready.next (result_err written) g w.goes)
+          (λ (key : List ℕ) (d : Digests) s. subst (λ (x : Result BatchAnswer Refusal). GoesBy (basic meaning key) d (called (basic meaning key) (by_digests (basic meaning key)) d c offer (normal b)) old new x)
+          (sym (committed_result (Some ready.answer.position) written))
+          (change_goes meaning key d (plan_of old) offer b old middle new ready written g f w.goes w.gives s));
+      keeps = λ (key barrier : List ℕ) (d : Digests) s. change_keeps written meaning key d (plan_of old) offer b old middle new ready g f w.goes s;
+    }
+
+reads_to : (fault : Option StepFault) (meaning : Meaning) (offer : List ℕ) (b : Batch) (old new : Standing) (why : Refusal) → fault_of why ≡ fault → Goes ReadCell old new fault → (fault ≡ None → Finds meaning old offer b (Err why)) → CallsTo Basic meaning old new offer b (ended_with fault why)
+reads_to None meaning offer b old new why e g f = refused_to meaning offer b old new why e g (f refl)
+reads_to (Some fault) meaning offer b old new why e g f = failed_to meaning offer b old new fault g
+
+found_to : (meaning : Meaning) (offer : List ℕ) (b : Batch) (old middle new : Standing) (found : Result Found Refusal) (ended : Ended) → Reads meaning old middle offer b found → EndsTo found middle new ended → CallsTo Basic meaning old new offer b ended
+found_to meaning offer b old middle new (Err why) ended r e =
+    subst (λ (x : Ended). CallsTo Basic meaning old new offer b x) (sym e.1)
+    (subst (λ (s : Standing). CallsTo Basic meaning old s offer b (refused_as why)) (sym e.0)
+    (reads_to (fault_of why) meaning offer b old middle why refl r.goes r.finds))
+found_to meaning offer b old middle new (Ok (Repeat answer)) ended r e =
+    subst (λ (x : Ended). CallsTo Basic meaning old new offer b x) (sym e.1)
+    (subst (λ (s : Standing). CallsTo Basic meaning old s offer b (Answered answer)) (sym e.0)
+    (repeat_to meaning offer b old middle answer r.goes (r.finds refl)))
+found_to meaning offer b old middle new (Ok (Change ready)) ended r e =
+    subst (λ (x : Ended). CallsTo Basic meaning old new offer b x) (sym e.gives)
+    (change_to meaning offer b old middle new ready e.written r.goes (r.finds refl) e.writes)
+
+-- a call from its first step to its end
+pub calls_to : (meaning : Meaning) (old new : Standing) (offer : List ℕ) (b : Batch) (ended : Ended) → AsksTo meaning old new offer b ended → CallsTo Basic meaning old new offer b ended
+calls_to meaning old new offer b ended a = found_to meaning offer b old a.middle new a.found ended a.reads a.ends
+
+pub finished_to : (meaning : Meaning) (call : Option Ready) (old new : Standing) (offer : List ℕ) (b : Batch) (ended : Ended) → Finishes meaning call old new offer b ended → call ≡ None → CallsTo Basic meaning old new offer b ended
+finished_to meaning None old new offer b ended f e = calls_to meaning old new offer b ended f
+finished_to meaning (Some ready) old new offer b ended f e = absurd (cc)

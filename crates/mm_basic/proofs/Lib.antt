@@ -8,4 +8,5 @@ pub mod Continuing
 pub mod Completeness
 pub mod Turning
 pub mod Calling
+pub mod Ending
 pub mod Going

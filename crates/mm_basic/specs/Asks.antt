@@ -11,7 +11,11 @@ use Rattle.mm_model.specs.declared.refusal.Refusal.TheVariants.{Long}
 use Rattle.mm_model.specs.Long.{is_long}
 use Rattle.mm_basic.specs.declared.found.Found.{Found}
 use Rattle.mm_basic.specs.declared.found.Found.TheVariants.{Repeat, Change}
+use Rattle.mm_call.specs.declared.ended.Ended.{Ended}
+use Rattle.mm_call.specs.declared.ended.Ended.TheVariants.{Answered}
 use Rattle.mm_call.specs.Refusals.{fault_of, handed_on}
+use Rattle.mm_call.specs.Ended.{refused_as, committed_as}
+use Rattle.mm_basic.specs.declared.found.Ready.{Ready}
 use Rattle.mm_basic.specs.Steps.{Reads, Writes}
 
 -- How a call goes on once its batch has run in memory: a repeat is answered, and a new batch is committed.
@@ -39,6 +43,30 @@ pub record Asks (meaning : Meaning) (old new : Standing) (offer : List ℕ) (b :
 pub record Calls (meaning : Meaning) (old new : Standing) (offer : List ℕ) (b : Batch) (result : Result BatchAnswer Refusal) : Type 0 where
   pub long : is_long b ≡ true → (new ≡ old) × (result ≡ Err Long)
   pub asks : is_long b ≡ false → Asks meaning old new offer b result
+
+-- The writing step of a call, and how the call ended by it.
+pub record WritesTo (ready : Ready) (old new : Standing) (ended : Ended) : Type 0 where
+  pub written : Result BatchAnswer StepFault
+  pub writes : Writes ready old new written
+  pub gives : ended ≡ committed_as (Some ready.answer.position) written
+
+-- How a call that found this ended.
+abbrev pub EndsTo : Result Found Refusal → Standing → Standing → Ended → Type 0
+EndsTo (Err why) old new ended = (new ≡ old) × (ended ≡ refused_as why)
+EndsTo (Ok (Repeat answer)) old new ended = (new ≡ old) × (ended ≡ Answered answer)
+EndsTo (Ok (Change ready)) old new ended = WritesTo ready old new ended
+
+-- A call from its first step to its end.
+pub record AsksTo (meaning : Meaning) (old new : Standing) (offer : List ℕ) (b : Batch) (ended : Ended) : Type 0 where
+  pub middle : Standing
+  pub found : Result Found Refusal
+  pub reads : Reads meaning old middle offer b found
+  pub ends : EndsTo found middle new ended
+
+-- What is left of a call, by whether its cell was read.
+abbrev pub Finishes : Meaning → Option Ready → Standing → Standing → List ℕ → Batch → Ended → Type 0
+Finishes meaning None old new offer b ended = AsksTo meaning old new offer b ended
+Finishes meaning (Some ready) old new offer b ended = WritesTo ready old new ended
 
 -- one step, which reads; or two, of which the second writes the cell
 abbrev pub ReadsOnce : Standing → Standing → Type 0

@@ -3,9 +3,11 @@
 ghost use Rattle.std.specs.Prelude.{◌≡◌, None, true, false, IfOk, IfErr};
 ghost use Rattle.mm_module.specs.Batches.{batch_of};
 ghost use Rattle.mm_model.specs.Long.{is_long};
+ghost use Rattle.mm_basic.specs.Asks.{AsksTo};
 
 use crate::found::{Found, Ready};
-use crate::step::{read, write};
+use crate::step::{commit, read, write};
+use mm_call::Ended;
 use mm_model::{BatchAnswer, Refusal};
 use mm_module::{Batch, Module};
 use mm_platform::{Platform, StepFault};
@@ -51,7 +53,11 @@ pub fn begin(batch: Batch<'_>) -> Result<Call, Refusal>
 }
 
 impl Call {
-    ghost use Rattle.std.specs.Prelude.{◌≡◌, false};
+    ghost use Rattle.std.specs.Prelude.{◌≡◌, None, false};
+    ghost use Rattle.mm_digest.specs.declared.variant.Variant.TheVariants.{Basic};
+    ghost use Rattle.mm_call.specs.Refusals.{fault_in};
+    ghost use Rattle.mm_call.specs.Ended.{CallsTo, result_of};
+    ghost use Rattle.mm_basic.specs.Asks.{Finishes};
     ghost use Rattle.std.specs.Option.{option_map};
     ghost use Rattle.mm_module.specs.Batches.{batch_of};
     ghost use Rattle.mm_model.specs.Long.{is_long};
@@ -100,6 +106,43 @@ impl Call {
         self.turn(alloc, module, platform, offer, batch)
     }
 
+    /// Moves the call to its end: what `advance` does, over and over. After the reading step it has no allocator.
+    pub fn finish<M: Module, P: Platform>(
+        self,
+        alloc: Global,
+        module: &M,
+        platform: &mut P,
+        offer: &[u8],
+        batch: Batch<'_>,
+    ) -> Ended
+        requires short { is_long (batch_of batch) ≡ false }
+        ensures finishes { Finishes (M.meaning «module».now) self (P.standing platform.old) (P.standing platform.new) offer.now
+            (batch_of batch.entry) result }
+        ensures ends { self ≡ None → CallsTo Basic (M.meaning «module».now) (P.standing platform.old) (P.standing platform.new)
+            offer.now (batch_of batch.entry) result }
+        ensures faults { Blames (fault_in (result_of result)) (P.standing platform.old).faults (P.standing platform.new).faults }
+    {
+        self.end(alloc, module, platform, offer, batch)
+    }
+
+    fn end<M: Module, P: Platform>(
+        self,
+        alloc: Global,
+        module: &M,
+        platform: &mut P,
+        offer: &[u8],
+        batch: Batch<'_>,
+    ) -> Ended
+        requires { is_long (batch_of batch) ≡ false }
+        ensures { Finishes (M.meaning «module».now) self (P.standing platform.old) (P.standing platform.new) offer.now
+            (batch_of batch.entry) result }
+    {
+        match self.ready {
+            None => ask(alloc, module, platform, offer, batch),
+            Some(ready) => commit(ready, platform),
+        }
+    }
+
     fn turn<M: Module, P: Platform>(
         self,
         alloc: Global,
@@ -116,6 +159,25 @@ impl Call {
             None => Turn::first(read(alloc, module, platform, offer, batch)),
             Some(ready) => Turn::last(write(ready, platform)),
         }
+    }
+}
+
+// A call from its first step to its end.
+fn ask<M: Module, P: Platform>(
+    alloc: Global,
+    module: &M,
+    platform: &mut P,
+    offer: &[u8],
+    batch: Batch<'_>,
+) -> Ended
+    requires { is_long (batch_of batch) ≡ false }
+    ensures { AsksTo (M.meaning «module».now) (P.standing platform.old) (P.standing platform.new) offer.now
+        (batch_of batch.entry) result }
+{
+    match read(alloc, module, platform, offer, batch) {
+        Err(refusal) => Ended::refused(refusal),
+        Ok(Found::Repeat(answer)) => Ended::Answered(answer),
+        Ok(Found::Change(ready)) => commit(ready, platform),
     }
 }
 

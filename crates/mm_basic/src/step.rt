@@ -4,9 +4,11 @@ ghost use Rattle.std.specs.Prelude.{◌≡◌, false};
 ghost use Rattle.mm_module.specs.Batches.{batch_of};
 ghost use Rattle.mm_model.specs.Long.{is_long};
 ghost use Rattle.mm_basic.specs.Steps.{Reads, Writes};
+ghost use Rattle.mm_basic.specs.Asks.{WritesTo};
 
 use crate::find::find;
 use crate::found::{Found, Ready};
+use mm_call::Ended;
 use mm_model::{BatchAnswer, Refusal};
 use mm_module::{Batch, Module};
 use mm_platform::{Platform, StepFault};
@@ -39,5 +41,16 @@ pub fn write<P: Platform>(ready: Ready, platform: &mut P) -> Result<BatchAnswer,
     match platform.nv_write(&next) {
         Err(fault) => Err(fault),
         Ok(()) => Ok(answer),
+    }
+}
+
+/// The last step, as the end of its call.
+pub fn commit<P: Platform>(ready: Ready, platform: &mut P) -> Ended
+    ensures { WritesTo ready (P.standing platform.old) (P.standing platform.new) result }
+{
+    let commits = Some(ready.answer.position);
+    match write(ready, platform) {
+        Err(fault) => Ended::Broken { fault, commits },
+        Ok(answer) => Ended::Answered(answer),
     }
 }

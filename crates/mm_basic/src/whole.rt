@@ -14,6 +14,7 @@ ghost use Rattle.mm_basic.specs.Continuity.{ReadContinues, CommitContinues, Cont
 ghost use Rattle.mm_basic.specs.Asks.{Calls, Commits, CommitsFound, StepsBy};
 ghost use Rattle.mm_call.specs.Leaving.{LeavesUntouched, Blames, whole, whole_in};
 
+use crate::call::begin;
 use crate::found::Found;
 use crate::step::{read, write};
 use mm_model::{Answer, BatchAnswer, Refusal};
@@ -137,22 +138,14 @@ fn call<M: Module, P: Platform>(
     offer: &[u8],
     batch: Batch<'_>,
 ) -> Result<BatchAnswer, Refusal>
-    ensures { Calls (M.meaning «module».now) (P.standing platform.old) (P.standing platform.new)
+    ensures calls { Calls (M.meaning «module».now) (P.standing platform.old) (P.standing platform.new)
         offer.now (batch_of batch.entry) result }
+    ensures goes { is_long (batch_of batch.entry) ≡ false → CallsOn Basic (M.meaning «module».now)
+        (P.standing platform.old) (P.standing platform.new) offer.now (batch_of batch.entry) result }
 {
-    match prepare_batch(alloc, module, platform, offer, batch) {
+    match begin(batch) {
         Err(refusal) => Err(refusal),
-        Ok(prepared) => finish(prepared, platform),
-    }
-}
-
-// The rest of a call whose reading step was made.
-fn finish<P: Platform>(prepared: Prepared, platform: &mut P) -> Result<BatchAnswer, Refusal>
-    ensures { Commits prepared (P.standing platform.old) (P.standing platform.new) result }
-{
-    match prepared.commit(platform) {
-        Err(fault) => Err(Refusal::Device(fault)),
-        Ok(committed) => Ok(committed.answer()),
+        Ok(call) => call.finish(alloc, module, platform, offer, batch).result(),
     }
 }
 
@@ -221,6 +214,8 @@ fn call_one<M: Module, P: Platform>(
 ) -> Result<BatchAnswer, Refusal>
     ensures calls { Calls (M.meaning «module».now) (P.standing platform.old) (P.standing platform.new)
         offer.now (One request.now) result }
+    ensures goes { is_long (One request.now) ≡ false → CallsOn Basic (M.meaning «module».now)
+        (P.standing platform.old) (P.standing platform.new) offer.now (One request.now) result }
     ensures one { IfOk result (λ answer. length answer.outputs ≡ 1) }
 {
     call(alloc, module, platform, offer, Batch::One(request))

@@ -23,3 +23,4 @@ pub mod OptShut
 pub mod OptLaw
 pub mod Continuing
 pub mod Checkpoints
+pub mod Keeping

@@ -13,3 +13,4 @@ pub mod CallsOn
 pub mod Trails
 pub mod Laws
 pub mod Checkpoints
+pub mod Ended

@@ -6,11 +6,13 @@
 //! answer that it is sealed into, and the order in which an offer is refused.
 #![tactic(auto)]
 
+mod ended;
 mod examining;
 mod first;
 mod laws;
 mod run;
 
+pub use ended::Ended;
 pub use examining::{examine, has_tab};
 pub use first::Provisioned;
 pub use laws::{

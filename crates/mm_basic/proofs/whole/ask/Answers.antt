@@ -1,11 +1,13 @@
-use Rattle.std.proofs.Common.{Ok, Err, subst}
+use Rattle.std.proofs.Common.{◌≡◌, false, Ok, Err, subst}
 use Rattle.mm_module.specs.Batch.{One}
 use Rattle.mm_model.specs.declared.answer.BatchAnswer.{BatchAnswer}
 use Rattle.mm_model.specs.Fit.{IsFit}
-use Rattle.mm_basic.specs.Asks.{Calls}
+use Rattle.mm_basic.specs.Asks.{Calls, StepsBy}
 use Rattle.mm_call.specs.Leaving.{whole}
 use Rattle.mm_basic.proofs.Continuing.{continues}
-use Rattle.mm_basic.proofs.Going.{calls_on}
+use Rattle.mm_model.specs.Long.{is_long}
+use Rattle.mm_digest.specs.declared.variant.Variant.TheVariants.{Basic}
+use Rattle.mm_call.specs.CallsOn.{CallsOn}
 use Rattle.mm_basic.proofs.Completeness.{complete}
 use Rattle.mm_basic.proofs.Asking.{untouched, blames, steps, fits}
 use Rattle.mm_call.proofs.Leaving.{wholly}
@@ -61,17 +63,20 @@ returns-in-Ok-clause-continuity g c =
     (wholly c.in-Ok.answer c.into_one.result c.into_one.ensures.again c.into_one.ensures.position c.into_one.ensures.output c.into_one.ensures.snapshot)
     c.in-Ok.ensures.calls)
 
-pub returns-in-Err-clause-goes : goal.returns-in-Err-clause-goes
-returns-in-Err-clause-goes g c =
-    calls_on (g.M.Module.meaning c.args.module.now) (g.P.Device.standing c.args.platform.now)
-    (g.P.Device.standing c.call_one.new.platform) c.args.offer.now (One c.args.request.now) (Err c.in-Err.refusal) c.in-Err.ensures.calls
-
 pub returns-in-Ok-clause-goes : goal.returns-in-Ok-clause-goes
 returns-in-Ok-clause-goes g c =
-    calls_on (g.M.Module.meaning c.args.module.now) (g.P.Device.standing c.args.platform.now)
-    (g.P.Device.standing c.call_one.new.platform) c.args.offer.now (One c.args.request.now) (Ok (whole c.into_one.result))
-    (subst
-    (λ (a : BatchAnswer). Calls (g.M.Module.meaning c.args.module.now) (g.P.Device.standing c.args.platform.now)
+    λ (short : is_long (One c.args.request.now) ≡ false).
+    subst
+    (λ (a : BatchAnswer). CallsOn Basic (g.M.Module.meaning c.args.module.now) (g.P.Device.standing c.args.platform.now)
     (g.P.Device.standing c.call_one.new.platform) c.args.offer.now (One c.args.request.now) (Ok a))
     (wholly c.in-Ok.answer c.into_one.result c.into_one.ensures.again c.into_one.ensures.position c.into_one.ensures.output c.into_one.ensures.snapshot)
-    c.in-Ok.ensures.calls)
+    (c.in-Ok.ensures.goes short)
+
+pub returns-in-Ok-clause-steps : goal.returns-in-Ok-clause-steps
+returns-in-Ok-clause-steps g c =
+    λ (short : is_long (One c.args.request.now) ≡ false).
+    subst
+    (λ (a : BatchAnswer). StepsBy (Ok a) (g.P.Device.standing c.args.platform.now) (g.P.Device.standing c.call_one.new.platform))
+    (wholly c.in-Ok.answer c.into_one.result c.into_one.ensures.again c.into_one.ensures.position c.into_one.ensures.output c.into_one.ensures.snapshot)
+    (steps (g.M.Module.meaning c.args.module.now) (g.met.M.Module.is_lawful c.args.module.now) (g.P.Device.standing c.args.platform.now)
+    (g.P.Device.standing c.call_one.new.platform) c.args.offer.now (One c.args.request.now) (Ok c.in-Ok.answer) c.in-Ok.ensures.calls short)

@@ -6,4 +6,4 @@ pub returns-clause-one : goal.returns-clause-one
 returns-clause-one g c =
     one_output c.args.request.now c.call.result
     (fits (g.M.Module.meaning c.args.module.now) (g.met.M.Module.is_lawful c.args.module.now) (g.P.Device.standing c.args.platform.now)
-    (g.P.Device.standing c.call.new.platform) c.args.offer.now (One c.args.request.now) c.call.result c.call.ensures)
+    (g.P.Device.standing c.call.new.platform) c.args.offer.now (One c.args.request.now) c.call.result c.call.ensures.calls)

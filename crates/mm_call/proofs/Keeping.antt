@@ -1,0 +1,63 @@
+-- What a call that ended so gives, and what its moves committed.
+use Rattle.std.proofs.Common.{◌≡◌, ℕ, Bool, true, false, List, [], ◌∷◌, ◌++◌, map, Option, None, Some, Result, Ok, Err, refl, sym, ap}
+use Rattle.mm_platform.specs.declared.fault.StepFault.{StepFault}
+use Rattle.mm_module.specs.Batch.{Batch}
+use Rattle.mm_model.specs.History.{Move, Commit, Foreign}
+use Rattle.mm_model.specs.declared.answer.BatchAnswer.{BatchAnswer}
+use Rattle.mm_model.specs.declared.refusal.Refusal.{Refusal}
+use Rattle.mm_model.specs.declared.refusal.Refusal.TheVariants.{Memory, Long, Device, Blank, Cell, Lost, Form, Kind, State, Tag, Stale, Full}
+use Rattle.mm_call.specs.Refusals.{fault_of, handed_on}
+use Rattle.mm_call.specs.Courses.{Fails, made_move, commits}
+use Rattle.mm_call.specs.Called.{kept_at}
+use Rattle.mm_call.specs.Ended.{result_of, ended_with, refused_as, committed_as, kept_by}
+
+-- the fault of a refusal is that of a device
+pub device_only : (why : Refusal) (fault : StepFault) → fault_of why ≡ Some fault → why ≡ Device fault
+device_only (Device other) fault e = let same : other ≡ fault = cc in ap (λ (f : StepFault). Device f) same
+device_only Memory fault e = absurd (cc)
+device_only Long fault e = absurd (cc)
+device_only Blank fault e = absurd (cc)
+device_only Cell fault e = absurd (cc)
+device_only Lost fault e = absurd (cc)
+device_only Form fault e = absurd (cc)
+device_only Kind fault e = absurd (cc)
+device_only State fault e = absurd (cc)
+device_only Tag fault e = absurd (cc)
+device_only Stale fault e = absurd (cc)
+device_only Full fault e = absurd (cc)
+
+ended_result : (fault : Option StepFault) (why : Refusal) → fault_of why ≡ fault → result_of (ended_with fault why) ≡ Err why
+ended_result None why e = refl
+ended_result (Some fault) why e = ap (λ (w : Refusal). Err w) (sym (device_only why fault e))
+
+-- a refusal gives itself
+pub refused_result : (why : Refusal) → result_of (refused_as why) ≡ Err why
+refused_result why = ended_result (fault_of why) why refl
+
+-- what the step that commits gives is handed on
+pub committed_result : (position : Option ℕ) (written : Result BatchAnswer StepFault) → result_of (committed_as position written) ≡ handed_on written
+committed_result position (Ok answer) = refl
+committed_result position (Err fault) = refl
+
+-- values of others commit nothing
+pub foreign_commits : (values : List (List ℕ)) → commits (map Foreign values) ≡ false
+foreign_commits [] = refl
+foreign_commits (v ∷ values) = foreign_commits values
+
+pub commits_then : (values : List (List ℕ)) (moves : List Move) → commits (map Foreign values ++ moves) ≡ commits moves
+commits_then [] moves = refl
+commits_then (v ∷ values) moves = commits_then values moves
+
+-- a write that failed has committed where its effect was made
+pub written_commits : (made : Bool) (b : Batch) (values : List (List ℕ)) → commits (made_move made (Commit b) ++ map Foreign values) ≡ made
+written_commits true b values = refl
+written_commits false b values = foreign_commits values
+
+-- the position that a failed step has committed
+pub kept_none : (fault : StepFault) (made : Bool) → None ≡ kept_by (Fails fault made) None
+kept_none fault true = refl
+kept_none fault false = refl
+
+pub kept_some : (fault : StepFault) (made : Bool) (position : ℕ) → kept_at made position ≡ kept_by (Fails fault made) (Some position)
+kept_some fault true position = refl
+kept_some fault false position = refl
