@@ -1,6 +1,6 @@
 //! A store in memory, which fails as it is told to and not otherwise.
 
-ghost use Rattle.std.specs.Prelude.{◌≡◌, ◌↔◌, ◌<◌, ◌≤◌, ◌-◌, IsTrue, true, false, Err, OnOk, OnErr, length, take, if◌then◌else◌};
+ghost use Rattle.std.specs.Prelude.{◌≡◌, ◌↔◌, ◌<◌, ◌≤◌, IsTrue, false, Err, OnOk, OnErr, length, take, if◌then◌else◌};
 ghost use Rattle.mm_base.specs.Faults.{counted};
 ghost use Rattle.mm_store.specs.Slots.{longest_slot, slot_in, with_slot};
 ghost use Rattle.mm_store.specs.Shelf.{Shelf, fresh, kept_by, called, after_read, after_write};

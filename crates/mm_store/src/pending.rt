@@ -1,10 +1,10 @@
 //! The record of a request that is pending: it is written before the request is asked.
 
-ghost use Rattle.std.specs.Prelude.{◌≡◌, ◌≤◌, ◌<◌, ◌+◌, ◌^◌, ◌++◌, ◌↔◌, IsTrue, IfOk, OnOk, MatchOption, length};
+ghost use Rattle.std.specs.Prelude.{◌≡◌, ◌≤◌, ◌+◌, ◌^◌, ◌++◌, ◌↔◌, IsTrue, IfOk, OnOk, MatchOption, length};
 ghost use Rattle.std.specs.Option.{option_map};
 ghost use Rattle.sha2.specs.Sha256.{sha256};
 ghost use Rattle.mm_base.specs.Lines.{IsWithin};
-ghost use Rattle.mm_store.specs.Pending.{Pending, IsPending, record_word, pending_front, pending_spelling, ReadsPending, OneReading, IsFrontOf, IsNoFront};
+ghost use Rattle.mm_store.specs.Pending.{IsPending, record_word, pending_front, pending_spelling, ReadsPending, OneReading, IsFrontOf, IsNoFront};
 ghost use Rattle.mm_store.specs.Records.{pending_of};
 
 use mm_base::{Bytes, Memory, bytes_of_u32, bytes_of_u64, split_u32, split_u64};

@@ -1,4 +1,4 @@
-use Rattle.std.proofs.Common.{◌≡◌, ◌∙◌, sym, ap, refl, arith, List, ℕ, ◌++◌, length, true, false}
+use Rattle.std.proofs.Common.{◌≡◌, ◌∙◌, ap, refl, arith, List, ℕ, ◌++◌, length, true, false}
 use Rattle.std.proofs.lemmas.List.{length-take-le}
 use Rattle.mm_store.specs.Pending.{record_word, IsNoFront}
 use Rattle.mm_base.proofs.FieldLaws.{joined}
