@@ -1,0 +1,137 @@
+-- Two cells and a selector as one list of bytes, and what is put in place of a part.
+use Rattle.std.proofs.Common.{ℕ, ◌≡◌, ◌+◌, ◌-◌, ◌*◌, ◌≤◌, ◌<◌, ◌⊎◌, inl, inr, zero, suc, List, [], ◌∷◌, ◌++◌, length, take, drop, get_or, min, refl, sym, ap, ◌∙◌, arith, lit<, length-append, append_assoc, length-drop}
+use Rattle.std.specs.Prelude.{◌%◌, slice_index}
+use Rattle.std.proofs.Math.Seq.{take-append_seam, drop-append_seam, drop-append-add}
+use Rattle.std.proofs.lemmas.Bool.{cases_lt}
+use Rattle.std.proofs.lemmas.List.{take-append-drop, length-take, length-take-le, get_or-append-add, append-nil, drop-drop}
+use Rattle.std.proofs.lemmas.Nat.{mod_below}
+use Rattle.mm_platform.specs.Raw.{range_of, spliced}
+use Rattle.mm_twocell.specs.Pairs.{picked}
+
+take_front : (n : ℕ) (xs ys : List ℕ) → length xs ≡ n → take n (xs ++ ys) ≡ xs
+take_front n xs ys e = ap (λ (m : ℕ). take m (xs ++ ys)) (sym e) ∙ take-append_seam xs ys
+
+drop_front : (n : ℕ) (xs ys : List ℕ) → length xs ≡ n → drop n (xs ++ ys) ≡ ys
+drop_front n xs ys e = ap (λ (m : ℕ). drop m (xs ++ ys)) (sym e) ∙ drop-append_seam xs ys
+
+drop_past : (n m : ℕ) (xs ys : List ℕ) → length xs ≡ n → drop (n + m) (xs ++ ys) ≡ drop m ys
+drop_past n m xs ys e = ap (λ (k : ℕ). drop (k + m) (xs ++ ys)) (sym e) ∙ drop-append-add xs ys m
+
+at_past : (n m : ℕ) (xs ys : List ℕ) → length xs ≡ n → get_or (xs ++ ys) (n + m) 0 ≡ get_or ys m 0
+at_past n m xs ys e = ap (λ (k : ℕ). get_or (xs ++ ys) (k + m) 0) (sym e) ∙ get_or-append-add xs ys m 0
+
+-- one byte
+pub one_item : (xs : List ℕ) → length xs ≡ 1 → xs ≡ get_or xs 0 0 ∷ []
+one_item [] h = absurd (omega arith)
+one_item (x ∷ []) h = refl
+one_item (x ∷ y ∷ xs) h = absurd (omega arith)
+
+-- two cells of this size and a selector
+abbrev pub three : List ℕ → List ℕ → ℕ → List ℕ
+three first second selector = first ++ (second ++ selector ∷ [])
+
+pub record InThree (size : ℕ) (bytes : List ℕ) : Type 0 where
+  pub first : List ℕ
+  pub second : List ℕ
+  pub selector : ℕ
+  pub whole : bytes ≡ three first second selector
+  pub first_size : length first ≡ size
+  pub second_size : length second ≡ size
+
+pub in_three : (size : ℕ) (bytes : List ℕ) → length bytes ≡ size + (size + 1) → InThree size bytes
+in_three size bytes l =
+    let after : List ℕ = drop size bytes in
+    let end : List ℕ = drop size after in
+    let la : length after ≡ size + 1 = omega (arith, length-drop size bytes, l) in
+    let le : length end ≡ 1 = omega (arith, length-drop size after, la) in
+    record {
+      first = take size bytes;
+      second = take size after;
+      selector = get_or end 0 0;
+      whole = sym (take-append-drop size bytes)
+          ∙ ap (λ (r : List ℕ). take size bytes ++ r) (sym (take-append-drop size after) ∙ ap (λ (r : List ℕ). take size after ++ r) (one_item end le));
+      first_size = length-take-le size bytes (omega (arith, l));
+      second_size = length-take-le size after (omega (arith, la));
+    }
+
+pub selector_of : (a b : List ℕ) (n : ℕ) → length a ≡ 104 → length b ≡ 104 → slice_index (three a b n) 208 ≡ n
+selector_of a b n la lb =
+    at_past 104 104 a (b ++ n ∷ []) la ∙ at_past 104 0 b (n ∷ []) lb
+
+pub picks_first : (a b : List ℕ) (n : ℕ) → length a ≡ 104 → length b ≡ 104 → n % 2 ≡ 0 → picked (three a b n) ≡ a
+picks_first a b n la lb e =
+    ap (λ (k : ℕ). take 104 (drop (104 * (k % 2)) (three a b n))) (selector_of a b n la lb)
+    ∙ ap (λ (k : ℕ). take 104 (drop (104 * k) (three a b n))) e
+    ∙ take_front 104 a (b ++ n ∷ []) la
+
+pub picks_second : (a b : List ℕ) (n : ℕ) → length a ≡ 104 → length b ≡ 104 → n % 2 ≡ 1 → picked (three a b n) ≡ b
+picks_second a b n la lb e =
+    ap (λ (k : ℕ). take 104 (drop (104 * (k % 2)) (three a b n))) (selector_of a b n la lb)
+    ∙ ap (λ (k : ℕ). take 104 (drop (104 * k) (three a b n))) e
+    ∙ ap (take 104) (drop_front 104 a (b ++ n ∷ []) la)
+    ∙ take_front 104 b (n ∷ []) lb
+
+pub parity : (n : ℕ) → (n % 2 ≡ 0) ⊎ (n % 2 ≡ 1)
+parity n = elim (cases_lt (n % 2) 1) [
+  | inl below ↦ inl (omega arith)
+  | inr past ↦ inr (omega (arith, mod_below n 2 (lit< tt)))
+]
+
+-- a part in place of one as long
+put_in_place : (at : ℕ) (front part range rest : List ℕ) → length front ≡ at → length range ≡ length part
+    → spliced at part (front ++ (range ++ rest)) ≡ front ++ (part ++ rest)
+put_in_place at front part range rest l m =
+    let all : List ℕ = front ++ (range ++ rest) in
+    ap (λ (f : List ℕ). (f ++ part) ++ drop (at + length part) all) (take_front at front (range ++ rest) l)
+    ∙ ap (λ (r : List ℕ). (front ++ part) ++ r) (drop_past at (length part) front (range ++ rest) l ∙ drop_front (length part) range rest m)
+    ∙ append_assoc front part rest
+
+pub put_first : (a b w : List ℕ) (n : ℕ) → length a ≡ 104 → length w ≡ 104 → spliced 0 w (three a b n) ≡ three w b n
+put_first a b w n la lw = put_in_place 0 [] w a (b ++ n ∷ []) refl (la ∙ sym lw)
+
+pub put_second : (a b w : List ℕ) (n : ℕ) → length a ≡ 104 → length b ≡ 104 → length w ≡ 104 → spliced 104 w (three a b n) ≡ three a w n
+put_second a b w n la lb lw = put_in_place 104 a w b (n ∷ []) la (lb ∙ sym lw)
+
+pub put_selector : (a b : List ℕ) (m n : ℕ) → length a ≡ 104 → length b ≡ 104 → spliced 208 (m ∷ []) (three a b n) ≡ three a b m
+put_selector a b m n la lb =
+    ap (spliced 208 (m ∷ [])) (sym (append_assoc a b (n ∷ [])))
+    ∙ put_in_place 208 (a ++ b) (m ∷ []) (n ∷ []) [] (length-append a b ∙ omega (arith, la, lb)) refl
+    ∙ append_assoc a b (m ∷ [])
+
+-- what is put in front of a range, with the old bytes of the range behind it
+pub kept_behind : (k n : ℕ) (xs : List ℕ) → k ≤ n → drop k (take n xs) ++ drop n xs ≡ drop k xs
+kept_behind zero n xs h = take-append-drop n xs
+kept_behind (suc k) zero xs h = absurd (omega arith)
+kept_behind (suc k) (suc n) [] h = refl
+kept_behind (suc k) (suc n) (x ∷ xs) h = kept_behind k n xs (omega arith)
+
+abbrev pub behind : List ℕ → List ℕ → List ℕ
+behind part range = part ++ drop (length part) range
+
+pub length-behind : (part range : List ℕ) → length part ≤ length range → length (behind part range) ≡ length range
+length-behind part range h = length-append part (drop (length part) range) ∙ omega (arith, length-drop (length part) range, h)
+
+pub put_behind : (at n : ℕ) (part bytes : List ℕ) → length part ≤ n → at + n ≤ length bytes
+    → spliced at part bytes ≡ spliced at (behind part (range_of at n bytes)) bytes
+put_behind at n part bytes h within =
+    let xs : List ℕ = drop at bytes in
+    let lx : n ≤ length xs = omega (arith, length-drop at bytes, within) in
+    let lr : length (take n xs) ≡ n = length-take-le n xs lx in
+    let lp : length part ≤ length (take n xs) = omega (arith, lr, h) in
+    let lb : length (behind part (take n xs)) ≡ n = length-behind part (take n xs) lp ∙ lr in
+    let left : drop (at + length part) bytes ≡ drop (length part) xs = sym (drop-drop (length part) at bytes) in
+    let right : drop (at + length (behind part (take n xs))) bytes ≡ drop n xs =
+    ap (λ (k : ℕ). drop (at + k) bytes) lb ∙ sym (drop-drop n at bytes) in
+    let front : List ℕ = take at bytes in
+    let old : List ℕ = drop (length part) (take n xs) in
+    let rest : List ℕ = drop (at + length (behind part (take n xs))) bytes in
+    ap (λ (r : List ℕ). (front ++ part) ++ r) (left ∙ sym (kept_behind (length part) n xs h) ∙ ap (λ (r : List ℕ). old ++ r) (sym right))
+    ∙ append_assoc front part (old ++ rest)
+    ∙ ap (λ (r : List ℕ). front ++ r) (sym (append_assoc part old rest))
+    ∙ sym (append_assoc front (part ++ old) rest)
+
+-- what is put in place of a part leaves the number of bytes
+pub length-spliced : (at : ℕ) (part bytes : List ℕ) → at + length part ≤ length bytes → length (spliced at part bytes) ≡ length bytes
+length-spliced at part bytes h =
+    length-append (take at bytes ++ part) (drop (at + length part) bytes)
+    ∙ omega (arith, length-append (take at bytes) part, length-take-le at bytes (omega (arith, h)), length-drop (at + length part) bytes, h)

@@ -1,0 +1,4 @@
+pub mod Cells
+pub mod Writing
+pub mod Tearing
+pub mod Steadying

@@ -1,0 +1,83 @@
+-- Steps of a register whose plan is quiet.
+use Rattle.std.proofs.Common.{ℕ, ◌≡◌, Bool, true, List, [], Option, None, Some, refl, sym, ap, ◌∙◌}
+use Rattle.std.specs.Option.{option_map}
+use Rattle.mm_platform.specs.declared.fault.StepFault.{StepFault}
+use Rattle.mm_platform.specs.declared.plan.Stop.TheVariants.{Quiet}
+use Rattle.mm_platform.specs.Standing.{Plan, Standing, next_step, due}
+use Rattle.mm_platform.specs.Steps.{Act, ReadRegister, ResetRegister, ExtendRegister, beside, cell_after, items_after, writes_after, fault_at, is_made_at, is_on_at, will_answer, will_be_made, will_be_on, will_bring, faults_after, Goes}
+use Rattle.mm_platform.specs.Told.{quiet_plan, answer_of, makes, stepped, AreAlike}
+use Rattle.mm_twocell.specs.Torn.{Torn, told_by, whole, StepsRegister, from_start, IsSteady}
+
+-- what such a step does
+record Steadies {act : Act} {old new : Standing} {fault : Option StepFault} (g : Goes act old new fault) : Type 0 where
+  none : fault ≡ None
+  made : g.is_made ≡ true
+  others : g.others ≡ []
+  on : new.is_on ≡ true
+
+told_quiet : (plan : Plan) → from_start plan ≡ quiet_plan → (plan.stop ≡ Quiet) × (plan.meddles ≡ [])
+told_quiet plan e = (ap (λ (p : Plan). p.stop) e, ap (λ (p : Plan). p.meddles) e)
+
+steadies_by : {act : Act} {old new : Standing} {fault : Option StepFault} (g : Goes act old new fault) (told : Option Plan)
+    → old.plan ≡ told → old.is_on ≡ true → option_map from_start told ≡ Some quiet_plan → Steadies g
+steadies_by g None known on quiet = absurd (cc)
+steadies_by {act} {old} {new} {fault} g (Some plan) known on quiet =
+    let same : from_start plan ≡ quiet_plan = cc in
+    let q = told_quiet plan same in
+    let t = g.told plan known in
+    record {
+      none = t.answers ∙ ap (λ (o : Bool). will_answer o plan) on ∙ ap (λ stop. fault_at stop (next_step plan)) q.0;
+      made = t.makes ∙ ap (λ (o : Bool). will_be_made o plan) on ∙ ap (λ stop. is_made_at stop (next_step plan)) q.0;
+      others = t.brings ∙ ap (λ (o : Bool). will_bring o plan) on ∙ ap (due (next_step plan)) q.1;
+      on = t.power ∙ ap (λ (o : Bool). will_be_on o plan) on ∙ ap (λ stop. is_on_at stop (next_step plan)) q.0;
+    }
+
+-- the memory that has this register
+abbrev pub torn_of : List ℕ → ℕ → ℕ → List ℕ → Standing → Torn
+torn_of bytes faults ahead leaves register = record {
+  standing = record register { cell = Some bytes; faults = faults; plan = None };
+  ahead = ahead;
+  leaves = leaves;
+}
+
+steps_by : (act : Act) (old new : Standing) (fault : Option StepFault) (bytes : List ℕ) (faults ahead : ℕ) (leaves : List ℕ)
+    → ((made : Bool) (cell : Option (List ℕ)) → cell_after act made cell ≡ cell) → IsSteady old → Goes act old new fault
+    → StepsRegister act (torn_of bytes faults ahead leaves old) (torn_of bytes faults ahead leaves new)
+steps_by act old new fault bytes faults ahead leaves same steady g =
+    let s = steadies_by g old.plan refl steady.0 steady.1 in
+    let t : Standing = told_by (torn_of bytes faults ahead leaves old) in
+    let made : makes t ≡ true = ap (λ (o : Bool). will_be_made o quiet_plan) steady.0 in
+    let brings : will_bring old.is_on quiet_plan ≡ [] = ap (λ (o : Bool). will_bring o quiet_plan) steady.0 in
+    let answers : answer_of t ≡ None = ap (λ (o : Bool). will_answer o quiet_plan) steady.0 in
+    record {
+      stands = record {
+        cell = sym (same (makes t) (whole (Some bytes)));
+        items = g.items ∙ ap (λ (m : Bool). items_after act m (beside g.others old.items)) (s.made ∙ sym made)
+            ∙ ap (λ (o : List (List ℕ)). items_after act (makes t) (beside o old.items)) (s.others ∙ sym brings);
+        is_on = s.on ∙ sym (ap (λ (o : Bool). will_be_on o quiet_plan) steady.0);
+        steps = g.steps;
+        writes = g.writes;
+        faults = sym (ap (λ (f : Option StepFault). faults_after f faults) answers);
+        plan = refl;
+      };
+      ahead = refl;
+      leaves = refl;
+    }
+
+pub read_steps : (old new : Standing) (fault : Option StepFault) (bytes : List ℕ) (faults ahead : ℕ) (leaves : List ℕ)
+    → IsSteady old → Goes ReadRegister old new fault
+    → StepsRegister ReadRegister (torn_of bytes faults ahead leaves old) (torn_of bytes faults ahead leaves new)
+read_steps old new fault bytes faults ahead leaves steady g =
+    steps_by ReadRegister old new fault bytes faults ahead leaves (λ _ _. refl) steady g
+
+pub reset_steps : (old new : Standing) (fault : Option StepFault) (bytes : List ℕ) (faults ahead : ℕ) (leaves : List ℕ)
+    → IsSteady old → Goes ResetRegister old new fault
+    → StepsRegister ResetRegister (torn_of bytes faults ahead leaves old) (torn_of bytes faults ahead leaves new)
+reset_steps old new fault bytes faults ahead leaves steady g =
+    steps_by ResetRegister old new fault bytes faults ahead leaves (λ _ _. refl) steady g
+
+pub extend_steps : (value : List ℕ) (old new : Standing) (fault : Option StepFault) (bytes : List ℕ) (faults ahead : ℕ) (leaves : List ℕ)
+    → IsSteady old → Goes (ExtendRegister value) old new fault
+    → StepsRegister (ExtendRegister value) (torn_of bytes faults ahead leaves old) (torn_of bytes faults ahead leaves new)
+extend_steps value old new fault bytes faults ahead leaves steady g =
+    steps_by (ExtendRegister value) old new fault bytes faults ahead leaves (λ _ _. refl) steady g

@@ -1,0 +1,70 @@
+-- A write that fails, of which a part is left.
+use Rattle.std.proofs.Common.{ℕ, ◌≡◌, ◌+◌, ◌-◌, ◌≤◌, Bool, true, false, List, [], ◌++◌, length, take, drop, min, Option, None, Some, refl, sym, ap, ◌∙◌, subst, arith}
+use Rattle.std.specs.Prelude.{◌==◌, if◌then◌else◌}
+use Rattle.std.specs.Option.{option_map}
+use Rattle.std.proofs.lemmas.Bool.Decides.{nat_tests}
+use Rattle.std.proofs.lemmas.List.{length-take, length-take-le, length-drop}
+use Rattle.mm_base.specs.Faults.{counted, Rose}
+use Rattle.mm_platform.specs.declared.fault.StepFault.TheVariants.{Failed}
+use Rattle.mm_platform.specs.Standing.{Standing}
+use Rattle.mm_platform.specs.Raw.{range_of, spliced, WritesRaw}
+use Rattle.mm_platform.proofs.Calling.{beside-none}
+use Rattle.mm_twocell.specs.Torn.{Torn, whole, told_by, IsReady, will_fail, called, put_in}
+use Rattle.mm_twocell.proofs.Cells.{behind, length-behind, put_behind, length-spliced}
+
+size_test : (bytes : List ℕ) → length bytes ≡ 209 → (length bytes == 209) ≡ true
+size_test bytes e = grind (arith, nat_tests)
+
+pub whole_is : (bytes : List ℕ) → length bytes ≡ 209 → whole (Some bytes) ≡ Some bytes
+whole_is bytes e = ap (λ (b : Bool). if b then Some bytes else None) (size_test bytes e)
+
+pub told_is : (it : Torn) (r : IsReady it) → whole it.standing.cell ≡ Some r.bytes
+told_is it r = ap whole r.cell ∙ whole_is r.bytes r.size
+
+faults_rose : (it : Torn) → will_fail it ≡ true → Rose it.standing.faults (called it).standing.faults
+faults_rose it w =
+    let f : ℕ = it.standing.faults in
+    subst (λ (b : Bool). counted f ≤ (if b then counted f else f)) (sym w) (omega arith)
+
+-- the told bytes once a part was put in place
+told_put : (at : ℕ) (part : List ℕ) (it : Torn) (r : IsReady it) → at + length part ≤ 209
+    → whole (option_map (spliced at part) it.standing.cell) ≡ option_map (spliced at part) (whole it.standing.cell)
+told_put at part it r h =
+    ap (λ c. whole (option_map (spliced at part) c)) r.cell
+    ∙ whole_is (spliced at part r.bytes) (length-spliced at part r.bytes (omega (arith, h, r.size)) ∙ r.size)
+    ∙ ap (option_map (spliced at part)) (sym (told_is it r))
+
+part_within : (n : ℕ) (leaves : List ℕ) → length (take n leaves) ≤ n
+part_within n leaves = omega (arith, length-take n leaves)
+
+pub write_fails : (at : ℕ) (bytes : List ℕ) (old mid new : Torn) → at + length bytes ≤ 209 → IsReady old → will_fail old ≡ true
+    → mid ≡ called old → new ≡ put_in at (take (length bytes) mid.leaves) mid → WritesRaw at bytes (told_by old) (told_by new) (Some Failed)
+write_fails at bytes old mid new h r w e f =
+    let n : ℕ = length bytes in
+    let part : List ℕ = take n old.leaves in
+    let range : List ℕ = range_of at n r.bytes in
+    let within : at + n ≤ length r.bytes = omega (arith, h, r.size) in
+    let size : length range ≡ n = length-take-le n (drop at r.bytes) (omega (arith, length-drop at r.bytes, within)) in
+    let fits : length part ≤ n = part_within n old.leaves in
+    let all : length (behind part range) ≡ n = length-behind part range (omega (arith, size, fits)) ∙ size in
+    let after : new ≡ put_in at part (called old) = f ∙ ap (λ (t : Torn). put_in at (take n t.leaves) t) e in
+    subst (λ (t : Torn). WritesRaw at bytes (told_by old) (told_by t) (Some Failed)) (sym after) (record {
+      written = behind part range;
+      size = all;
+      cell = told_put at part old r (omega (arith, h, fits))
+          ∙ ap (option_map (spliced at part)) (told_is old r)
+          ∙ ap Some (put_behind at n part r.bytes fits within)
+          ∙ ap (option_map (spliced at (behind part range))) (sym (told_is old r));
+      whole = λ none. absurd (cc);
+      still = λ off. let g : false ≡ true = sym off ∙ r.on in absurd (cc);
+      rest = record {
+        others = [];
+        items = sym (beside-none old.standing.items);
+        steps = refl;
+        writes = refl;
+        room = omega arith;
+        plan = refl;
+      };
+      is_made = false;
+      ends = record { was_on = r.on; is_on = r.on; faults = faults_rose old w };
+    })

@@ -1,0 +1,214 @@
+-- What a read and a write over two cells do to the one cell.
+use Rattle.std.proofs.Common.{ℕ, ◌≡◌, ◌+◌, ◌-◌, ◌*◌, ◌≤◌, ◌⊎◌, inl, inr, Bool, true, false, List, [], ◌∷◌, ◌++◌, length, get_or, Option, None, Some, refl, sym, ap, ◌∙◌, subst, arith}
+use Rattle.std.specs.Prelude.{◌%◌, ◌==◌, slice_index}
+use Rattle.std.specs.Option.{option_map}
+use Rattle.std.proofs.lemmas.Bool.Decides.{nat_tests}
+use Rattle.mm_base.specs.Faults.{counted, Rose}
+use Rattle.mm_platform.specs.declared.fault.StepFault.{StepFault}
+use Rattle.mm_platform.specs.declared.fault.StepFault.TheVariants.{Failed, Off}
+use Rattle.mm_platform.specs.Standing.{Standing}
+use Rattle.mm_platform.specs.Steps.{Act, ReadCell, WriteCell, beside, cell_after, writes_after, IsDone, EndsBy, Goes, Readies, EndsCycle, Cycles}
+use Rattle.mm_platform.specs.Raw.{spliced, LeavesRest, ReadsRaw, WritesRaw}
+use Rattle.mm_platform.proofs.Calling.{beside-beside}
+use Rattle.mm_twocell.specs.Pairs.{picked, as_one, WritesPicked}
+use Rattle.mm_twocell.proofs.Cells.{InThree, in_three, three, one_item, parity, picks_first, picks_second, put_first, put_second, put_selector, selector_of}
+
+-- how a call ends that went on from a call that was done
+pub ends_with : (fault : Option StepFault) (old two three : Standing) (made any : Bool) → old.is_on ≡ true → two.faults ≡ old.faults
+    → (fault ≡ None → made ≡ true) → EndsBy fault two three any → EndsBy fault old three made
+ends_with None old two three made any on same m e = record { made = m refl; was_on = on; is_on = e.is_on; faults = e.faults ∙ same }
+ends_with (Some Failed) old two three made any on same m e =
+    record { was_on = on; is_on = e.is_on; faults = subst (λ (n : ℕ). Rose n three.faults) same e.faults }
+ends_with (Some Off) old two three made any on same m e = record {
+  faults = subst (λ (n : ℕ). Rose n three.faults) same e.faults;
+  still = λ off. let f : false ≡ true = sym off ∙ on in absurd (cc);
+}
+
+done_made : (fault : Option StepFault) (old new : Standing) (made : Bool) → EndsBy fault old new made → fault ≡ None → made ≡ true
+done_made None old new made e none = e.made
+done_made (Some fault) old new made e none = absurd (cc)
+
+failed_not : (fault : StepFault) (made : Bool) → Some fault ≡ None → made ≡ true
+failed_not fault made e = absurd (cc)
+
+pub leaves_then : (old one two : Standing) → LeavesRest old one → LeavesRest one two → LeavesRest old two
+leaves_then old one two a b = record {
+  others = a.others ++ b.others;
+  items = b.items ∙ ap (beside b.others) a.items ∙ beside-beside a.others b.others old.items;
+  steps = b.steps ∙ a.steps;
+  writes = b.writes ∙ a.writes;
+  room = omega (arith, a.room, b.room);
+  plan = b.plan ∙ a.plan;
+}
+
+-- a read, and another one
+pub reads_then : (old one two : Standing) (fault : Option StepFault) → ReadsRaw old one None → ReadsRaw one two fault → ReadsRaw old two fault
+reads_then old one two fault a b = record {
+  cell = b.cell ∙ a.cell;
+  rest = leaves_then old one two a.rest b.rest;
+  is_made = b.is_made;
+  ends = ends_with fault old one two b.is_made b.is_made a.ends.was_on a.ends.faults (done_made fault one two b.is_made b.ends) b.ends;
+}
+
+unmade : (fault : StepFault) (old new : Standing) (any : Bool) → EndsBy (Some fault) old new any → EndsBy (Some fault) old new false
+unmade Failed old new any e = record { was_on = e.was_on; is_on = e.is_on; faults = e.faults }
+unmade Off old new any e = record { faults = e.faults; still = λ off. (refl, (e.still off).1) }
+
+-- the selector could not be read
+pub write_unread : (bytes : List ℕ) (old one : Standing) (fault : StepFault) → ReadsRaw old one (Some fault) → WritesPicked bytes old one (Some fault)
+write_unread bytes old one fault a = record {
+  is_made = false;
+  cell = ap (option_map picked) a.cell;
+  rest = a.rest;
+  ends = unmade fault old one a.is_made a.ends;
+}
+
+-- what was told of the memory and read of its selector
+pub record IsRead (cell : Option (List ℕ)) (selector other : ℕ) : Type 0 where
+  pub size : (bytes : List ℕ) → cell ≡ Some bytes → length bytes ≡ 209
+  pub read : (bytes : List ℕ) → cell ≡ Some bytes → selector ≡ slice_index bytes 208
+  pub other_is : other ≡ 1 - selector % 2
+
+-- the two cells, by which of them is picked
+record Picks (bytes : List ℕ) (other : ℕ) : Type 0 where
+  parts : InThree 104 bytes
+  which : ((parts.selector % 2 ≡ 0) × (other ≡ 1)) ⊎ ((parts.selector % 2 ≡ 1) × (other ≡ 0))
+
+selector_told : (bytes : List ℕ) (p : InThree 104 bytes) → slice_index bytes 208 ≡ p.selector
+selector_told bytes p =
+    ap (λ (b : List ℕ). slice_index b 208) p.whole ∙ selector_of p.first p.second p.selector p.first_size p.second_size
+
+picks : (bytes : List ℕ) (selector other : ℕ) → length bytes ≡ 209 → selector ≡ slice_index bytes 208 → other ≡ 1 - selector % 2 → Picks bytes other
+picks bytes selector other l s o =
+    let p = in_three 104 bytes l in
+    let same : selector ≡ p.selector = s ∙ selector_told bytes p in
+    let o2 : other ≡ 1 - p.selector % 2 = o ∙ ap (λ (k : ℕ). 1 - k % 2) same in
+    record {
+      parts = p;
+      which = elim (parity p.selector) [
+        | inl even ↦ inl (even, omega (arith, o2, even))
+        | inr odd ↦ inr (odd, omega (arith, o2, odd))
+      ];
+    }
+
+-- a write of the other cell leaves the picked one
+other_left : (bytes w : List ℕ) (other : ℕ) → Picks bytes other → length w ≡ 104 → picked (spliced (104 * other) w bytes) ≡ picked bytes
+other_left bytes w other p lw =
+    let a : List ℕ = p.parts.first in
+    let b : List ℕ = p.parts.second in
+    let n : ℕ = p.parts.selector in
+    let la = p.parts.first_size in
+    let lb = p.parts.second_size in
+    ap (λ (x : List ℕ). picked (spliced (104 * other) w x)) p.parts.whole
+    ∙ elim p.which [
+      | inl e ↦ ap (λ (k : ℕ). picked (spliced (104 * k) w (three a b n))) e.1 ∙ ap picked (put_second a b w n la lb lw)
+          ∙ picks_first a w n la lw e.0 ∙ sym (picks_first a b n la lb e.0)
+      | inr e ↦ ap (λ (k : ℕ). picked (spliced (104 * k) w (three a b n))) e.1 ∙ ap picked (put_first a b w n la lw)
+          ∙ picks_second w b n lw lb e.0 ∙ sym (picks_second a b n la lb e.0)
+    ]
+    ∙ ap picked (sym p.parts.whole)
+
+equal_is : (m n : ℕ) → m ≡ n → (m == n) ≡ true
+equal_is m n e = grind (arith, nat_tests)
+
+other_is_not : (m n : ℕ) → m ≡ 0 → n ≡ 1 → (m == n) ≡ false
+other_is_not m n e f = grind (arith, nat_tests)
+
+nor_back : (m n : ℕ) → m ≡ 1 → n ≡ 0 → (m == n) ≡ false
+nor_back m n e f = grind (arith, nat_tests)
+
+-- the one cell by whether a write is made
+cell_by : List ℕ → List ℕ → Bool → Option (List ℕ)
+cell_by w old made = cell_after (WriteCell w) made (Some old)
+
+-- a selector that is written then picks the written cell or the old one
+selector_picks : (bytes w : List ℕ) (other m : ℕ) → Picks bytes other → length w ≡ 104
+    → Some (picked (spliced 208 (m ∷ []) (spliced (104 * other) w bytes))) ≡ cell_by w (picked bytes) (m % 2 == other)
+unfolding cell_by
+selector_picks bytes w other m p lw =
+    let a : List ℕ = p.parts.first in
+    let b : List ℕ = p.parts.second in
+    let n : ℕ = p.parts.selector in
+    let la = p.parts.first_size in
+    let lb = p.parts.second_size in
+    ap (λ (x : List ℕ). Some (picked (spliced 208 (m ∷ []) (spliced (104 * other) w x)))) p.parts.whole
+    ∙ elim p.which [
+      | inl e ↦
+          let written : spliced 208 (m ∷ []) (spliced (104 * other) w (three a b n)) ≡ three a w m =
+          ap (λ (k : ℕ). spliced 208 (m ∷ []) (spliced (104 * k) w (three a b n))) e.1
+          ∙ ap (spliced 208 (m ∷ [])) (put_second a b w n la lb lw) ∙ put_selector a w m n la lw in
+          ap (λ (x : List ℕ). Some (picked x)) written
+          ∙ elim (parity m) [
+            | inl even ↦ ap Some (picks_first a w m la lw even ∙ sym (picks_first a b n la lb e.0))
+                ∙ ap (cell_by w (picked (three a b n))) (sym (other_is_not (m % 2) other even e.1))
+            | inr odd ↦ ap Some (picks_second a w m la lw odd)
+                ∙ ap (cell_by w (picked (three a b n))) (sym (equal_is (m % 2) other (odd ∙ sym e.1)))
+          ]
+      | inr e ↦
+          let written : spliced 208 (m ∷ []) (spliced (104 * other) w (three a b n)) ≡ three w b m =
+          ap (λ (k : ℕ). spliced 208 (m ∷ []) (spliced (104 * k) w (three a b n))) e.1
+          ∙ ap (spliced 208 (m ∷ [])) (put_first a b w n la lw) ∙ put_selector w b m n lw lb in
+          ap (λ (x : List ℕ). Some (picked x)) written
+          ∙ elim (parity m) [
+            | inl even ↦ ap Some (picks_first w b m lw lb even)
+                ∙ ap (cell_by w (picked (three a b n))) (sym (equal_is (m % 2) other (even ∙ sym e.1)))
+            | inr odd ↦ ap Some (picks_second w b m lw lb odd ∙ sym (picks_second a b n la lb e.0))
+                ∙ ap (cell_by w (picked (three a b n))) (sym (nor_back (m % 2) other odd e.1))
+          ]
+    ]
+    ∙ ap (λ (x : List ℕ). cell_by w (picked x) (m % 2 == other)) (sym p.parts.whole)
+
+none_after : (w : List ℕ) (made : Bool) → None ≡ cell_after (WriteCell w) made None
+none_after w true = refl
+none_after w false = refl
+
+told_left : (cell : Option (List ℕ)) (w : List ℕ) (selector other : ℕ) → IsRead cell selector other → length w ≡ 104
+    → option_map picked (option_map (spliced (104 * other) w) cell) ≡ option_map picked cell
+told_left None w selector other r lw = refl
+told_left (Some bytes) w selector other r lw =
+    ap Some (other_left bytes w other (picks bytes selector other (r.size bytes refl) (r.read bytes refl) r.other_is) lw)
+
+told_picks : (cell : Option (List ℕ)) (w : List ℕ) (selector other m : ℕ) → IsRead cell selector other → length w ≡ 104
+    → option_map picked (option_map (spliced 208 (m ∷ [])) (option_map (spliced (104 * other) w) cell))
+    ≡ cell_after (WriteCell w) (m % 2 == other) (option_map picked cell)
+unfolding cell_by
+told_picks None w selector other m r lw = none_after w (m % 2 == other)
+told_picks (Some bytes) w selector other m r lw =
+    selector_picks bytes w other m (picks bytes selector other (r.size bytes refl) (r.read bytes refl) r.other_is) lw
+
+-- the other cell was torn
+pub write_torn : (bytes : List ℕ) (selector other : ℕ) (old one two : Standing) (fault : StepFault) → length bytes ≡ 104
+    → IsRead old.cell selector other → ReadsRaw old one None → WritesRaw (104 * other) bytes one two (Some fault)
+    → WritesPicked bytes old two (Some fault)
+write_torn bytes selector other old one two fault l r a b = record {
+  is_made = false;
+  cell = ap (option_map picked) (b.cell ∙ ap (option_map (spliced (104 * other) b.written)) a.cell)
+      ∙ told_left old.cell b.written selector other r (b.size ∙ l);
+  rest = leaves_then old one two a.rest b.rest;
+  ends = ends_with (Some fault) old one two false b.is_made a.ends.was_on a.ends.faults (failed_not fault false) b.ends;
+}
+
+other_below : (selector other : ℕ) → other ≡ 1 - selector % 2 → (other % 2 == other) ≡ true
+other_below selector other o = elim (parity selector) [
+  | inl even ↦ let f : other ≡ 1 = omega (arith, o, even) in ap (λ (k : ℕ). k % 2 == k) f
+  | inr odd ↦ let f : other ≡ 0 = omega (arith, o, odd) in ap (λ (k : ℕ). k % 2 == k) f
+]
+
+-- the selector was written, or torn
+pub write_ends : (bytes : List ℕ) (selector other : ℕ) (old one two three : Standing) (fault : Option StepFault) → length bytes ≡ 104
+    → IsRead old.cell selector other → ReadsRaw old one None → WritesRaw (104 * other) bytes one two None
+    → (value : ℕ) → value ≡ other → WritesRaw 208 (value ∷ []) two three fault → WritesPicked bytes old three fault
+write_ends bytes selector other old one two three fault l r a b value same c =
+    let m : ℕ = get_or c.written 0 0 in
+    let byte : c.written ≡ m ∷ [] = one_item c.written c.size in
+    let cells : three.cell ≡ option_map (spliced 208 (m ∷ [])) (option_map (spliced (104 * other) bytes) old.cell) =
+    c.cell ∙ ap (λ (w : List ℕ). option_map (spliced 208 w) two.cell) byte
+    ∙ ap (option_map (spliced 208 (m ∷ []))) (b.cell ∙ ap (λ (w : List ℕ). option_map (spliced (104 * other) w) one.cell) (b.whole refl)
+    ∙ ap (option_map (spliced (104 * other) bytes)) a.cell) in
+    record {
+      is_made = m % 2 == other;
+      cell = ap (option_map picked) cells ∙ told_picks old.cell bytes selector other m r l;
+      rest = leaves_then old one three a.rest (leaves_then one two three b.rest c.rest);
+      ends = ends_with fault old two three (m % 2 == other) c.is_made a.ends.was_on (b.ends.faults ∙ a.ends.faults)
+          (λ none. ap (λ (w : List ℕ). get_or w 0 0 % 2 == other) (c.whole none) ∙ ap (λ (v : ℕ). v % 2 == other) same ∙ other_below selector other r.other_is) c.ends;
+    }
