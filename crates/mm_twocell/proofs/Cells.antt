@@ -1,9 +1,9 @@
 -- Two cells and a selector as one list of bytes, and what is put in place of a part.
-use Rattle.std.proofs.Common.{ℕ, ◌≡◌, ◌+◌, ◌-◌, ◌*◌, ◌≤◌, ◌<◌, ◌⊎◌, inl, inr, zero, suc, List, [], ◌∷◌, ◌++◌, length, take, drop, get_or, min, refl, sym, ap, ◌∙◌, arith, lit<, length-append, append_assoc, length-drop}
+use Rattle.std.proofs.Common.{ℕ, ◌≡◌, ◌+◌, ◌*◌, ◌≤◌, ◌⊎◌, inl, inr, zero, suc, List, [], ◌∷◌, ◌++◌, length, take, drop, get_or, refl, sym, ap, ◌∙◌, arith, lit<, length-append, append_assoc, length-drop}
 use Rattle.std.specs.Prelude.{◌%◌, slice_index}
 use Rattle.std.proofs.Math.Seq.{take-append_seam, drop-append_seam, drop-append-add}
 use Rattle.std.proofs.lemmas.Bool.{cases_lt}
-use Rattle.std.proofs.lemmas.List.{take-append-drop, length-take, length-take-le, get_or-append-add, append-nil, drop-drop}
+use Rattle.std.proofs.lemmas.List.{take-append-drop, length-take-le, get_or-append-add, drop-drop}
 use Rattle.std.proofs.lemmas.Nat.{mod_below}
 use Rattle.mm_platform.specs.Raw.{range_of, spliced}
 use Rattle.mm_twocell.specs.Pairs.{picked}

@@ -4,8 +4,8 @@ use Rattle.std.specs.Option.{option_map}
 use Rattle.mm_platform.specs.declared.fault.StepFault.{StepFault}
 use Rattle.mm_platform.specs.declared.plan.Stop.TheVariants.{Quiet}
 use Rattle.mm_platform.specs.Standing.{Plan, Standing, next_step, due}
-use Rattle.mm_platform.specs.Steps.{Act, ReadRegister, ResetRegister, ExtendRegister, beside, cell_after, items_after, writes_after, fault_at, is_made_at, is_on_at, will_answer, will_be_made, will_be_on, will_bring, faults_after, Goes}
-use Rattle.mm_platform.specs.Told.{quiet_plan, answer_of, makes, stepped, AreAlike}
+use Rattle.mm_platform.specs.Steps.{Act, ReadRegister, ResetRegister, ExtendRegister, beside, cell_after, items_after, fault_at, is_made_at, is_on_at, will_answer, will_be_made, will_be_on, will_bring, faults_after, Goes}
+use Rattle.mm_platform.specs.Told.{quiet_plan, answer_of, makes}
 use Rattle.mm_twocell.specs.Torn.{Torn, told_by, whole, StepsRegister, from_start, IsSteady}
 
 -- what such a step does

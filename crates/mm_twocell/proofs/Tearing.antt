@@ -1,12 +1,11 @@
 -- A write that fails, of which a part is left.
-use Rattle.std.proofs.Common.{ℕ, ◌≡◌, ◌+◌, ◌-◌, ◌≤◌, Bool, true, false, List, [], ◌++◌, length, take, drop, min, Option, None, Some, refl, sym, ap, ◌∙◌, subst, arith}
+use Rattle.std.proofs.Common.{ℕ, ◌≡◌, ◌+◌, ◌≤◌, Bool, true, false, List, [], length, take, drop, None, Some, refl, sym, ap, ◌∙◌, subst, arith}
 use Rattle.std.specs.Prelude.{◌==◌, if◌then◌else◌}
 use Rattle.std.specs.Option.{option_map}
 use Rattle.std.proofs.lemmas.Bool.Decides.{nat_tests}
 use Rattle.std.proofs.lemmas.List.{length-take, length-take-le, length-drop}
 use Rattle.mm_base.specs.Faults.{counted, Rose}
 use Rattle.mm_platform.specs.declared.fault.StepFault.TheVariants.{Failed}
-use Rattle.mm_platform.specs.Standing.{Standing}
 use Rattle.mm_platform.specs.Raw.{range_of, spliced, WritesRaw}
 use Rattle.mm_platform.proofs.Calling.{beside-none}
 use Rattle.mm_twocell.specs.Torn.{Torn, whole, told_by, IsReady, will_fail, called, put_in}

@@ -1,16 +1,16 @@
 -- What a read and a write over two cells do to the one cell.
-use Rattle.std.proofs.Common.{ℕ, ◌≡◌, ◌+◌, ◌-◌, ◌*◌, ◌≤◌, ◌⊎◌, inl, inr, Bool, true, false, List, [], ◌∷◌, ◌++◌, length, get_or, Option, None, Some, refl, sym, ap, ◌∙◌, subst, arith}
+use Rattle.std.proofs.Common.{ℕ, ◌≡◌, ◌-◌, ◌*◌, ◌⊎◌, inl, inr, Bool, true, false, List, [], ◌∷◌, ◌++◌, length, get_or, Option, None, Some, refl, sym, ap, ◌∙◌, subst, arith}
 use Rattle.std.specs.Prelude.{◌%◌, ◌==◌, slice_index}
 use Rattle.std.specs.Option.{option_map}
 use Rattle.std.proofs.lemmas.Bool.Decides.{nat_tests}
-use Rattle.mm_base.specs.Faults.{counted, Rose}
+use Rattle.mm_base.specs.Faults.{Rose}
 use Rattle.mm_platform.specs.declared.fault.StepFault.{StepFault}
 use Rattle.mm_platform.specs.declared.fault.StepFault.TheVariants.{Failed, Off}
 use Rattle.mm_platform.specs.Standing.{Standing}
-use Rattle.mm_platform.specs.Steps.{Act, ReadCell, WriteCell, beside, cell_after, writes_after, IsDone, EndsBy, Goes, Readies, EndsCycle, Cycles}
+use Rattle.mm_platform.specs.Steps.{WriteCell, beside, cell_after, EndsBy}
 use Rattle.mm_platform.specs.Raw.{spliced, LeavesRest, ReadsRaw, WritesRaw}
 use Rattle.mm_platform.proofs.Calling.{beside-beside}
-use Rattle.mm_twocell.specs.Pairs.{picked, as_one, WritesPicked}
+use Rattle.mm_twocell.specs.Pairs.{picked, WritesPicked}
 use Rattle.mm_twocell.proofs.Cells.{InThree, in_three, three, one_item, parity, picks_first, picks_second, put_first, put_second, put_selector, selector_of}
 
 -- how a call ends that went on from a call that was done
