@@ -1,0 +1,51 @@
+-- What the code reads of a state.
+use Rattle.std.proofs.Common.{◌≡◌, ◌≢◌, ℕ, zero, suc, ◌<◌, ◌≤◌, ◌^◌, ◌&&◌, Bool, true, false, List, [], ◌∷◌, length, take, drop, refl, sym, ◌∙◌, ap, subst, arith, rules}
+use Rattle.std.specs.Prelude.{IsTrue, None}
+use Rattle.mm_module.specs.Bytes.{are_bytes}
+use Rattle.mm_module.specs.Meaning.{Meaning}
+use Rattle.mm_receipt.specs.Receipts.{parts_by, parts_of}
+use Rattle.mm_receipt.specs.Table.{Kept, is_front, kept_of, is_state}
+use Rattle.mm_receipt.specs.ReceiptedLaws.{IsSpelled, IsSpelled-from, kept_of-IsKept}
+
+drop-past : (n : ℕ) (xs : List ℕ) → length xs ≤ n → drop n xs ≡ []
+drop-past zero [] short = refl
+drop-past zero (x ∷ xs) short = absurd (omega (arith, short))
+drop-past (suc n) [] short = refl
+drop-past (suc n) (x ∷ xs) short = drop-past n xs (omega (arith, short))
+
+-- too few bytes have no digits and a space
+pub parts_of-short : (output : List ℕ) → length output < 64 → parts_of output ≡ None
+parts_of-short output short = ap (λ (l : List ℕ). parts_by (take 64 output) l) (drop-past 64 output (omega (arith, short)))
+
+pub spelled-then : (inner : Meaning) (bytes : List ℕ) (answer : Bool) (kept : Kept) → are_bytes bytes ≡ true → is_front bytes ≡ true
+    → answer ≡ inner.is_spelled kept.inner → kept ≡ kept_of bytes → answer ≡ is_state inner bytes
+unfolding is_state
+spelled-then inner bytes answer kept all front is read =
+    is ∙ ap (λ (k : Kept). inner.is_spelled k.inner) read
+    ∙ sym (ap (λ b. b && (is_front bytes && inner.is_spelled (kept_of bytes).inner)) all ∙ ap (λ b. b && inner.is_spelled (kept_of bytes).inner) front)
+
+pub spelled-else : (inner : Meaning) (bytes : List ℕ) → are_bytes bytes ≡ true → is_front bytes ≡ false → is_state inner bytes ≡ false
+unfolding is_state
+spelled-else inner bytes all front =
+    ap (λ b. b && (is_front bytes && inner.is_spelled (kept_of bytes).inner)) all ∙ ap (λ b. b && inner.is_spelled (kept_of bytes).inner) front
+
+is-true : (b : Bool) → IsTrue b → b ≡ true
+is-true b is = search (rules, is)
+
+spelled-at : (inner : Meaning) (bytes : List ℕ) → IsTrue (is_state inner bytes) → IsSpelled inner bytes
+spelled-at inner bytes is = IsSpelled-from inner bytes (is-true (is_state inner bytes) is)
+
+-- a spelled state has its front
+pub long-at : (inner : Meaning) (bytes : List ℕ) → IsTrue (is_state inner bytes) → 41 ≤ length bytes
+long-at inner bytes is = (spelled-at inner bytes is).long
+
+-- where the count isn't the last, there is room for one more
+pub room-at : (inner : Meaning) (bytes : List ℕ) (kept : Kept) → IsTrue (is_state inner bytes) → kept ≡ kept_of bytes → kept.count ≢ 2 ^ 48 → kept.count < 2 ^ 48
+room-at inner bytes kept is read other =
+    let few : kept.count ≤ 2 ^ 48 = subst (λ (k : Kept). k.count ≤ 2 ^ 48) (sym read) (kept_of-IsKept inner bytes (spelled-at inner bytes is)).few in
+    omega (arith, few, other)
+
+-- the state inside is spelled
+pub inside-at : (inner : Meaning) (bytes : List ℕ) (kept : Kept) → IsTrue (is_state inner bytes) → kept ≡ kept_of bytes → IsTrue (inner.is_spelled kept.inner)
+inside-at inner bytes kept is read =
+    subst (λ (k : Kept). IsTrue (inner.is_spelled k.inner)) (sym read) (let e = (spelled-at inner bytes is).spelled in search (rules, e))

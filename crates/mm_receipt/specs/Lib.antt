@@ -1,0 +1,5 @@
+pub mod Receipts
+pub mod Table
+pub mod Views
+pub mod ReceiptedLaws
+pub mod Tagged
