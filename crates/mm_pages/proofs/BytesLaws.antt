@@ -1,0 +1,167 @@
+-- Laws of bytes by pages.
+use Rattle.std.proofs.Common.{ℕ, ◌≡◌, ◌+◌, ◌-◌, ◌*◌, ◌<◌, ◌≤◌, zero, suc, min, List, ◌++◌, length, get_or, take, drop, replicate, refl, ap, sym, ◌∙◌, inl, inr, arith, length-append}
+use Rattle.std.proofs.lemmas.Bool.{cases_lt}
+use Rattle.std.proofs.lemmas.List.{drop_min, drop-replicate, length-take, length-replicate, get_or_append_left, get_or-append_right, get_or-take, get_or-drop, get_or_past, append-nil, drop_all, drop-drop}
+use Rattle.mm_store.proofs.SlotLaws.{take-min}
+use Rattle.std.proofs.lemmas.Grind.{same_number_lists}
+use Rattle.mm_pages.specs.Bytes.{resized, page_of, with_page}
+
+pub length-resized : (n : ℕ) (bytes : List ℕ) → length (resized n bytes) ≡ n
+unfolding resized
+length-resized n bytes = simp (length-append, length-take, length-replicate) (omega arith)
+
+get_or-zeros : (n i : ℕ) → ◌≡◌ {A = ℕ} (get_or (replicate n 0) i 0) 0
+get_or-zeros zero i = refl
+get_or-zeros (suc n) zero = refl
+get_or-zeros (suc n) (suc i) = get_or-zeros n i
+
+-- each byte below the new length is as before, those past the old end being zero
+pub get_or-resized : (n i : ℕ) (bytes : List ℕ) → i < n → get_or (resized n bytes) i 0 ≡ get_or bytes i 0
+unfolding resized
+get_or-resized n i bytes h =
+    elim (cases_lt i (length bytes)) [
+      | inl within ↦
+          (get_or_append_left (take n bytes) (replicate (n - length bytes) 0) 0 i (omega (arith, length-take n bytes))
+          ∙ get_or-take n bytes i 0 h)
+      | inr past ↦
+          (get_or-append_right (take n bytes) (replicate (n - length bytes) 0) (length bytes) i 0
+          (length-take n bytes ∙ omega arith) past
+          ∙ get_or-zeros (n - length bytes) (i - length bytes) ∙ sym (get_or_past bytes i 0 past))
+    ]
+
+-- the same of a part of this size
+length-part : (size at : ℕ) (bytes : List ℕ) → length (resized size (drop at bytes)) ≡ size
+length-part size at bytes = length-resized size (drop at bytes)
+
+get_or-part : (size at i : ℕ) (bytes : List ℕ) → i < size →
+    get_or (resized size (drop at bytes)) i 0 ≡ get_or bytes (at + i) 0
+get_or-part size at i bytes h = get_or-resized size i (drop at bytes) h ∙ get_or-drop at bytes i 0
+
+pub length-page_of : (bytes : List ℕ) (page : ℕ) → length (page_of bytes page) ≡ 256
+unfolding page_of
+length-page_of bytes page = length-part 256 (256 * page) bytes
+
+pub get_or-page_of : (bytes : List ℕ) (page i : ℕ) → i < 256 →
+    get_or (page_of bytes page) i 0 ≡ get_or bytes (256 * page + i) 0
+unfolding page_of
+get_or-page_of bytes page i h = get_or-part 256 (256 * page) i bytes h
+
+-- pages with the same bytes are one
+pub page_of-same : (bytes other : List ℕ) (page : ℕ) →
+    ((i : ℕ) → i < 256 → get_or bytes (256 * page + i) 0 ≡ get_or other (256 * page + i) 0) →
+    page_of bytes page ≡ page_of other page
+page_of-same bytes other page h =
+    same_number_lists (page_of bytes page) (page_of other page)
+    (length-page_of bytes page ∙ sym (length-page_of other page))
+    (λ i below. let few : i < 256 = omega (arith, length-page_of bytes page) in
+    get_or-page_of bytes page i few ∙ h i few ∙ sym (get_or-page_of other page i few))
+
+-- bytes with a part in place of as many at some place
+placed : ℕ → List ℕ → ℕ → List ℕ → List ℕ
+placed at part size bytes = resized at bytes ++ (part ++ drop (at + size) bytes)
+
+placed-before : (at size i : ℕ) (part bytes : List ℕ) → i < at →
+    get_or (placed at part size bytes) i 0 ≡ get_or bytes i 0
+unfolding placed
+placed-before at size i part bytes h =
+    get_or_append_left (resized at bytes) (part ++ drop (at + size) bytes) 0 i (omega (arith, length-resized at bytes))
+    ∙ get_or-resized at i bytes h
+
+placed-within : (at size i : ℕ) (part bytes : List ℕ) → length part ≡ size → i < size →
+    get_or (placed at part size bytes) (at + i) 0 ≡ get_or part i 0
+unfolding placed
+placed-within at size i part bytes l h =
+    let k : at + i - at ≡ i = omega arith in
+    get_or-append_right (resized at bytes) (part ++ drop (at + size) bytes) at (at + i) 0 (length-resized at bytes)
+    (omega arith)
+    ∙ ap (λ n. get_or (part ++ drop (at + size) bytes) n 0) k
+    ∙ get_or_append_left part (drop (at + size) bytes) 0 i (omega arith)
+
+placed-after : (at size i : ℕ) (part bytes : List ℕ) → length part ≡ size → at + size ≤ i →
+    get_or (placed at part size bytes) i 0 ≡ get_or bytes i 0
+unfolding placed
+placed-after at size i part bytes l h =
+    let k : at + size + (i - at - size) ≡ i = omega arith in
+    get_or-append_right (resized at bytes) (part ++ drop (at + size) bytes) at i 0 (length-resized at bytes) (omega arith)
+    ∙ get_or-append_right part (drop (at + size) bytes) size (i - at) 0 l (omega arith)
+    ∙ get_or-drop (at + size) bytes (i - at - size) 0
+    ∙ ap (λ n. get_or bytes n 0) k
+
+pub with_page-before : (page i : ℕ) (part bytes : List ℕ) → i < 256 * page →
+    get_or (with_page page part bytes) i 0 ≡ get_or bytes i 0
+unfolding with_page placed
+with_page-before page i part bytes h = placed-before (256 * page) 256 i part bytes h
+
+pub with_page-within : (page i : ℕ) (part bytes : List ℕ) → length part ≡ 256 → i < 256 →
+    get_or (with_page page part bytes) (256 * page + i) 0 ≡ get_or part i 0
+unfolding with_page placed
+with_page-within page i part bytes l h = placed-within (256 * page) 256 i part bytes l h
+
+pub with_page-after : (page i : ℕ) (part bytes : List ℕ) → length part ≡ 256 → 256 * page + 256 ≤ i →
+    get_or (with_page page part bytes) i 0 ≡ get_or bytes i 0
+unfolding with_page placed
+with_page-after page i part bytes l h = placed-after (256 * page) 256 i part bytes l h
+
+-- bytes of this length that agree up to there
+pub resized-same : (bytes now : List ℕ) → ((i : ℕ) → i < length bytes → get_or now i 0 ≡ get_or bytes i 0) →
+    resized (length bytes) now ≡ bytes
+resized-same bytes now h =
+    same_number_lists (resized (length bytes) now) bytes (length-resized (length bytes) now)
+    (λ i below. let few : i < length bytes = omega (arith, length-resized (length bytes) now) in
+    get_or-resized (length bytes) i now few ∙ h i few)
+
+-- bytes that have this length already
+pub resized-length : (bytes : List ℕ) → resized (length bytes) bytes ≡ bytes
+resized-length bytes = resized-same bytes bytes (λ i below. refl)
+
+-- a part of the bytes, and zero bytes up to a page
+padded_part : (size at : ℕ) (bytes rest part back : List ℕ) → rest ≡ drop (min at (length bytes)) bytes →
+    part ≡ take (min (length rest) size) rest → back ≡ drop (length part) (replicate size 0) →
+    part ++ back ≡ resized size (drop at bytes)
+unfolding resized
+padded_part size at bytes rest part back e f g =
+    let rest_is : rest ≡ drop at bytes = e ∙ drop_min at bytes in
+    let part_is : part ≡ take size rest = f ∙ take-min size rest in
+    let few : size - length part ≡ size - length rest = omega (arith, ap length part_is, length-take size rest) in
+    let back_is : back ≡ replicate (size - length rest) 0 =
+    g ∙ drop-replicate (length part) size 0 ∙ ap (λ n. replicate n 0) few in
+    ap (λ (x : List ℕ). x ++ back) part_is ∙ ap (λ (x : List ℕ). take size rest ++ x) back_is
+    ∙ ap (λ (x : List ℕ). take size x ++ replicate (size - length x) 0) rest_is
+
+pub page_of-parts : (page : ℕ) (bytes rest part back : List ℕ) → rest ≡ drop (min (256 * page) (length bytes)) bytes →
+    part ≡ take (min (length rest) 256) rest → back ≡ drop (length part) (replicate 256 0) →
+    part ++ back ≡ page_of bytes page
+unfolding page_of
+page_of-parts page bytes rest part back e f g = padded_part 256 (256 * page) bytes rest part back e f g
+
+-- bytes that end within the part that is put in place
+placed-end : (at size : ℕ) (part bytes : List ℕ) → length bytes ≤ at + size →
+    resized at bytes ++ part ≡ placed at part size bytes
+unfolding placed
+placed-end at size part bytes h =
+    ap (λ (x : List ℕ). resized at bytes ++ x) (sym (append-nil part)
+    ∙ ap (λ (x : List ℕ). part ++ x) (sym (drop_all (at + size) bytes h)))
+
+-- bytes that go on after it
+placed-amid : (at size : ℕ) (part bytes : List ℕ) → at ≤ length bytes →
+    take at bytes ++ (part ++ drop size (drop at bytes)) ≡ placed at part size bytes
+unfolding placed resized
+placed-amid at size part bytes h =
+    let none : at - length bytes ≡ 0 = omega arith in
+    ap (λ (x : List ℕ). x ++ (part ++ drop size (drop at bytes)))
+    (sym (append-nil (take at bytes)) ∙ ap (λ n. take at bytes ++ replicate n 0) (sym none))
+    ∙ ap (λ (x : List ℕ). (take at bytes ++ replicate (at - length bytes) 0) ++ (part ++ x)) (drop-drop size at bytes)
+
+pub with_page-end : (page : ℕ) (part bytes : List ℕ) → length bytes ≤ 256 * page + 256 →
+    resized (256 * page) bytes ++ part ≡ with_page page part bytes
+unfolding with_page placed
+with_page-end page part bytes h = placed-end (256 * page) 256 part bytes h
+
+pub with_page-amid : (page at : ℕ) (part bytes front rest after : List ℕ) → at ≡ 256 * page → at ≤ length bytes →
+    front ≡ take at bytes → rest ≡ drop at bytes → after ≡ drop 256 rest →
+    front ++ (part ++ after) ≡ with_page page part bytes
+unfolding with_page placed
+with_page-amid page at part bytes front rest after e h f g k =
+    let back : after ≡ drop 256 (drop at bytes) = k ∙ ap (λ (x : List ℕ). drop 256 x) g in
+    ap (λ (x : List ℕ). x ++ (part ++ after)) f ∙ ap (λ (x : List ℕ). take at bytes ++ (part ++ x)) back
+    ∙ placed-amid at 256 part bytes h ∙ ap (λ n. placed n part 256 bytes) e

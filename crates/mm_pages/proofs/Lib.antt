@@ -1,0 +1,6 @@
+pub mod BytesLaws
+pub mod RowLaws
+pub mod CountLaws
+pub mod WritingLaws
+pub mod ReadingLaws
+pub mod StepLaws

@@ -1,0 +1,98 @@
+-- Laws of the digests that are kept.
+use Rattle.std.proofs.Common.{ℕ, ◌≡◌, ◌+◌, ◌-◌, zero, suc, Bool, true, false, Option, Some, None, List, [], ◌∷◌, ◌++◌, length, get_or, take, drop, refl, ap, sym, ◌∙◌, arith, length-append, append_assoc, add-one, subst}
+use Rattle.std.specs.Prelude.{◌==◌, if◌then◌else◌}
+use Rattle.std.proofs.lemmas.List.{get_or-append_right, get_or-drop, drop-drop, drop_at}
+use Rattle.std.proofs.Math.Seq.{take-append_seam}
+use Rattle.mm_digest.specs.declared.digest.Digest.{Digest}
+use Rattle.mm_pages.specs.Bytes.{page_of}
+use Rattle.mm_pages.specs.Rows.{Rows, row_in, with_row, kept_of, digest_of, keeping, digests_of}
+
+chosen : Bool → Bool → Bool → Rows → List (Option Digest)
+chosen a b c rows = if a then rows.zero else if b then rows.one else if c then rows.two else rows.three
+
+put : Bool → Bool → Bool → Rows → List (Option Digest) → Rows
+put a b c rows row =
+    if a then record rows { zero = row } else if b then record rows { one = row }
+    else if c then record rows { two = row } else record rows { three = row }
+
+chosen-put : (a b c : Bool) (rows : Rows) (row : List (Option Digest)) → chosen a b c (put a b c rows row) ≡ row
+unfolding chosen put
+chosen-put true b c rows row = refl
+chosen-put false true c rows row = refl
+chosen-put false false true rows row = refl
+chosen-put false false false rows row = refl
+
+put-put : (a b c : Bool) (rows : Rows) (one other : List (Option Digest)) →
+    put a b c (put a b c rows one) other ≡ put a b c rows other
+unfolding put
+put-put true b c rows one other = refl
+put-put false true c rows one other = refl
+put-put false false true rows one other = refl
+put-put false false false rows one other = refl
+
+put-chosen : (a b c : Bool) (rows : Rows) → put a b c rows (chosen a b c rows) ≡ rows
+unfolding chosen put
+put-chosen true b c rows = refl
+put-chosen false true c rows = refl
+put-chosen false false true rows = refl
+put-chosen false false false rows = refl
+
+pub row_in-with_row : (rows : Rows) (n : ℕ) (row : List (Option Digest)) → row_in (with_row rows n row) n ≡ row
+unfolding chosen put
+row_in-with_row rows n row = chosen-put (n == 0) (n == 1) (n == 2) rows row
+
+pub with_row-twice : (rows : Rows) (n : ℕ) (one other : List (Option Digest)) →
+    with_row (with_row rows n one) n other ≡ with_row rows n other
+unfolding put
+with_row-twice rows n one other = put-put (n == 0) (n == 1) (n == 2) rows one other
+
+pub with_row-same : (rows : Rows) (n : ℕ) → with_row rows n (row_in rows n) ≡ rows
+unfolding chosen put
+with_row-same rows n = put-chosen (n == 0) (n == 1) (n == 2) rows
+
+-- a digest that follows those of the pages before it
+seam : (digest : Digest) (firsts row : List (Option Digest)) →
+    keeping (length firsts) digest (firsts ++ drop (length firsts) row)
+    ≡ (firsts ++ (Some digest ∷ [])) ++ drop (suc (length firsts)) row
+seam digest firsts row =
+    let n : ℕ = length firsts in
+    let whole : List (Option Digest) = firsts ++ drop n row in
+    let front : take n whole ≡ firsts = take-append_seam firsts (drop n row) in
+    let back : drop (n + 1) whole ≡ drop (suc n) row =
+    sym (drop-drop 1 n whole) ∙ ap (λ (x : List (Option Digest)). drop 1 x) (drop_at firsts (drop n row) n refl)
+    ∙ drop-drop 1 n row ∙ ap (λ m. drop m row) (add-one n) in
+    ap (λ (x : List (Option Digest)). x ++ (Some digest ∷ drop (n + 1) whole)) front
+    ∙ ap (λ (x : List (Option Digest)). firsts ++ (Some digest ∷ x)) back
+    ∙ sym (append_assoc firsts (Some digest ∷ []) (drop (suc n) row))
+
+pub keeping-next : (page : ℕ) (digest : Digest) (firsts row : List (Option Digest)) → length firsts ≡ page →
+    keeping page digest (firsts ++ drop page row) ≡ (firsts ++ (Some digest ∷ [])) ++ drop (suc page) row
+keeping-next page digest firsts row e =
+    subst (λ n. keeping n digest (firsts ++ drop n row) ≡ (firsts ++ (Some digest ∷ [])) ++ drop (suc n) row) e
+    (seam digest firsts row)
+
+pub keeping-alike : (page : ℕ) (digest : Digest) (one other : List (Option Digest)) → take page one ≡ take page other →
+    drop (page + 1) one ≡ drop (page + 1) other → keeping page digest one ≡ keeping page digest other
+keeping-alike page digest one other e f =
+    ap (λ (x : List (Option Digest)). x ++ (Some digest ∷ drop (page + 1) one)) e
+    ∙ ap (λ (x : List (Option Digest)). take page other ++ (Some digest ∷ x)) f
+
+-- what is kept of a page behind the digests of the pages before it
+pub kept_of-next : (page : ℕ) (firsts row : List (Option Digest)) → length firsts ≡ page →
+    kept_of (firsts ++ drop page row) page ≡ kept_of row page
+kept_of-next page firsts row e =
+    get_or-append_right firsts (drop page row) page page None e (omega arith)
+    ∙ get_or-drop page row (page - page) None
+    ∙ ap (λ n. get_or row n None) (omega arith)
+
+pub length-digests_of : (bytes : List ℕ) (count : ℕ) → length (digests_of bytes count) ≡ count
+length-digests_of bytes zero = refl
+length-digests_of bytes (suc count) =
+    length-append (digests_of bytes count) (Some (digest_of (page_of bytes count)) ∷ [])
+    ∙ omega (arith, length-digests_of bytes count)
+
+pub take-digests_of : (bytes : List ℕ) (count : ℕ) (rest : List (Option Digest)) →
+    take count (digests_of bytes count ++ rest) ≡ digests_of bytes count
+take-digests_of bytes count rest =
+    let firsts : List (Option Digest) = digests_of bytes count in
+    subst (λ n. take n (firsts ++ rest) ≡ firsts) (length-digests_of bytes count) (take-append_seam firsts rest)

@@ -1,0 +1,79 @@
+-- Digests that are those of what the device has.
+use Rattle.std.proofs.Common.{ℕ, ◌≡◌, ◌-◌, zero, suc, Bool, true, false, Option, Some, None, List, [], ◌∷◌, length, get_or, refl, ap, sym, ◌∙◌, subst, inl, inr, arith}
+use Rattle.std.specs.Prelude.{◌==◌, if◌then◌else◌}
+use Rattle.std.proofs.lemmas.Bool.{cases_lt}
+use Rattle.std.proofs.lemmas.List.{get_or_append_left, get_or-append_right}
+use Rattle.mm_digest.specs.declared.digest.Digest.{Digest}
+use Rattle.mm_store.specs.Slots.{Slots, with_slot}
+use Rattle.mm_store.specs.Calls.{putting}
+use Rattle.mm_pages.specs.Bytes.{page_of, page_count}
+use Rattle.mm_pages.specs.Paged.{Paged}
+use Rattle.mm_pages.specs.Rows.{Rows, with_row, digest_of, digests_of}
+use Rattle.mm_pages.specs.Puts.{PutsAll}
+use Rattle.mm_pages.specs.Cached.{AreOf, AreInStep, KeepsStep}
+use Rattle.mm_pages.proofs.RowLaws.{length-digests_of}
+
+last_of : (n : ℕ) (digest other : Digest) → get_or (Some digest ∷ []) n None ≡ Some other → (n ≡ 0) × (digest ≡ other)
+last_of zero digest other e = (refl, cc)
+last_of (suc n) digest other e = absurd (cc)
+
+-- the digests of bytes are those of their own pages
+are_of_own : (bytes : List ℕ) (count : ℕ) → AreOf (digests_of bytes count) bytes
+are_of_own bytes zero page digest e = absurd (cc)
+are_of_own bytes (suc count) page digest e =
+    let firsts : List (Option Digest) = digests_of bytes count in
+    let last : Digest = digest_of (page_of bytes count) in
+    elim (cases_lt page count) [
+      | inl before ↦
+          are_of_own bytes count page digest
+          (sym (get_or_append_left firsts (Some last ∷ []) None page (omega (arith, length-digests_of bytes count))) ∙ e)
+      | inr here ↦
+          (let found = last_of (page - count) last digest
+          (sym (get_or-append_right firsts (Some last ∷ []) count page None (length-digests_of bytes count) here) ∙ e) in
+          let same : count ≡ page = omega (arith, found.0) in
+          sym found.1 ∙ ap (λ n. digest_of (page_of bytes n)) same)
+    ]
+
+put_row : Bool → Bool → Bool → Rows → List (Option Digest) → Rows
+put_row a b c rows row =
+    if a then record rows { zero = row } else if b then record rows { one = row }
+    else if c then record rows { two = row } else record rows { three = row }
+
+put_slot : Bool → Bool → Bool → Slots → List ℕ → Slots
+put_slot a b c slots bytes =
+    if a then record slots { zero = bytes } else if b then record slots { one = bytes }
+    else if c then record slots { two = bytes } else record slots { three = bytes }
+
+step_put : (a b c : Bool) (rows : Rows) (slots : Slots) (row : List (Option Digest)) (bytes : List ℕ) →
+    AreInStep rows slots → AreOf row bytes → AreInStep (put_row a b c rows row) (put_slot a b c slots bytes)
+unfolding put_row put_slot
+step_put true b c rows slots row bytes h k =
+    record { at_zero = k; at_one = h.at_one; at_two = h.at_two; at_three = h.at_three }
+step_put false true c rows slots row bytes h k =
+    record { at_zero = h.at_zero; at_one = k; at_two = h.at_two; at_three = h.at_three }
+step_put false false true rows slots row bytes h k =
+    record { at_zero = h.at_zero; at_one = h.at_one; at_two = k; at_three = h.at_three }
+step_put false false false rows slots row bytes h k =
+    record { at_zero = h.at_zero; at_one = h.at_one; at_two = h.at_two; at_three = k }
+
+step_with : (slot : ℕ) (rows : Rows) (slots : Slots) (row : List (Option Digest)) (bytes : List ℕ) →
+    AreInStep rows slots → AreOf row bytes → AreInStep (with_row rows slot row) (with_slot slots slot bytes)
+unfolding put_row put_slot
+step_with slot rows slots row bytes h k = step_put (slot == 0) (slot == 1) (slot == 2) rows slots row bytes h k
+
+-- one slot and its digests changed
+step_after : (slot : ℕ) (rows after : Rows) (row : List (Option Digest)) (bytes : List ℕ) (old new : Option Slots)
+    (was now : Slots) → after ≡ with_row rows slot row → new ≡ putting slot bytes old → old ≡ Some was →
+    new ≡ Some now → AreOf row bytes → AreInStep rows was → AreInStep after now
+step_after slot rows after row bytes old new was now r s e f k h =
+    let told : Some (with_slot was slot bytes) ≡ Some now =
+    sym (s ∙ ap (λ (x : Option Slots). putting slot bytes x) e) ∙ f in
+    let same : with_slot was slot bytes ≡ now = cc in
+    subst (λ (x : Rows). AreInStep x now) (sym r)
+    (subst (λ (x : Slots). AreInStep (with_row rows slot row) x) same (step_with slot rows was row bytes h k))
+
+pub step_written : (slot : ℕ) (bytes : List ℕ) (old new : Paged) (rows after : Rows) →
+    PutsAll slot bytes old new rows after → KeepsStep old new rows after
+step_written slot bytes old new rows after p honest was now e f h =
+    step_after slot rows after (digests_of bytes (page_count (length bytes))) bytes old.slots new.slots was now p.rows_are
+    (p.slots honest) e f (are_of_own bytes (page_count (length bytes))) h

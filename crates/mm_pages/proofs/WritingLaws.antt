@@ -1,0 +1,440 @@
+-- The steps of a write, one after another.
+use Rattle.std.proofs.Common.{ℕ, ◌≡◌, ◌+◌, ◌*◌, ◌<◌, ◌≤◌, suc, true, false, Option, Some, None, Result, Ok, Err, List, [], ◌++◌, length, get_or, take, drop, refl, ap, sym, ◌∙◌, subst, inl, inr, arith, ◌-◌, length-append}
+use Rattle.std.specs.Prelude.{◌&&◌}
+use Rattle.std.specs.Str.{bytes_eq}
+use Rattle.std.specs.Result.{is_err}
+use Rattle.std.proofs.lemmas.Bool.{cases_lt}
+use Rattle.mm_base.specs.declared.fault.Failed.{Failed}
+use Rattle.mm_base.specs.Faults.{counted, Rose}
+use Rattle.mm_digest.specs.declared.digest.Digest.{Digest}
+use Rattle.mm_store.specs.Slots.{Slots, slot_in, with_slot}
+use Rattle.mm_store.specs.Calls.{putting}
+use Rattle.mm_store.proofs.SlotLaws.{slot_in-with_slot, with_slot-twice, with_slot-same, putting-twice}
+use Rattle.mm_pages.specs.Bytes.{resized, page_of, with_page, page_count}
+use Rattle.mm_pages.specs.Paged.{Paged}
+use Rattle.mm_pages.specs.Calls.{WritesPage, ReadsLength, changing}
+use Rattle.mm_pages.specs.Counts.{counted_by, may_be, look_at, looks_at, change_of, changes_of, one_if}
+use Rattle.mm_pages.specs.Rows.{Rows, row_in, with_row, kept_of, digest_of, keeping, digests_of, DropsPage}
+use Rattle.mm_pages.specs.Puts.{IsInStep, HoldsPage, IsPutAt, FailsIn, Fails, PutsThere, PutsOne, IsFilled, FillsSlot, PutsFirst, IsOneMoreAtMost, Fits, PutsAll, PutsBytes}
+use Rattle.mm_pages.proofs.BytesLaws.{get_or-page_of, page_of-same, with_page-before, with_page-within, with_page-after, resized-same, resized-length}
+use Rattle.mm_pages.proofs.RowLaws.{row_in-with_row, with_row-twice, with_row-same, keeping-next, keeping-alike, kept_of-next, length-digests_of, take-digests_of}
+use Rattle.mm_pages.proofs.CountLaws.{counted_by-add, both_right, same_bytes, no_change, a_change, changes_of-same}
+
+-- slots that stay are slots with some bytes of their own put in place
+pub slots_stay : (slot : ℕ) (slots : Option Slots) → (left : List ℕ) × (slots ≡ putting slot left slots)
+slots_stay slot None = ([], refl)
+slots_stay slot (Some told) = (slot_in told slot, ap Some (sym (with_slot-same told slot)))
+
+-- a page that is there already
+stays_there : (slot page : ℕ) (part : List ℕ) (slots : Option Slots) →
+    ((told : Slots) → slots ≡ Some told → page_of (slot_in told slot) page ≡ part) → PutsThere slot page part slots slots
+stays_there slot page part None h = record {
+  left = [];
+  slots = refl;
+  there = λ told e. absurd (cc);
+}
+stays_there slot page part (Some was) h = record {
+  left = slot_in was slot;
+  slots = ap Some (sym (with_slot-same was slot));
+  there =
+      λ told e.
+      let same : was ≡ told = cc in
+      subst (λ (x : Slots). IsPutAt page part (slot_in x slot) (slot_in was slot)) same (record {
+        within =
+            λ i below. sym (get_or-page_of (slot_in was slot) page i below)
+            ∙ ap (λ (x : List ℕ). get_or x i 0) (h was refl);
+        before = λ i before. refl;
+        after = λ i after. refl;
+      });
+}
+
+put_at : (page : ℕ) (part was : List ℕ) → length part ≡ 256 → IsPutAt page part was (with_page page part was)
+put_at page part was l = record {
+  within = λ i below. with_page-within page i part was l below;
+  before = λ i below. with_page-before page i part was below;
+  after = λ i after. with_page-after page i part was l after;
+}
+
+-- a page that is written
+comes_there : (slot page : ℕ) (part : List ℕ) (old new : Option Slots) → length part ≡ 256 →
+    new ≡ changing slot (with_page page part) old → PutsThere slot page part old new
+comes_there slot page part None new l e = record {
+  left = [];
+  slots = e;
+  there = λ told f. absurd (cc);
+}
+comes_there slot page part (Some was) new l e = record {
+  left = with_page page part (slot_in was slot);
+  slots = e;
+  there =
+      λ told f.
+      let same : was ≡ told = cc in
+      subst (λ (x : Slots). IsPutAt page part (slot_in x slot) (with_page page part (slot_in was slot))) same
+      (put_at page part (slot_in was slot) l);
+}
+
+-- one page: it is there already
+pub put_held : (slot page : ℕ) (part : List ℕ) (digest : Digest) (kept : Option Digest) (old new : Paged)
+    (rows after : Rows) → HoldsPage slot page kept digest part old new (Ok true) → digest ≡ digest_of part →
+    kept ≡ kept_of (row_in rows slot) page → after ≡ with_row rows slot (keeping page digest (row_in rows slot)) →
+    PutsOne slot page part old new rows after
+put_held slot page part digest kept old new rows after h d k r = record {
+  honest = ap (λ (x : Paged). x.is_honest) h.same;
+  faults = h.counted_faults.kept;
+  lengths = ap (λ (x : Paged). x.length_writes) h.same;
+  rows_are = r ∙ ap (λ (x : Digest). with_row rows slot (keeping page x (row_in rows slot))) d;
+  looks =
+      ap (λ (x : Paged). x.page_reads) h.same
+      ∙ ap (λ (x : Option Digest). counted_by (one_if (may_be x digest)) old.page_reads) k
+      ∙ ap (λ (x : Digest). counted_by (one_if (may_be (kept_of (row_in rows slot) page) x)) old.page_reads) d;
+  puts =
+      λ honest.
+      let same : new.slots ≡ old.slots = ap (λ (x : Paged). x.slots) h.same in
+      subst (λ (x : Option Slots). PutsThere slot page part old.slots x) (sym same)
+      (stays_there slot page part old.slots
+      (λ told e. same_bytes (page_of (slot_in told slot) page) part (both_right (may_be kept digest) (bytes_eq (page_of (slot_in told slot) page) part) (h.holds told e))));
+  writes =
+      λ told e step.
+      let none : change_of (page_of (slot_in told slot) page) part ≡ 0 =
+      no_change (may_be kept digest) (page_of (slot_in told slot) page) part (h.holds told e) in
+      ap (λ (x : Paged). x.page_writes) h.same ∙ ap (λ n. counted_by n old.page_writes) (sym none);
+  still = λ told e step none. ap (λ (x : Paged). x.slots) h.same;
+}
+
+-- one page: it is written
+pub put_written : (slot page : ℕ) (part : List ℕ) (digest : Digest) (kept : Option Digest) (old mid new : Paged)
+    (rows dropped after : Rows) (done : Unit) → HoldsPage slot page kept digest part old mid (Ok false) →
+    WritesPage slot page part mid new (Ok done) → length part ≡ 256 → digest ≡ digest_of part →
+    kept ≡ kept_of (row_in rows slot) page → DropsPage slot page rows dropped →
+    after ≡ with_row dropped slot (keeping page digest (row_in dropped slot)) → PutsOne slot page part old new rows after
+put_written slot page part digest kept old mid new rows dropped after done h w l d k r s =
+    let row_is : row_in dropped slot ≡ r.row = ap (λ (x : Rows). row_in x slot) r.rows ∙ row_in-with_row rows slot r.row in
+    let alike : keeping page digest (row_in dropped slot) ≡ keeping page (digest_of part) (row_in rows slot) =
+    ap (λ (x : List (Option Digest)). keeping page digest x) row_is
+    ∙ keeping-alike page digest r.row (row_in rows slot) r.before r.after
+    ∙ ap (λ (x : Digest). keeping page x (row_in rows slot)) d in
+    let reads : mid.page_reads ≡ counted_by (look_at (row_in rows slot) page part) old.page_reads =
+    ap (λ (x : Paged). x.page_reads) h.same
+    ∙ ap (λ (x : Option Digest). counted_by (one_if (may_be x digest)) old.page_reads) k
+    ∙ ap (λ (x : Digest). counted_by (one_if (may_be (kept_of (row_in rows slot) page) x)) old.page_reads) d in
+    let changes : (told : Slots) → old.slots ≡ Some told → IsInStep (row_in rows slot) page (slot_in told slot) →
+    change_of (page_of (slot_in told slot) page) part ≡ 1 =
+    λ told e step.
+    let known : (x : Digest) → kept ≡ Some x → x ≡ digest_of (page_of (slot_in told slot) page) =
+    λ x f. step x (sym k ∙ f) in
+    let held : false ≡ (may_be kept (digest_of part) && bytes_eq (page_of (slot_in told slot) page) part) =
+    h.holds told e ∙ ap (λ (x : Digest). may_be kept x && bytes_eq (page_of (slot_in told slot) page) part) d in
+    a_change kept (page_of (slot_in told slot) page) part known held in
+    record {
+      honest = ap (λ (x : Paged). x.is_honest) w.same ∙ ap (λ (x : Paged). x.is_honest) h.same;
+      faults = w.counted_faults.kept ∙ h.counted_faults.kept;
+      lengths = ap (λ (x : Paged). x.length_writes) w.same ∙ ap (λ (x : Paged). x.length_writes) h.same;
+      rows_are =
+          s ∙ ap (λ (x : List (Option Digest)). with_row dropped slot x) alike
+          ∙ ap (λ (x : Rows). with_row x slot (keeping page (digest_of part) (row_in rows slot))) r.rows
+          ∙ with_row-twice rows slot r.row (keeping page (digest_of part) (row_in rows slot));
+      looks = ap (λ (x : Paged). x.page_reads) w.same ∙ reads;
+      puts =
+          λ honest.
+          let still : mid.slots ≡ old.slots = ap (λ (x : Paged). x.slots) h.same in
+          let written = w.leaves (ap (λ (x : Paged). x.is_honest) h.same ∙ honest) in
+          comes_there slot page part old.slots new.slots l
+          (written ∙ ap (λ (x : Option Slots). changing slot (with_page page part) x) still);
+      writes =
+          λ told e step.
+          let one : change_of (page_of (slot_in told slot) page) part ≡ 1 = changes told e step in
+          ap (λ (x : Paged). x.page_writes) w.same
+          ∙ ap (λ (x : Paged). counted x.page_writes) h.same
+          ∙ ap (λ n. counted_by n old.page_writes) (sym one);
+      still =
+          λ told e step none.
+          let one : change_of (page_of (slot_in told slot) page) part ≡ 1 = changes told e step in
+          absurd (omega (arith, one, none));
+    }
+
+-- a look-up that failed
+pub look_failed : (slot page : ℕ) (part : List ℕ) (digest : Digest) (kept : Option Digest) (old new : Paged)
+    (rows : Rows) (fault : Failed) → HoldsPage slot page kept digest part old new (Err fault) →
+    Fails slot old new rows rows
+look_failed slot page part digest kept old new rows fault h = record {
+  paged = record {
+    honest = ap (λ (x : Paged). x.is_honest) h.same;
+    faults = h.counted_faults.failed;
+    leaves =
+        λ honest.
+        let stay = slots_stay slot old.slots in
+        (stay.0, ap (λ (x : Paged). x.slots) h.same ∙ stay.1);
+  };
+  row = row_in rows slot;
+  rows_are = sym (with_row-same rows slot);
+}
+
+-- a slot of which no page was put
+fills_none : (slot : ℕ) (bytes : List ℕ) (slots : Option Slots) → FillsSlot slot 0 bytes slots slots
+fills_none slot bytes None = record {
+  left = [];
+  slots = refl;
+  fills = λ told e. absurd (cc);
+}
+fills_none slot bytes (Some was) = record {
+  left = slot_in was slot;
+  slots = ap Some (sym (with_slot-same was slot));
+  fills =
+      λ told e.
+      let same : was ≡ told = cc in
+      subst (λ (x : Slots). IsFilled 0 bytes (slot_in x slot) (slot_in was slot)) same (record {
+        filled = λ i below. absurd (omega arith);
+        after = λ i after. refl;
+      });
+}
+
+-- no page yet
+pub puts_none : (slot : ℕ) (bytes : List ℕ) (paged : Paged) (rows : Rows) → PutsFirst slot 0 bytes paged paged rows rows
+puts_none slot bytes paged rows = record {
+  honest = refl;
+  faults = refl;
+  lengths = refl;
+  rows_are = sym (with_row-same rows slot);
+  looks = refl;
+  fills = λ honest. fills_none slot bytes paged.slots;
+  writes = λ honest told e steps. refl;
+  still = λ honest told e steps none. refl;
+}
+
+-- the slots are still told after one of them changed
+told_after : (slot : ℕ) (left : List ℕ) (old new : Option Slots) (told : Slots) → new ≡ putting slot left old →
+    old ≡ Some told → new ≡ Some (with_slot told slot left)
+told_after slot left old new told e f = e ∙ ap (λ (x : Option Slots). putting slot left x) f
+
+-- a page beyond those that were put is as it was
+page_after : (count : ℕ) (bytes was now : List ℕ) → IsFilled count bytes was now → page_of now count ≡ page_of was count
+page_after count bytes was now f = page_of-same now was count (λ i below. f.after (256 * count + i) (omega arith))
+
+-- one more page
+filled_more : (count : ℕ) (bytes was mid now : List ℕ) → IsFilled count bytes was mid →
+    IsPutAt count (page_of bytes count) mid now → IsFilled (suc count) bytes was now
+filled_more count bytes was mid now f p = record {
+  filled =
+      λ i below.
+      elim (cases_lt i (256 * count)) [
+        | inl before ↦ (p.before i before ∙ f.filled i before)
+        | inr here ↦
+            (let at : 256 * count + (i - 256 * count) ≡ i = omega arith in
+            let few : i - 256 * count < 256 = omega arith in
+            ap (λ n. get_or now n 0) (sym at) ∙ p.within (i - 256 * count) few
+            ∙ get_or-page_of bytes count (i - 256 * count) few ∙ ap (λ n. get_or bytes n 0) at)
+      ];
+  after = λ i after. p.after i (omega arith) ∙ f.after i (omega arith);
+}
+
+fills_more : (slot count : ℕ) (bytes : List ℕ) (old mid new : Option Slots) → FillsSlot slot count bytes old mid →
+    PutsThere slot count (page_of bytes count) mid new → FillsSlot slot (suc count) bytes old new
+fills_more slot count bytes old mid new f p = record {
+  left = p.left;
+  slots =
+      p.slots ∙ ap (λ (x : Option Slots). putting slot p.left x) f.slots
+      ∙ putting-twice slot f.left p.left old;
+  fills =
+      λ told e.
+      let put = p.there (with_slot told slot f.left) (told_after slot f.left old mid told f.slots e) in
+      let here : IsPutAt count (page_of bytes count) f.left p.left =
+      subst (λ (x : List ℕ). IsPutAt count (page_of bytes count) x p.left) (slot_in-with_slot told slot f.left) put in
+      filled_more count bytes (slot_in told slot) f.left p.left (f.fills told e) here;
+}
+
+pub puts_more : (slot count : ℕ) (bytes : List ℕ) (old mid new : Paged) (rows some after : Rows) →
+    PutsFirst slot count bytes old mid rows some → PutsOne slot count (page_of bytes count) mid new some after →
+    PutsFirst slot (suc count) bytes old new rows after
+puts_more slot count bytes old mid new rows some after f p =
+    let part : List ℕ = page_of bytes count in
+    let firsts : List (Option Digest) = digests_of bytes count in
+    let row : List (Option Digest) = row_in rows slot in
+    let row_is : row_in some slot ≡ firsts ++ drop count row =
+    ap (λ (x : Rows). row_in x slot) f.rows_are ∙ row_in-with_row rows slot (firsts ++ drop count row) in
+    let kept_is : kept_of (row_in some slot) count ≡ kept_of row count =
+    ap (λ (x : List (Option Digest)). kept_of x count) row_is
+    ∙ kept_of-next count firsts row (length-digests_of bytes count) in
+    let more : keeping count (digest_of part) (row_in some slot) ≡ digests_of bytes (suc count) ++ drop (suc count) row =
+    ap (λ (x : List (Option Digest)). keeping count (digest_of part) x) row_is
+    ∙ keeping-next count (digest_of part) firsts row (length-digests_of bytes count) in
+    record {
+      honest = p.honest ∙ f.honest;
+      faults = p.faults ∙ f.faults;
+      lengths = p.lengths ∙ f.lengths;
+      rows_are =
+          p.rows_are ∙ ap (λ (x : List (Option Digest)). with_row some slot x) more
+          ∙ ap (λ (x : Rows). with_row x slot (digests_of bytes (suc count) ++ drop (suc count) row)) f.rows_are
+          ∙ with_row-twice rows slot (firsts ++ drop count row) (digests_of bytes (suc count) ++ drop (suc count) row);
+      looks =
+          p.looks
+          ∙ ap (λ (x : Option Digest). counted_by (one_if (may_be x (digest_of part))) mid.page_reads) kept_is
+          ∙ ap (λ n. counted_by (look_at row count part) n) f.looks
+          ∙ sym (counted_by-add (look_at row count part) (looks_at row bytes count) old.page_reads);
+      fills =
+          λ honest.
+          fills_more slot count bytes old.slots mid.slots new.slots (f.fills honest) (p.puts (f.honest ∙ honest));
+      writes =
+          λ honest told e steps.
+          let g = f.fills honest in
+          let was : List ℕ = slot_in told slot in
+          let here : slot_in (with_slot told slot g.left) slot ≡ g.left = slot_in-with_slot told slot g.left in
+          let page : page_of (slot_in (with_slot told slot g.left) slot) count ≡ page_of was count =
+          ap (λ (x : List ℕ). page_of x count) here ∙ page_after count bytes was g.left (g.fills told e) in
+          let step : IsInStep (row_in some slot) count (slot_in (with_slot told slot g.left) slot) =
+          λ x k. steps count (omega arith) x (sym kept_is ∙ k) ∙ ap digest_of (sym page) in
+          p.writes (with_slot told slot g.left) (told_after slot g.left old.slots mid.slots told g.slots e) step
+          ∙ ap (λ (x : List ℕ). counted_by (change_of x part) mid.page_writes) page
+          ∙ ap (λ n. counted_by (change_of (page_of was count) part) n)
+          (f.writes honest told e (λ k below. steps k (omega arith)))
+          ∙ sym (counted_by-add (change_of (page_of was count) part) (changes_of was bytes count) old.page_writes);
+      still =
+          λ honest told e steps none.
+          let was : List ℕ = slot_in told slot in
+          let before : mid.slots ≡ old.slots = f.still honest told e (λ k below. steps k (omega arith)) (omega (arith, none)) in
+          let step : IsInStep (row_in some slot) count was = λ x k. steps count (omega arith) x (sym kept_is ∙ k) in
+          p.still told (before ∙ e) step (omega (arith, none)) ∙ before;
+    }
+
+-- where the digests so far stand, the next one follows
+pub reaches : (slot count : ℕ) (bytes : List ℕ) (old new : Paged) (rows after : Rows) →
+    PutsFirst slot count bytes old new rows after → count ≤ length (row_in after slot)
+reaches slot count bytes old new rows after f =
+    let row_is = ap (λ (x : Rows). row_in x slot) f.rows_are
+    ∙ row_in-with_row rows slot (digests_of bytes count ++ drop count (row_in rows slot)) in
+    omega (
+      arith,
+      ap length row_is,
+      length-append (digests_of bytes count) (drop count (row_in rows slot)),
+      length-digests_of bytes count,
+    )
+
+-- a failure after some pages
+fails_in_after : (slot : ℕ) (left : List ℕ) (old mid new : Paged) → mid.is_honest ≡ old.is_honest →
+    mid.faults ≡ old.faults → (old.is_honest ≡ true → (some : List ℕ) × (mid.slots ≡ putting slot some old.slots)) →
+    FailsIn slot mid new → FailsIn slot old new
+fails_in_after slot left old mid new h k s f = record {
+  honest = f.honest ∙ h;
+  faults = subst (λ n. Rose n new.faults) k f.faults;
+  leaves =
+      λ honest.
+      let first = s honest in
+      let later = f.leaves (h ∙ honest) in (
+        later.0,
+        later.1 ∙ ap (λ (x : Option Slots). putting slot later.0 x) first.1
+            ∙ putting-twice slot first.0 later.0 old.slots,
+      );
+}
+
+pub fails_after : (slot count : ℕ) (bytes : List ℕ) (old mid new : Paged) (rows some after : Rows) →
+    PutsFirst slot count bytes old mid rows some → Fails slot mid new some after → Fails slot old new rows after
+fails_after slot count bytes old mid new rows some after f g = record {
+  paged =
+      fails_in_after slot [] old mid new f.honest f.faults
+      (λ honest. let h = f.fills honest in (h.left, h.slots)) g.paged;
+  row = g.row;
+  rows_are =
+      g.rows_are ∙ ap (λ (x : Rows). with_row x slot g.row) f.rows_are
+      ∙ with_row-twice rows slot _ g.row;
+}
+
+-- slots whose length is right
+length_stays : (slot size : ℕ) (slots : Option Slots) → ((told : Slots) → slots ≡ Some told → length (slot_in told slot) ≡ size) →
+    slots ≡ changing slot (resized size) slots
+length_stays slot size None h = refl
+length_stays slot size (Some told) h =
+    let same : resized size (slot_in told slot) ≡ slot_in told slot =
+    subst (λ n. resized n (slot_in told slot) ≡ slot_in told slot) (h told refl) (resized-length (slot_in told slot)) in
+    ap Some (sym (with_slot-same told slot) ∙ ap (λ (x : List ℕ). with_slot told slot x) (sym same))
+
+-- the length, where it is right already
+pub fits_already : (slot size seen : ℕ) (old new : Paged) → ReadsLength slot old new (Ok seen) → seen ≡ size →
+    Fits slot size old new
+fits_already slot size seen old new r e = record {
+  honest = ap (λ (x : Paged). x.is_honest) r.same;
+  faults = r.counted_faults.kept;
+  reads = ap (λ (x : Paged). x.page_reads) r.same;
+  writes = ap (λ (x : Paged). x.page_writes) r.same;
+  lengths = inl (ap (λ (x : Paged). x.length_writes) r.same);
+  settled = λ told f l. ap (λ (x : Paged). x.length_writes) r.same;
+  slots =
+      λ honest. ap (λ (x : Paged). x.slots) r.same ∙ length_stays slot size old.slots (λ told f. sym (r.gives told f) ∙ e);
+}
+
+pub length_failed : (slot : ℕ) (old new : Paged) (fault : Failed) → ReadsLength slot old new (Err fault) →
+    FailsIn slot old new
+length_failed slot old new fault r = record {
+  honest = ap (λ (x : Paged). x.is_honest) r.same;
+  faults = r.counted_faults.failed;
+  leaves =
+      λ honest.
+      let stay = slots_stay slot old.slots in
+      (stay.0, ap (λ (x : Paged). x.slots) r.same ∙ stay.1);
+}
+
+-- what is in a slot whose pages are those of the bytes, once it has their length
+whole : (bytes was now : List ℕ) → IsFilled (page_count (length bytes)) bytes was now →
+    resized (length bytes) now ≡ bytes
+whole bytes was now f = resized-same bytes now (λ i below. f.filled i (omega arith))
+
+fits_whole : (slot : ℕ) (bytes : List ℕ) (old mid new : Option Slots) →
+    FillsSlot slot (page_count (length bytes)) bytes old mid → new ≡ changing slot (resized (length bytes)) mid →
+    new ≡ putting slot bytes old
+fits_whole slot bytes None mid new f e = e ∙ ap (λ (x : Option Slots). changing slot (resized (length bytes)) x) f.slots
+fits_whole slot bytes (Some told) mid new f e =
+    let there : slot_in (with_slot told slot f.left) slot ≡ f.left = slot_in-with_slot told slot f.left in
+    let done : resized (length bytes) (slot_in (with_slot told slot f.left) slot) ≡ bytes =
+    ap (λ (x : List ℕ). resized (length bytes) x) there
+    ∙ whole bytes (slot_in told slot) f.left (f.fills told refl) in
+    e ∙ ap (λ (x : Option Slots). changing slot (resized (length bytes)) x) f.slots
+    ∙ ap (λ (x : List ℕ). Some (with_slot (with_slot told slot f.left) slot x)) done
+    ∙ ap Some (with_slot-twice told slot f.left bytes)
+
+-- all pages, and then the length
+pub puts_all : (slot : ℕ) (bytes : List ℕ) (old mid new : Paged) (rows some after : Rows) →
+    PutsFirst slot (page_count (length bytes)) bytes old mid rows some →
+    after ≡ with_row some slot (take (page_count (length bytes)) (row_in some slot)) →
+    Fits slot (length bytes) mid new → PutsAll slot bytes old new rows after
+puts_all slot bytes old mid new rows some after f r g =
+    let count : ℕ = page_count (length bytes) in
+    let row_is : row_in some slot ≡ digests_of bytes count ++ drop count (row_in rows slot) =
+    ap (λ (x : Rows). row_in x slot) f.rows_are
+    ∙ row_in-with_row rows slot (digests_of bytes count ++ drop count (row_in rows slot)) in
+    let cut : take count (row_in some slot) ≡ digests_of bytes count =
+    ap (λ (x : List (Option Digest)). take count x) row_is ∙ take-digests_of bytes count (drop count (row_in rows slot)) in
+    record {
+      honest = g.honest ∙ f.honest;
+      faults = g.faults ∙ f.faults;
+      lengths = subst (λ n. IsOneMoreAtMost n new.length_writes) f.lengths g.lengths;
+      rows_are =
+          r ∙ ap (λ (x : List (Option Digest)). with_row some slot x) cut
+          ∙ ap (λ (x : Rows). with_row x slot (digests_of bytes count)) f.rows_are
+          ∙ with_row-twice rows slot _ (digests_of bytes count);
+      looks = g.reads ∙ f.looks;
+      slots =
+          λ honest.
+          fits_whole slot bytes old.slots mid.slots new.slots (f.fills honest) (g.slots (f.honest ∙ honest));
+      writes = λ honest told e steps. g.writes ∙ f.writes honest told e steps;
+      settled =
+          λ honest told e steps same.
+          let none : changes_of (slot_in told slot) bytes count ≡ 0 =
+          subst (λ (x : List ℕ). changes_of x bytes count ≡ 0) (sym same) (changes_of-same bytes count) in
+          g.settled told (f.still honest told e steps none ∙ e) (ap length same) ∙ f.lengths;
+    }
+
+-- all pages, and then a failure
+pub fails_at_end : (slot : ℕ) (bytes : List ℕ) (old mid new : Paged) (rows some after : Rows) →
+    PutsFirst slot (page_count (length bytes)) bytes old mid rows some →
+    after ≡ with_row some slot (take (page_count (length bytes)) (row_in some slot)) →
+    FailsIn slot mid new → Fails slot old new rows after
+fails_at_end slot bytes old mid new rows some after f r g =
+    fails_after slot (page_count (length bytes)) bytes old mid new rows some after f (record {
+      paged = g;
+      row = take (page_count (length bytes)) (row_in some slot);
+      rows_are = r;
+    })
+
+-- a write that didn't fail
+pub put_whole : (slot : ℕ) (bytes : List ℕ) (old new : Paged) (rows after : Rows) (result : Result Unit Failed) →
+    PutsBytes slot bytes old new rows after result → is_err result ≡ false → PutsAll slot bytes old new rows after
+put_whole slot bytes old new rows after (Ok done) p e = p
+put_whole slot bytes old new rows after (Err fault) p e = absurd (cc)

@@ -1,0 +1,18 @@
+use Rattle.std.proofs.Common.{ℕ, ◌≡◌, ◌<◌, ap, ◌∙◌, sym, List, Some, ◌++◌, ◌∷◌, take, drop, add-one, Option, arith, length}
+use Rattle.std.specs.Prelude.{slice_set}
+use Rattle.std.proofs.lemmas.List.{set_split}
+use Rattle.mm_digest.specs.declared.digest.Digest.{Digest}
+use Rattle.mm_pages.specs.Rows.{keeping}
+use Rattle.mm_pages.proofs.digests.Row.keep.Goals as goal
+
+kept_amid : (row : List (Option Digest)) (page : ℕ) (digest : Digest) → page < length row →
+    slice_set row page (Some digest) ≡ keeping page digest row
+kept_amid row page digest h =
+    set_split row page (Some digest) h
+    ∙ ap (λ n. take page row ++ (Some digest ∷ drop n row)) (sym (add-one page))
+
+pub returns-then-page-len : goal.returns-then-page-len
+returns-then-page-len c =
+    ap (λ n. slice_set c.self.inside.digests.items n (Some c.args.digest)) c.from-page.ensures
+    ∙ kept_amid c.self.inside.digests.items c.args.page c.args.digest (omega arith)
+    ∙ ap (λ (row : List (Option Digest)). keeping c.args.page c.args.digest row) c.self.view_is

@@ -1,0 +1,40 @@
+-- What each call of a device of pages does to what it holds.
+use Rattle.std.specs.Prelude.{◌≡◌, ℕ, true, List, length, Option, Some, Result, Ok, Err, IfOk, OnOk}
+use Rattle.std.specs.Option.{option_map}
+use Rattle.mm_base.specs.declared.fault.Failed.{Failed}
+use Rattle.mm_base.specs.Faults.{counted, CountsFaults}
+use Rattle.mm_store.specs.Slots.{Slots, slot_in, with_slot}
+use Rattle.mm_store.specs.Calls.{putting}
+use Rattle.mm_pages.specs.Bytes.{resized, page_of, with_page}
+use Rattle.mm_pages.specs.Paged.{Paged}
+
+-- reading a slot's length changes nothing, and gives it where the slots are told
+pub record ReadsLength (slot : ℕ) (old new : Paged) (result : Result ℕ Failed) : Type 0 where
+  pub same : new ≡ record old { faults = new.faults }
+  pub counted_faults : CountsFaults old.faults new.faults result
+  pub gives : IfOk result (λ size. (slots : Slots) → old.slots ≡ Some slots → size ≡ length (slot_in slots slot))
+
+-- reading a page changes no slot, and gives the page where the slots are told
+pub record ReadsPage (slot page : ℕ) (old new : Paged) (into : List ℕ) (result : Result Unit Failed) : Type 0 where
+  pub same : new ≡ record old { faults = new.faults; page_reads = counted old.page_reads }
+  pub counted_faults : CountsFaults old.faults new.faults result
+  pub gives : OnOk result ((slots : Slots) → old.slots ≡ Some slots → into ≡ page_of (slot_in slots slot) page)
+
+-- the slots where they are told, one of them changed so
+abbrev pub changing : ℕ → (List ℕ → List ℕ) → Option Slots → Option Slots
+changing slot change slots = option_map (λ told. with_slot told slot (change (slot_in told slot))) slots
+
+-- what a write to a slot of an honest device leaves: the change after Ok, and any bytes there after it failed
+abbrev pub LeavesSlot : ℕ → (List ℕ → List ℕ) → Option Slots → Option Slots → Result Unit Failed → Type 0
+LeavesSlot slot change old new (Ok _) = new ≡ changing slot change old
+LeavesSlot slot change old new (Err _) = (left : List ℕ) × (new ≡ putting slot left old)
+
+pub record WritesPage (slot page : ℕ) (part : List ℕ) (old new : Paged) (result : Result Unit Failed) : Type 0 where
+  pub same : new ≡ record old { slots = new.slots; faults = new.faults; page_writes = counted old.page_writes }
+  pub counted_faults : CountsFaults old.faults new.faults result
+  pub leaves : old.is_honest ≡ true → LeavesSlot slot (with_page page part) old.slots new.slots result
+
+pub record SetsLength (slot size : ℕ) (old new : Paged) (result : Result Unit Failed) : Type 0 where
+  pub same : new ≡ record old { slots = new.slots; faults = new.faults; length_writes = counted old.length_writes }
+  pub counted_faults : CountsFaults old.faults new.faults result
+  pub leaves : old.is_honest ≡ true → LeavesSlot slot (resized size) old.slots new.slots result

@@ -1,0 +1,39 @@
+-- Which pages a write reads back, and which it writes.
+use Rattle.std.specs.Prelude.{ℕ, ◌+◌, zero, suc, Bool, true, List, Option, Some, None, if◌then◌else◌}
+use Rattle.std.specs.Str.{bytes_eq}
+use Rattle.mm_base.specs.Faults.{counted}
+use Rattle.mm_digest.specs.declared.digest.Digest.{Digest}
+use Rattle.mm_pages.specs.Bytes.{page_of}
+use Rattle.mm_pages.specs.Rows.{kept_of, digest_of}
+
+-- the count after so many more
+abbrev pub counted_by : ℕ → ℕ → ℕ
+counted_by zero count = count
+counted_by (suc n) count = counted (counted_by n count)
+
+-- the digest kept of a page, if any, doesn't tell it from a page with this digest: it is read back
+abbrev pub may_be : Option Digest → Digest → Bool
+may_be None digest = true
+may_be (Some kept) digest = bytes_eq kept.bytes digest.bytes
+
+abbrev pub one_if : Bool → ℕ
+one_if b = if b then 1 else 0
+
+-- 1 where the page is read back before these bytes are put there
+abbrev pub look_at : List (Option Digest) → ℕ → List ℕ → ℕ
+look_at row page part = one_if (may_be (kept_of row page) (digest_of part))
+
+-- how many of the first pages of these bytes are read back: those of which no digest is kept, or that of the
+-- new page
+abbrev pub looks_at : List (Option Digest) → List ℕ → ℕ → ℕ
+looks_at row bytes zero = 0
+looks_at row bytes (suc count) = look_at row count (page_of bytes count) + looks_at row bytes count
+
+-- 1 where the page is another
+abbrev pub change_of : List ℕ → List ℕ → ℕ
+change_of was part = if bytes_eq was part then 0 else 1
+
+-- how many of the first pages of these bytes differ from what was there
+abbrev pub changes_of : List ℕ → List ℕ → ℕ → ℕ
+changes_of was bytes zero = 0
+changes_of was bytes (suc count) = change_of (page_of was count) (page_of bytes count) + changes_of was bytes count

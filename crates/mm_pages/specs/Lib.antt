@@ -1,0 +1,9 @@
+pub mod Bytes
+pub mod Paged
+pub mod Calls
+pub mod Counts
+pub mod Rows
+pub mod Puts
+pub mod Gives
+pub mod Cached
+pub mod Sheets

@@ -1,0 +1,18 @@
+-- What a device of pages holds.
+use Rattle.std.specs.Prelude.{ℕ, Bool, Option}
+use Rattle.mm_store.specs.Slots.{Slots}
+use Rattle.mm_store.specs.Kept.{Kept}
+
+-- the slots where the device tells them, whether it is honest, its count of faults, and how many reads of
+-- pages, writes of pages and writes of lengths were called
+pub record Paged : Type 0 where
+  pub slots : Option Slots
+  pub is_honest : Bool
+  pub faults : ℕ
+  pub page_reads : ℕ
+  pub page_writes : ℕ
+  pub length_writes : ℕ
+
+-- what a store over the device holds
+abbrev pub kept_on : Paged → Kept
+kept_on paged = record { slots = paged.slots; is_honest = paged.is_honest; faults = paged.faults }

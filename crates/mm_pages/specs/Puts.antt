@@ -1,0 +1,134 @@
+-- What the steps of a write do to a device of pages and to the digests that are kept.
+use Rattle.std.specs.Prelude.{◌≡◌, ◌⊎◌, ◌<◌, ◌≤◌, ◌+◌, ◌*◌, ℕ, Bool, true, ◌&&◌, List, ◌++◌, drop, length, slice_index, Option, Some, Result, Ok, Err, IfOk}
+use Rattle.std.specs.Str.{bytes_eq}
+use Rattle.mm_base.specs.declared.fault.Failed.{Failed}
+use Rattle.mm_base.specs.Faults.{counted, Rose, CountsFaults}
+use Rattle.mm_digest.specs.declared.digest.Digest.{Digest}
+use Rattle.mm_store.specs.Slots.{Slots, slot_in}
+use Rattle.mm_store.specs.Calls.{putting}
+use Rattle.mm_pages.specs.Bytes.{resized, page_of, page_count}
+use Rattle.mm_pages.specs.Calls.{changing}
+use Rattle.mm_pages.specs.Paged.{Paged}
+use Rattle.mm_pages.specs.Counts.{counted_by, may_be, look_at, looks_at, change_of, changes_of, one_if}
+use Rattle.mm_pages.specs.Rows.{Rows, row_in, with_row, kept_of, digest_of, keeping, digests_of}
+
+-- the digest that is kept of a page, if any, is the digest of what is there
+abbrev pub IsInStep : List (Option Digest) → ℕ → List ℕ → Type 0
+IsInStep row page was = (digest : Digest) → kept_of row page ≡ Some digest → digest ≡ digest_of (page_of was page)
+
+-- a page is looked up and, where its digest doesn't tell it from the new one, read back
+pub record HoldsPage (slot page : ℕ) (kept : Option Digest) (digest : Digest) (part : List ℕ) (old new : Paged)
+    (result : Result Bool Failed) : Type 0 where
+  pub same : new ≡ record old { faults = new.faults; page_reads = counted_by (one_if (may_be kept digest)) old.page_reads }
+  pub counted_faults : CountsFaults old.faults new.faults result
+  pub holds : IfOk result (λ is. (slots : Slots) → old.slots ≡ Some slots
+      → is ≡ (may_be kept digest && bytes_eq (page_of (slot_in slots slot) page) part))
+
+-- some bytes stand at the page's place, and the bytes before and after it are as they were
+pub record IsPutAt (page : ℕ) (part was now : List ℕ) : Type 0 where
+  pub within : (i : ℕ) → i < 256 → slice_index now (256 * page + i) ≡ slice_index part i
+  pub before : (i : ℕ) → i < 256 * page → slice_index now i ≡ slice_index was i
+  pub after : (i : ℕ) → 256 * page + 256 ≤ i → slice_index now i ≡ slice_index was i
+
+-- a slot of a device that failed: its slot has any bytes if it is honest, and no other slot changed
+pub record FailsIn (slot : ℕ) (old new : Paged) : Type 0 where
+  pub honest : new.is_honest ≡ old.is_honest
+  pub faults : Rose old.faults new.faults
+  pub leaves : old.is_honest ≡ true → (left : List ℕ) × (new.slots ≡ putting slot left old.slots)
+
+-- a write that failed: of the digests, none but those of its slot changed
+pub record Fails (slot : ℕ) (old new : Paged) (rows after : Rows) : Type 0 where
+  pub paged : FailsIn slot old new
+  pub row : List (Option Digest)
+  pub rows_are : after ≡ with_row rows slot row
+
+-- the slot changed to some bytes where the slots are told, and the page is there
+pub record PutsThere (slot page : ℕ) (part : List ℕ) (old new : Option Slots) : Type 0 where
+  pub left : List ℕ
+  pub slots : new ≡ putting slot left old
+  pub there : (told : Slots) → old ≡ Some told → IsPutAt page part (slot_in told slot) left
+
+-- one page of a write
+pub record PutsOne (slot page : ℕ) (part : List ℕ) (old new : Paged) (rows after : Rows) : Type 0 where
+  pub honest : new.is_honest ≡ old.is_honest
+  pub faults : new.faults ≡ old.faults
+  pub lengths : new.length_writes ≡ old.length_writes
+  pub rows_are : after ≡ with_row rows slot (keeping page (digest_of part) (row_in rows slot))
+  pub looks : new.page_reads ≡ counted_by (look_at (row_in rows slot) page part) old.page_reads
+  pub puts : old.is_honest ≡ true → PutsThere slot page part old.slots new.slots
+  pub writes : (told : Slots) → old.slots ≡ Some told → IsInStep (row_in rows slot) page (slot_in told slot)
+      → new.page_writes ≡ counted_by (change_of (page_of (slot_in told slot) page) part) old.page_writes
+  pub still : (told : Slots) → old.slots ≡ Some told → IsInStep (row_in rows slot) page (slot_in told slot)
+      → change_of (page_of (slot_in told slot) page) part ≡ 0 → new.slots ≡ old.slots
+
+abbrev pub PutsPage : ℕ → ℕ → List ℕ → Paged → Paged → Rows → Rows → Result Unit Failed → Type 0
+PutsPage slot page part old new rows after (Ok _) = PutsOne slot page part old new rows after
+PutsPage slot page part old new rows after (Err _) = Fails slot old new rows after
+
+-- the first pages are those of the bytes, and what comes after them is as it was
+pub record IsFilled (count : ℕ) (bytes was now : List ℕ) : Type 0 where
+  pub filled : (i : ℕ) → i < 256 * count → slice_index now i ≡ slice_index bytes i
+  pub after : (i : ℕ) → 256 * count ≤ i → slice_index now i ≡ slice_index was i
+
+-- the slot changed to some bytes where the slots are told, and its first pages are those of the bytes
+pub record FillsSlot (slot count : ℕ) (bytes : List ℕ) (old new : Option Slots) : Type 0 where
+  pub left : List ℕ
+  pub slots : new ≡ putting slot left old
+  pub fills : (told : Slots) → old ≡ Some told → IsFilled count bytes (slot_in told slot) left
+
+-- the first pages of a write
+pub record PutsFirst (slot count : ℕ) (bytes : List ℕ) (old new : Paged) (rows after : Rows) : Type 0 where
+  pub honest : new.is_honest ≡ old.is_honest
+  pub faults : new.faults ≡ old.faults
+  pub lengths : new.length_writes ≡ old.length_writes
+  pub rows_are : after ≡ with_row rows slot (digests_of bytes count ++ drop count (row_in rows slot))
+  pub looks : new.page_reads ≡ counted_by (looks_at (row_in rows slot) bytes count) old.page_reads
+  pub fills : old.is_honest ≡ true → FillsSlot slot count bytes old.slots new.slots
+  pub writes : old.is_honest ≡ true → (told : Slots) → old.slots ≡ Some told
+      → ((page : ℕ) → page < count → IsInStep (row_in rows slot) page (slot_in told slot))
+      → new.page_writes ≡ counted_by (changes_of (slot_in told slot) bytes count) old.page_writes
+  pub still : old.is_honest ≡ true → (told : Slots) → old.slots ≡ Some told
+      → ((page : ℕ) → page < count → IsInStep (row_in rows slot) page (slot_in told slot))
+      → changes_of (slot_in told slot) bytes count ≡ 0 → new.slots ≡ old.slots
+
+abbrev pub PutsPages : ℕ → List ℕ → Paged → Paged → Rows → Rows → Result Unit Failed → Type 0
+PutsPages slot bytes old new rows after (Ok _) = PutsFirst slot (page_count (length bytes)) bytes old new rows after
+PutsPages slot bytes old new rows after (Err _) = Fails slot old new rows after
+
+-- the count is as before, or one more
+abbrev pub IsOneMoreAtMost : ℕ → ℕ → Type 0
+IsOneMoreAtMost before now = (now ≡ before) ⊎ (now ≡ counted before)
+
+-- a slot is given a length
+pub record Fits (slot size : ℕ) (old new : Paged) : Type 0 where
+  pub honest : new.is_honest ≡ old.is_honest
+  pub faults : new.faults ≡ old.faults
+  pub reads : new.page_reads ≡ old.page_reads
+  pub writes : new.page_writes ≡ old.page_writes
+  pub lengths : IsOneMoreAtMost old.length_writes new.length_writes
+  pub settled : (told : Slots) → old.slots ≡ Some told → length (slot_in told slot) ≡ size
+      → new.length_writes ≡ old.length_writes
+  pub slots : old.is_honest ≡ true → new.slots ≡ changing slot (resized size) old.slots
+
+abbrev pub FitsLength : ℕ → ℕ → Paged → Paged → Result Unit Failed → Type 0
+FitsLength slot size old new (Ok _) = Fits slot size old new
+FitsLength slot size old new (Err _) = FailsIn slot old new
+
+-- a whole write
+pub record PutsAll (slot : ℕ) (bytes : List ℕ) (old new : Paged) (rows after : Rows) : Type 0 where
+  pub honest : new.is_honest ≡ old.is_honest
+  pub faults : new.faults ≡ old.faults
+  pub lengths : IsOneMoreAtMost old.length_writes new.length_writes
+  pub rows_are : after ≡ with_row rows slot (digests_of bytes (page_count (length bytes)))
+  pub looks : new.page_reads ≡ counted_by (looks_at (row_in rows slot) bytes (page_count (length bytes))) old.page_reads
+  pub slots : old.is_honest ≡ true → new.slots ≡ putting slot bytes old.slots
+  pub writes : old.is_honest ≡ true → (told : Slots) → old.slots ≡ Some told
+      → ((page : ℕ) → page < page_count (length bytes) → IsInStep (row_in rows slot) page (slot_in told slot))
+      → new.page_writes ≡ counted_by (changes_of (slot_in told slot) bytes (page_count (length bytes))) old.page_writes
+  pub settled : old.is_honest ≡ true → (told : Slots) → old.slots ≡ Some told
+      → ((page : ℕ) → page < page_count (length bytes) → IsInStep (row_in rows slot) page (slot_in told slot))
+      → slot_in told slot ≡ bytes → new.length_writes ≡ old.length_writes
+
+abbrev pub PutsBytes : ℕ → List ℕ → Paged → Paged → Rows → Rows → Result Unit Failed → Type 0
+PutsBytes slot bytes old new rows after (Ok _) = PutsAll slot bytes old new rows after
+PutsBytes slot bytes old new rows after (Err _) = Fails slot old new rows after

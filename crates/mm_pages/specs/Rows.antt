@@ -1,0 +1,51 @@
+-- The digests that are kept of the pages of each slot.
+use Rattle.std.specs.Prelude.{◌≡◌, length, ℕ, ◌==◌, ◌+◌, zero, suc, List, [], ◌∷◌, ◌++◌, take, drop, slice_index_or, Option, Some, None, if◌then◌else◌}
+use Rattle.sha2.specs.Sha256.{sha256}
+use Rattle.mm_digest.specs.declared.digest.Digest.{Digest}
+use Rattle.mm_pages.specs.Bytes.{page_of}
+
+-- for each slot the digests of its first pages, each kept or not; of all later pages none is kept
+pub record Rows : Type 0 where
+  pub zero : List (Option Digest)
+  pub one : List (Option Digest)
+  pub two : List (Option Digest)
+  pub three : List (Option Digest)
+
+-- none is kept
+abbrev pub no_rows : Rows
+no_rows = record { zero = []; one = []; two = []; three = [] }
+
+-- the digests of one slot's pages
+abbrev pub row_in : Rows → ℕ → List (Option Digest)
+row_in rows slot = if slot == 0 then rows.zero else if slot == 1 then rows.one else if slot == 2 then rows.two else rows.three
+
+-- the digests, with these in place of one slot's
+abbrev pub with_row : Rows → ℕ → List (Option Digest) → Rows
+with_row rows slot row =
+    if slot == 0 then record rows { zero = row } else if slot == 1 then record rows { one = row }
+    else if slot == 2 then record rows { two = row } else record rows { three = row }
+
+-- the digest that is kept of a page
+abbrev pub kept_of : List (Option Digest) → ℕ → Option Digest
+kept_of row page = slice_index_or row page None
+
+-- the digest of a page's bytes
+abbrev pub digest_of : List ℕ → Digest
+digest_of part = record { bytes = sha256 part }
+
+-- a row with this digest in place of a page's, which follows those of the pages before it
+abbrev pub keeping : ℕ → Digest → List (Option Digest) → List (Option Digest)
+keeping page digest row = take page row ++ (Some digest ∷ drop (page + 1) row)
+
+-- the digests of the first pages of these bytes
+abbrev pub digests_of : List ℕ → ℕ → List (Option Digest)
+digests_of bytes zero = []
+digests_of bytes (suc count) = digests_of bytes count ++ (Some (digest_of (page_of bytes count)) ∷ [])
+
+-- one row changed but for its digests before and after a page
+pub record DropsPage (slot page : ℕ) (old new : Rows) : Type 0 where
+  pub row : List (Option Digest)
+  pub rows : new ≡ with_row old slot row
+  pub len : length row ≡ length (row_in old slot)
+  pub before : take page row ≡ take page (row_in old slot)
+  pub after : drop (page + 1) row ≡ drop (page + 1) (row_in old slot)

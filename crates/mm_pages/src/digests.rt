@@ -1,0 +1,171 @@
+//! The digests that are kept of pages.
+
+ghost use Rattle.std.specs.Prelude.{◌≡◌, ◌<◌, ◌≤◌, ◌+◌, [], take, drop, length, Some, None, IfOk};
+ghost use Rattle.mm_pages.specs.Rows.{no_rows, row_in, with_row, kept_of, keeping, DropsPage};
+
+use mm_base::Memory;
+use mm_digest::Digest;
+use std::alloc::Global;
+use std::marker::Model;
+
+// The most pages of a slot.
+const MOST_PAGES: usize = 4297;
+
+// The digests of the first pages of one slot, each kept or not. There is room for those of all pages.
+#[derive(Drop)]
+pub struct Row {
+    digests: Vec<Option<Digest>>,
+}
+
+impl Model for Row {
+    ghost use Rattle.std.specs.Prelude.{List, Option, ◌≤◌, vec_capacity};
+    ghost use Rattle.mm_digest.specs.declared.digest.Digest.{Digest};
+
+    ghost Value = { List (Option Digest) };
+
+    ghost view = { λ r. r.digests.items };
+
+    ghost invariant = { λ r. 4297 ≤ vec_capacity r.digests };
+}
+
+impl Row {
+    // No digests.
+    fn new(alloc: Global) -> Result<Row, Memory>
+        ensures { IfOk result (λ row. row ≡ []) }
+    {
+        let digests = Vec::with_capacity(alloc, MOST_PAGES)?;
+        Ok(Row { digests })
+    }
+
+    // The digest that is kept of a page.
+    fn get(&self, page: u16) -> Option<Digest>
+        ensures { result ≡ kept_of self.now page }
+    {
+        match self.digests.get(usize::from(page)) {
+            None => None,
+            Some(kept) => *kept,
+        }
+    }
+
+    // Keeps the digest of a page below 4,297, which follows those of the pages before it.
+    fn keep(&mut self, page: u16, digest: Digest)
+        requires page { page < 4297 }
+        requires reached { page ≤ length self.old }
+        ensures { self.new ≡ keeping page digest self.old }
+    {
+        let page = usize::from(page);
+        if page < self.digests.len() {
+            self.digests[page] = Some(digest);
+        } else {
+            self.digests.push_reserved(Some(digest));
+        }
+    }
+
+    // Drops the digest of a page.
+    fn drop_page(&mut self, page: u16)
+        ensures len { length self.new ≡ length self.old }
+        ensures before { take page self.new ≡ take page self.old }
+        ensures after { drop (page + 1) self.new ≡ drop (page + 1) self.old }
+    {
+        let page = usize::from(page);
+        if page < self.digests.len() {
+            self.digests[page] = None;
+        }
+    }
+
+    // Drops the digests of this page and of all later ones.
+    fn cut(&mut self, page: u16)
+        ensures { self.new ≡ take page self.old }
+    {
+        self.digests.truncate(usize::from(page));
+    }
+}
+
+// The digests of all slots.
+#[derive(Drop)]
+pub struct Digests {
+    zero: Row,
+    one: Row,
+    two: Row,
+    three: Row,
+}
+
+impl Model for Digests {
+    ghost use Rattle.mm_pages.specs.Rows.{Rows};
+
+    ghost Value = { Rows };
+
+    ghost view = { λ d. record { zero = d.zero; one = d.one; two = d.two; three = d.three } };
+}
+
+impl Digests {
+    /// No digests, with room for all of them.
+    pub fn new(alloc: Global) -> Result<Digests, Memory>
+        ensures { IfOk result (λ digests. digests ≡ no_rows) }
+    {
+        let zero = Row::new(alloc)?;
+        let one = Row::new(alloc)?;
+        let two = Row::new(alloc)?;
+        let three = Row::new(alloc)?;
+        Ok(Digests {
+            zero,
+            one,
+            two,
+            three,
+        })
+    }
+
+    /// The digest that is kept of a page.
+    pub fn get(&self, slot: u8, page: u16) -> Option<Digest>
+        requires { slot < 4 }
+        ensures { result ≡ kept_of (row_in self.now slot) page }
+    {
+        match slot {
+            0 => self.zero.get(page),
+            1 => self.one.get(page),
+            2 => self.two.get(page),
+            _ => self.three.get(page),
+        }
+    }
+
+    /// Keeps the digest of a page, which follows those of the pages before it.
+    pub fn keep(&mut self, slot: u8, page: u16, digest: Digest)
+        requires slot { slot < 4 }
+        requires page { page < 4297 }
+        requires reached { page ≤ length (row_in self.old slot) }
+        ensures { self.new ≡ with_row self.old slot (keeping page digest (row_in self.old slot)) }
+    {
+        match slot {
+            0 => self.zero.keep(page, digest),
+            1 => self.one.keep(page, digest),
+            2 => self.two.keep(page, digest),
+            _ => self.three.keep(page, digest),
+        }
+    }
+
+    /// Drops the digest of a page.
+    pub fn drop_page(&mut self, slot: u8, page: u16)
+        requires { slot < 4 }
+        ensures { DropsPage slot page self.old self.new }
+    {
+        match slot {
+            0 => self.zero.drop_page(page),
+            1 => self.one.drop_page(page),
+            2 => self.two.drop_page(page),
+            _ => self.three.drop_page(page),
+        }
+    }
+
+    /// Drops the digests of a slot's pages from this one on.
+    pub fn cut(&mut self, slot: u8, page: u16)
+        requires { slot < 4 }
+        ensures { self.new ≡ with_row self.old slot (take page (row_in self.old slot)) }
+    {
+        match slot {
+            0 => self.zero.cut(page),
+            1 => self.one.cut(page),
+            2 => self.two.cut(page),
+            _ => self.three.cut(page),
+        }
+    }
+}

@@ -1,0 +1,116 @@
+//! Writing a slot by pages.
+
+ghost use Rattle.std.specs.Prelude.{◌≡◌, ◌<◌, ◌≤◌, length};
+ghost use Rattle.mm_pages.specs.Counts.{may_be};
+ghost use Rattle.mm_pages.specs.Rows.{row_in};
+ghost use Rattle.mm_pages.specs.Puts.{HoldsPage, PutsPage, PutsPages, FitsLength, PutsBytes};
+
+use crate::device::PageDevice;
+use crate::digests::Digests;
+use crate::page::{page_count, page_of};
+use mm_base::Failed;
+use mm_digest::Digest;
+use sha2::{Digest as _, Sha256};
+
+// Puts these bytes in place of a slot's, page by page. After `Failed` its digests are not to be used.
+pub fn put_bytes<D: PageDevice>(
+    device: &mut D,
+    digests: &mut Digests,
+    slot: u8,
+    bytes: &[u8],
+) -> Result<(), Failed>
+    requires slot { slot < 4 }
+    requires short { length bytes.now ≤ 1100000 }
+    ensures { PutsBytes slot bytes.now (D.pages device.old) (D.pages device.new) digests.old digests.new result }
+{
+    put_pages(device, digests, slot, bytes)?;
+    digests.cut(slot, page_count(bytes.len()));
+    fit_length(device, slot, bytes.len() as u32)
+}
+
+// Puts the pages of these bytes, one after another.
+fn put_pages<D: PageDevice>(
+    device: &mut D,
+    digests: &mut Digests,
+    slot: u8,
+    bytes: &[u8],
+) -> Result<(), Failed>
+    requires slot { slot < 4 }
+    requires short { length bytes.now ≤ 1100000 }
+    ensures { PutsPages slot bytes.now (D.pages device.old) (D.pages device.new) digests.old digests.new result }
+{
+    for page in 0..page_count(bytes.len()) {
+        put_page(device, digests, slot, page, &page_of(bytes, page))?;
+    }
+    Ok(())
+}
+
+// Puts one page: writes it where it isn't there already.
+fn put_page<D: PageDevice>(
+    device: &mut D,
+    digests: &mut Digests,
+    slot: u8,
+    page: u16,
+    bytes: &[u8; 256],
+) -> Result<(), Failed>
+    requires slot { slot < 4 }
+    requires page { page < 4297 }
+    requires reached { page ≤ length (row_in digests.old slot) }
+    ensures { PutsPage slot page bytes.now (D.pages device.old) (D.pages device.new) digests.old digests.new result }
+{
+    let digest = Digest {
+        bytes: Sha256::digest(bytes),
+    };
+    let kept = digests.get(slot, page);
+    if holds_page(device, slot, page, kept, &digest, bytes)? {
+        digests.keep(slot, page, digest);
+        return Ok(());
+    }
+    digests.drop_page(slot, page);
+    device.write_page(slot, page, bytes)?;
+    digests.keep(slot, page, digest);
+    Ok(())
+}
+
+// Whether a page is there already. It is read back unless the digest of another page is kept of it.
+fn holds_page<D: PageDevice>(
+    device: &mut D,
+    slot: u8,
+    page: u16,
+    kept: Option<Digest>,
+    digest: &Digest,
+    bytes: &[u8; 256],
+) -> Result<bool, Failed>
+    requires slot { slot < 4 }
+    requires page { page < 4297 }
+    ensures { HoldsPage slot page kept digest.now bytes.now (D.pages device.old) (D.pages device.new) result }
+{
+    if !may_be(kept, digest) {
+        return Ok(false);
+    }
+    let mut there = [0; 256];
+    device.read_page(slot, page, &mut there)?;
+    Ok(there == *bytes)
+}
+
+// Whether the digest kept of a page, if any, doesn't tell it from a page with this digest.
+fn may_be(kept: Option<Digest>, digest: &Digest) -> bool
+    ensures { result ≡ may_be kept digest.now }
+{
+    match kept {
+        None => true,
+        Some(kept) => kept.bytes == digest.bytes,
+    }
+}
+
+// Gives the slot this length, where it has another.
+fn fit_length<D: PageDevice>(device: &mut D, slot: u8, length: u32) -> Result<(), Failed>
+    requires slot { slot < 4 }
+    requires most { length ≤ 1100000 }
+    ensures { FitsLength slot length (D.pages device.old) (D.pages device.new) result }
+{
+    if device.length(slot)? == length {
+        return Ok(());
+    }
+    device.set_length(slot, length)
+}
