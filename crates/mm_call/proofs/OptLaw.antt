@@ -25,7 +25,7 @@ use Rattle.mm_model.proofs.Moves.{sound_moved}
 use Rattle.mm_call.specs.Levels.{Level, by_lists, by_digests, all_made, Agrees}
 use Rattle.mm_call.specs.Found.{Found, found_at, found_in, is_fresh}
 use Rattle.mm_call.specs.Courses.{Done, Fate, Course, Walked, walk}
-use Rattle.mm_call.specs.Called.{Called, Breaks, kept_at, ended_by, called_by}
+use Rattle.mm_call.specs.Called.{Called, called, Breaks, kept_at, ended_by, called_by}
 use Rattle.mm_call.specs.Asked.{counted_part, counted_moves, from_reset, moves_messages, foreign_in, IsWithin, IsAsked}
 use Rattle.mm_call.specs.Laws.{IsSameCall, OptCallsAgree}
 use Rattle.mm_call.proofs.Moving.{committed_in}
