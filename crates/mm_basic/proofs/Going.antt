@@ -30,8 +30,8 @@ use Rattle.mm_call.specs.Standing.{cell_at, StandsAt}
 use Rattle.mm_call.specs.CallsOn.{GoesBy, CallsOn}
 use Rattle.mm_call.specs.declared.ended.Ended.{Ended}
 use Rattle.mm_call.specs.declared.ended.Ended.TheVariants.{Answered, Refused, Broken}
-use Rattle.mm_call.specs.Ended.{result_of, ended_with, refused_as, committed_as, kept_by, KeepsAs, CallsTo}
-use Rattle.mm_call.proofs.Keeping.{committed_result, foreign_commits, commits_then, written_commits, kept_none, kept_some}
+use Rattle.mm_call.specs.Ended.{result_of, ended_with, refused_as, committed_as, kept_by, KeepsAs, is_broken, StaysPlanned, CallsTo}
+use Rattle.mm_call.proofs.Keeping.{committed_result, foreign_commits, commits_then, written_commits, kept_none, kept_some, planned_done, planned_broken}
 use Rattle.mm_call.proofs.BasicLaw.{basic_calls_agree}
 use Rattle.mm_call.proofs.Continuing.{continues_by}
 use Rattle.mm_call.specs.Trails.{IsWrite, Stepped, Trail}
@@ -196,6 +196,8 @@ failed_to meaning offer b old new fault g = record {
       (λ (key : List ℕ) (d : Digests) s. failed_goes meaning key d (plan_of old) false offer (normal b) old new fault g s);
   keeps = λ (key barrier : List ℕ) (d : Digests) s. let i : Instance = basic meaning key in let c : Course = course (fate_of ReadCell old new (Some fault) g ∷ []) (plan_of old) false in
       failed_ends (call.is_fresh (finds i d c offer (normal b))) d.flag i d (sees i d c) (normal b) (finds i d c offer (normal b)) (plan_of old) false old new fault g;
+  plans = λ (plan : Plan) (on : old.is_on ≡ true) (known : old.plan ≡ Some plan) (at : plan.at ≡ 0).
+      planned_broken ReadCell old new fault plan 0 (begins_at old plan on known at) g;
 }
 
 refused_to : (meaning : Meaning) (offer : List ℕ) (b : Batch) (old new : Standing) (why : Refusal) → fault_of why ≡ None → Goes ReadCell old new None → Finds meaning old offer b (Err why) → CallsTo Basic meaning old new offer b (Refused why)
@@ -203,6 +205,8 @@ refused_to meaning offer b old new why e g f = record {
   calls = called_on meaning (course (fate_of ReadCell old new None g ∷ []) (plan_of old) (lacks_by why)) offer b old new (Err why) (one_told old new None g)
       (λ (key : List ℕ) (d : Digests) s. refused_goes meaning key d (plan_of old) offer b old new why g f s);
   keeps = λ (key barrier : List ℕ) (d : Digests) s. e;
+  plans = λ (plan : Plan) (on : old.is_on ≡ true) (known : old.plan ≡ Some plan) (at : plan.at ≡ 0).
+      planned_done ReadCell old new plan 0 (begins_at old plan on known at) g;
 }
 
 repeat_to : (meaning : Meaning) (offer : List ℕ) (b : Batch) (old new : Standing) (answer : BatchAnswer) → Goes ReadCell old new None → Finds meaning old offer b (Ok (Repeat answer)) → CallsTo Basic meaning old new offer b (Answered answer)
@@ -210,6 +214,8 @@ repeat_to meaning offer b old new answer g f = record {
   calls = called_on meaning (course (fate_of ReadCell old new None g ∷ []) (plan_of old) false) offer b old new (Ok answer) (one_told old new None g)
       (λ (key : List ℕ) (d : Digests) s. repeat_goes meaning key d (plan_of old) offer b old new answer g f s);
   keeps = λ (key barrier : List ℕ) (d : Digests) s. tt;
+  plans = λ (plan : Plan) (on : old.is_on ≡ true) (known : old.plan ≡ Some plan) (at : plan.at ≡ 0).
+      planned_done ReadCell old new plan 0 (begins_at old plan on known at) g;
 }
 
 -- The writing step failed: it has committed the batch where its effect was made.
@@ -236,6 +242,12 @@ change_keeps (Err fault) meaning key d plan offer b old middle new ready g f h s
     (broken_ends i d (sees i d c) d.flag (normal b) a.offered plan old middle new ready.next ready.answer.position fault g h
     (ap (λ (x : BatchAnswer). x.position) a.answer_is))
 
+change_plans : (written : Result BatchAnswer StepFault) (old middle new : Standing) (next : List ℕ) (position : Option ℕ) → Goes ReadCell old middle None → Goes (WriteCell next) middle new (result_err written) → StaysPlanned old new (is_broken (committed_as position written))
+change_plans (Ok answer) old middle new next position g h = λ (plan : Plan) (on : old.is_on ≡ true) (known : old.plan ≡ Some plan) (at : plan.at ≡ 0).
+    planned_done (WriteCell next) middle new plan 1 (then_at ReadCell old middle plan 0 (begins_at old plan on known at) g) h
+change_plans (Err fault) old middle new next position g h = λ (plan : Plan) (on : old.is_on ≡ true) (known : old.plan ≡ Some plan) (at : plan.at ≡ 0).
+    planned_broken (WriteCell next) middle new fault plan 1 (then_at ReadCell old middle plan 0 (begins_at old plan on known at) g) h
+
 change_to : (meaning : Meaning) (offer : List ℕ) (b : Batch) (old middle new : Standing) (ready : Ready) (written : Result BatchAnswer StepFault) → Goes ReadCell old middle None → Finds meaning old offer b (Ok (Change ready)) → Writes ready middle new written → CallsTo Basic meaning old new offer b (committed_as (Some ready.answer.position) written)
 change_to meaning offer b old middle new ready written g f w =
     let c : Course = course (fate_of ReadCell old middle None g ∷ fate_of (WriteCell ready.next) middle new (result_err written) w.goes ∷ []) (plan_of old) false in
@@ -246,6 +258,7 @@ change_to meaning offer b old middle new ready written g f w =
           (sym (committed_result (Some ready.answer.position) written))
           (change_goes meaning key d (plan_of old) offer b old middle new ready written g f w.goes w.gives s));
       keeps = λ (key barrier : List ℕ) (d : Digests) s. change_keeps written meaning key d (plan_of old) offer b old middle new ready g f w.goes s;
+      plans = change_plans written old middle new ready.next (Some ready.answer.position) g w.goes;
     }
 
 reads_to : (fault : Option StepFault) (meaning : Meaning) (offer : List ℕ) (b : Batch) (old new : Standing) (why : Refusal) → fault_of why ≡ fault → Goes ReadCell old new fault → (fault ≡ None → Finds meaning old offer b (Err why)) → CallsTo Basic meaning old new offer b (ended_with fault why)

@@ -1,6 +1,13 @@
 -- What a call that ended so gives, and what its moves committed.
-use Rattle.std.proofs.Common.{◌≡◌, ℕ, Bool, true, false, List, [], ◌∷◌, ◌++◌, map, Option, None, Some, Result, Ok, Err, refl, sym, ap}
+use Rattle.std.proofs.Common.{◌≡◌, ℕ, Bool, true, false, List, [], ◌∷◌, ◌++◌, map, Option, None, Some, Result, Ok, Err, refl, sym, ap, ◌∙◌, subst}
+use Rattle.std.specs.Prelude.{IsSome}
+use Rattle.std.specs.Option.{option_map}
+use Rattle.mm_base.specs.Faults.{counted}
 use Rattle.mm_platform.specs.declared.fault.StepFault.{StepFault}
+use Rattle.mm_platform.specs.declared.plan.Stop.{Stop}
+use Rattle.mm_platform.specs.declared.plan.Stop.TheVariants.{Quiet, Cut, Drop, Fail}
+use Rattle.mm_platform.specs.Standing.{Plan, Standing, plan_after}
+use Rattle.mm_platform.specs.Steps.{Act, Goes, is_on_at, will_be_on}
 use Rattle.mm_module.specs.Batch.{Batch}
 use Rattle.mm_model.specs.History.{Move, Commit, Foreign}
 use Rattle.mm_model.specs.declared.answer.BatchAnswer.{BatchAnswer}
@@ -9,7 +16,8 @@ use Rattle.mm_model.specs.declared.refusal.Refusal.TheVariants.{Memory, Long, De
 use Rattle.mm_call.specs.Refusals.{fault_of, handed_on}
 use Rattle.mm_call.specs.Courses.{Fails, made_move, commits}
 use Rattle.mm_call.specs.Called.{kept_at}
-use Rattle.mm_call.specs.Ended.{result_of, ended_with, refused_as, committed_as, kept_by}
+use Rattle.mm_call.specs.Ended.{result_of, ended_with, refused_as, committed_as, kept_by, StaysOn}
+use Rattle.mm_call.proofs.Telling.{IsAt}
 
 -- the fault of a refusal is that of a device
 pub device_only : (why : Refusal) (fault : StepFault) → fault_of why ≡ Some fault → why ≡ Device fault
@@ -61,3 +69,32 @@ kept_none fault false = refl
 pub kept_some : (fault : StepFault) (made : Bool) (position : ℕ) → kept_at made position ≡ kept_by (Fails fault made) (Some position)
 kept_some fault true position = refl
 kept_some fault false position = refl
+
+-- power after a call under a plan
+
+pub stays_done : (stop : Stop) (new : Standing) → new.is_on ≡ true → StaysOn stop false new
+stays_done Quiet new e = e
+stays_done (Cut step) new e = e
+stays_done (Drop step) new e = e
+stays_done (Fail step done) new e = e
+
+pub stays_broken : (stop : Stop) (n : ℕ) (new : Standing) → new.is_on ≡ is_on_at stop n → StaysOn stop true new
+stays_broken Quiet n new e = e
+stays_broken (Cut step) n new e = tt
+stays_broken (Drop step) n new e = e
+stays_broken (Fail step done) n new e = e
+
+-- the plan goes on to be told
+plan_kept : (act : Act) (old new : Standing) (fault : Option StepFault) (plan : Plan) (at : ℕ) → IsAt old plan at → Goes act old new fault → IsSome new.plan
+plan_kept act old new fault plan at p g =
+    subst (λ (q : Option Plan). IsSome q) (sym (g.plan ∙ ap (λ (q : Option Plan). option_map plan_after q) p.planned)) refl
+
+-- after the last step of a call, by whether it failed
+pub planned_done : (act : Act) (old new : Standing) (plan : Plan) (at : ℕ) → IsAt old plan at → Goes act old new None → StaysOn plan.stop false new × IsSome new.plan
+planned_done act old new plan at p g = (stays_done plan.stop new g.ends.is_on, plan_kept act old new None plan at p g)
+
+pub planned_broken : (act : Act) (old new : Standing) (fault : StepFault) (plan : Plan) (at : ℕ) → IsAt old plan at → Goes act old new (Some fault) → StaysOn plan.stop true new × IsSome new.plan
+planned_broken act old new fault plan at p g =
+    let told = g.told (record plan { at = at }) p.planned in
+    (stays_broken plan.stop (counted at) new (told.power ∙ ap (λ (on : Bool). will_be_on on (record plan { at = at })) p.is_on),
+    plan_kept act old new (Some fault) plan at p g)

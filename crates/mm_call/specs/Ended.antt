@@ -1,8 +1,10 @@
 -- How a call ended over a platform, with the position that the step that failed would commit.
-use Rattle.std.specs.Prelude.{◌≡◌, ℕ, Bool, true, false, List, Option, None, Some, Result, Ok, Err}
+use Rattle.std.specs.Prelude.{◌≡◌, ℕ, Bool, true, false, List, Option, None, Some, Result, Ok, Err, IsSome}
 use Rattle.mm_digest.specs.declared.variant.Variant.{Variant}
 use Rattle.mm_platform.specs.declared.fault.StepFault.{StepFault}
-use Rattle.mm_platform.specs.Standing.{Standing}
+use Rattle.mm_platform.specs.declared.plan.Stop.{Stop}
+use Rattle.mm_platform.specs.declared.plan.Stop.TheVariants.{Quiet, Cut, Drop, Fail}
+use Rattle.mm_platform.specs.Standing.{Plan, Standing}
 use Rattle.mm_module.specs.Meaning.{Meaning}
 use Rattle.mm_module.specs.Batch.{Batch, normal}
 use Rattle.mm_model.specs.Moves.{Digests}
@@ -50,9 +52,29 @@ KeepsAs fates o (Answered answer) = Unit {0}
 KeepsAs fates o (Refused why) = fault_of why ≡ None
 KeepsAs fates o (Broken fault commits) = o.ending ≡ Breaks fault (kept_by (fates o.steps).ends commits)
 
+-- a device's fault broke it off
+abbrev pub is_broken : Ended → Bool
+is_broken (Answered answer) = false
+is_broken (Refused why) = false
+is_broken (Broken fault commits) = true
+
+-- The platform is on after a call under a plan, unless the call was cut.
+abbrev pub StaysOn : Stop → Bool → Standing → Type 0
+StaysOn (Cut step) true new = Unit {0}
+StaysOn (Cut step) false new = new.is_on ≡ true
+StaysOn Quiet broken new = new.is_on ≡ true
+StaysOn (Drop step) broken new = new.is_on ≡ true
+StaysOn (Fail step done) broken new = new.is_on ≡ true
+
+-- Where the platform is on and tells a plan of which no step is over, it stays on so, and goes on to tell one.
+abbrev pub StaysPlanned : Standing → Standing → Bool → Type 0
+StaysPlanned old new broken =
+    (plan : Plan) → old.is_on ≡ true → old.plan ≡ Some plan → plan.at ≡ 0 → StaysOn plan.stop broken new × IsSome new.plan
+
 -- The call went on a course, and ended so.
 pub record CallsTo (variant : Variant) (meaning : Meaning) (old new : Standing) (offer : List ℕ) (b : Batch) (ended : Ended) : Type 0 where
   pub calls : CallsOn variant meaning old new offer b (result_of ended)
   pub keeps : (key barrier : List ℕ) (d : Digests) → StandsAt (instance_by variant meaning key barrier) old d →
       KeepsAs calls.course.fates
       (called (instance_by variant meaning key barrier) (by_digests (instance_by variant meaning key barrier)) d calls.course offer (normal b)) ended
+  pub plans : StaysPlanned old new (is_broken ended)
