@@ -57,7 +57,7 @@ last_fault (Err fault) = refl
 handed : (act : Act) (old new : Standing) (fault : Option StepFault) (given turn : Turn) → fault ≡ fault_turned given → turn ≡ given → Goes act old new fault → Goes act old new (fault_turned turn)
 handed act old new fault given turn e gives g = subst (λ (f : Option StepFault). Goes act old new f) (e ∙ ap fault_turned (sym gives)) g
 
-room_only : (found : Result Found Refusal) (middle new : Standing) → MakesRoom found middle new → new ≡ record middle { spare = new.spare }
+pub room_only : (found : Result Found Refusal) (middle new : Standing) → MakesRoom found middle new → new ≡ record middle { spare = new.spare }
 room_only (Err why) middle new r = subst (λ (x : Standing). x ≡ record middle { spare = x.spare }) (sym r) refl
 room_only (Ok (Repeat answer)) middle new r = subst (λ (x : Standing). x ≡ record middle { spare = x.spare }) (sym r) refl
 room_only (Ok (Inside ready)) middle new r = r.same

@@ -1,97 +1,142 @@
--- State continuity of a checkpoint's turns.
-use Rattle.std.proofs.Common.{◌≡◌, ℕ, Bool, true, false, List, ◌++◌, None, Result, Ok, Err, refl, ap, ◌∙◌, inl, inr, ◌⊎◌}
-use Rattle.std.specs.Option.{option_map}
+-- Each turn of a checkpoint makes the next step of the walk.
+use Rattle.std.proofs.Common.{◌≡◌, ℕ, Bool, true, false, List, [], ◌∷◌, map, Option, None, Some, Result, Ok, Err, refl, sym, ap, ◌∙◌, subst}
+use Rattle.std.specs.Str.{bytes_eq}
+use Rattle.std.specs.List.{fold}
+use Rattle.std.specs.Result.{result_err}
+use Rattle.mm_digest.specs.Messages.{zero_bytes, extended_of}
 use Rattle.mm_platform.specs.declared.fault.StepFault.{StepFault}
 use Rattle.mm_platform.specs.Standing.{Standing}
-use Rattle.mm_platform.specs.Steps.{WriteCell, beside, cell_after}
+use Rattle.mm_platform.specs.Steps.{Goes}
 use Rattle.mm_module.specs.Meaning.{Meaning}
 use Rattle.mm_seal.specs.declared.cell.Cell.{Cell}
 use Rattle.mm_model.specs.Instance.{Instance, opt}
-use Rattle.mm_model.specs.History.{History, Close, moved, register_value_of}
-use Rattle.mm_model.specs.Life.{is_empty}
-use Rattle.mm_model.specs.Moves.{digests_of, made}
-use Rattle.mm_model.specs.Standing.{StandsFor, cell_of}
+use Rattle.mm_model.specs.History.{Move, Foreign}
+use Rattle.mm_model.specs.Moves.{Digests}
+use Rattle.mm_model.specs.Steps.{Step, Reads}
+use Rattle.mm_call.specs.Levels.{all_made, by_digests}
+use Rattle.mm_call.specs.Courses.{Fate, step_moves}
+use Rattle.mm_call.specs.Standing.{cell_at, StandsAt}
+use Rattle.mm_call.specs.Trails.{Makes, Stepped}
+use Rattle.mm_call.proofs.Trails.{reads_of, reads_beside, with_register, foreign_made, leads}
+use Rattle.mm_call.proofs.Telling.{trail_last}
 use Rattle.mm_opt.specs.declared.segment.Checkpointed.{Checkpointed}
 use Rattle.mm_opt.specs.declared.segment.CheckpointRefusal.{CheckpointRefusal}
+use Rattle.mm_opt.specs.declared.segment.CheckpointRefusal.TheVariants as refusal
+use Rattle.mm_opt.specs.declared.segment.Segment.{Segment}
+use Rattle.mm_opt.specs.declared.segment.Segment.TheVariants.{Open, Shut}
 use Rattle.mm_opt.specs.declared.stage.CheckpointStage.{CheckpointStage}
 use Rattle.mm_opt.specs.declared.stage.CheckpointStage.TheVariants as stage
 use Rattle.mm_opt.specs.declared.closing.CheckpointTurn.{CheckpointTurn}
-use Rattle.mm_opt.specs.Checkpoints.{closing_fault_in, closing_in, closed_cell, Weighs, Closes}
-use Rattle.mm_opt.specs.CheckpointTurns.{ClosingTurns}
-use Rattle.mm_opt.specs.Continuity.{taking}
-use Rattle.mm_opt.specs.TurnContinuity.{Written}
-use Rattle.mm_opt.specs.CheckpointContinuity.{WeighsOn, ClosingTurnContinues}
-use Rattle.mm_opt.proofs.Standings.{stands_taking, stands_read, stands_seen, closed_is_cell}
-use Rattle.mm_opt.proofs.Continuing.{told_value, may_open}
-use Rattle.mm_opt.proofs.Closings.{segment_on}
-use Rattle.mm_opt.proofs.Turning.{written_later, twice}
+use Rattle.mm_opt.specs.Checkpoints.{closing_act_of, closing_fault_of, closing_fault_in, closing_by, closed_cell, Looks, Weighs, Closes}
+use Rattle.mm_opt.specs.CheckpointTurns.{looked_turn, weighed_turn, closed_turn, ClosingTurns, closing_fault_turned}
+use Rattle.mm_opt.specs.TurnsOn.{one_step}
+use Rattle.mm_opt.specs.CheckpointTurnsOn.{closing_step_of, ClosingHoldsAt, ClosingHoldsOn, ClosingGives, ClosingStepsOn, ClosingTurnsOn}
+use Rattle.mm_opt.proofs.Going.{fate_of, read_value}
+use Rattle.mm_opt.proofs.Turning.{quiet_moves}
+use Rattle.mm_opt.proofs.Checking.{seen_segment, opt_refused, opt_shut, opt_open, closing_lost, closing_next, write_closed}
 
-weighs_on : (meaning : Meaning) (key barrier : List ℕ) (y : History) (cell : Cell) (old new : Standing) (found : Result (List ℕ) CheckpointRefusal) → StandsFor (opt meaning key barrier) old y → cell ≡ cell_of (opt meaning key barrier) y → Weighs cell old new found → WeighsOn (opt meaning key barrier) y new found
-weighs_on meaning key barrier y cell old new found s cell_is w =
+makes_of : (call : CheckpointStage) (meaning : Meaning) (key barrier : List ℕ) (d : Digests) (old : Standing) → StandsAt (opt meaning key barrier) old d → ClosingHoldsAt (opt meaning key barrier) d call → Makes (opt meaning key barrier) d (closing_act_of call) (closing_step_of call)
+makes_of stage.Begun meaning key barrier d old s h = tt
+makes_of (stage.Seen cell) meaning key barrier d old s h = tt
+makes_of (stage.Closing next) meaning key barrier d old s h = write_closed meaning key barrier d next s.spells h.1
+
+-- a turn, by the goes of its step
+steps_on : (call : CheckpointStage) (meaning : Meaning) (key barrier : List ℕ) (d : Digests) (old new : Standing) (turn : CheckpointTurn) → StandsAt (opt meaning key barrier) old d → ClosingHoldsAt (opt meaning key barrier) d call → (g : Goes (closing_act_of call) old new (closing_fault_turned turn))
+    → (closing_fault_turned turn ≡ None → ClosingHoldsOn (opt meaning key barrier) (all_made (by_digests (opt meaning key barrier)) d (step_moves (closing_step_of call) true g.others)) turn)
+    → (closing_fault_turned turn ≡ None → ClosingGives call (all_made (by_digests (opt meaning key barrier)) d (map Foreign g.others)) turn)
+    → ClosingStepsOn (opt meaning key barrier) d call old new turn
+steps_on call meaning key barrier d old new turn s h g holds gives =
     let i : Instance = opt meaning key barrier in
-    let z : History = taking y w.goes.others in
-    let seen : StandsFor i new z = stands_seen meaning key barrier y old new (closing_fault_in found) w.goes s in
+    let step : Step = closing_step_of call in
+    let fate : Fate = fate_of (closing_act_of call) old new (closing_fault_turned turn) g in
+    let stepped : Stepped i d fate step old new (closing_fault_turned turn) = record {
+      act = closing_act_of call;
+      after = new;
+      goes = g;
+      makes = makes_of call meaning key barrier d old s h;
+      brings = refl;
+      ends = refl;
+      room = refl;
+    } in
     record {
-      others = w.goes.others;
-      stands = seen;
-      found_is = λ (h : closing_fault_in found ≡ None).
-          let f = w.finds h in
-          f.found_is ∙ ap (λ (c : Cell). closing_in c f.register) cell_is
-          ∙ ap (λ (r : List ℕ). closing_in (cell_of i y) r) (told_value new.items f.register (register_value_of i z) f.told seen.register);
+      fate = fate;
+      leads = leads i d (λ (n : ℕ). fate) 1 (step ∷ []) old new (closing_fault_turned turn) s (trail_last i d (λ (n : ℕ). fate) 1 step old new (closing_fault_turned turn) stepped);
+      holds = λ (e : closing_fault_turned turn ≡ None). subst (λ (ms : List Move). ClosingHoldsOn i (all_made (by_digests i) d ms) turn)
+          (sym (quiet_moves (closing_fault_turned turn) g.is_made step g.others e)) (holds e);
+      gives = λ (e : closing_fault_turned turn ≡ None) (seen : Digests) (is : seen ≡ all_made (by_digests i) d (one_step fate Reads).moves).
+          subst (λ (x : Digests). ClosingGives call x turn)
+          (sym (is ∙ ap (λ (ms : List Move). all_made (by_digests i) d ms) (quiet_moves (closing_fault_turned turn) g.is_made Reads g.others e))) (gives e);
     }
 
-closed_to : (meaning : Meaning) (key barrier : List ℕ) (y : History) (later others : List (List ℕ)) (old new : Standing) (next : List ℕ) → y.is_open ≡ true → is_empty y.items ≡ false → next ≡ closed_cell (cell_of (opt meaning key barrier) y) (register_value_of (opt meaning key barrier) y) → StandsFor (opt meaning key barrier) old (taking y later) → new.cell ≡ option_map (λ _. next) old.cell → new.items ≡ beside others old.items → StandsFor (opt meaning key barrier) new (taking (moved (opt meaning key barrier) y Close) (later ++ others))
-closed_to meaning key barrier y later others old new next is_open held next_is s cell items =
+looked_on : (outcome : Result Segment CheckpointRefusal) (meaning : Meaning) (key barrier : List ℕ) (d : Digests) (old new : Standing) → StandsAt (opt meaning key barrier) old d → Looks old new outcome → ClosingStepsOn (opt meaning key barrier) d stage.Begun old new (looked_turn outcome)
+looked_on (Err why) meaning key barrier d old new s l =
     let i : Instance = opt meaning key barrier in
-    let middle : Standing = record old { cell = new.cell } in
-    let closed : StandsFor i middle (taking (moved i y Close) later) =
-    written_later meaning key barrier y Close (made i (digests_of i y) Close) later old middle next
-    (may_open i y Close refl is_open held) refl refl (closed_is_cell meaning key barrier (digests_of i y) s.spells) next_is s cell refl in
-    twice later others meaning key barrier (moved i y Close) new
-    (stands_taking meaning key barrier (taking (moved i y Close) later) middle new others closed refl items)
+    steps_on stage.Begun meaning key barrier d old new (looked_turn (Err why)) s tt l.goes (λ (e : closing_fault_of why ≡ None). tt)
+    (λ (e : closing_fault_of why ≡ None). opt_refused d.flag (cell_at i d) why (seen_segment i d old (Err why) (l.finds e) s))
+looked_on (Ok Shut) meaning key barrier d old new s l =
+    let i : Instance = opt meaning key barrier in
+    let n : Option StepFault = None in
+    let brought : all_made (by_digests i) d (map Foreign l.goes.others) ≡ with_register d (fold extended_of d.register l.goes.others) = foreign_made i d l.goes.others in
+    steps_on stage.Begun meaning key barrier d old new (looked_turn (Ok Shut)) s tt l.goes (λ (e : n ≡ None). tt)
+    (λ (e : n ≡ None). (ap (λ (x : Digests). x.flag) brought ∙ opt_shut d.flag (cell_at i d) (seen_segment i d old (Ok Shut) (l.finds refl) s), refl))
+looked_on (Ok (Open cell)) meaning key barrier d old new s l =
+    let i : Instance = opt meaning key barrier in
+    let n : Option StepFault = None in
+    let brought : all_made (by_digests i) d (map Foreign l.goes.others) ≡ with_register d (fold extended_of d.register l.goes.others) = foreign_made i d l.goes.others in
+    let o = opt_open d.flag (cell_at i d) cell (seen_segment i d old (Ok (Open cell)) (l.finds refl) s) in
+    let is_open : (all_made (by_digests i) d (map Foreign l.goes.others)).flag ≡ true = ap (λ (x : Digests). x.flag) brought ∙ o.0 in
+    steps_on stage.Begun meaning key barrier d old new (looked_turn (Ok (Open cell))) s tt l.goes
+    (λ (e : n ≡ None). (is_open, o.1 ∙ ap (λ (x : Digests). cell_at i x) (sym brought)))
+    (λ (e : n ≡ None). is_open)
 
-closed_or : (is_made : Bool) (meaning : Meaning) (key barrier : List ℕ) (y : History) (later others : List (List ℕ)) (old new : Standing) (next : List ℕ) → y.is_open ≡ true → is_empty y.items ≡ false → next ≡ closed_cell (cell_of (opt meaning key barrier) y) (register_value_of (opt meaning key barrier) y) → StandsFor (opt meaning key barrier) old (taking y later) → new.cell ≡ cell_after (WriteCell next) is_made old.cell → new.items ≡ beside others old.items → StandsFor (opt meaning key barrier) new (taking y (later ++ others)) ⊎ StandsFor (opt meaning key barrier) new (taking (moved (opt meaning key barrier) y Close) (later ++ others))
-closed_or true meaning key barrier y later others old new next is_open held next_is s cell items =
-    inr (closed_to meaning key barrier y later others old new next is_open held next_is s cell items)
-closed_or false meaning key barrier y later others old new next is_open held next_is s cell items =
-    inl (twice later others meaning key barrier y new (stands_taking meaning key barrier (taking y later) old new others s cell items))
+-- the register that is read is that of the digests
+weighed_register : (meaning : Meaning) (key barrier : List ℕ) (d : Digests) (cell : Cell) (old new : Standing) (found : Result (List ℕ) CheckpointRefusal) → StandsAt (opt meaning key barrier) old d → (w : Weighs cell old new found) → closing_fault_in found ≡ None
+    → (register : List ℕ) × (found ≡ closing_by (bytes_eq register zero_bytes) cell register) × (register ≡ (all_made (by_digests (opt meaning key barrier)) d (map Foreign w.goes.others)).register)
+weighed_register meaning key barrier d cell old new found s w quiet =
+    let i : Instance = opt meaning key barrier in
+    let value : List ℕ = fold extended_of d.register w.goes.others in
+    let f = w.finds quiet in
+    let reads : reads_of new.items ≡ Some value = ap reads_of w.goes.items ∙ reads_beside old.items w.goes.others d.register s.reads in (
+      f.register,
+      f.found_is,
+      read_value new.items value f.register reads f.told ∙ sym (ap (λ (y : Digests). y.register) (foreign_made i d w.goes.others)),
+    )
 
-closes_to : (written : Result Checkpointed StepFault) (meaning : Meaning) (key barrier : List ℕ) (y : History) (later : List (List ℕ)) (old new : Standing) (next : List ℕ) → y.is_open ≡ true → is_empty y.items ≡ false → next ≡ closed_cell (cell_of (opt meaning key barrier) y) (register_value_of (opt meaning key barrier) y) → StandsFor (opt meaning key barrier) old (taking y later) → (c : Closes next old new written) → Written (opt meaning key barrier) y Close (later ++ c.goes.others) new written
-closes_to (Ok it) meaning key barrier y later old new next is_open held next_is s c =
-    closed_to meaning key barrier y later c.goes.others old new next is_open held next_is s
-    (c.goes.cell ∙ ap (λ (t : Bool). cell_after (WriteCell next) t old.cell) c.goes.ends.made) c.goes.items
-closes_to (Err fault) meaning key barrier y later old new next is_open held next_is s c =
-    closed_or c.goes.is_made meaning key barrier y later c.goes.others old new next is_open held next_is s c.goes.cell c.goes.items
+weighed_on : (outcome : Result (List ℕ) CheckpointRefusal) (meaning : Meaning) (key barrier : List ℕ) (d : Digests) (cell : Cell) (old new : Standing) → StandsAt (opt meaning key barrier) old d → (d.flag ≡ true) × (cell ≡ cell_at (opt meaning key barrier) d) → Weighs cell old new outcome → ClosingStepsOn (opt meaning key barrier) d (stage.Seen cell) old new (weighed_turn outcome)
+weighed_on (Err why) meaning key barrier d cell old new s h w =
+    let i : Instance = opt meaning key barrier in
+    steps_on (stage.Seen cell) meaning key barrier d old new (weighed_turn (Err why)) s h w.goes (λ (e : closing_fault_of why ≡ None). tt)
+    (λ (e : closing_fault_of why ≡ None).
+    let r = weighed_register meaning key barrier d cell old new (Err why) s w e in
+    let l = closing_lost (bytes_eq r.0 zero_bytes) cell r.0 why r.1 in
+    (ap (λ (v : List ℕ). bytes_eq v zero_bytes) (sym r.2) ∙ l.0, l.1))
+weighed_on (Ok next) meaning key barrier d cell old new s h w =
+    let i : Instance = opt meaning key barrier in
+    let n : Option StepFault = None in
+    let seen : Digests = all_made (by_digests i) d (map Foreign w.goes.others) in
+    let brought : seen ≡ with_register d (fold extended_of d.register w.goes.others) = foreign_made i d w.goes.others in
+    let r = weighed_register meaning key barrier d cell old new (Ok next) s w refl in
+    let c = closing_next (bytes_eq r.0 zero_bytes) cell r.0 next r.1 in
+    let same : cell ≡ cell_at i seen = h.1 ∙ ap (λ (x : Digests). cell_at i x) (sym brought) in
+    steps_on (stage.Seen cell) meaning key barrier d old new (weighed_turn (Ok next)) s h w.goes
+    (λ (e : n ≡ None). (
+      ap (λ (x : Digests). x.flag) brought ∙ h.0,
+      c.1 ∙ ap (λ (x : Cell). closed_cell x r.0) same ∙ ap (λ (v : List ℕ). closed_cell (cell_at i seen) v) r.2,
+    ))
+    (λ (e : n ≡ None). ap (λ (v : List ℕ). bytes_eq v zero_bytes) (sym r.2) ∙ c.0)
 
-begun_on : (old new : Standing) (turn : CheckpointTurn) → ClosingTurns stage.Begun old new turn → ClosingTurnContinues stage.Begun old new turn
-begun_on old new turn t meaning key barrier y s = record {
-  outcome = t.outcome;
-  step = record {
-    others = t.step.goes.others;
-    stands = stands_read meaning key barrier y old new (closing_fault_in t.outcome) t.step.goes s;
-    found_is = segment_on meaning key barrier y old new t.outcome s t.step;
-  };
-  gives = t.gives;
-}
+closed_on : (outcome : Result Checkpointed StepFault) (meaning : Meaning) (key barrier : List ℕ) (d : Digests) (next : List ℕ) (old new : Standing) → StandsAt (opt meaning key barrier) old d → ClosingHoldsAt (opt meaning key barrier) d (stage.Closing next) → Closes next old new outcome → ClosingStepsOn (opt meaning key barrier) d (stage.Closing next) old new (closed_turn outcome)
+closed_on (Err fault) meaning key barrier d next old new s h c =
+    let n : Option StepFault = Some fault in
+    steps_on (stage.Closing next) meaning key barrier d old new (closed_turn (Err fault)) s h c.goes (λ (e : n ≡ None). tt) (λ (e : n ≡ None). absurd (cc))
+closed_on (Ok it) meaning key barrier d next old new s h c =
+    let n : Option StepFault = None in
+    steps_on (stage.Closing next) meaning key barrier d old new (closed_turn (Ok it)) s h c.goes (λ (e : n ≡ None). tt) (λ (e : n ≡ None). c.gives)
 
-seen_on : (cell : Cell) (old new : Standing) (turn : CheckpointTurn) → ClosingTurns (stage.Seen cell) old new turn → ClosingTurnContinues (stage.Seen cell) old new turn
-seen_on cell old new turn t meaning key barrier y s cell_is = record {
-  outcome = t.outcome;
-  step = weighs_on meaning key barrier y cell old new t.outcome s cell_is t.step;
-  gives = t.gives;
-}
-
-closing_on : (next : List ℕ) (old new : Standing) (turn : CheckpointTurn) → ClosingTurns (stage.Closing next) old new turn → ClosingTurnContinues (stage.Closing next) old new turn
-closing_on next old new turn t meaning key barrier y later s is_open held next_is = record {
-  outcome = t.outcome;
-  step = record {
-    others = later ++ t.step.goes.others;
-    stands = closes_to t.outcome meaning key barrier y later old new next is_open held next_is s t.step;
-  };
-  gives = t.gives;
-}
-
-pub closing_turns_on : (call : CheckpointStage) (old new : Standing) (turn : CheckpointTurn) → ClosingTurns call old new turn → ClosingTurnContinues call old new turn
-closing_turns_on stage.Begun old new turn t = begun_on old new turn t
-closing_turns_on (stage.Seen cell) old new turn t = seen_on cell old new turn t
-closing_turns_on (stage.Closing next) old new turn t = closing_on next old new turn t
+pub closing_turns_on : (call : CheckpointStage) (old new : Standing) (turn : CheckpointTurn) → ClosingTurns call old new turn → ClosingTurnsOn call old new turn
+closing_turns_on stage.Begun old new turn t meaning key barrier d s h =
+    subst (λ (u : CheckpointTurn). ClosingStepsOn (opt meaning key barrier) d stage.Begun old new u) (sym t.gives) (looked_on t.outcome meaning key barrier d old new s t.step)
+closing_turns_on (stage.Seen cell) old new turn t meaning key barrier d s h =
+    subst (λ (u : CheckpointTurn). ClosingStepsOn (opt meaning key barrier) d (stage.Seen cell) old new u) (sym t.gives) (weighed_on t.outcome meaning key barrier d cell old new s h t.step)
+closing_turns_on (stage.Closing next) old new turn t meaning key barrier d s h =
+    subst (λ (u : CheckpointTurn). ClosingStepsOn (opt meaning key barrier) d (stage.Closing next) old new u) (sym t.gives) (closed_on t.outcome meaning key barrier d next old new s h t.step)

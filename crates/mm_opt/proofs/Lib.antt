@@ -5,11 +5,10 @@ pub mod Asking
 pub mod Writing
 pub mod Fits
 pub mod Checkpointing
-pub mod Standings
-pub mod Judging
-pub mod Continuing
-pub mod Closings
 pub mod Turning
 pub mod CheckpointTurning
-pub mod Completeness
 pub mod Acting
+pub mod Accepting
+pub mod Going
+pub mod Calling
+pub mod Checking

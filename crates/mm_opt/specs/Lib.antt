@@ -6,8 +6,6 @@ pub mod Turns
 pub mod Asks
 pub mod Checkpoints
 pub mod CheckpointTurns
-pub mod Continuity
-pub mod Closings
-pub mod TurnContinuity
-pub mod CheckpointContinuity
-pub mod Completeness
+pub mod TurnsOn
+pub mod ChecksOn
+pub mod CheckpointTurnsOn

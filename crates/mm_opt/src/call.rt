@@ -60,7 +60,7 @@ impl Call {
     ghost use Rattle.mm_opt.specs.Steps.{number_of, MayGoOn};
     ghost use Rattle.mm_opt.specs.Turns.{Turns, ActsAt, TurnMayGoOn, position_of, fault_turned};
     ghost use Rattle.mm_call.specs.Leaving.{Blames};
-    ghost use Rattle.mm_opt.specs.TurnContinuity.{TurnContinues};
+    ghost use Rattle.mm_opt.specs.TurnsOn.{TurnsOn};
 
     /// The number of the next device step, from 1.
     pub fn next_step(&self) -> u8
@@ -103,7 +103,7 @@ impl Call {
         ensures acts { ActsAt self (P.standing platform.old) (P.standing platform.new) result }
         ensures room { TurnMayGoOn result (P.standing platform.new) }
         ensures faults { Blames (fault_turned result) (P.standing platform.old).faults (P.standing platform.new).faults }
-        ensures continuity { TurnContinues (M.meaning «module».now) self (P.standing platform.old) (P.standing platform.new) offer.now
+        ensures goes { TurnsOn (M.meaning «module».now) self (P.standing platform.old) (P.standing platform.new) offer.now
             (batch_of batch.entry) result }
     {
         self.turn(alloc, module, platform, offer, batch)

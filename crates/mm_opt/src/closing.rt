@@ -3,7 +3,7 @@
 ghost use Rattle.std.specs.Prelude.{◌≡◌, None};
 ghost use Rattle.mm_call.specs.Leaving.{Blames};
 ghost use Rattle.mm_opt.specs.declared.stage.CheckpointStage.TheVariants.{Begun};
-ghost use Rattle.mm_opt.specs.Closings.{ClosingContinues};
+ghost use Rattle.mm_opt.specs.ChecksOn.{ChecksOn};
 ghost use Rattle.mm_opt.specs.Checkpoints.{SeesSegment, segment_by, closing_fault_in, closing_in, Looks, Weighs, Closes, ClosesBy, WeighsAndCloses, ClosesSegment, LeavesStill, ClosingStepsBy};
 
 use crate::segment::{CheckpointRefusal, Checkpointed, Segment};
@@ -52,7 +52,7 @@ impl CheckpointCall {
     ghost use Rattle.std.specs.Prelude.{◌≡◌};
     ghost use Rattle.mm_opt.specs.Checkpoints.{closing_number_of};
     ghost use Rattle.mm_opt.specs.CheckpointTurns.{ClosingTurns, ClosingActsAt};
-    ghost use Rattle.mm_opt.specs.CheckpointContinuity.{ClosingTurnContinues};
+    ghost use Rattle.mm_opt.specs.CheckpointTurnsOn.{ClosingTurnsOn};
 
     /// The number of the next device step, from 1.
     pub fn next_step(&self) -> u8
@@ -70,7 +70,7 @@ impl CheckpointCall {
     pub fn advance<P: Platform>(self, platform: &mut P) -> CheckpointTurn
         ensures turns { ClosingTurns self (P.standing platform.old) (P.standing platform.new) result }
         ensures acts { ClosingActsAt self (P.standing platform.old) (P.standing platform.new) result }
-        ensures continuity { ClosingTurnContinues self (P.standing platform.old) (P.standing platform.new) result }
+        ensures goes { ClosingTurnsOn self (P.standing platform.old) (P.standing platform.new) result }
     {
         self.turn(platform)
     }
@@ -135,7 +135,7 @@ pub fn checkpoint<P: Platform>(platform: &mut P) -> Result<Checkpointed, Checkpo
     ensures untouched { LeavesStill result (P.standing platform.old) (P.standing platform.new) }
     ensures faults { Blames (closing_fault_in result) (P.standing platform.old).faults (P.standing platform.new).faults }
     ensures steps { ClosingStepsBy result (P.standing platform.old) (P.standing platform.new) }
-    ensures continuity { ClosingContinues (P.standing platform.old) (P.standing platform.new) result }
+    ensures goes { ChecksOn (P.standing platform.old) (P.standing platform.new) result }
 {
     look_and_close(platform)
 }

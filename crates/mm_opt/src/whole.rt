@@ -2,15 +2,15 @@
 
 ghost use Rattle.std.specs.Prelude.{◌≡◌, true, false, Err, IfOk, length};
 ghost use Rattle.std.specs.Result.{result_err};
+ghost use Rattle.mm_digest.specs.declared.variant.Variant.TheVariants.{Opt};
 ghost use Rattle.mm_module.specs.Batch.{One};
 ghost use Rattle.mm_module.specs.Batches.{batch_of};
 ghost use Rattle.mm_model.specs.Fit.{IsFit};
 ghost use Rattle.mm_model.specs.Long.{is_long};
 ghost use Rattle.mm_call.specs.Refusals.{fault_in};
 ghost use Rattle.mm_call.specs.Leaving.{LeavesUntouched, Blames, whole_in};
+ghost use Rattle.mm_call.specs.CallsOn.{CallsOn};
 ghost use Rattle.mm_opt.specs.Steps.{IsReady};
-ghost use Rattle.mm_opt.specs.Continuity.{ReadContinues, CommitContinues, Continues};
-ghost use Rattle.mm_opt.specs.Completeness.{IsComplete};
 ghost use Rattle.mm_opt.specs.Asks.{Reads, ReadsOn, MayCommit, LeavesRoom, PlacesAndWrites, OpensSegment, CommitsFound, Commits, Calls, StepsBy, WritesBy};
 
 use crate::found::{Found, Opening};
@@ -66,9 +66,6 @@ pub fn prepare<M: Module, P: Platform>(
         offer.now (One request.now) result }
     ensures room { LeavesRoom result (P.standing platform.new) }
     ensures faults { Blames (fault_in result) (P.standing platform.old).faults (P.standing platform.new).faults }
-    ensures continuity { is_long (One request.now) ≡ false →
-        ReadContinues (M.meaning «module».now) (P.standing platform.old) (P.standing platform.new)
-        offer.now (One request.now) result }
 {
     prepare_batch(alloc, module, platform, offer, Batch::One(request))
 }
@@ -87,9 +84,6 @@ fn prepare_batch<M: Module, P: Platform>(
         offer.now (batch_of batch.entry) result }
     ensures room { LeavesRoom result (P.standing platform.new) }
     ensures faults { Blames (fault_in result) (P.standing platform.old).faults (P.standing platform.new).faults }
-    ensures continuity { is_long (batch_of batch.entry) ≡ false →
-        ReadContinues (M.meaning «module».now) (P.standing platform.old) (P.standing platform.new)
-        offer.now (batch_of batch.entry) result }
 {
     if mm_model::is_long(&batch) {
         return Err(Refusal::Long);
@@ -144,14 +138,6 @@ impl Prepared {
         requires { MayCommit self (P.standing platform.old) }
         ensures commits { CommitsFound self (P.standing platform.old) (P.standing platform.new) result }
         ensures faults { Blames (result_err result) (P.standing platform.old).faults (P.standing platform.new).faults }
-        ensures continuity { CommitContinues self (P.standing platform.old) (P.standing platform.new) result }
-    {
-        self.write(platform)
-    }
-
-    fn write<P: Platform>(self, platform: &mut P) -> Result<Committed, StepFault>
-        requires { MayCommit self (P.standing platform.old) }
-        ensures { CommitsFound self (P.standing platform.old) (P.standing platform.new) result }
     {
         match self.found {
             Found::Repeat(answer) => Ok(Committed { answer }),
@@ -250,10 +236,8 @@ pub fn ask_batch<M: Module, P: Platform>(
         StepsBy result (P.standing platform.old) (P.standing platform.new) }
     ensures writes { WritesBy result (P.standing platform.old) (P.standing platform.new) }
     ensures fits { IfOk result (λ answer. IsFit (batch_of batch.entry) answer) }
-    ensures continuity { Continues (M.meaning «module».now) (P.standing platform.old) (P.standing platform.new)
-        offer.now (batch_of batch.entry) result }
-    ensures complete { IsComplete (M.meaning «module».now) (P.standing platform.old) (P.standing platform.new)
-        offer.now (batch_of batch.entry) result }
+    ensures goes { is_long (batch_of batch.entry) ≡ false → CallsOn Opt (M.meaning «module».now) (P.standing platform.old)
+        (P.standing platform.new) offer.now (batch_of batch.entry) result }
 {
     call(alloc, module, platform, offer, batch)
 }
@@ -274,9 +258,21 @@ pub fn ask<M: Module, P: Platform>(
         StepsBy (whole_in result) (P.standing platform.old) (P.standing platform.new) }
     ensures writes { WritesBy (whole_in result) (P.standing platform.old) (P.standing platform.new) }
     ensures fits { IfOk (whole_in result) (λ answer. IsFit (One request.now) answer) }
-    ensures continuity { Continues (M.meaning «module».now) (P.standing platform.old) (P.standing platform.new)
-        offer.now (One request.now) (whole_in result) }
-    ensures complete { IsComplete (M.meaning «module».now) (P.standing platform.old) (P.standing platform.new)
+    ensures goes { is_long (One request.now) ≡ false → CallsOn Opt (M.meaning «module».now) (P.standing platform.old)
+        (P.standing platform.new) offer.now (One request.now) (whole_in result) }
+{
+    ask_one(alloc, module, platform, offer, request)
+}
+
+// One call that asks for one request, from the offer to the answer.
+fn ask_one<M: Module, P: Platform>(
+    alloc: Global,
+    module: &M,
+    platform: &mut P,
+    offer: &[u8],
+    request: &[u8],
+) -> Result<Answer, Refusal>
+    ensures { Calls (M.meaning «module».now) (P.standing platform.old) (P.standing platform.new)
         offer.now (One request.now) (whole_in result) }
 {
     match call_one(alloc, module, platform, offer, request) {

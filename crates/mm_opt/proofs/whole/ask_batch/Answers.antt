@@ -2,8 +2,7 @@ use Rattle.mm_module.specs.Batches.{batch_of}
 use Rattle.mm_opt.proofs.Asking.{untouched, steps}
 use Rattle.mm_opt.proofs.Writing.{writes}
 use Rattle.mm_opt.proofs.Fits.{fits}
-use Rattle.mm_opt.proofs.Continuing.{continues}
-use Rattle.mm_opt.proofs.Completeness.{complete}
+use Rattle.mm_opt.proofs.Calling.{calls_on}
 use Rattle.mm_opt.proofs.whole.ask_batch.Goals as goal
 
 pub returns-clause-untouched : goal.returns-clause-untouched
@@ -26,12 +25,7 @@ returns-clause-fits g c =
     fits (g.M.Module.meaning c.args.module.now) (g.met.M.Module.is_lawful c.args.module.now) (g.P.Device.standing c.args.platform.now)
     (g.P.Device.standing c.call.new.platform) c.args.offer.now (batch_of c.args.batch) c.call.result c.call.ensures
 
-pub returns-clause-continuity : goal.returns-clause-continuity
-returns-clause-continuity g c =
-    continues (g.M.Module.meaning c.args.module.now) (g.P.Device.standing c.args.platform.now)
-    (g.P.Device.standing c.call.new.platform) c.args.offer.now (batch_of c.args.batch) c.call.result c.call.ensures
-
-pub returns-clause-complete : goal.returns-clause-complete
-returns-clause-complete g c =
-    complete (g.M.Module.meaning c.args.module.now) (g.P.Device.standing c.args.platform.now)
+pub returns-clause-goes : goal.returns-clause-goes
+returns-clause-goes g c =
+    calls_on (g.M.Module.meaning c.args.module.now) (g.P.Device.standing c.args.platform.now)
     (g.P.Device.standing c.call.new.platform) c.args.offer.now (batch_of c.args.batch) c.call.result c.call.ensures

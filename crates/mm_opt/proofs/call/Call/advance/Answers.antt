@@ -3,9 +3,9 @@ use Rattle.mm_opt.proofs.Acting.{acts_at, turn_blamed}
 use Rattle.mm_opt.proofs.Turning.{turns_on}
 use Rattle.mm_opt.proofs.call.Call.advance.Goals as goal
 
-pub returns-clause-continuity : goal.returns-clause-continuity
-returns-clause-continuity g c =
-    turns_on (g.M.Module.meaning c.args.module.now) c.args.self (g.P.Device.standing c.args.platform.now)
+pub returns-clause-goes : goal.returns-clause-goes
+returns-clause-goes g c =
+    turns_on c.args.self (g.M.Module.meaning c.args.module.now) (g.P.Device.standing c.args.platform.now)
     (g.P.Device.standing c.turn.new.platform) c.args.offer.now (batch_of c.args.batch) c.turn.result c.turn.ensures
 
 pub returns-clause-acts : goal.returns-clause-acts

@@ -2,8 +2,8 @@ use Rattle.mm_opt.proofs.Acting.{closing_acts_at}
 use Rattle.mm_opt.proofs.CheckpointTurning.{closing_turns_on}
 use Rattle.mm_opt.proofs.closing.CheckpointCall.advance.Goals as goal
 
-pub returns-clause-continuity : goal.returns-clause-continuity
-returns-clause-continuity g c =
+pub returns-clause-goes : goal.returns-clause-goes
+returns-clause-goes g c =
     closing_turns_on c.args.self (g.P.Device.standing c.args.platform.now) (g.P.Device.standing c.turn.new.platform) c.turn.result c.turn.ensures
 
 pub returns-clause-acts : goal.returns-clause-acts

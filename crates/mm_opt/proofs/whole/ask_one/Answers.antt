@@ -1,0 +1,14 @@
+use Rattle.std.proofs.Common.{Ok, subst}
+use Rattle.mm_module.specs.Batch.{One}
+use Rattle.mm_model.specs.declared.answer.BatchAnswer.{BatchAnswer}
+use Rattle.mm_call.proofs.Leaving.{wholly}
+use Rattle.mm_opt.specs.Asks.{Calls}
+use Rattle.mm_opt.proofs.whole.ask_one.Goals as goal
+
+pub returns-in-Ok : goal.returns-in-Ok
+returns-in-Ok g c =
+    subst
+    (λ (a : BatchAnswer). Calls (g.M.Module.meaning c.args.module.now) (g.P.Device.standing c.args.platform.now)
+    (g.P.Device.standing c.call_one.new.platform) c.args.offer.now (One c.args.request.now) (Ok a))
+    (wholly c.in-Ok.answer c.into_one.result c.into_one.ensures.again c.into_one.ensures.position c.into_one.ensures.output c.into_one.ensures.snapshot)
+    c.in-Ok.ensures.calls

@@ -1,0 +1,62 @@
+-- That a checkpoint over a platform is the checkpoint on some course, by digests and by lists.
+use Rattle.std.specs.Prelude.{◌≡◌, ℕ, Bool, List, Option, Some, Result, Ok, Err}
+use Rattle.std.specs.Option.{option_map}
+use Rattle.mm_digest.specs.declared.variant.Variant.{Variant}
+use Rattle.mm_platform.specs.Standing.{Standing}
+use Rattle.mm_module.specs.Meaning.{Meaning}
+use Rattle.mm_module.specs.Batch.{Batch}
+use Rattle.mm_model.specs.Instance.{Instance}
+use Rattle.mm_model.specs.History.{History}
+use Rattle.mm_model.specs.Moves.{Digests, digests_of}
+use Rattle.mm_model.specs.Standing.{StandsFor}
+use Rattle.mm_call.specs.Levels.{by_lists, by_digests}
+use Rattle.mm_call.specs.Courses.{Course, AreTold}
+use Rattle.mm_call.specs.Checkpoints.{Closing, Closes, HasNone, NoSegment, LostPower, Stops, Checkpointed, checkpointed, IsClosedWithin}
+use Rattle.mm_call.specs.Asked.{IsWithin}
+use Rattle.mm_call.specs.Standing.{instance_by, StandsAt, shown, counted_by}
+use Rattle.mm_opt.specs.declared.segment.Checkpointed.{Checkpointed as Said}
+use Rattle.mm_opt.specs.declared.segment.Checkpointed.TheVariants as said
+use Rattle.mm_opt.specs.declared.segment.CheckpointRefusal.{CheckpointRefusal}
+use Rattle.mm_opt.specs.declared.segment.CheckpointRefusal.TheVariants as refusal
+
+-- what is given for an ending: a device's fault is handed on
+abbrev pub closing_told : Closing → Result Said CheckpointRefusal
+closing_told Closes = Ok said.Done
+closing_told HasNone = Err refusal.Kind
+closing_told NoSegment = Ok said.NoSegment
+closing_told LostPower = Err refusal.Lost
+closing_told (Stops fault closed) = Err (refusal.Device fault)
+
+-- The checkpoint over a platform that stood at these digests was this one: its result; the cell and the register; what
+-- the register shows of its moves; and its steps, and those of them that write the cell.
+pub record ChecksBy (i : Instance) (d : Digests) (o : Checkpointed Digests) (old new : Standing) (result : Result Said CheckpointRefusal) : Type 0 where
+  pub gives : result ≡ closing_told o.ending
+  pub stands : StandsAt i new o.state
+  pub items : new.items ≡ option_map (shown i d o.moves) old.items
+  pub steps : new.steps ≡ counted_by o.steps old.steps
+  pub writes : new.writes ≡ counted_by o.writes old.writes
+
+-- The checkpoint over a platform that stood for a history was this one, and what was asked of the history holds after it.
+pub record ChecksFor (all others : List (List ℕ)) (asked : List Batch) (i : Instance) (o : Checkpointed History) (new : Standing) (result : Result Said CheckpointRefusal) : Type 0 where
+  pub gives : result ≡ closing_told o.ending
+  pub stands : StandsFor i new o.state
+  pub within : IsWithin all others asked i o.state
+
+-- A checkpoint over a platform: there is a course, which is that of the plan where one is told, on which it goes from any
+-- digests that the platform stands at, and from any history that it stands for, in either variant.
+pub record ChecksOn (old new : Standing) (result : Result Said CheckpointRefusal) : Type 0 where
+  pub course : Course
+  pub tells : AreTold old course.fates
+  pub goes : (variant : Variant) (meaning : Meaning) (key barrier : List ℕ) (d : Digests) →
+      StandsAt (instance_by variant meaning key barrier) old d →
+      ChecksBy (instance_by variant meaning key barrier) d
+      (checkpointed (instance_by variant meaning key barrier) (by_digests (instance_by variant meaning key barrier)) d course)
+      old new result
+  pub continues : (variant : Variant) (meaning : Meaning) (key barrier : List ℕ) (y : History) (all others : List (List ℕ)) (asked : List Batch) →
+      StandsFor (instance_by variant meaning key barrier) old y →
+      IsClosedWithin all others asked (instance_by variant meaning key barrier) y
+      (checkpointed (instance_by variant meaning key barrier) (by_digests (instance_by variant meaning key barrier))
+      (digests_of (instance_by variant meaning key barrier) y) course).moves →
+      ChecksFor all others asked (instance_by variant meaning key barrier)
+      (checkpointed (instance_by variant meaning key barrier) (by_lists (instance_by variant meaning key barrier)) y course)
+      new result
