@@ -12,8 +12,8 @@ use Rattle.std.proofs.lemmas.List.Elements.{All-append, All-from_recursion}
 use Rattle.std.proofs.lemmas.Str.Parse.{numerals_by_value, tells_all_ascii_digits}
 use Rattle.mm_base.specs.Input.{IsUnbroken}
 use Rattle.mm_modules.specs.declared.any.AnyModule.{AnyModule}
-use Rattle.mm_modules.specs.declared.any.AnyModule.TheVariants.{Counter, Limiter, Quota, Ledger}
-use Rattle.mm_gen.specs.Requests.{account_request, counter_request, limiter_request, request_of}
+use Rattle.mm_modules.specs.declared.any.AnyModule.TheVariants.{Counter, Limiter, Quota, Ledger, Dispenser, ReceiptCounter, ReceiptLimiter, ReceiptQuota}
+use Rattle.mm_gen.specs.Requests.{account_request, counter_request, limiter_request, dispenser_request, request_of}
 use Rattle.mm_gen.proofs.Rows.{in_both}
 
 pub record IsPart (size : ℕ) (bytes : List ℕ) : Type 0 where
@@ -97,9 +97,22 @@ account-part choice =
     (in_both (IsPart 80) (choice % 8 == 6) _ _ (wider 40 80 _ (numbered (codes "left a") (choice / 8 % 16) refl (omega arith) (omega arith)) (omega arith))
     (wider 20 80 _ (literal (codes "sum") refl (omega arith)) (omega arith)))))
 
+-- a literal text of up to 80 bytes
+long_literal : (text : List ℕ) → list_all is_text text ≡ true → length text ≤ 80 → IsPart 80 text
+long_literal text are short = record { unbroken = All-from_recursion IsNoBreak text (unbroken_by_test text are); short = short }
+
+dispenser-part : (choice : ℕ) → IsPart 80 (dispenser_request choice)
+dispenser-part choice =
+    in_both (IsPart 80) (choice % 4 == 0) _ _ (long_literal (codes "seed 0000000000000000000000000000000000000000000000000000000000000000") refl (omega arith))
+    (wider 40 80 _ (numbered (codes "draw ") (choice / 4 % 16 + 1) refl (omega arith) (omega arith)) (omega arith))
+
 pub request-part : (module_asked : AnyModule) (choice : ℕ) → IsPart 80 (request_of module_asked choice)
 unfolding request_of
 request-part Counter choice = counter-part choice
 request-part Limiter choice = limiter-part choice
 request-part Quota choice = account-part choice
 request-part Ledger choice = account-part choice
+request-part Dispenser choice = dispenser-part choice
+request-part ReceiptCounter choice = counter-part choice
+request-part ReceiptLimiter choice = limiter-part choice
+request-part ReceiptQuota choice = account-part choice

@@ -10,7 +10,7 @@ use Rattle.mm_base.proofs.Input.{lines_of-joined, tail_of-joined}
 use Rattle.mm_digest.specs.declared.variant.Variant.{Variant}
 use Rattle.mm_digest.specs.declared.variant.Variant.TheVariants.{Basic, Opt}
 use Rattle.mm_modules.specs.declared.any.AnyModule.{AnyModule}
-use Rattle.mm_modules.specs.declared.any.AnyModule.TheVariants.{Counter, Limiter, Quota, Ledger}
+use Rattle.mm_modules.specs.declared.any.AnyModule.TheVariants.{Counter, Limiter, Quota, Ledger, Dispenser, ReceiptCounter, ReceiptLimiter, ReceiptQuota}
 use Rattle.mm_modules.specs.Modules.{name_of}
 use Rattle.mm_schedule.specs.declared.header.Header.{Header}
 use Rattle.mm_schedule.specs.Headers.{header_text, variant_text}
@@ -30,6 +30,10 @@ name-part Counter = literal (codes "counter") refl (omega arith)
 name-part Limiter = literal (codes "limiter") refl (omega arith)
 name-part Quota = literal (codes "quota") refl (omega arith)
 name-part Ledger = literal (codes "ledger") refl (omega arith)
+name-part Dispenser = literal (codes "dispenser") refl (omega arith)
+name-part ReceiptCounter = literal (codes "receipt-counter") refl (omega arith)
+name-part ReceiptLimiter = literal (codes "receipt-limiter") refl (omega arith)
+name-part ReceiptQuota = literal (codes "receipt-quota") refl (omega arith)
 
 header-unbroken : (header : Header) → IsUnbroken (header_text header)
 header-unbroken header =

@@ -1,8 +1,8 @@
 -- The requests of generated schedules: the request that a number chooses, for each module.
-use Rattle.std.specs.Prelude.{ℕ, ◌/◌, ◌%◌, ◌==◌, nat_lt, List, ◌∷◌, ◌++◌, if◌then◌else◌, codes}
+use Rattle.std.specs.Prelude.{ℕ, ◌+◌, ◌/◌, ◌%◌, ◌==◌, nat_lt, List, ◌∷◌, ◌++◌, if◌then◌else◌, codes}
 use Rattle.std.specs.Fmt.{decimal}
 use Rattle.mm_modules.specs.declared.any.AnyModule.{AnyModule}
-use Rattle.mm_modules.specs.declared.any.AnyModule.TheVariants.{Counter, Limiter, Quota, Ledger}
+use Rattle.mm_modules.specs.declared.any.AnyModule.TheVariants.{Counter, Limiter, Quota, Ledger, Dispenser, ReceiptCounter, ReceiptLimiter, ReceiptQuota}
 
 abbrev pub counter_request : ℕ → List ℕ
 counter_request choice =
@@ -32,8 +32,17 @@ account_request choice =
     else if choice % 8 == 6 then codes "left " ++ account_name choice
     else codes "sum"
 
+abbrev pub dispenser_request : ℕ → List ℕ
+dispenser_request choice =
+    if choice % 4 == 0 then codes "seed 0000000000000000000000000000000000000000000000000000000000000000"
+    else codes "draw " ++ decimal (choice / 4 % 16 + 1)
+
 unfoldable pub request_of : AnyModule → ℕ → List ℕ
 request_of Counter choice = counter_request choice
 request_of Limiter choice = limiter_request choice
 request_of Quota choice = account_request choice
 request_of Ledger choice = account_request choice
+request_of Dispenser choice = dispenser_request choice
+request_of ReceiptCounter choice = counter_request choice
+request_of ReceiptLimiter choice = limiter_request choice
+request_of ReceiptQuota choice = account_request choice

@@ -2,7 +2,7 @@
 
 ghost use Rattle.std.specs.Prelude.{◌≡◌, ◌+◌, ◌/◌, ◌%◌, ◌++◌, ◌∷◌, codes, OnOk};
 ghost use Rattle.std.specs.Fmt.{decimal};
-ghost use Rattle.mm_gen.specs.Requests.{account_name, account_request, amount_text, counter_request, limiter_request, request_of};
+ghost use Rattle.mm_gen.specs.Requests.{account_name, account_request, amount_text, counter_request, dispenser_request, limiter_request, request_of};
 
 use mm_base::{Bytes, Memory, put_decimal};
 use mm_modules::AnyModule;
@@ -17,6 +17,10 @@ pub fn put_request(into: &mut Bytes, module: AnyModule, choice: u32) -> Result<(
         AnyModule::Limiter => put_limiter_request(into, choice),
         AnyModule::Quota => put_account_request(into, choice),
         AnyModule::Ledger => put_account_request(into, choice),
+        AnyModule::Dispenser => put_dispenser_request(into, choice),
+        AnyModule::ReceiptCounter => put_counter_request(into, choice),
+        AnyModule::ReceiptLimiter => put_limiter_request(into, choice),
+        AnyModule::ReceiptQuota => put_account_request(into, choice),
     }
 }
 
@@ -49,6 +53,15 @@ fn put_account_request(into: &mut Bytes, choice: u32) -> Result<(), Memory>
         4 | 5 => put_moving(into, b"free a", choice),
         6 => put_numbered(into, b"left a", choice / 8 % 16),
         _ => into.append(b"sum"),
+    }
+}
+
+fn put_dispenser_request(into: &mut Bytes, choice: u32) -> Result<(), Memory>
+    ensures { OnOk result (into.new ≡ into.old ++ dispenser_request choice) }
+{
+    match choice % 4 {
+        0 => into.append(b"seed 0000000000000000000000000000000000000000000000000000000000000000"),
+        _ => put_numbered(into, b"draw ", choice / 4 % 16 + 1),
     }
 }
 

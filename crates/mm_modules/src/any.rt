@@ -5,9 +5,11 @@ ghost use Rattle.mm_modules.specs.Modules.{meaning_of, module_named, module_with
 ghost use Rattle.mm_modules.specs.ModulesLaws.{any_is_lawful};
 
 use mm_base::{Bytes, Memory};
+use mm_dispenser::Dispenser;
 use mm_limiter::Limiter;
 use mm_module::{Counter, Module, Stepped};
 use mm_quota::Accounts;
+use mm_receipt::Receipted;
 use std::alloc::Global;
 
 /// A module, chosen at run time.
@@ -21,6 +23,14 @@ pub enum AnyModule {
     Quota,
     /// At most 16,384 accounts with limits: `ledger`, id 128.
     Ledger,
+    /// Random words: `dispenser`, id 4.
+    Dispenser,
+    /// A counter with receipts: `receipt-counter`, id 65.
+    ReceiptCounter,
+    /// A limiter with receipts: `receipt-limiter`, id 66.
+    ReceiptLimiter,
+    /// A quota with receipts: `receipt-quota`, id 67.
+    ReceiptQuota,
 }
 
 /// The module of this name, None where no module has it.
@@ -40,6 +50,18 @@ pub fn by_name(name: &[u8]) -> Option<AnyModule>
     if name == b"ledger".as_slice() {
         return Some(AnyModule::Ledger);
     }
+    if name == b"dispenser".as_slice() {
+        return Some(AnyModule::Dispenser);
+    }
+    if name == b"receipt-counter".as_slice() {
+        return Some(AnyModule::ReceiptCounter);
+    }
+    if name == b"receipt-limiter".as_slice() {
+        return Some(AnyModule::ReceiptLimiter);
+    }
+    if name == b"receipt-quota".as_slice() {
+        return Some(AnyModule::ReceiptQuota);
+    }
     None
 }
 
@@ -53,12 +75,16 @@ pub fn by_id(id: u8) -> Option<AnyModule>
         2 => Some(AnyModule::Limiter),
         3 => Some(AnyModule::Quota),
         128 => Some(AnyModule::Ledger),
+        4 => Some(AnyModule::Dispenser),
+        65 => Some(AnyModule::ReceiptCounter),
+        66 => Some(AnyModule::ReceiptLimiter),
+        67 => Some(AnyModule::ReceiptQuota),
         _ => None,
     }
 }
 
 impl AnyModule {
-    /// The module's name, of lower-case letters.
+    /// The module's name, of lower-case letters and hyphens.
     pub fn name(self) -> &'static [u8]
         ensures { result.now ≡ name_of self }
     {
@@ -67,6 +93,10 @@ impl AnyModule {
             AnyModule::Limiter => b"limiter",
             AnyModule::Quota => b"quota",
             AnyModule::Ledger => b"ledger",
+            AnyModule::Dispenser => b"dispenser",
+            AnyModule::ReceiptCounter => b"receipt-counter",
+            AnyModule::ReceiptLimiter => b"receipt-limiter",
+            AnyModule::ReceiptQuota => b"receipt-quota",
         }
     }
 }
@@ -82,6 +112,10 @@ impl Module for AnyModule {
             AnyModule::Limiter => Limiter.id(),
             AnyModule::Quota => Accounts::<256>.id(),
             AnyModule::Ledger => Accounts::<16384>.id(),
+            AnyModule::Dispenser => Dispenser.id(),
+            AnyModule::ReceiptCounter => Receipted { inner: Counter }.id(),
+            AnyModule::ReceiptLimiter => Receipted { inner: Limiter }.id(),
+            AnyModule::ReceiptQuota => Receipted { inner: Accounts::<256> }.id(),
         }
     }
 
@@ -91,6 +125,10 @@ impl Module for AnyModule {
             AnyModule::Limiter => Limiter.first_state(alloc),
             AnyModule::Quota => Accounts::<256>.first_state(alloc),
             AnyModule::Ledger => Accounts::<16384>.first_state(alloc),
+            AnyModule::Dispenser => Dispenser.first_state(alloc),
+            AnyModule::ReceiptCounter => Receipted { inner: Counter }.first_state(alloc),
+            AnyModule::ReceiptLimiter => Receipted { inner: Limiter }.first_state(alloc),
+            AnyModule::ReceiptQuota => Receipted { inner: Accounts::<256> }.first_state(alloc),
         }
     }
 
@@ -100,6 +138,10 @@ impl Module for AnyModule {
             AnyModule::Limiter => Limiter.state_is_spelled(state),
             AnyModule::Quota => Accounts::<256>.state_is_spelled(state),
             AnyModule::Ledger => Accounts::<16384>.state_is_spelled(state),
+            AnyModule::Dispenser => Dispenser.state_is_spelled(state),
+            AnyModule::ReceiptCounter => Receipted { inner: Counter }.state_is_spelled(state),
+            AnyModule::ReceiptLimiter => Receipted { inner: Limiter }.state_is_spelled(state),
+            AnyModule::ReceiptQuota => Receipted { inner: Accounts::<256> }.state_is_spelled(state),
         }
     }
 
@@ -109,6 +151,10 @@ impl Module for AnyModule {
             AnyModule::Limiter => Limiter.step(alloc, state, request),
             AnyModule::Quota => Accounts::<256>.step(alloc, state, request),
             AnyModule::Ledger => Accounts::<16384>.step(alloc, state, request),
+            AnyModule::Dispenser => Dispenser.step(alloc, state, request),
+            AnyModule::ReceiptCounter => Receipted { inner: Counter }.step(alloc, state, request),
+            AnyModule::ReceiptLimiter => Receipted { inner: Limiter }.step(alloc, state, request),
+            AnyModule::ReceiptQuota => Receipted { inner: Accounts::<256> }.step(alloc, state, request),
         }
     }
 }

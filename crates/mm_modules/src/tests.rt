@@ -8,6 +8,10 @@ counter 1 add 2 => 2
 limiter 2 left => unset
 quota 3 sum => sum 0
 ledger 128 sum => sum 0
+dispenser 4 draw 1 => unset
+receipt-counter 65 read => unkeyed
+receipt-limiter 66 left => unkeyed
+receipt-quota 67 sum => unkeyed
 ";
 
 #[test]
@@ -31,10 +35,10 @@ fn each_module_is_found_by_its_name_and_id(rt: HostRuntime) -> Result<(), Fail> 
 
 #[test]
 fn no_other_name_or_id_has_a_module(rt: HostRuntime) {
-    for name in ["", "Counter", "counters", "led"] {
+    for name in ["", "Counter", "counters", "led", "receipt-", "receipt-ledger"] {
         assert!(rt; by_name(name.as_bytes()).is_none());
     }
-    for id in [0, 4, 127, 129, 255] {
+    for id in [0, 5, 64, 68, 127, 129, 192, 255] {
         assert!(rt; by_id(id).is_none());
     }
 }

@@ -17,6 +17,7 @@ use Rattle.mm_schedule.specs.Events.{Event}
 use Rattle.mm_schedule.specs.Grammar.{event_at}
 use Rattle.mm_schedule.specs.Machine.{Runs}
 use Rattle.mm_schedule.specs.Replies.{end_line}
+use Rattle.mm_schedule.proofs.PromiseLaws.{promises-kept}
 use Rattle.mm_world.specs.Folds.{expected, replies_by_digests}
 use Rattle.mm_world.specs.Held.{world_key, world_of}
 use Rattle.mm_world.specs.Laws.{BasicIsExpected, ExpectedRuns}
@@ -26,15 +27,18 @@ use Rattle.mm_replay.specs.Headline.{IsContinuous, IsWithinLimits, AnswersEvents
 use Rattle.mm_replay.proofs.Answering.{AnswersFrom, answers_from, over_of}
 
 -- the laws of whole runs give the headline
-continuous : BasicIsExpected → ExpectedRuns → (machine : AnyModule) (events : List Event) → IsContinuous (world_of machine) events
+continuous : BasicIsExpected → ExpectedRuns → (machine : AnyModule) (events : List Event) → IsContinuous machine events
 continuous law runs machine events = λ clear genuine.
     let a = law (meaning_of machine) world_key events clear genuine in
+    let requests = requests_of (expected (world_of machine) events).state.batches in
+    let ran = subst (λ rs. Runs (meaning_of machine) [] events rs requests) (sym a.replies) (runs (world_of machine) events) in
     record {
-      requests = requests_of (expected (world_of machine) events).state.batches;
-      runs = subst (λ rs. Runs (meaning_of machine) [] events rs (requests_of (expected (world_of machine) events).state.batches)) (sym a.replies) (runs (world_of machine) events);
+      requests = requests;
+      runs = ran;
       judged = a.replies;
       count = a.stands.count;
       shown = ap length a.issued;
+      promised = promises-kept machine events (replies_by_digests (world_of machine) events).replies requests ran;
     }
 
 -- The header was answered, and the lines behind it.

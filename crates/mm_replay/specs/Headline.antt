@@ -2,12 +2,13 @@
 use Rattle.std.specs.Prelude.{◌≡◌, ◌≤◌, ◌<◌, ◌+◌, ℕ, List, [], ◌∷◌, ◌++◌, length, map, Option, Some, Result, ◌⊎◌}
 use Rattle.std.specs.List.{sum_by}
 use Rattle.mm_base.specs.declared.replay_fault.ReplayFault.{ReplayFault}
-use Rattle.mm_model.specs.Instance.{Instance}
+use Rattle.mm_modules.specs.Modules.{meaning_of}
 use Rattle.mm_modules.specs.declared.any.AnyModule.{AnyModule}
 use Rattle.mm_play.specs.Tells.{TellsBy}
 use Rattle.mm_schedule.specs.Events.{Event}
 use Rattle.mm_schedule.specs.Grammar.{event_at}
 use Rattle.mm_schedule.specs.Machine.{Runs}
+use Rattle.mm_schedule.specs.Promises.{Promises}
 use Rattle.mm_schedule.specs.Replies.{end_line}
 use Rattle.mm_schedule.specs.declared.reply.Reply.{Reply}
 use Rattle.mm_world.specs.Folds.{expected, replies_by_digests}
@@ -18,19 +19,22 @@ use Rattle.mm_replay.specs.Text.{texts_of}
 
 -- The replies to the events are those of one run of the module on one list of requests, as the verdict on histories
 -- gives them; so many requests were committed, and as many snapshots issued as that verdict issues.
-pub record IsOneRun (i : Instance) (events : List Event) (replies : List Reply) (committed issued : ℕ) : Type 0 where
+-- And what the module promises of a run holds of the requests and of the replies.
+pub record IsOneRun (machine : AnyModule) (events : List Event) (replies : List Reply) (committed issued : ℕ) : Type 0 where
   pub requests : List (List ℕ)
-  pub runs : Runs i.meaning [] events replies requests
-  pub judged : replies ≡ (expected i events).replies
+  pub runs : Runs (meaning_of machine) [] events replies requests
+  pub judged : replies ≡ (expected (world_of machine) events).replies
   pub count : committed ≡ length requests
-  pub shown : issued ≡ length (expected i events).issued
+  pub shown : issued ≡ length (expected (world_of machine) events).issued
+  pub promised : Promises machine requests replies
 
 -- The headline: so it is where no two different messages of the run share a digest, no digest is zero, no value that
 -- others extend the register by is the guard of a batch, and no tag is forged.
-abbrev pub IsContinuous : Instance → List Event → Type 0
-IsContinuous i events =
+abbrev pub IsContinuous : AnyModule → List Event → Type 0
+IsContinuous machine events =
+    let i = world_of machine in
     IsClearRun i events → IsGenuineRun i events →
-    IsOneRun i events (replies_by_digests i events).replies (replies_by_digests i events).state.count (length (replies_by_digests i events).issued)
+    IsOneRun machine events (replies_by_digests i events).replies (replies_by_digests i events).state.count (length (replies_by_digests i events).issued)
 
 -- Behind these event lines, and their events, the line is one too many: it is event 20,001, or the event lines with it
 -- and the snapshots issued before it have more than 268,435,456 bytes.
@@ -55,7 +59,7 @@ pub record AnswersEvents (header : List ℕ → Option AnyModule) (lines : List 
   pub told : written ≡ texts_of (replies_by_digests (world_of machine) events).replies
       ++ last (replies_by_digests (world_of machine) events).state.count (length (replies_by_digests (world_of machine) events).issued)
   pub within : IsWithinLimits machine others
-  pub headline : IsContinuous (world_of machine) events
+  pub headline : IsContinuous machine events
 
 -- no last line
 abbrev pub unended : ℕ → ℕ → List ℕ

@@ -189,6 +189,32 @@ ask last use tape 1
 => end 7 8
 ";
 
+/// The dispenser under a seed of zeros, with the first words of ChaCha20 (RFC 8439, appendix A.1, test vector 1); and a
+/// counter with receipts under 32 bytes ff, the tag from another program's HMAC-SHA-256.
+const PROMISED: &str = "\
+memoir 1 basic dispenser
+ask 0 seed 0000000000000000000000000000000000000000000000000000000000000000
+=> ok 1 seeded
+ask 1 draw 2
+=> ok 2 0 ade0b876 903df1a0
+ask 2 draw 2
+=> ok 3 2 e56a5d40 28bd8653
+ask 1 draw 2
+=> no stale
+ask 2 draw 2
+=> again 3 2 e56a5d40 28bd8653
+=> end 3 5
+
+memoir 1 basic receipt-counter
+ask last add 5
+=> ok 1 unkeyed
+ask last key ffffffffffffffffffffffffffffffffffffffffffffffffffffffffffffffff
+=> ok 2 keyed
+ask last add 5
+=> ok 3 6093998aa6c02d9fa36ee1bae2b0c2453559a1376432781bda1c668cf1450264 5
+=> end 3 4
+";
+
 /// Batches.
 const BATCHES: &str = "\
 memoir 1 basic counter
@@ -246,7 +272,7 @@ fn what_was_altered_or_made_up_is_refused(rt: HostRuntime) -> Result<(), Fail> {
 
 #[test]
 fn each_module_answers_by_its_table(rt: HostRuntime) -> Result<(), Fail> {
-    for table in [LIMITER, COUNTER, QUOTA] {
+    for table in [LIMITER, COUNTER, QUOTA, PROMISED] {
         check_all(&rt, rt.alloc(), table, 0)?;
     }
     Ok(())

@@ -5,7 +5,7 @@ use Rattle.std.specs.Str.{bytes_eq}
 use Rattle.mm_digest.specs.declared.variant.Variant.{Variant}
 use Rattle.mm_digest.specs.declared.variant.Variant.TheVariants.{Basic, Opt}
 use Rattle.mm_modules.specs.declared.any.AnyModule.{AnyModule}
-use Rattle.mm_modules.specs.declared.any.AnyModule.TheVariants.{Counter, Limiter, Quota, Ledger}
+use Rattle.mm_modules.specs.declared.any.AnyModule.TheVariants.{Counter, Limiter, Quota, Ledger, Dispenser, ReceiptCounter, ReceiptLimiter, ReceiptQuota}
 use Rattle.mm_modules.specs.Modules.{module_named, name_of}
 use Rattle.mm_schedule.specs.declared.header.Header.{Header}
 use Rattle.mm_schedule.specs.Headers.{header_at, header_text, variant_at, variant_text}
@@ -30,9 +30,21 @@ name-spelled word it is =
         | inl v ↦ text_is word (codes "limiter") v.0 ∙ ap name_of (some-same Limiter it v.1)
         | inr v ↦ elim (chosen (bytes_eq word (codes "quota")) (Some Quota) _ it v.1) [
           | inl u ↦ text_is word (codes "quota") u.0 ∙ ap name_of (some-same Quota it u.1)
-          | inr u ↦ elim (chosen (bytes_eq word (codes "ledger")) (Some Ledger) None it u.1) [
+          | inr u ↦ elim (chosen (bytes_eq word (codes "ledger")) (Some Ledger) _ it u.1) [
             | inl t ↦ text_is word (codes "ledger") t.0 ∙ ap name_of (some-same Ledger it t.1)
-            | inr t ↦ cc
+            | inr t ↦ elim (chosen (bytes_eq word (codes "dispenser")) (Some Dispenser) _ it t.1) [
+              | inl s ↦ text_is word (codes "dispenser") s.0 ∙ ap name_of (some-same Dispenser it s.1)
+              | inr s ↦ elim (chosen (bytes_eq word (codes "receipt-counter")) (Some ReceiptCounter) _ it s.1) [
+                | inl r ↦ text_is word (codes "receipt-counter") r.0 ∙ ap name_of (some-same ReceiptCounter it r.1)
+                | inr r ↦ elim (chosen (bytes_eq word (codes "receipt-limiter")) (Some ReceiptLimiter) _ it r.1) [
+                  | inl q ↦ text_is word (codes "receipt-limiter") q.0 ∙ ap name_of (some-same ReceiptLimiter it q.1)
+                  | inr q ↦ elim (chosen (bytes_eq word (codes "receipt-quota")) (Some ReceiptQuota) None it q.1) [
+                    | inl p ↦ text_is word (codes "receipt-quota") p.0 ∙ ap name_of (some-same ReceiptQuota it p.1)
+                    | inr p ↦ cc
+                  ]
+                ]
+              ]
+            ]
           ]
         ]
       ]
@@ -51,20 +63,28 @@ header-spelled line header is =
     ∙ ap (λ (name : List ℕ). variant_text c.0 ++ 32 ∷ name) (name-spelled b.0.1 d.0 d.1))
     ∙ (simp append_assoc) ∙ ap header_text (some-same _ header d.2)
 
--- each of the eight lines is read as its header
-eight : (variant : Variant) (it : AnyModule) → header_at (header_text (record { variant = variant; «module» = it })) ≡ Some (record { variant = variant; «module» = it })
+-- each of the sixteen lines is read as its header
+sixteen : (variant : Variant) (it : AnyModule) → header_at (header_text (record { variant = variant; «module» = it })) ≡ Some (record { variant = variant; «module» = it })
 unfolding header_at after word_at
-eight Basic Counter = refl
-eight Basic Limiter = refl
-eight Basic Quota = refl
-eight Basic Ledger = refl
-eight Opt Counter = refl
-eight Opt Limiter = refl
-eight Opt Quota = refl
-eight Opt Ledger = refl
+sixteen Basic Counter = refl
+sixteen Basic Limiter = refl
+sixteen Basic Quota = refl
+sixteen Basic Ledger = refl
+sixteen Basic Dispenser = refl
+sixteen Basic ReceiptCounter = refl
+sixteen Basic ReceiptLimiter = refl
+sixteen Basic ReceiptQuota = refl
+sixteen Opt Counter = refl
+sixteen Opt Limiter = refl
+sixteen Opt Quota = refl
+sixteen Opt Ledger = refl
+sixteen Opt Dispenser = refl
+sixteen Opt ReceiptCounter = refl
+sixteen Opt ReceiptLimiter = refl
+sixteen Opt ReceiptQuota = refl
 
 pub header-read : (line : List ℕ) (header : Header) → line ≡ header_text header → header_at line ≡ Some header
-header-read line header is = ap header_at is ∙ eight header.variant header.module
+header-read line header is = ap header_at is ∙ sixteen header.variant header.module
 
 pub if-spelled : (line : List ℕ) (read : Option Header) → read ≡ header_at line → IfSome read (λ header. line ≡ header_text header)
 if-spelled line None is = tt

@@ -1,16 +1,20 @@
 -- Runs keep the promises of their modules.
-use Rattle.std.proofs.Common.{◌≡◌, ℕ, suc, zero, ◌+◌, ◌≤◌, ◌==◌, ◌&&◌, ◌||◌, Bool, true, false, cond, List, [], ◌∷◌, take, drop, Option, Some, None, refl, sym, ◌∙◌, ap, subst, arith}
-use Rattle.std.specs.Prelude.{slice_get, count_by}
+use Rattle.std.proofs.Common.{inl, inr, ◌≡◌, ℕ, suc, zero, ◌+◌, ◌<◌, ◌≤◌, ◌⊎◌, nat_lt, ◌==◌, ◌&&◌, ◌||◌, Bool, true, false, cond, List, [], ◌∷◌, take, drop, Option, Some, None, refl, sym, ◌∙◌, ap, subst, arith}
+use Rattle.std.specs.Prelude.{slice_get, count_by, option_and_then}
 use Rattle.std.specs.List.{AllByRecursion, range_with_len}
 use Rattle.std.proofs.lemmas.Bool.Decides.{nat_tests}
 use Rattle.std.proofs.lemmas.List.Sums.{sum_by-cons}
 use Rattle.mm_module.specs.Meaning.{outputs_from}
+use Rattle.mm_dispenser.specs.Places.{Places, places_told, places_at, RisesByPlaces}
+use Rattle.mm_dispenser.proofs.PlaceLaws.{places-once}
+use Rattle.mm_dispenser.specs.Table.{dispenser}
 use Rattle.mm_limiter.specs.Guesses.{is_wrong, GuessesAreLimited}
 use Rattle.mm_limiter.specs.Table.{limiter}
-use Rattle.mm_modules.specs.declared.any.AnyModule.TheVariants.{Counter, Limiter, Quota, Ledger}
+use Rattle.mm_limiter.proofs.GuessLaws.{guesses-limited}
+use Rattle.mm_modules.specs.declared.any.AnyModule.TheVariants.{Counter, Limiter, Quota, Ledger, Dispenser, ReceiptCounter, ReceiptLimiter, ReceiptQuota}
 use Rattle.mm_schedule.specs.declared.reply.Reply.{Reply}
 use Rattle.mm_schedule.specs.Tellings.{Telling, tellings_in, WasSaid}
-use Rattle.mm_schedule.specs.Promises.{tells_wrong, TellsFewWrong, RunsKeepPromises}
+use Rattle.mm_schedule.specs.Promises.{tells_wrong, TellsFewWrong, TellsPlacesOnce, RunsKeepPromises}
 use Rattle.mm_schedule.proofs.TellingLaws.{slice_get-drop, drop-next, tells-said}
 
 -- the output at this place is a wrong guess
@@ -86,9 +90,55 @@ few-told law requests replies said from size none =
     let counted = places-count size from (tells_wrong (tellings_in replies)) outputs (λ before is. told_wrong outputs (tellings_in replies) before said is) in
     omega (arith, counted, law requests from size none)
 
-pub promises-kept : GuessesAreLimited → RunsKeepPromises
-promises-kept law Limiter events replies requests runs =
-    record { guesses = law requests; told = few-told law requests replies (tells-said limiter events replies requests runs) }
-promises-kept law Counter events replies requests runs = tt
-promises-kept law Quota events replies requests runs = tt
-promises-kept law Ledger events replies requests runs = tt
+-- what a line at a place of the list says was said
+at-place : (P : Telling → Type 0) (tellings : List Telling) (i : ℕ) (telling : Telling) → AllByRecursion P tellings → slice_get tellings i ≡ Some telling → P telling
+at-place P [] i telling all is = absurd (no_telling telling is)
+  where
+    no_telling : (t : Telling) → (let o : Option Telling = None in o ≡ Some t) → ⊥
+    no_telling t h = cc
+at-place P (first ∷ tellings) zero telling all is = subst P (same_telling first telling is) all.0
+  where
+    same_telling : (a b : Telling) → (let o : Option Telling = Some a in o ≡ Some b) → a ≡ b
+    same_telling a b h = cc
+at-place P (first ∷ tellings) (suc i) telling all is = at-place P tellings i telling all.1 is
+
+one-telling : (outputs : List (List ℕ)) (a b : Telling) → WasSaid outputs a → WasSaid outputs b → a.before ≡ b.before → a ≡ b
+one-telling outputs a b one two same =
+    let e : a.output ≡ b.output = some_same a.output b.output (sym one ∙ ap (λ n. slice_get outputs n) same ∙ two) in
+    ap (λ n. record { before = n; output = a.output }) same ∙ ap (λ (l : List ℕ). record { before = b.before; output = l }) e
+
+places-are : (outputs : List (List ℕ)) (telling : Telling) (p : Places) → WasSaid outputs telling → places_told telling.output ≡ Some p → places_at outputs telling.before ≡ Some p
+places-are outputs telling p said is = ap (λ (o : Option (List ℕ)). option_and_then places_told o) said ∙ is
+
+apart-by : (outputs : List (List ℕ)) → RisesByPlaces outputs → (a b : Telling) (p q : Places) (before behind : Bool) → nat_lt a.before b.before ≡ before → nat_lt b.before a.before ≡ behind
+    → WasSaid outputs a → WasSaid outputs b → places_told a.output ≡ Some p → places_told b.output ≡ Some q
+    → (a ≡ b) ⊎ ((p.from + p.size ≤ q.from) ⊎ (q.from + q.size ≤ p.from))
+apart-by outputs rises a b p q true behind is after one two pp qq =
+    let first : a.before < b.before = grind (arith, nat_tests) in
+    inr (inl (rises a.before b.before p q first (places-are outputs a p one pp) (places-are outputs b q two qq)))
+apart-by outputs rises a b p q false true is after one two pp qq =
+    let first : b.before < a.before = grind (arith, nat_tests) in
+    inr (inr (rises b.before a.before q p first (places-are outputs b q two qq) (places-are outputs a p one pp)))
+apart-by outputs rises a b p q false false is after one two pp qq =
+    let same : a.before ≡ b.before = grind (arith, nat_tests) in
+    inl (one-telling outputs a b one two same)
+
+places-apart : (outputs : List (List ℕ)) → RisesByPlaces outputs → (tellings : List Telling) → AllByRecursion (WasSaid outputs) tellings → TellsPlacesOnce tellings
+places-apart outputs rises tellings said i j a b p q at_a at_b pp qq =
+    apart-by outputs rises a b p q (nat_lt a.before b.before) (nat_lt b.before a.before) refl refl
+        (at-place (WasSaid outputs) tellings i a said at_a) (at-place (WasSaid outputs) tellings j b said at_b) pp qq
+
+pub promises-kept : RunsKeepPromises
+promises-kept Limiter events replies requests runs =
+    record { guesses = guesses-limited requests; told = few-told guesses-limited requests replies (tells-said limiter events replies requests runs) }
+promises-kept Dispenser events replies requests runs =
+    record {
+      places = places-once requests;
+      told = places-apart (outputs_from dispenser dispenser.first requests) (places-once requests) (tellings_in replies) (tells-said dispenser events replies requests runs);
+    }
+promises-kept Counter events replies requests runs = tt
+promises-kept Quota events replies requests runs = tt
+promises-kept Ledger events replies requests runs = tt
+promises-kept ReceiptCounter events replies requests runs = tt
+promises-kept ReceiptLimiter events replies requests runs = tt
+promises-kept ReceiptQuota events replies requests runs = tt

@@ -4,8 +4,6 @@ ghost use Rattle.mm_schedule.specs.Laws.{RunIsFixed, RunsGoOn, SpelledIsRead};
 ghost use Rattle.mm_schedule.specs.Promises.{RunsKeepPromises};
 ghost use Rattle.mm_schedule.specs.Tellings.{TellsWhatWasSaid};
 
-use mm_limiter::laws::guesses_are_limited;
-
 /// The events and the replies fix the requests that are run.
 pub fn run_is_fixed()
     ensures { RunIsFixed }
@@ -27,9 +25,8 @@ pub fn tells_what_was_said()
 {}
 
 /// Every run of a module keeps what the module promises. A limiter's wrong guesses run out: between two outputs `set`
-/// or `open`, and after the last, no more are wrong than were allowed, whether they were told or not.
+/// or `open`, and after the last, no more are wrong than were allowed, whether they were told or not. No place of a
+/// dispenser is told by two draws.
 pub fn runs_keep_promises()
     ensures { RunsKeepPromises }
-{
-    guesses_are_limited();
-}
+{}

@@ -13,7 +13,7 @@ use Rattle.clap.specs.Lexer.{long_of, short_of}
 use Rattle.mm_digest.specs.declared.variant.Variant.{Variant}
 use Rattle.mm_digest.specs.declared.variant.Variant.TheVariants.{Basic, Opt}
 use Rattle.mm_modules.specs.declared.any.AnyModule.{AnyModule}
-use Rattle.mm_modules.specs.declared.any.AnyModule.TheVariants.{Counter, Limiter, Quota, Ledger}
+use Rattle.mm_modules.specs.declared.any.AnyModule.TheVariants.{Counter, Limiter, Quota, Ledger, Dispenser, ReceiptCounter, ReceiptLimiter, ReceiptQuota}
 use Rattle.mm_modules.specs.Modules.{name_of}
 use Rattle.mm_schedule.specs.Headers.{variant_text}
 use Rattle.mm_words.specs.Commands.{IsAllowed, IsGenerated, generated_words, words_of}
@@ -56,6 +56,10 @@ name_kept Counter = refl
 name_kept Limiter = refl
 name_kept Quota = refl
 name_kept Ledger = refl
+name_kept Dispenser = refl
+name_kept ReceiptCounter = refl
+name_kept ReceiptLimiter = refl
+name_kept ReceiptQuota = refl
 
 -- all words are kept, and there are at most five
 pub record AreKept (words : List (List ℕ)) : Type 0 where

@@ -13,7 +13,7 @@ use Rattle.mm_base.proofs.DecimalLemmas.{read_by_spelling}
 use Rattle.mm_digest.specs.declared.variant.Variant.{Variant}
 use Rattle.mm_digest.specs.declared.variant.Variant.TheVariants.{Basic, Opt}
 use Rattle.mm_modules.specs.declared.any.AnyModule.{AnyModule}
-use Rattle.mm_modules.specs.declared.any.AnyModule.TheVariants.{Counter, Limiter, Quota, Ledger}
+use Rattle.mm_modules.specs.declared.any.AnyModule.TheVariants.{Counter, Limiter, Quota, Ledger, Dispenser, ReceiptCounter, ReceiptLimiter, ReceiptQuota}
 use Rattle.mm_modules.specs.Modules.{module_named, name_of}
 use Rattle.mm_schedule.specs.Headers.{variant_at, variant_text}
 use Rattle.mm_words.specs.App.{the_app}
@@ -57,6 +57,10 @@ name-read Counter = refl
 name-read Limiter = refl
 name-read Quota = refl
 name-read Ledger = refl
+name-read Dispenser = refl
+name-read ReceiptCounter = refl
+name-read ReceiptLimiter = refl
+name-read ReceiptQuota = refl
 
 no_given : {g : Given} → None ≡ Some g → ⊥
 no_given none = cc

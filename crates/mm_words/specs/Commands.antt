@@ -47,4 +47,4 @@ help_text =
     ∷ codes "memoir gen NUMBER COUNT VARIANT MODULE"
     ∷ codes "memoir bulk NUMBER COUNT VARIANT MODULE"
     ∷ codes "VARIANT is basic or opt"
-    ∷ codes "MODULE is counter, limiter, quota or ledger" ∷ [])
+    ∷ codes "MODULE is counter, limiter, quota, ledger, dispenser, receipt-counter, receipt-limiter or receipt-quota" ∷ [])

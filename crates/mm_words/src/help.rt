@@ -7,5 +7,5 @@ ghost use Rattle.mm_words.specs.Commands.{help_text};
 pub fn help_text() -> &'static [u8]
     ensures { result.now ≡ help_text }
 {
-    b"memoir replay\nmemoir check\nmemoir gen NUMBER COUNT VARIANT MODULE\nmemoir bulk NUMBER COUNT VARIANT MODULE\nVARIANT is basic or opt\nMODULE is counter, limiter, quota or ledger\n"
+    b"memoir replay\nmemoir check\nmemoir gen NUMBER COUNT VARIANT MODULE\nmemoir bulk NUMBER COUNT VARIANT MODULE\nVARIANT is basic or opt\nMODULE is counter, limiter, quota, ledger, dispenser, receipt-counter, receipt-limiter or receipt-quota\n"
 }

@@ -2,4 +2,4 @@ use Rattle.mm_schedule.proofs.PromiseLaws.{promises-kept}
 use Rattle.mm_schedule.proofs.laws.runs_keep_promises.Goals as goal
 
 pub returns : goal.returns
-returns c machine events replies requests runs = promises-kept c.guesses_are_limited.ensures machine events replies requests runs
+returns c machine events replies requests runs = promises-kept machine events replies requests runs
