@@ -115,7 +115,10 @@ impl Module for AnyModule {
             AnyModule::Dispenser => Dispenser.id(),
             AnyModule::ReceiptCounter => Receipted { inner: Counter }.id(),
             AnyModule::ReceiptLimiter => Receipted { inner: Limiter }.id(),
-            AnyModule::ReceiptQuota => Receipted { inner: Accounts::<256> }.id(),
+            AnyModule::ReceiptQuota => Receipted {
+                inner: Accounts::<256>,
+            }
+            .id(),
         }
     }
 
@@ -128,7 +131,10 @@ impl Module for AnyModule {
             AnyModule::Dispenser => Dispenser.first_state(alloc),
             AnyModule::ReceiptCounter => Receipted { inner: Counter }.first_state(alloc),
             AnyModule::ReceiptLimiter => Receipted { inner: Limiter }.first_state(alloc),
-            AnyModule::ReceiptQuota => Receipted { inner: Accounts::<256> }.first_state(alloc),
+            AnyModule::ReceiptQuota => Receipted {
+                inner: Accounts::<256>,
+            }
+            .first_state(alloc),
         }
     }
 
@@ -141,7 +147,10 @@ impl Module for AnyModule {
             AnyModule::Dispenser => Dispenser.state_is_spelled(state),
             AnyModule::ReceiptCounter => Receipted { inner: Counter }.state_is_spelled(state),
             AnyModule::ReceiptLimiter => Receipted { inner: Limiter }.state_is_spelled(state),
-            AnyModule::ReceiptQuota => Receipted { inner: Accounts::<256> }.state_is_spelled(state),
+            AnyModule::ReceiptQuota => Receipted {
+                inner: Accounts::<256>,
+            }
+            .state_is_spelled(state),
         }
     }
 
@@ -154,7 +163,10 @@ impl Module for AnyModule {
             AnyModule::Dispenser => Dispenser.step(alloc, state, request),
             AnyModule::ReceiptCounter => Receipted { inner: Counter }.step(alloc, state, request),
             AnyModule::ReceiptLimiter => Receipted { inner: Limiter }.step(alloc, state, request),
-            AnyModule::ReceiptQuota => Receipted { inner: Accounts::<256> }.step(alloc, state, request),
+            AnyModule::ReceiptQuota => Receipted {
+                inner: Accounts::<256>,
+            }
+            .step(alloc, state, request),
         }
     }
 }

@@ -35,7 +35,14 @@ fn each_module_is_found_by_its_name_and_id(rt: HostRuntime) -> Result<(), Fail> 
 
 #[test]
 fn no_other_name_or_id_has_a_module(rt: HostRuntime) {
-    for name in ["", "Counter", "counters", "led", "receipt-", "receipt-ledger"] {
+    for name in [
+        "",
+        "Counter",
+        "counters",
+        "led",
+        "receipt-",
+        "receipt-ledger",
+    ] {
         assert!(rt; by_name(name.as_bytes()).is_none());
     }
     for id in [0, 5, 64, 68, 127, 129, 192, 255] {

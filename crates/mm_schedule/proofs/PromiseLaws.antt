@@ -126,7 +126,7 @@ apart-by outputs rises a b p q false false is after one two pp qq =
 places-apart : (outputs : List (List ℕ)) → RisesByPlaces outputs → (tellings : List Telling) → AllByRecursion (WasSaid outputs) tellings → TellsPlacesOnce tellings
 places-apart outputs rises tellings said i j a b p q at_a at_b pp qq =
     apart-by outputs rises a b p q (nat_lt a.before b.before) (nat_lt b.before a.before) refl refl
-        (at-place (WasSaid outputs) tellings i a said at_a) (at-place (WasSaid outputs) tellings j b said at_b) pp qq
+    (at-place (WasSaid outputs) tellings i a said at_a) (at-place (WasSaid outputs) tellings j b said at_b) pp qq
 
 pub promises-kept : RunsKeepPromises
 promises-kept Limiter events replies requests runs =
