@@ -1,6 +1,6 @@
 -- A checkpoint over a platform goes by digests: the course that it took, and the trail of its steps.
 use Rattle.std.proofs.Common.{◌≡◌, ℕ, Bool, true, false, List, [], ◌∷◌, ◌++◌, map, Option, None, Some, Result, Ok, Err, IfOk, refl, sym, ap, ◌∙◌, subst}
-use Rattle.std.specs.Prelude.{◌&&◌}
+use Rattle.std.specs.Prelude.{◌&&◌, is_some, IsSome}
 use Rattle.std.specs.Str.{bytes_eq}
 use Rattle.std.specs.List.{fold}
 use Rattle.std.specs.Result.{result_err}
@@ -34,6 +34,8 @@ use Rattle.mm_call.proofs.Trails.{reads_of, reads_beside, with_register, leads}
 use Rattle.mm_call.proofs.OptHolding.{agrees_is, is_agrees}
 use Rattle.mm_call.proofs.Continuing.{stands_at, stands_for}
 use Rattle.mm_call.proofs.Checkpoints.{basic_checkpoints_agree, opt_checkpoints_agree}
+use Rattle.mm_call.specs.Ended.{StaysOn}
+use Rattle.mm_call.proofs.Keeping.{planned_done, planned_broken}
 use Rattle.mm_call.proofs.Telling.{stepped, trail_on, trail_fails, trail_last, met, AreMet, told_by, IsAt, begins_at, met_at, then_at}
 use Rattle.mm_opt.specs.declared.segment.Checkpointed.{Checkpointed}
 use Rattle.mm_opt.specs.declared.segment.Checkpointed.TheVariants.{Done, NoSegment}
@@ -369,6 +371,36 @@ agree : (variant : Variant) (meaning : Meaning) (key barrier : List ℕ) → Che
 agree Basic meaning key barrier = basic_checkpoints_agree meaning key
 agree Opt meaning key barrier = opt_checkpoints_agree meaning key barrier
 
+-- power after a checkpoint under a plan
+planned_by : (fault : Option StepFault) (act : Act) (old new : Standing) (plan : Plan) (at : ℕ) → IsAt old plan at → Goes act old new fault → StaysOn plan.stop (is_some fault) new × IsSome new.plan
+planned_by None act old new plan at p g = planned_done act old new plan at p g
+planned_by (Some fault) act old new plan at p g = planned_broken act old new fault plan at p g
+
+abbrev StaysBy : Plan → Standing → Result Checkpointed CheckpointRefusal → Type 0
+StaysBy plan new result = StaysOn plan.stop (is_some (closing_fault_in result)) new × IsSome new.plan
+
+closed_planned : (written : Result Checkpointed StepFault) (next : List ℕ) (old new : Standing) (plan : Plan) (at : ℕ) → IsAt old plan at → Goes (WriteCell next) old new (result_err written) → StaysBy plan new (closing_handed_on written)
+closed_planned (Ok it) next old new plan at p g = planned_done (WriteCell next) old new plan at p g
+closed_planned (Err fault) next old new plan at p g = planned_broken (WriteCell next) old new fault plan at p g
+
+weighed_planned : (found : Result (List ℕ) CheckpointRefusal) (cell : Cell) (old middle new : Standing) (result : Result Checkpointed CheckpointRefusal) (plan : Plan) → IsAt old plan 1 → Weighs cell old middle found → EndsClosing found middle new result → StaysBy plan new result
+weighed_planned (Err why) cell old middle new result plan p w e =
+    subst (λ (n : Standing). StaysBy plan n result) (sym e.0)
+    (subst (λ (r : Result Checkpointed CheckpointRefusal). StaysBy plan middle r) (sym e.1) (planned_by (closing_fault_of why) ReadRegister old middle plan 1 p w.goes))
+weighed_planned (Ok next) cell old middle new result plan p w e =
+    subst (λ (r : Result Checkpointed CheckpointRefusal). StaysBy plan new r) (sym e.gives)
+    (closed_planned e.written next middle new plan 2 (then_at ReadRegister old middle plan 1 p w.goes) e.closes.goes)
+
+looked_planned : (found : Result Segment CheckpointRefusal) (old middle new : Standing) (result : Result Checkpointed CheckpointRefusal) (plan : Plan) → IsAt old plan 0 → Looks old middle found → EndsLooking found middle new result → StaysBy plan new result
+looked_planned (Err why) old middle new result plan p l e =
+    subst (λ (n : Standing). StaysBy plan n result) (sym e.0)
+    (subst (λ (r : Result Checkpointed CheckpointRefusal). StaysBy plan middle r) (sym e.1) (planned_by (closing_fault_of why) ReadCell old middle plan 0 p l.goes))
+looked_planned (Ok Shut) old middle new result plan p l e =
+    subst (λ (n : Standing). StaysBy plan n result) (sym e.0)
+    (subst (λ (r : Result Checkpointed CheckpointRefusal). StaysBy plan middle r) (sym e.1) (planned_done ReadCell old middle plan 0 p l.goes))
+looked_planned (Ok (Open cell)) old middle new result plan p l e =
+    weighed_planned e.found cell middle e.middle new result plan (then_at ReadCell old middle plan 0 p l.goes) e.weighs e.ends
+
 pub checks_on : (old new : Standing) (result : Result Checkpointed CheckpointRefusal) → ClosesSegment old new result → ChecksOn old new result
 checks_on old new result c =
     let course : Course = on_course (met (checked_fates c.found old c.middle new result c.looks c.ends) 1 (plan_of old)) in
@@ -383,4 +415,6 @@ checks_on old new result c =
       continues = λ (variant : Variant) (meaning : Meaning) (key barrier : List ℕ) (y : History) (all others : List (List ℕ)) (asked : List Batch) (s : StandsFor (instance_by variant meaning key barrier) old y)
           (a : IsClosedWithin all others asked (instance_by variant meaning key barrier) y (checkpointed (instance_by variant meaning key barrier) (by_digests (instance_by variant meaning key barrier)) (digests_of (instance_by variant meaning key barrier) y) course).moves).
           continued (instance_by variant meaning key barrier) (agree variant meaning key barrier) old new course result (by variant meaning key barrier) y all others asked s a;
+      plans = λ (plan : Plan) (is_on : old.is_on ≡ true) (known : old.plan ≡ Some plan) (at : plan.at ≡ 0).
+          looked_planned c.found old c.middle new result plan (begins_at old plan is_on known at) c.looks c.ends;
     }

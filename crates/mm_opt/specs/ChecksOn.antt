@@ -1,5 +1,5 @@
 -- That a checkpoint over a platform is the checkpoint on some course, by digests and by lists.
-use Rattle.std.specs.Prelude.{◌≡◌, ℕ, Bool, List, Option, Some, Result, Ok, Err}
+use Rattle.std.specs.Prelude.{◌≡◌, ℕ, List, Result, Ok, Err, is_some}
 use Rattle.std.specs.Option.{option_map}
 use Rattle.mm_digest.specs.declared.variant.Variant.{Variant}
 use Rattle.mm_platform.specs.Standing.{Standing}
@@ -14,10 +14,12 @@ use Rattle.mm_call.specs.Courses.{Course, AreTold}
 use Rattle.mm_call.specs.Checkpoints.{Closing, Closes, HasNone, NoSegment, LostPower, Stops, Checkpointed, checkpointed, IsClosedWithin}
 use Rattle.mm_call.specs.Asked.{IsWithin}
 use Rattle.mm_call.specs.Standing.{instance_by, StandsAt, shown, counted_by}
+use Rattle.mm_call.specs.Ended.{StaysPlanned}
 use Rattle.mm_opt.specs.declared.segment.Checkpointed.{Checkpointed as Said}
 use Rattle.mm_opt.specs.declared.segment.Checkpointed.TheVariants as said
 use Rattle.mm_opt.specs.declared.segment.CheckpointRefusal.{CheckpointRefusal}
 use Rattle.mm_opt.specs.declared.segment.CheckpointRefusal.TheVariants as refusal
+use Rattle.mm_opt.specs.Checkpoints.{closing_fault_in}
 
 -- what is given for an ending: a device's fault is handed on
 abbrev pub closing_told : Closing → Result Said CheckpointRefusal
@@ -43,7 +45,8 @@ pub record ChecksFor (all others : List (List ℕ)) (asked : List Batch) (i : In
   pub within : IsWithin all others asked i o.state
 
 -- A checkpoint over a platform: there is a course, which is that of the plan where one is told, on which it goes from any
--- digests that the platform stands at, and from any history that it stands for, in either variant.
+-- digests that the platform stands at, and from any history that it stands for, in either variant. Under a plan the
+-- platform stays on, unless the checkpoint was cut.
 pub record ChecksOn (old new : Standing) (result : Result Said CheckpointRefusal) : Type 0 where
   pub course : Course
   pub tells : AreTold old course.fates
@@ -60,3 +63,4 @@ pub record ChecksOn (old new : Standing) (result : Result Said CheckpointRefusal
       ChecksFor all others asked (instance_by variant meaning key barrier)
       (checkpointed (instance_by variant meaning key barrier) (by_lists (instance_by variant meaning key barrier)) y course)
       new result
+  pub plans : StaysPlanned old new (is_some (closing_fault_in result))
