@@ -1,9 +1,9 @@
 //! Replays that stop early.
 
-use crate::run::{ROOM, check, check_all, lines_of, replay};
+use crate::run::{ROOM, check, check_all, check_over, lines_of, replay_over, sound};
 use crate::schedules::{LIMITER, QUOTA};
 use mm_app::memoir;
-use mm_base::{Bytes, Failed, MemSink, MemSource, Source};
+use mm_base::{MemSink, MemSource};
 use std::alloc::Global;
 use std::process::Abort;
 use std::test::Fail;
@@ -81,10 +81,16 @@ fn the_pieces_of_an_input_make_no_difference(rt: HostRuntime) -> Result<(), Fail
         let schedule = lines_of(rt.alloc(), table, false)?;
         let replies = lines_of(rt.alloc(), table, true)?;
         for piece in [1, 2, 7, 4096] {
-            let mut input = MemSource::in_pieces(rt.alloc(), schedule.as_slice(), &[], piece)?;
-            let mut out = MemSink::new(rt.alloc(), ROOM, &[])?;
-            assert!(&rt; replay(rt.alloc(), &mut input, &mut out) == 0);
-            assert!(&rt; out.content() == replies.as_slice());
+            let mut streams = sound();
+            streams.piece = piece;
+            check_over(
+                &rt,
+                rt.alloc(),
+                schedule.as_slice(),
+                &streams,
+                replies.as_slice(),
+                0,
+            )?;
         }
     }
     Ok(())
@@ -106,19 +112,18 @@ fn first_lines(text: &[u8], count: usize) -> &[u8] {
 fn check_cut(rt: &impl Abort, alloc: Global, input: &[u8], replies: &[u8]) -> Result<(), Fail> {
     let whole = input.iter().filter(|byte| **byte == b'\n').count();
     let answered = first_lines(replies, whole.saturating_sub(1));
-    let mut source = MemSource::new(alloc, input, &[])?;
-    let mut out = MemSink::new(alloc, ROOM, &[])?;
-    let status = replay(alloc, &mut source, &mut out);
-    let last = out
-        .content()
+    let told = replay_over(alloc, input, &sound())?;
+    let last = told
+        .written
+        .as_slice()
         .strip_prefix(answered)
         .ok_or("the replies before it")?;
     if input.last() == Some(&b'\n') {
-        assert!(rt; status == 0);
+        assert!(rt; told.code == 0);
         assert!(rt; last.starts_with(b"end "));
     } else {
         let stop = format!(in alloc; "stop line {}\n", whole.saturating_add(1))?;
-        assert!(rt; status == 13);
+        assert!(rt; told.code == 13);
         assert!(rt; last == stop.as_bytes());
     }
     Ok(())
@@ -147,19 +152,22 @@ fn fails_to_read(
     schedule: &[u8],
     replies: &[u8],
 ) -> Result<bool, Fail> {
-    let mut input = MemSource::in_pieces(alloc, schedule, &[call], 7)?;
-    let mut out = MemSink::new(alloc, ROOM, &[])?;
-    let status = replay(alloc, &mut input, &mut out);
-    if status == 0 {
-        assert!(rt; out.content() == replies);
+    let mut streams = sound();
+    streams.piece = 7;
+    let calls = [call];
+    streams.failing_reads = &calls;
+    let told = replay_over(alloc, schedule, &streams)?;
+    if told.code == 0 {
+        assert!(rt; told.written.as_slice() == replies);
         return Ok(false);
     }
-    let told = out
-        .content()
+    let before = told
+        .written
+        .as_slice()
         .strip_suffix(b"stop read\n")
         .ok_or("a stop line")?;
-    assert!(rt; status == 3);
-    assert!(rt; replies.starts_with(told));
+    assert!(rt; told.code == 3);
+    assert!(rt; replies.starts_with(before));
     Ok(true)
 }
 
@@ -171,16 +179,17 @@ fn fails_to_write(
     schedule: &[u8],
     replies: &[u8],
 ) -> Result<bool, Fail> {
-    let mut input = MemSource::new(alloc, schedule, &[])?;
-    let mut out = MemSink::new(alloc, ROOM, &[call])?;
-    let status = replay(alloc, &mut input, &mut out);
-    if status == 0 {
-        assert!(rt; out.content() == replies);
+    let mut streams = sound();
+    let calls = [call];
+    streams.failing_writes = &calls;
+    let told = replay_over(alloc, schedule, &streams)?;
+    if told.code == 0 {
+        assert!(rt; told.written.as_slice() == replies);
         return Ok(false);
     }
-    assert!(rt; status == 4);
-    assert!(rt; out.content() != replies);
-    assert!(rt; replies.starts_with(out.content()));
+    assert!(rt; told.code == 4);
+    assert!(rt; told.written.as_slice() != replies);
+    assert!(rt; replies.starts_with(told.written.as_slice()));
     Ok(true)
 }
 
@@ -228,10 +237,10 @@ fn an_output_that_fails_at_the_stop_line_changes_no_status(rt: HostRuntime) -> R
         (&long, &[], 14),
     ];
     for (schedule, failing, code) in cases {
-        let mut input = MemSource::new(rt.alloc(), schedule, failing)?;
-        let mut out = MemSink::new(rt.alloc(), 3, &[])?;
-        assert!(&rt; replay(rt.alloc(), &mut input, &mut out) == code);
-        assert!(&rt; out.content() == b"sto".as_slice());
+        let mut streams = sound();
+        streams.room = 3;
+        streams.failing_reads = failing;
+        check_over(&rt, rt.alloc(), schedule, &streams, b"sto", code)?;
     }
     Ok(())
 }
@@ -240,13 +249,10 @@ fn an_output_that_fails_at_the_stop_line_changes_no_status(rt: HostRuntime) -> R
 #[test]
 fn a_first_call_that_fails_is_the_end(rt: HostRuntime) -> Result<(), Fail> {
     let schedule = b"memoir 1 basic counter\nask last add 5\n";
-    let mut input = MemSource::new(rt.alloc(), schedule, &[1])?;
-    let mut out = MemSink::new(rt.alloc(), ROOM, &[])?;
-    assert!(&rt; replay(rt.alloc(), &mut input, &mut out) == 3);
-    assert!(&rt; out.content() == b"stop read\n".as_slice());
-    let mut input = MemSource::new(rt.alloc(), schedule, &[])?;
-    let mut out = MemSink::new(rt.alloc(), ROOM, &[1])?;
-    assert!(&rt; replay(rt.alloc(), &mut input, &mut out) == 4);
-    assert!(&rt; out.content().is_empty());
-    Ok(())
+    let mut streams = sound();
+    streams.failing_reads = &[1];
+    check_over(&rt, rt.alloc(), schedule, &streams, b"stop read\n", 3)?;
+    streams.failing_reads = &[];
+    streams.failing_writes = &[1];
+    check_over(&rt, rt.alloc(), schedule, &streams, b"", 4)
 }

@@ -2,8 +2,8 @@
 
 ghost use Rattle.std.specs.Prelude.{None};
 
-use crate::run::{ROOM, check, replay};
-use mm_base::{Bytes, Failed, MemSink, MemSource, Source};
+use crate::run::{ROOM, check, replay, replay_over, sound};
+use mm_base::{Bytes, Failed, MemSink, Source};
 use std::alloc::Global;
 use std::process::Abort;
 use std::test::Fail;
@@ -77,10 +77,7 @@ fn a_line_without_an_end_is_not_read_to_it(rt: HostRuntime) -> Result<(), Fail> 
         again: b"aaaaaaaaaaaaaaaa",
         times: u64::MAX,
     };
-    let mut out = MemSink::new(rt.alloc(), ROOM, &[])?;
-    assert!(&rt; replay(rt.alloc(), &mut input, &mut out) == 14);
-    assert!(&rt; out.content() == b"stop long 2\n".as_slice());
-    Ok(())
+    check_events(&rt, rt.alloc(), &mut input, 1, b"stop long 2\n", 14)
 }
 
 // Replays so many events, and compares the exit status, the number of lines written and the last of them.
@@ -124,10 +121,11 @@ fn single_bytes_take_no_longer(rt: HostRuntime) -> Result<(), Fail> {
         schedule.append(b"power\n")?;
     }
     for piece in [1, 4096] {
-        let mut input = MemSource::in_pieces(rt.alloc(), schedule.as_slice(), &[], piece)?;
-        let mut out = MemSink::new(rt.alloc(), ROOM, &[])?;
-        assert!(&rt; replay(rt.alloc(), &mut input, &mut out) == 0);
-        assert!(&rt; out.content().ends_with(b"\nend 0 1\n"));
+        let mut streams = sound();
+        streams.piece = piece;
+        let told = replay_over(rt.alloc(), schedule.as_slice(), &streams)?;
+        assert!(&rt; told.code == 0);
+        assert!(&rt; told.written.as_slice().ends_with(b"\nend 0 1\n"));
     }
     Ok(())
 }

@@ -14,6 +14,50 @@ pub fn replay<S: Source, K: Sink>(alloc: Global, input: &mut S, out: &mut K) -> 
     memoir(alloc, &["replay"], input, out).code()
 }
 
+/// How an input is given and an output received.
+#[derive(Clone, Copy, Drop)]
+pub struct Streams<'a> {
+    /// The most bytes that a call of the input gives.
+    pub piece: usize,
+    /// The numbers of the input's calls that fail, from 1.
+    pub failing_reads: &'a [u64],
+    /// The bytes that the output has room for.
+    pub room: usize,
+    /// The numbers of the output's calls that fail.
+    pub failing_writes: &'a [u64],
+}
+
+/// Streams that give all at once, have room, and never fail.
+pub fn sound<'a>() -> Streams<'a> {
+    Streams {
+        piece: usize::MAX,
+        failing_reads: &[],
+        room: ROOM,
+        failing_writes: &[],
+    }
+}
+
+/// What a replay wrote, and the exit status.
+#[derive(Drop)]
+pub struct Replayed {
+    pub written: Bytes,
+    pub code: u8,
+}
+
+/// Replays a schedule over such streams.
+pub fn replay_over(
+    alloc: Global,
+    schedule: &[u8],
+    streams: &Streams<'_>,
+) -> Result<Replayed, Fail> {
+    let piece = streams.piece.max(1);
+    let mut input = MemSource::in_pieces(alloc, schedule, streams.failing_reads, piece)?;
+    let mut out = MemSink::new(alloc, streams.room, streams.failing_writes)?;
+    let code = replay(alloc, &mut input, &mut out);
+    let written = Bytes::copy_of(alloc, out.content())?;
+    Ok(Replayed { written, code })
+}
+
 /// Replays a schedule, and compares what is written and the exit status.
 pub fn check(
     rt: &impl Abort,
@@ -22,11 +66,21 @@ pub fn check(
     written: &[u8],
     code: u8,
 ) -> Result<(), Fail> {
-    let mut input = MemSource::new(alloc, schedule, &[])?;
-    let mut out = MemSink::new(alloc, ROOM, &[])?;
-    let status = replay(alloc, &mut input, &mut out);
-    assert!(rt; out.content() == written);
-    assert!(rt; status == code);
+    check_over(rt, alloc, schedule, &sound(), written, code)
+}
+
+/// The same over such streams.
+pub fn check_over(
+    rt: &impl Abort,
+    alloc: Global,
+    schedule: &[u8],
+    streams: &Streams<'_>,
+    written: &[u8],
+    code: u8,
+) -> Result<(), Fail> {
+    let told = replay_over(alloc, schedule, streams)?;
+    assert!(rt; told.written.as_slice() == written);
+    assert!(rt; told.code == code);
     Ok(())
 }
 
