@@ -12,16 +12,17 @@ use Rattle.mm_model.specs.Chains.{link, link_message, summary_of}
 use Rattle.mm_model.specs.Instance.{Instance, basic}
 use Rattle.mm_model.specs.History.{Entry, History, Move, Commit, Foreign, joined}
 use Rattle.mm_model.specs.Steps.{Step, Reads, Writes, ask_steps}
-use Rattle.mm_model.specs.Messages.{values_in}
+use Rattle.mm_model.specs.Messages.{IsClear, Within, values_in}
 use Rattle.mm_model.specs.Moves.{Digests}
 use Rattle.mm_model.specs.Places.{digest_of, IsPlaceOf, Names}
 use Rattle.mm_model.specs.declared.refusal.Refusal.{Refusal}
 use Rattle.mm_model.proofs.Lists.{each_append}
+use Rattle.mm_model.specs.Standing.{IsGenuine}
 use Rattle.mm_call.specs.Levels.{by_lists, by_digests, all_made, Agrees}
-use Rattle.mm_call.specs.Found.{Found, found_at, found_in, is_fresh}
+use Rattle.mm_call.specs.Found.{Found, found_at, found_in, is_fresh, right_content}
 use Rattle.mm_call.specs.Courses.{End, Done, Fails, Fate, Course, Walked, step_moves, after_step, walk}
-use Rattle.mm_call.specs.Called.{called_with}
-use Rattle.mm_call.specs.Asked.{IsPlain, IsWithin}
+use Rattle.mm_call.specs.Called.{called, called_with}
+use Rattle.mm_call.specs.Asked.{IsPlain, IsWithin, right_messages}
 use Rattle.mm_call.specs.Laws.{IsSameCall, BasicCallsAgree}
 use Rattle.mm_call.proofs.Moving.{IsBasicMove, agrees-made, plain-made, same_batches, more_batches}
 use Rattle.mm_call.proofs.Finding.{Holds, Asking, Placed, found_same, placed, right_of_found}
@@ -180,8 +181,19 @@ foreign_digest : (meaning : Meaning) (key : List ℕ) (values : List (List ℕ))
 foreign_digest meaning key [] d = refl
 foreign_digest meaning key (v ∷ values) d = foreign_digest meaning key values ((by_digests (basic meaning key)).made d (Foreign v))
 
-pub basic_calls_agree : BasicCallsAgree
-basic_calls_agree meaning key all others asked y d course offer b agrees a =
+-- what the law of Basic needs: nothing of the moves
+pub record IsBasicAsked (all others : List (List ℕ)) (asked : List Batch) (i : Instance) (y : History) (offer : List ℕ) (b : Batch) : Type 0 where
+  pub clear : IsClear all
+  pub within : IsWithin all others asked i y
+  pub is_asked : Contains asked b
+  pub genuine : IsGenuine i y offer
+  pub offered : Within (right_messages i b (right_content i offer)) all
+
+pub basic_same : (meaning : Meaning) (key : List ℕ) (all others : List (List ℕ)) (asked : List Batch) (y : History) (d : Digests) (course : Course) (offer : List ℕ) (b : Batch)
+    → Agrees (basic meaning key) y d → IsBasicAsked all others asked (basic meaning key) y offer b
+    → IsSameCall all others asked (basic meaning key) (called (basic meaning key) (by_lists (basic meaning key)) y course offer b)
+    (called (basic meaning key) (by_digests (basic meaning key)) d course offer b)
+basic_same meaning key all others asked y d course offer b agrees a =
     let i = basic meaning key in
     let values = (course.fates 1).brings in
     let moves : List Move = map Foreign values ++ [] in
@@ -228,3 +240,8 @@ basic_calls_agree meaning key all others asked y d course offer b agrees a =
     let P : Result Found Refusal → Type 0 = λ x. IsSameCall all others asked i
     (called_with i (by_lists i) y sees course b found) (called_with i (by_digests i) d seen course b x) in
     subst P (sym agree) (walked_same meaning key all others asked y sees d seen course b found starts)
+
+pub basic_calls_agree : BasicCallsAgree
+basic_calls_agree meaning key all others asked y d course offer b agrees a =
+    basic_same meaning key all others asked y d course offer b agrees
+    (record { clear = a.clear; within = a.within; is_asked = a.is_asked; genuine = a.genuine; offered = a.offered })

@@ -30,21 +30,24 @@ use Rattle.mm_call.proofs.BasicLaw.{AreBasic, basic-foreign, plain_outside}
 use Rattle.mm_call.proofs.OptLaw.{before, sight, sight_is, seen_holds, Counts, counts_open}
 
 -- the moves of a reading step alone are others' values
-read_moves : (values : List (List ℕ)) (ends : End) → (after_step Reads values ends finished).moves ≡ map Foreign values
+pub read_moves : (values : List (List ℕ)) (ends : End) → (after_step Reads values ends finished).moves ≡ map Foreign values
 read_moves values Done = append-nil (map Foreign values)
 read_moves values (Fails fault made) = refl
 
 -- Basic
 
-pub basic_checkpoints_agree : BasicCheckpointsAgree
-basic_checkpoints_agree meaning key all others asked y d c agrees a =
+pub basic_checkpoint_same : (meaning : Meaning) (key : List ℕ) (all others : List (List ℕ)) (asked : List Batch) (y : History) (d : Digests) (c : Course)
+    → Agrees (basic meaning key) y d → IsWithin all others asked (basic meaning key) y
+    → IsSameCheckpoint all others asked (basic meaning key) (checkpointed (basic meaning key) (by_lists (basic meaning key)) y c)
+    (checkpointed (basic meaning key) (by_digests (basic meaning key)) d c)
+basic_checkpoint_same meaning key all others asked y d c agrees within =
     let i = basic meaning key in
     let w : Walked = after_step Reads (c.fates 1).brings (c.fates 1).ends finished in
     let moves : w.moves ≡ map Foreign (c.fates 1).brings = read_moves (c.fates 1).brings (c.fates 1).ends in
     let are : AreBasic w.moves = subst AreBasic (sym moves) (basic-foreign (c.fates 1).brings) in
     let same = same_batches i w.moves y (ap committed_in moves ∙ committed-foreign (c.fates 1).brings) in
     let end : History = all_made (by_lists i) y w.moves in
-    let plain : IsPlain end = plain-made meaning key w.moves y are a.within.sound in record {
+    let plain : IsPlain end = plain-made meaning key w.moves y are within.sound in record {
       ending = refl;
       moves = refl;
       steps = refl;
@@ -53,10 +56,13 @@ basic_checkpoints_agree meaning key all others asked y d c agrees a =
       within = record {
         sound = plain;
         outside = plain_outside others end.closed end.is_open end.items plain.closed plain.shut;
-        listed = listed_same meaning key all y end a.within.listed same;
-        batches = subst (AllByRecursion (Contains asked)) (sym same) a.within.batches;
+        listed = listed_same meaning key all y end within.listed same;
+        batches = subst (AllByRecursion (Contains asked)) (sym same) within.batches;
       };
     }
+
+pub basic_checkpoints_agree : BasicCheckpointsAgree
+basic_checkpoints_agree meaning key all others asked y d c agrees a = basic_checkpoint_same meaning key all others asked y d c agrees a.within
 
 -- Opt
 

@@ -95,6 +95,7 @@ planned_done act old new plan at p g = (stays_done plan.stop new g.ends.is_on, p
 
 pub planned_broken : (act : Act) (old new : Standing) (fault : StepFault) (plan : Plan) (at : ℕ) → IsAt old plan at → Goes act old new (Some fault) → StaysOn plan.stop true new × IsSome new.plan
 planned_broken act old new fault plan at p g =
-    let told = g.told (record plan { at = at }) p.planned in
-    (stays_broken plan.stop (counted at) new (told.power ∙ ap (λ (on : Bool). will_be_on on (record plan { at = at })) p.is_on),
-    plan_kept act old new (Some fault) plan at p g)
+    let told = g.told (record plan { at = at }) p.planned in (
+      stays_broken plan.stop (counted at) new (told.power ∙ ap (λ (on : Bool). will_be_on on (record plan { at = at })) p.is_on),
+      plan_kept act old new (Some fault) plan at p g,
+    )

@@ -164,11 +164,11 @@ foreign_brings : (others : List (List ℕ)) (y : History) (flag : Bool) (v : Lis
 foreign_brings others y true v c = c
 foreign_brings others y false v c = c
 
-power_may : (i : Instance) (y : History) (flag : Bool) → IsAllowed Opt flag i y Power
+pub power_may : (i : Instance) (y : History) (flag : Bool) → IsAllowed Opt flag i y Power
 power_may i y true = tt
 power_may i y false = tt
 
-power_brings : (others : List (List ℕ)) (y : History) (flag : Bool) → Brings Opt flag others y Power
+pub power_brings : (others : List (List ℕ)) (y : History) (flag : Bool) → Brings Opt flag others y Power
 power_brings others y true = tt
 power_brings others y false = tt
 

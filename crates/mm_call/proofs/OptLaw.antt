@@ -63,7 +63,7 @@ messages_front i all xs ys y w =
 seen_split : (xs ys zs : List Move) → (xs ++ (ys ++ [])) ++ zs ≡ xs ++ (ys ++ zs)
 seen_split xs ys zs = append_assoc xs (ys ++ []) zs ∙ ap (λ v. xs ++ v) (append_assoc ys [] zs)
 
-reset_messages : (meaning : Meaning) (key barrier : List ℕ) (y : History) (flag : Bool) → moving_messages Opt flag (opt meaning key barrier) y Reset ≡ []
+pub reset_messages : (meaning : Meaning) (key barrier : List ℕ) (y : History) (flag : Bool) → moving_messages Opt flag (opt meaning key barrier) y Reset ≡ []
 reset_messages meaning key barrier y true = refl
 reset_messages meaning key barrier y false = refl
 

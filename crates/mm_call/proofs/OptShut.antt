@@ -100,7 +100,7 @@ reset_brings others y true = tt
 reset_brings others y false = tt
 
 -- the messages of a history with other items
-listed_bare : (meaning : Meaning) (key barrier : List ℕ) (all : List (List ℕ)) (y : History) → Within (history_messages (opt meaning key barrier) y) all
+pub listed_bare : (meaning : Meaning) (key barrier : List ℕ) (all : List (List ℕ)) (y : History) → Within (history_messages (opt meaning key barrier) y) all
     → Within (history_messages (opt meaning key barrier) (bare y)) all
 listed_bare meaning key barrier all y h =
     let l = listing_of meaning key barrier all y h in

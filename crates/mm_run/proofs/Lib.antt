@@ -1,1 +1,6 @@
 pub mod GoingOn
+pub mod Following
+pub mod BasicRuns
+pub mod OptRuns
+pub mod Running
+pub mod Counting

@@ -5,4 +5,4 @@
 
 mod laws;
 
-pub use laws::schedules_go_on;
+pub use laws::{basic_is_expected, expected_runs, opt_is_expected, schedules_go_on};

@@ -1,0 +1,328 @@
+-- What is expected is a run of the machine, in each variant.
+use Rattle.std.proofs.Common.{ℕ, ◌≡◌, ◌+◌, ◌-◌, Bool, true, false, ◌&&◌, List, [], ◌∷◌, ◌++◌, length, map, Option, None, Some, Result, Ok, Err, refl, sym, ap, ◌∙◌, subst, arith}
+use Rattle.std.specs.Prelude.{if◌then◌else◌, nat_eq}
+use Rattle.std.specs.Str.{bytes_eq}
+use Rattle.std.proofs.lemmas.Bool.{and_parts}
+use Rattle.mm_digest.specs.declared.variant.Variant.{Variant}
+use Rattle.mm_digest.specs.declared.variant.Variant.TheVariants.{Basic, Opt}
+use Rattle.mm_module.specs.Meaning.{Meaning, state_after, outputs_from}
+use Rattle.mm_module.specs.Batch.{Batch, members_of, size_of, normal}
+use Rattle.mm_module.proofs.BatchLaws.{members_of-normal}
+use Rattle.mm_module.proofs.RunLaws.{length-outputs_from}
+use Rattle.mm_seal.specs.declared.snapshot.PartsFault.{PartsFault}
+use Rattle.mm_seal.specs.declared.snapshot.PartsFault.TheVariants.{Form, Kind}
+use Rattle.mm_seal.specs.Snapshot.{Snapshot, tag_of}
+use Rattle.mm_seal.specs.Parts.{parts_of}
+use Rattle.mm_platform.specs.declared.fault.StepFault.{StepFault}
+use Rattle.mm_platform.specs.declared.plan.Meddle.{Meddle}
+use Rattle.mm_platform.specs.declared.plan.Stop.{Stop}
+use Rattle.mm_platform.specs.declared.plan.Stop.TheVariants.{Quiet, Cut, Drop, Fail}
+use Rattle.mm_model.specs.Instance.{Instance}
+use Rattle.mm_model.specs.History.{History, Move, Commit, Foreign, Placed, Reset, Close, Power as PowerMove, requests_of, total_of, first_history}
+use Rattle.mm_model.specs.Life.{Life, Live, Spoiled, Lost, life_of, is_lost}
+use Rattle.mm_model.specs.Judge.{is_last, judged, judge}
+use Rattle.mm_model.specs.Long.{is_long}
+use Rattle.mm_model.specs.Steps.{Step, Reads, Changes, Writes, ask_steps, checkpoint_steps}
+use Rattle.mm_model.specs.declared.answer.BatchAnswer.{BatchAnswer}
+use Rattle.mm_model.specs.declared.refusal.Refusal.{Refusal}
+use Rattle.mm_model.specs.declared.refusal.Refusal.TheVariants.{Lost as LostRefusal}
+use Rattle.mm_model.proofs.Batches.{EndsWith, is_last_tells}
+use Rattle.mm_call.specs.Order.{admitted, examined}
+use Rattle.mm_call.specs.Answers.{answer_on}
+use Rattle.mm_call.specs.Levels.{by_lists, all_made}
+use Rattle.mm_call.specs.Found.{Found, found_from, found_at, found_in, is_fresh}
+use Rattle.mm_call.specs.Courses.{End, Done, Fails, Fate, Course, Walked, made_move, step_moves, after_step, walk, seen_in, commits, closes}
+use Rattle.mm_call.specs.Called.{Ending, Answers, Refuses, Breaks, Called, reading_steps, kept_at, ended_by, called_with, called}
+use Rattle.mm_call.specs.Checkpoints.{Closing, Closes, HasNone, NoSegment, LostPower, Stops, Checkpointed, closing_of, closed_by, checkpointed_with}
+use Rattle.mm_call.proofs.Moving.{committed_in, same_batches, more_batches}
+use Rattle.mm_call.proofs.Walks.{Commits, nothing, batch, committed-append, commits-none, committed-foreign, foreign_first, basic_commits, opt_commits}
+use Rattle.mm_call.proofs.Walks as walks
+use Rattle.mm_call.proofs.Finding.{admitted_tells, weighed_tells, found_with_tells}
+use Rattle.mm_call.proofs.Calling.{requests-push, before_last, said_last}
+use Rattle.mm_call.proofs.Endings.{again_of, fresh_of}
+use Rattle.mm_call.proofs.BasicLaw.{unlacked}
+use Rattle.mm_schedule.specs.Events.{Event, Ask, Checkpoint, Power, Extend}
+use Rattle.mm_schedule.specs.Machine.{RunsOn, Repeats, RunsUntold, StepsOn, StaysOn, Steps, Runs}
+use Rattle.mm_schedule.specs.declared.reply.Way.{Way}
+use Rattle.mm_schedule.specs.declared.reply.Reply.{Reply}
+use Rattle.mm_schedule.specs.declared.reply.Reply.TheVariants.{Told, No, Kept, Nothing, Closed, Checkpointed as CheckpointedReply, Power as PowerReply, Extended}
+use Rattle.mm_run.specs.Offered.{offered_bytes}
+use Rattle.mm_run.specs.Folds.{Outcome, way_of, after_stop, course_of, reply_of, moves_then, outcome_by, asked, closing_reply, closing_then, closed_outcome, outcome_of, Followed, followed, first_issued}
+use Rattle.mm_run.specs.Laws.{ExpectedRuns}
+use Rattle.mm_model.proofs.MovedDigests.{total-push}
+
+-- a call commits nothing, or its batch
+pub asks : (variant : Variant) (fates : ℕ → Fate) (is_open fresh : Bool) (b : Batch)
+    → Commits b fresh (walk fates 1 (ask_steps variant is_open fresh b))
+asks Basic fates is_open fresh b = basic_commits fates is_open fresh b
+asks Opt fates is_open fresh b =
+    subst (λ s. Commits b fresh (walk fates 1 s)) (sym (walks.asks is_open fresh b)) (opt_commits fates is_open fresh b)
+
+-- no step commits
+abbrev pub CommitsNone : List Step → Type 0
+CommitsNone [] = Unit {0}
+CommitsNone (Reads ∷ steps) = CommitsNone steps
+CommitsNone (Changes m ∷ steps) = (committed_in (m ∷ []) ≡ []) × CommitsNone steps
+CommitsNone (Writes m ∷ steps) = (committed_in (m ∷ []) ≡ []) × CommitsNone steps
+
+made_none : (made : Bool) (m : Move) → committed_in (m ∷ []) ≡ [] → committed_in (made_move made m) ≡ []
+made_none true m e = e
+made_none false m e = refl
+
+none_then : (step : Step) (values : List (List ℕ)) (ends : End) (rest : Walked) → ((made : Bool) → committed_in (step_moves step made values) ≡ [])
+    → committed_in rest.moves ≡ [] → committed_in (after_step step values ends rest).moves ≡ []
+none_then step values Done rest e later =
+    committed-append (step_moves step true values) rest.moves ∙ ap (λ v. v ++ committed_in rest.moves) (e true) ∙ later
+none_then step values (Fails fault made) rest e later = e made
+
+walk_none : (fates : ℕ → Fate) (n : ℕ) (steps : List Step) → CommitsNone steps → committed_in (walk fates n steps).moves ≡ []
+walk_none fates n [] e = refl
+walk_none fates n (Reads ∷ steps) e =
+    none_then Reads (fates n).brings (fates n).ends (walk fates (n + 1) steps) (λ made. committed-foreign (fates n).brings) (walk_none fates (n + 1) steps e)
+walk_none fates n (Changes m ∷ steps) e =
+    none_then (Changes m) (fates n).brings (fates n).ends (walk fates (n + 1) steps)
+    (λ made. foreign_first (fates n).brings (made_move made m) ∙ made_none made m e.0) (walk_none fates (n + 1) steps e.1)
+walk_none fates n (Writes m ∷ steps) e =
+    none_then (Writes m) (fates n).brings (fates n).ends (walk fates (n + 1) steps)
+    (λ made. committed-append (made_move made m) (map Foreign (fates n).brings)
+    ∙ ap (λ v. v ++ committed_in (map Foreign (fates n).brings)) (made_none made m e.0) ∙ committed-foreign (fates n).brings) (walk_none fates (n + 1) steps e.1)
+
+-- what is seen at the last reading step is foreign values alone
+seen_none : (fates : ℕ → Fate) (steps : List Step) (n : ℕ) → committed_in (seen_in fates steps n) ≡ []
+seen_none fates [] n = refl
+seen_none fates (step ∷ steps) n = foreign_first (fates n).brings (seen_in fates steps (n + 1)) ∙ seen_none fates steps (n + 1)
+
+-- a repeat that is accepted is one of the last batch, whatever the life of the history
+repeat_admitted : (life : Life) (here repeat fits again : Bool) → admitted (judged life here repeat) fits ≡ Ok again → again ≡ true → repeat ≡ true
+repeat_admitted Live here repeat fits again e = (admitted_tells here repeat fits again e).1
+repeat_admitted Spoiled here repeat fits again e = λ _. cc
+repeat_admitted Lost here repeat fits again e = λ _. cc
+
+-- a repeat is asked of the last batch
+repeats_from : (i : Instance) (y : History) (b : Batch) (parts : Result Snapshot PartsFault) (found : Found)
+    → found_from i (by_lists i) y b parts ≡ Ok found → found.again ≡ true → EndsWith y.batches b
+repeats_from i y b (Err Form) found is again = cc
+repeats_from i y b (Err Kind) found is again = cc
+repeats_from i y b (Ok snapshot) found is again =
+    let t = found_with_tells snapshot.content (examined i.meaning i.key snapshot b (judge i.variant y snapshot.content.position b)) found is in
+    let w = weighed_tells (i.meaning.is_spelled snapshot.content.state) (bytes_eq snapshot.tag (tag_of i.key snapshot.content)) _ _ found.again t.1 in
+    let a = repeat_admitted (life_of i.variant y) (nat_eq snapshot.content.position (total_of y.batches))
+    (nat_eq (snapshot.content.position + size_of b) (total_of y.batches) && is_last y.batches b) _ found.again w.2 again in
+    is_last_tells y.batches b (and_parts (nat_eq (snapshot.content.position + size_of b) (total_of y.batches)) (is_last y.batches b) a).1
+
+-- where power was lost nothing is found
+found_unlost : (lost : Bool) (x : Result Found Refusal) (found : Found) → (if lost then Err LostRefusal else x) ≡ Ok found → x ≡ Ok found
+found_unlost true x found e = cc
+found_unlost false x found e = e
+
+repeats_at : (i : Instance) (y : History) (b : Batch) (bytes : List ℕ) (found : Found)
+    → found_at i (by_lists i) y b bytes ≡ Ok found → found.again ≡ true → EndsWith y.batches b
+repeats_at i y b bytes found is again =
+    repeats_from i y b (parts_of i.variant i.meaning.id bytes) found (found_unlost (is_lost (life_of i.variant y)) _ found is) again
+
+commits_batch : (moves : List Move) (b : Batch) → committed_in moves ≡ b ∷ [] → commits moves ≡ true
+commits_batch [] b e = cc
+commits_batch (Commit c ∷ moves) b e = refl
+commits_batch (Foreign v ∷ moves) b e = commits_batch moves b e
+commits_batch (Placed c ∷ moves) b e = commits_batch moves b e
+commits_batch (Reset ∷ moves) b e = commits_batch moves b e
+commits_batch (Close ∷ moves) b e = commits_batch moves b e
+commits_batch (PowerMove ∷ moves) b e = commits_batch moves b e
+
+-- the moves after a call that was broken off commit nothing
+stop_none : (i : Instance) (stop : Stop) (y : History) → (all_made (by_lists i) y (after_stop stop)).batches ≡ y.batches
+stop_none i Quiet y = refl
+stop_none i (Cut n) y = refl
+stop_none i (Drop n) y = refl
+stop_none i (Fail n done) y = refl
+
+then_none : (i : Instance) (stop : Stop) (ending : Ending) (y : History) → (all_made (by_lists i) y (moves_then stop ending)).batches ≡ y.batches
+then_none i stop (Answers answer) y = refl
+then_none i stop (Refuses why) y = refl
+then_none i stop (Breaks fault kept) y = stop_none i stop y
+
+-- what a call that was broken off says
+broken_steps : (meaning : Meaning) (requests after : List (List ℕ)) (b : Batch) (how : Way) (fault : StepFault) (committed : Bool) (position : ℕ)
+    → (committed ≡ false → after ≡ requests) → (committed ≡ true → RunsUntold requests b position after)
+    → StepsOn meaning requests b (reply_of how (Breaks fault (kept_at committed position))) after
+broken_steps meaning requests after b how fault true position same grown = grown refl
+broken_steps meaning requests after b how fault false position same grown = same refl
+
+told_steps : (meaning : Meaning) (requests after : List (List ℕ)) (b : Batch) (again : Bool) (before : ℕ) (outputs : List (List ℕ))
+    → (again ≡ false → RunsOn meaning requests b before outputs after) → (again ≡ true → Repeats meaning requests b before outputs after)
+    → StepsOn meaning requests b (Told again before outputs) after
+told_steps meaning requests after b true before outputs runs repeats = repeats refl
+told_steps meaning requests after b false before outputs runs repeats = runs refl
+
+-- the position before an answer's batch
+told_before : (meaning : Meaning) (batches named : List Batch) (b : Batch) (outputs : List (List ℕ)) → batches ≡ named ++ b ∷ []
+    → outputs ≡ outputs_from meaning (state_after meaning (requests_of named)) (members_of b)
+    → total_of batches - length outputs ≡ total_of named
+told_before meaning batches named b outputs e said =
+    let size : length outputs ≡ size_of b = ap length said ∙ length-outputs_from meaning (state_after meaning (requests_of named)) (members_of b) in
+    ap (λ n. total_of batches - n) size ∙ before_last batches named b e
+
+-- the answer by lists, read as the machine's
+told_new : (i : Instance) (y y' : History) (b : Batch) (again : Bool) → y'.batches ≡ y.batches ++ b ∷ []
+    → (let a : BatchAnswer = answer_on i y' b again in RunsOn i.meaning (requests_of y.batches) b (a.position - length a.outputs) a.outputs (requests_of y'.batches))
+told_new i y y' b again e =
+    let said = said_last i.meaning y'.batches y.batches b e in record {
+      position = told_before i.meaning y'.batches y.batches b _ e said;
+      said = said;
+      grown = ap requests_of e ∙ requests-push y.batches b;
+    }
+
+told_again : (i : Instance) (y y' : History) (b : Batch) (again : Bool) → y'.batches ≡ y.batches → EndsWith y.batches b
+    → (let a : BatchAnswer = answer_on i y' b again in Repeats i.meaning (requests_of y.batches) b (a.position - length a.outputs) a.outputs (requests_of y'.batches))
+told_again i y y' b again e ends =
+    let said = said_last i.meaning y'.batches ends.front b (e ∙ ends.is) in record {
+      earlier = requests_of ends.front;
+      ends = ap requests_of ends.is ∙ requests-push ends.front b;
+      position = told_before i.meaning y'.batches ends.front b _ (e ∙ ends.is) said;
+      said = said;
+      same = ap requests_of e;
+    }
+
+told_kept : (y y' : History) (b : Batch) → y'.batches ≡ y.batches ++ b ∷ []
+    → RunsUntold (requests_of y.batches) b (total_of y'.batches) (requests_of y'.batches)
+told_kept y y' b e = record { grown = ap requests_of e ∙ requests-push y.batches b; told = refl }
+
+ended_steps : (i : Instance) (y seen : History) (how : Way) (b : Batch)
+    (walked : Walked) (broken : Option StepFault) (found : Result Found Refusal) → walked.broken ≡ broken
+    → Commits b (is_fresh found) walked → ((f : Found) → found ≡ Ok f → f.again ≡ true → EndsWith y.batches b)
+    → (let end : History = all_made (by_lists i) y walked.moves in
+    StepsOn i.meaning (requests_of y.batches) b (reply_of how (ended_by (by_lists i) seen end b found walked.moves broken)) (requests_of end.batches))
+ended_steps i y seen how b walked (Some fault) (Err why) e (nothing none unless) repeat =
+    broken_steps i.meaning _ _ b how fault (commits walked.moves) 0
+    (λ x. ap requests_of (same_batches i walked.moves y none))
+    (λ x. let clash = sym (commits-none walked.moves none) ∙ x in cc)
+ended_steps i y seen how b walked None (Err why) e (nothing none unless) repeat =
+    ap requests_of (same_batches i walked.moves y none)
+ended_steps i y seen how b walked (Some fault) (Ok f) e (nothing none unless) repeat =
+    broken_steps i.meaning _ _ b how fault (commits walked.moves) _
+    (λ x. ap requests_of (same_batches i walked.moves y none))
+    (λ x. let clash = sym (commits-none walked.moves none) ∙ x in cc)
+ended_steps i y seen how b walked (Some fault) (Ok f) e (batch one fresh) repeat =
+    broken_steps i.meaning _ _ b how fault (commits walked.moves) _
+    (λ x. let clash = sym (commits_batch walked.moves b one) ∙ x in cc)
+    (λ x. told_kept y (all_made (by_lists i) y walked.moves) b (more_batches i walked.moves y b one))
+ended_steps i y seen how b walked None (Ok f) e (nothing none unless) repeat =
+    let again = again_of f.again (unless e) in
+    told_steps i.meaning _ _ b f.again _ _ (λ x. let clash = sym again ∙ x in cc)
+    (λ x. told_again i y (all_made (by_lists i) y walked.moves) b f.again (same_batches i walked.moves y none) (repeat f refl again))
+ended_steps i y seen how b walked None (Ok f) e (batch one fresh) repeat =
+    told_steps i.meaning _ _ b f.again _ _
+    (λ x. told_new i y (all_made (by_lists i) y walked.moves) b f.again (more_batches i walked.moves y b one))
+    (λ x. let clash = sym (fresh_of f.again fresh) ∙ x in cc)
+ended_steps i y seen how b walked broken (Err why) e (batch one fresh) repeat = cc
+
+called_steps : (i : Instance) (y : History) (issued : List (List ℕ)) (meddles : List Meddle) (stop : Stop) (bytes : List ℕ) (b : Batch)
+    → (let o : Outcome History = outcome_by (by_lists i) stop issued (called i (by_lists i) y (course_of stop meddles) bytes b) in
+    StepsOn i.meaning (requests_of y.batches) b o.reply (requests_of o.state.batches))
+called_steps i y issued meddles stop bytes b =
+    let c : Course = course_of stop meddles in
+    let moves : List Move = seen_in c.fates (reading_steps i.variant) 1 in
+    let seen : History = all_made (by_lists i) y moves in
+    let same : seen.batches ≡ y.batches = same_batches i moves y (seen_none c.fates (reading_steps i.variant) 1) in
+    let lists : Result Found Refusal = found_at i (by_lists i) seen b bytes in
+    let found : Result Found Refusal = found_in lists c.lacks in
+    let walked : Walked = walk c.fates 1 (ask_steps i.variant y.is_open (is_fresh found) b) in
+    let o : Called History = called i (by_lists i) y c bytes b in
+    let P : List Batch → Type 0 = λ v. EndsWith v b in
+    let S : List (List ℕ) → Type 0 = λ after. StepsOn i.meaning (requests_of y.batches) b (reply_of (way_of stop) o.ending) after in
+    subst S (ap requests_of (sym (then_none i stop o.ending o.state)))
+    (ended_steps i y seen (way_of stop) b walked walked.broken found refl
+    (asks i.variant c.fates y.is_open (is_fresh found) b)
+    (λ f is again. subst P same (repeats_at i seen b bytes f (unlacked lists c.lacks f is) again)))
+
+-- a step depends on the requests of its batch alone
+members_steps : (meaning : Meaning) (requests after : List (List ℕ)) (b c : Batch) (said : Reply) → members_of b ≡ members_of c
+    → StepsOn meaning requests b said after → StepsOn meaning requests c said after
+members_steps meaning requests after b c (Told true before outputs) e s = record {
+  earlier = s.earlier;
+  ends = s.ends ∙ ap (λ v. s.earlier ++ v) e;
+  position = s.position;
+  said = s.said ∙ ap (λ v. outputs_from meaning (state_after meaning s.earlier) v) e;
+  same = s.same;
+}
+members_steps meaning requests after b c (Told false before outputs) e s = record {
+  position = s.position;
+  said = s.said ∙ ap (λ v. outputs_from meaning (state_after meaning requests) v) e;
+  grown = s.grown ∙ ap (λ v. requests ++ v) e;
+}
+members_steps meaning requests after b c (Kept way position) e s = record { grown = s.grown ∙ ap (λ v. requests ++ v) e; told = s.told }
+members_steps meaning requests after b c (No why) e s = s
+members_steps meaning requests after b c (Nothing way) e s = s
+members_steps meaning requests after b c (Closed way) e s = s
+members_steps meaning requests after b c CheckpointedReply e s = s
+members_steps meaning requests after b c PowerReply e s = s
+members_steps meaning requests after b c Extended e s = s
+
+if_steps : (meaning : Meaning) (requests : List (List ℕ)) (b : Batch) (long : Bool) (x y : Outcome History)
+    → StepsOn meaning requests b x.reply (requests_of x.state.batches) → StepsOn meaning requests b y.reply (requests_of y.state.batches)
+    → (let o : Outcome History = (if long then x else y) in StepsOn meaning requests b o.reply (requests_of o.state.batches))
+if_steps meaning requests b true x y p q = p
+if_steps meaning requests b false x y p q = q
+
+asked_steps : (i : Instance) (y : History) (issued : List (List ℕ)) (meddles : List Meddle) (stop : Stop) (bytes : Option (List ℕ)) (b : Batch)
+    → (let o : Outcome History = asked i (by_lists i) y issued meddles stop bytes b in
+    StepsOn i.meaning (requests_of y.batches) b o.reply (requests_of o.state.batches))
+asked_steps i y issued meddles stop None b = refl
+asked_steps i y issued meddles stop (Some bytes) b =
+    if_steps i.meaning (requests_of y.batches) b (is_long b) _ _ refl
+    (members_steps i.meaning _ _ (normal b) b _ (members_of-normal b) (called_steps i y issued meddles stop bytes (normal b)))
+
+-- the steps of a checkpoint commit nothing
+checkpoint_commits : (variant : Variant) (is_open is_lost : Bool) → CommitsNone (checkpoint_steps variant is_open is_lost)
+checkpoint_commits Basic is_open is_lost = tt
+checkpoint_commits Opt false is_lost = tt
+checkpoint_commits Opt true true = tt
+checkpoint_commits Opt true false = (refl, tt)
+
+pub checkpoint_none : (variant : Variant) (is_open is_lost : Bool) (fates : ℕ → Fate)
+    → committed_in (walk fates 1 (checkpoint_steps variant is_open is_lost)).moves ≡ []
+checkpoint_none variant is_open is_lost fates = walk_none fates 1 _ (checkpoint_commits variant is_open is_lost)
+
+-- what a checkpoint says tells no request
+closing_stays : (how : Way) (closing : Closing) (requests after : List (List ℕ)) → after ≡ requests → StaysOn requests (closing_reply how closing) after
+closing_stays how Closes requests after e = e
+closing_stays how HasNone requests after e = e
+closing_stays how NoSegment requests after e = e
+closing_stays how LostPower requests after e = e
+closing_stays how (Stops fault true) requests after e = e
+closing_stays how (Stops fault false) requests after e = e
+
+closing_none : (i : Instance) (stop : Stop) (closing : Closing) (y : History) → (all_made (by_lists i) y (closing_then stop closing)).batches ≡ y.batches
+closing_none i stop Closes y = refl
+closing_none i stop HasNone y = refl
+closing_none i stop NoSegment y = refl
+closing_none i stop LostPower y = refl
+closing_none i stop (Stops fault closed) y = stop_none i stop y
+
+checkpointed_steps : (i : Instance) (y : History) (issued : List (List ℕ)) (meddles : List Meddle) (stop : Stop) (is_lost : Bool)
+    → (let o : Outcome History = closed_outcome (by_lists i) stop issued (checkpointed_with i (by_lists i) y (course_of stop meddles) is_lost) in
+    StaysOn (requests_of y.batches) o.reply (requests_of o.state.batches))
+checkpointed_steps i y issued meddles stop is_lost =
+    let c : Course = course_of stop meddles in
+    let o : Checkpointed History = checkpointed_with i (by_lists i) y c is_lost in
+    closing_stays (way_of stop) o.ending _ _
+    (ap requests_of (closing_none i stop o.ending o.state ∙ same_batches i o.moves y (checkpoint_none i.variant y.is_open is_lost c.fates)))
+
+event_steps : (i : Instance) (y : History) (issued : List (List ℕ)) (event : Event)
+    → (let o : Outcome History = outcome_of i (by_lists i) y issued event in
+    Steps i.meaning (requests_of y.batches) event o.reply (requests_of o.state.batches))
+event_steps i y issued (Ask meddles stop offer b) = asked_steps i y issued meddles stop (offered_bytes issued offer) b
+event_steps i y issued (Checkpoint meddles stop) = checkpointed_steps i y issued meddles stop _
+event_steps i y issued Power = refl
+event_steps i y issued (Extend value) = refl
+
+pub runs : (i : Instance) (events : List Event) (y : History) (issued : List (List ℕ))
+    → (let f : Followed History = followed i (by_lists i) y issued events in
+    Runs i.meaning (requests_of y.batches) events f.replies (requests_of f.state.batches))
+runs i [] y issued = refl
+runs i (event ∷ events) y issued =
+    let o : Outcome History = outcome_of i (by_lists i) y issued event in
+    (requests_of o.state.batches, event_steps i y issued event, runs i events o.state o.issued)
+
+pub expected_runs : ExpectedRuns
+expected_runs i events = runs i events first_history (first_issued i)
