@@ -1,4 +1,4 @@
-use Rattle.mm_app.proofs.command.refused.Goals as goal
+use Rattle.mm_app.proofs.command.stopped.Goals as goal
 
 pub returns-clause-told : goal.returns-clause-told
 returns-clause-told g c = record {

@@ -1,0 +1,34 @@
+//! Schedules that the program makes itself.
+
+use crate::run::{ROOM, replay};
+use mm_app::{Status, memoir};
+use mm_base::{MemSink, MemSource};
+use std::test::Fail;
+
+#[test]
+fn a_generated_schedule_is_replayed_to_its_end(rt: HostRuntime) -> Result<(), Fail> {
+    for module in ["counter", "limiter", "quota", "ledger"] {
+        let mut nothing = MemSource::new(rt.alloc(), &[], &[])?;
+        let mut schedule = MemSink::new(rt.alloc(), ROOM, &[])?;
+        let words = ["gen", "7", "60", "basic", module];
+        let status = memoir(rt.alloc(), words.as_slice(), &mut nothing, &mut schedule);
+        assert_eq!(rt; status, Status::Done);
+        let mut input = MemSource::new(rt.alloc(), schedule.content(), &[])?;
+        let mut out = MemSink::new(rt.alloc(), ROOM, &[])?;
+        assert_eq!(rt; replay(rt.alloc(), &mut input, &mut out), 0);
+    }
+    Ok(())
+}
+
+#[test]
+fn help_alone_lists_the_forms(rt: HostRuntime) -> Result<(), Fail> {
+    let mut nothing = MemSource::new(rt.alloc(), &[], &[])?;
+    let mut out = MemSink::new(rt.alloc(), ROOM, &[])?;
+    let status = memoir(rt.alloc(), ["--help"].as_slice(), &mut nothing, &mut out);
+    assert_eq!(rt; status, Status::Done);
+    assert!(rt;
+        out.content()
+            .ends_with(b"\nMODULE is counter, limiter, quota or ledger\n")
+    );
+    Ok(())
+}
