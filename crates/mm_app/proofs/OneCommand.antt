@@ -6,10 +6,6 @@ use Rattle.std.specs.Option.{option_map_or}
 use Rattle.std.specs.Str.{bytes_eq}
 use Rattle.mm_base.specs.Decimals.{number_of}
 use Rattle.mm_base.proofs.DecimalLemmas.{read_by_spelling}
-use Rattle.mm_digest.specs.declared.variant.Variant.{Variant}
-use Rattle.mm_digest.specs.declared.variant.Variant.TheVariants.{Basic, Opt}
-use Rattle.mm_modules.specs.declared.any.AnyModule.{AnyModule}
-use Rattle.mm_modules.specs.declared.any.AnyModule.TheVariants.{Counter, Limiter, Quota, Ledger}
 use Rattle.mm_modules.specs.Modules.{module_named, name_of}
 use Rattle.mm_schedule.specs.Headers.{variant_at, variant_text}
 use Rattle.mm_schedule.specs.Words.{◌>>=◌}
@@ -17,6 +13,7 @@ use Rattle.mm_words.specs.Commands.{IsAllowed, IsGenerated, Spells, words_of}
 use Rattle.mm_words.specs.declared.command.Command.{Command}
 use Rattle.mm_words.specs.declared.command.Command.TheVariants.{Replay, Check, Gen, Bulk, Help}
 use Rattle.mm_words.specs.declared.command.Generated.{Generated}
+use Rattle.mm_words.proofs.Matched.{name-read, variant-read}
 
 abbrev generated_by : List ℕ → List ℕ → List ℕ → List ℕ → Option Generated
 generated_by n c v m =
@@ -32,16 +29,6 @@ command_by (w ∷ n ∷ c ∷ []) = None
 command_by (w ∷ n ∷ c ∷ v ∷ []) = None
 command_by (w ∷ n ∷ c ∷ v ∷ m ∷ rest) =
     if bytes_eq w (codes "gen") then (generated_by n c v m >>= λ it. Some (Gen it)) else (generated_by n c v m >>= λ it. Some (Bulk it))
-
-variant-read : (variant : Variant) → variant_at (variant_text variant) ≡ Some variant
-variant-read Basic = refl
-variant-read Opt = refl
-
-name-read : (it : AnyModule) → module_named (name_of it) ≡ Some it
-name-read Counter = refl
-name-read Limiter = refl
-name-read Quota = refl
-name-read Ledger = refl
 
 generated_again : (it : Generated) → IsGenerated it
     → generated_by (decimal it.number) (decimal it.count) (variant_text it.header.variant) (name_of it.header.module) ≡ Some it

@@ -48,11 +48,11 @@ is_taken (Bulk it) allowed matched =
     (number_plain it allowed) (count_plain it allowed) (variant_plain it) (name_plain it)
 is_taken Help allowed matched = absurd matched
 
-variant-read : (variant : Variant) → variant_at (variant_text variant) ≡ Some variant
+pub variant-read : (variant : Variant) → variant_at (variant_text variant) ≡ Some variant
 variant-read Basic = refl
 variant-read Opt = refl
 
-name-read : (it : AnyModule) → module_named (name_of it) ≡ Some it
+pub name-read : (it : AnyModule) → module_named (name_of it) ≡ Some it
 name-read Counter = refl
 name-read Limiter = refl
 name-read Quota = refl
