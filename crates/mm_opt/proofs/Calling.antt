@@ -22,7 +22,7 @@ use Rattle.mm_call.proofs.OptLaw.{opt_calls_agree}
 use Rattle.mm_opt.specs.Asks.{Asks, Calls}
 use Rattle.mm_opt.proofs.Going.{course_of, tells, goes}
 
-calls_by : (meaning : Meaning) (old new : Standing) (offer : List ℕ) (b : Batch) (result : Result BatchAnswer Refusal) → Asks meaning old new offer b result → CallsOn Opt meaning old new offer b result
+abbrev pub calls_by : (meaning : Meaning) (old new : Standing) (offer : List ℕ) (b : Batch) (result : Result BatchAnswer Refusal) → Asks meaning old new offer b result → CallsOn Opt meaning old new offer b result
 calls_by meaning old new offer b result a =
     let course : Course = course_of a.reads.cell a.found meaning old a.reads.middle a.middle new offer b result a.reads.reads a.reads.on a.ends in
     let by = λ (key barrier : List ℕ) (d : Digests) (s : StandsAt (opt meaning key barrier) old d).

@@ -142,12 +142,12 @@ asks_none true b = refl
 asks_none false b = refl
 
 -- the steps that come after the reading ones
-abbrev changing : Bool → Bool → Batch → List Step
+abbrev pub changing : Bool → Bool → Batch → List Step
 changing flag false b = []
 changing true true b = Changes (Commit b) ∷ []
 changing false true b = Changes Reset ∷ Changes (Placed b) ∷ Writes (Commit b) ∷ []
 
-asks : (flag fresh : Bool) (b : Batch) → ask_steps Opt flag fresh b ≡ Reads ∷ Reads ∷ changing flag fresh b
+pub asks : (flag fresh : Bool) (b : Batch) → ask_steps Opt flag fresh b ≡ Reads ∷ Reads ∷ changing flag fresh b
 asks true true b = refl
 asks true false b = refl
 asks false true b = refl
@@ -436,11 +436,11 @@ emptied_given (Err fault) opening old middle new written x on = subst (λ (w : R
 emptied_given (Ok it) opening old middle new written x on =
     subst (λ (o : Opening). GivenBy o.answer written) x.gives (placed_given on.placed it middle on.middle new written on.places on.on)
 
-changing_inside : (flag : Bool) (b : Batch) → flag ≡ true → changing flag true b ≡ Changes (Commit b) ∷ []
+pub changing_inside : (flag : Bool) (b : Batch) → flag ≡ true → changing flag true b ≡ Changes (Commit b) ∷ []
 changing_inside true b e = refl
 changing_inside false b e = absurd (cc)
 
-changing_opens : (flag : Bool) (b : Batch) → flag ≡ false → changing flag true b ≡ Changes Reset ∷ Changes (Placed b) ∷ Writes (Commit b) ∷ []
+pub changing_opens : (flag : Bool) (b : Batch) → flag ≡ false → changing flag true b ≡ Changes Reset ∷ Changes (Placed b) ∷ Writes (Commit b) ∷ []
 changing_opens true b e = absurd (cc)
 changing_opens false b e = refl
 
@@ -479,7 +479,7 @@ goes_accepted (Opens opening) meaning key barrier d seen f g plan b x old first 
     (emptied_given c.emptied opening second c.middle new written c.empties c.on) is
 
 -- what the second step reads, where the first was made on these digests
-second_found : (meaning : Meaning) (key barrier : List ℕ) (d : Digests) (cell : Cell) (old first second : Standing) (offer : List ℕ) (b : Batch) (found : Result Found Refusal) → StandsAt (opt meaning key barrier) old d → (r : ReadsCell meaning.id old first (Ok cell)) → (on : ReadsRegister meaning cell first second offer b found) → fault_in found ≡ None
+pub second_found : (meaning : Meaning) (key barrier : List ℕ) (d : Digests) (cell : Cell) (old first second : Standing) (offer : List ℕ) (b : Batch) (found : Result Found Refusal) → StandsAt (opt meaning key barrier) old d → (r : ReadsCell meaning.id old first (Ok cell)) → (on : ReadsRegister meaning cell first second offer b found) → fault_in found ≡ None
     → AsFound (opt meaning key barrier) (all_made (by_digests (opt meaning key barrier)) (all_made (by_digests (opt meaning key barrier)) d (map Foreign r.goes.others)) (map Foreign on.goes.others)) (normal b)
     (accepted_in (accepted_at (opt meaning key barrier) (by_digests (opt meaning key barrier)) (all_made (by_digests (opt meaning key barrier)) (all_made (by_digests (opt meaning key barrier)) d (map Foreign r.goes.others)) (map Foreign on.goes.others)) (normal b) offer) (lacks_in found)) found
 second_found meaning key barrier d cell old first second offer b found s r on quiet =

@@ -12,3 +12,4 @@ pub mod Accepting
 pub mod Going
 pub mod Calling
 pub mod Checking
+pub mod Finishing

@@ -9,3 +9,4 @@ pub mod CheckpointTurns
 pub mod TurnsOn
 pub mod ChecksOn
 pub mod CheckpointTurnsOn
+pub mod Finishes

@@ -5,9 +5,11 @@ ghost use Rattle.mm_module.specs.Batches.{batch_of};
 ghost use Rattle.mm_model.specs.Long.{is_long};
 ghost use Rattle.mm_opt.specs.declared.stage.Stage.TheVariants.{Begun, Changing};
 
+use crate::finish::{ask, extend_last, open, place_on, see, write_last};
 use crate::found::{Found, Opening};
 use crate::stage::{Change, Stage};
 use crate::step::{empty, extend, place, read_cell, read_register, write};
+use mm_call::Ended;
 use mm_model::{BatchAnswer, Refusal};
 use mm_module::{Batch, Module};
 use mm_platform::{Platform, StepFault};
@@ -61,6 +63,10 @@ impl Call {
     ghost use Rattle.mm_opt.specs.Turns.{Turns, ActsAt, TurnMayGoOn, position_of, fault_turned};
     ghost use Rattle.mm_call.specs.Leaving.{Blames};
     ghost use Rattle.mm_opt.specs.TurnsOn.{TurnsOn};
+    ghost use Rattle.mm_opt.specs.Finishes.{Finishes};
+    ghost use Rattle.mm_call.specs.Ended.{result_of, CallsTo};
+    ghost use Rattle.mm_call.specs.Refusals.{fault_in};
+    ghost use Rattle.mm_digest.specs.declared.variant.Variant.TheVariants.{Opt};
 
     /// The number of the next device step, from 1.
     pub fn next_step(&self) -> u8
@@ -109,6 +115,46 @@ impl Call {
         self.turn(alloc, module, platform, offer, batch)
     }
 
+    /// Moves the call to its end: what `advance` does, over and over. After the reading steps it has no allocator.
+    pub fn finish<M: Module, P: Platform>(
+        self,
+        alloc: Global,
+        module: &M,
+        platform: &mut P,
+        offer: &[u8],
+        batch: Batch<'_>,
+    ) -> Ended
+        requires short { is_long (batch_of batch) ≡ false }
+        requires room { MayGoOn self (P.standing platform.old) }
+        ensures finishes { Finishes (M.meaning «module».now) self (P.standing platform.old) (P.standing platform.new) offer.now
+            (batch_of batch.entry) result }
+        ensures ends { self ≡ Begun → CallsTo Opt (M.meaning «module».now) (P.standing platform.old) (P.standing platform.new)
+            offer.now (batch_of batch.entry) result }
+        ensures faults { Blames (fault_in (result_of result)) (P.standing platform.old).faults (P.standing platform.new).faults }
+    {
+        self.end(alloc, module, platform, offer, batch)
+    }
+
+    fn end<M: Module, P: Platform>(
+        self,
+        alloc: Global,
+        module: &M,
+        platform: &mut P,
+        offer: &[u8],
+        batch: Batch<'_>,
+    ) -> Ended
+        requires short { is_long (batch_of batch) ≡ false }
+        requires room { MayGoOn self (P.standing platform.old) }
+        ensures { Finishes (M.meaning «module».now) self (P.standing platform.old) (P.standing platform.new) offer.now
+            (batch_of batch.entry) result }
+    {
+        match self.stage {
+            Stage::Begun => ask(alloc, module, platform, offer, batch),
+            Stage::Seen(cell) => see(alloc, module, &cell, platform, offer, batch),
+            Stage::Changing(change) => change.end(platform),
+        }
+    }
+
     fn turn<M: Module, P: Platform>(
         self,
         alloc: Global,
@@ -136,6 +182,7 @@ impl Change {
     ghost use Rattle.std.specs.Prelude.{◌≡◌};
     ghost use Rattle.mm_opt.specs.Steps.{number_in, MayChange};
     ghost use Rattle.mm_opt.specs.Turns.{position_in, Changes};
+    ghost use Rattle.mm_opt.specs.Finishes.{ChangesTo};
 
     // The number of the device step.
     fn number(&self) -> u8
@@ -158,6 +205,19 @@ impl Change {
             Change::Emptying(opening) => opening.answer.position,
             Change::Placing(opening) => opening.answer.position,
             Change::Writing(opening) => opening.answer.position,
+        }
+    }
+
+    // Makes this step and those after it. It is handed no allocator, so it asks for no memory.
+    fn end<P: Platform>(self, platform: &mut P) -> Ended
+        requires { MayChange self (P.standing platform.old) }
+        ensures { ChangesTo self (P.standing platform.old) (P.standing platform.new) result }
+    {
+        match self {
+            Change::Inside(ready) => extend_last(ready, platform),
+            Change::Emptying(opening) => open(opening, platform),
+            Change::Placing(opening) => place_on(opening, platform),
+            Change::Writing(opening) => write_last(opening, platform),
         }
     }
 

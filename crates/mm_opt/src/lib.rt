@@ -5,6 +5,7 @@
 mod call;
 mod closing;
 mod find;
+mod finish;
 mod first;
 mod found;
 mod segment;
@@ -16,7 +17,7 @@ mod whole;
 pub use call::{Call, Turn, begin};
 pub use closing::{CheckpointCall, CheckpointTurn, begin_checkpoint, checkpoint};
 pub use first::provision;
-pub use mm_call::Provisioned;
+pub use mm_call::{Ended, Provisioned};
 pub use segment::{CheckpointRefusal, Checkpointed};
 pub use whole::{Committed, Prepared, ask, ask_batch, prepare};
 

@@ -94,8 +94,8 @@ fn prepare_batch<M: Module, P: Platform>(
     }
 }
 
-// Makes the reading steps.
-fn read<M: Module, P: Platform>(
+/// Makes the reading steps.
+pub fn read<M: Module, P: Platform>(
     alloc: Global,
     module: &M,
     platform: &mut P,
