@@ -1,0 +1,4 @@
+pub mod Calls
+pub mod Again
+pub mod Twice
+pub mod Asking

@@ -1,0 +1,47 @@
+//! Callers of Basic.
+
+ghost use Rattle.std.specs.Prelude.{◌≡◌};
+ghost use Rattle.mm_callers.specs.Basic.{AsksAgain, AsksTwice};
+
+use mm_basic::ask;
+use mm_model::{Answer, Refusal};
+use mm_module::Module;
+use mm_platform::Platform;
+use std::alloc::Global;
+
+/// Asks for a request, offering a snapshot; and once more, offering the same one, where a device's step failed, at
+/// whatever step that was and whether or not it had its effect. The request is committed once.
+pub fn ask_again<M: Module, P: Platform>(
+    alloc: Global,
+    module: &M,
+    platform: &mut P,
+    offer: &[u8],
+    request: &[u8],
+) -> Result<Answer, Refusal>
+    ensures { AsksAgain (M.meaning «module».now) (P.standing platform.old) (P.standing platform.new)
+        offer.now request.now result }
+{
+    match ask(alloc, module, platform, offer, request) {
+        Ok(answer) => Ok(answer),
+        Err(Refusal::Device(_)) => ask(alloc, module, platform, offer, request),
+        Err(refusal) => Err(refusal),
+    }
+}
+
+/// Asks for two requests, the second on the snapshot of the first answer. The second is always a new one.
+pub fn ask_twice<M: Module, P: Platform>(
+    alloc: Global,
+    module: &M,
+    platform: &mut P,
+    offer: &[u8],
+    first: &[u8],
+    second: &[u8],
+) -> Result<Answer, Refusal>
+    ensures { AsksTwice (M.meaning «module».now) (P.standing platform.old) (P.standing platform.new)
+        offer.now first.now second.now result }
+{
+    match ask(alloc, module, platform, offer, first) {
+        Err(refusal) => Err(refusal),
+        Ok(answer) => ask(alloc, module, platform, answer.snapshot.as_slice(), second),
+    }
+}

@@ -1,0 +1,10 @@
+//! Callers of the cores, proved over any platform, that show what the theorem of a call is good for: each knows its
+//! history, its requests and the answers that it gets, and no plan, no course and no digest.
+#![tactic(auto)]
+
+mod basic;
+
+pub use basic::{ask_again, ask_twice};
+
+#[cfg(test)]
+mod tests;
