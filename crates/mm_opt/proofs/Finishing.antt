@@ -42,7 +42,7 @@ use Rattle.mm_opt.specs.declared.stage.Stage.TheVariants as stage
 use Rattle.mm_opt.specs.declared.stage.Change.{Change}
 use Rattle.mm_opt.specs.declared.stage.Change.TheVariants as change
 use Rattle.mm_opt.specs.Steps.{ReadsCell, ReadsRegister, MakesRoom, Extends, Empties, Places, Writes as WritesCell}
-use Rattle.mm_opt.specs.Asks.{ReadsOn, PlacedOn, EmptiedOn, Ends, Asks, Calls}
+use Rattle.mm_opt.specs.Asks.{ReadsOn, PlacedOn, EmptiedOn, CommitsFound, Ends, Asks, Calls}
 use Rattle.mm_opt.specs.TurnsOn.{Accepts}
 use Rattle.mm_opt.specs.Finishes.{ExtendsTo, WritesTo, PlacedTo, PlacesTo, EmptiedTo, OpensTo, EndsTo, AsksTo, SeesTo, ChangesTo, Finishes}
 use Rattle.mm_opt.proofs.Acting.{room_only}
@@ -495,3 +495,33 @@ finish_blamed stage.Begun meaning old new offer b ended a =
     first_blamed a.reads.cell a.found meaning old a.reads.middle a.middle new offer b ended a.reads.reads a.reads.on a.ends
 finish_blamed (stage.Seen cell) meaning old new offer b ended a = second_blamed a.found cell meaning old a.middle new offer b ended a.reads a.ends
 finish_blamed (stage.Changing it) meaning old new offer b ended a = changes_blamed it old new ended a
+
+-- What a call that was prepared comes to
+
+handed_same : (w v : Result BatchAnswer StepFault) → handed_on w ≡ handed_on v → w ≡ v
+handed_same (Ok answer) (Ok other) e = cc
+handed_same (Ok answer) (Err fault) e = absurd (cc)
+handed_same (Err fault) (Ok answer) e = absurd (cc)
+handed_same (Err fault) (Err actual) e = let same : fault ≡ actual = cc in ap (λ (f : StepFault). Err f) same
+
+pub commits_as : (found : Found) (old new : Standing) (ended : Ended) (written : Result BatchAnswer StepFault) → EndsTo (Ok found) old new ended → result_of ended ≡ handed_on written → CommitsFound found old new written
+commits_as found old new ended written e is =
+    let c = ends_from (Ok found) old new ended e in
+    subst (λ (w : Result BatchAnswer StepFault). CommitsFound found old new w) (handed_same c.written written (sym c.gives ∙ is)) c.commits
+
+committed_refused : (written : Result BatchAnswer StepFault) (position : Option ℕ) (why : Refusal) → Refused why ≡ committed_as position written → ⊥
+committed_refused (Ok answer) position why e = cc
+committed_refused (Err fault) position why e = cc
+
+placed_refused : (placed : Result Opening StepFault) (old new : Standing) (why : Refusal) → PlacedTo placed old new (Refused why) → ⊥
+placed_refused (Err fault) old new why p = let e : Refused why ≡ Broken fault None = p.1 in cc
+placed_refused (Ok it) old new why p = committed_refused p.written (Some it.answer.position) why p.gives
+
+emptied_refused : (emptied : Result Opening StepFault) (old new : Standing) (why : Refusal) → EmptiedTo emptied old new (Refused why) → ⊥
+emptied_refused (Err fault) old new why p = let e : Refused why ≡ Broken fault None = p.1 in cc
+emptied_refused (Ok it) old new why p = placed_refused p.placed p.middle new why p.on
+
+pub not_refused : (found : Found) (old new : Standing) (why : Refusal) → EndsTo (Ok found) old new (Refused why) → ⊥
+not_refused (Repeat answer) old new why e = let x : Refused why ≡ Answered answer = e.1 in cc
+not_refused (Inside ready) old new why e = committed_refused e.written (Some ready.answer.position) why e.gives
+not_refused (Opens opening) old new why e = emptied_refused e.emptied e.middle new why e.on

@@ -67,8 +67,8 @@ fn found_in<M: Module, P: Platform>(
     read_register(alloc, module, cell, platform, offer, batch)
 }
 
-// What is left of a call that found this. It is handed no allocator.
-fn end<P: Platform>(found: Result<Found, Refusal>, platform: &mut P) -> Ended
+/// What is left of a call that found this. It is handed no allocator.
+pub fn end<P: Platform>(found: Result<Found, Refusal>, platform: &mut P) -> Ended
     requires { LeavesRoom found (P.standing platform.old) }
     ensures { EndsTo found (P.standing platform.old) (P.standing platform.new) result }
 {

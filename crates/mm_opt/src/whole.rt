@@ -10,11 +10,14 @@ ghost use Rattle.mm_model.specs.Long.{is_long};
 ghost use Rattle.mm_call.specs.Refusals.{fault_in};
 ghost use Rattle.mm_call.specs.Leaving.{LeavesUntouched, Blames, whole_in};
 ghost use Rattle.mm_call.specs.CallsOn.{CallsOn};
-ghost use Rattle.mm_opt.specs.Steps.{IsReady};
-ghost use Rattle.mm_opt.specs.Asks.{Reads, ReadsOn, MayCommit, LeavesRoom, PlacesAndWrites, OpensSegment, CommitsFound, Commits, Calls, StepsBy, WritesBy};
+ghost use Rattle.mm_opt.specs.declared.stage.Stage.TheVariants.{Begun};
+ghost use Rattle.mm_opt.specs.Asks.{Reads, ReadsOn, MayCommit, LeavesRoom, CommitsFound, Calls, StepsBy, WritesBy};
 
-use crate::found::{Found, Opening};
-use crate::step::{empty, extend, place, read_cell, read_register, write};
+use crate::call::{Call, begin};
+use crate::finish::end;
+use crate::found::Found;
+use crate::step::{read_cell, read_register};
+use mm_call::Ended;
 use mm_model::{Answer, BatchAnswer, Refusal};
 use mm_module::{Batch, Module};
 use mm_platform::{Platform, StepFault};
@@ -139,45 +142,18 @@ impl Prepared {
         ensures commits { CommitsFound self (P.standing platform.old) (P.standing platform.new) result }
         ensures faults { Blames (result_err result) (P.standing platform.old).faults (P.standing platform.new).faults }
     {
-        match self.found {
-            Found::Repeat(answer) => Ok(Committed { answer }),
-            Found::Inside(ready) => as_committed(extend(ready, platform)),
-            Found::Opens(opening) => as_committed(open(opening, platform)),
-        }
+        commit_found(self.found, platform)
     }
 }
 
-fn as_committed(written: Result<BatchAnswer, StepFault>) -> Result<Committed, StepFault>
-    ensures { result ≡ written }
+fn commit_found<P: Platform>(found: Found, platform: &mut P) -> Result<Committed, StepFault>
+    requires { MayCommit found (P.standing platform.old) }
+    ensures { CommitsFound found (P.standing platform.old) (P.standing platform.new) result }
 {
-    match written {
-        Err(fault) => Err(fault),
-        Ok(answer) => Ok(Committed { answer }),
-    }
-}
-
-// Makes the steps that open a segment.
-fn open<P: Platform>(opening: Opening, platform: &mut P) -> Result<BatchAnswer, StepFault>
-    requires { IsReady (P.standing platform.old) }
-    ensures { OpensSegment opening (P.standing platform.old) (P.standing platform.new) result }
-{
-    match empty(opening, platform) {
-        Err(fault) => Err(fault),
-        Ok(opening) => place_and_write(opening, platform),
-    }
-}
-
-// Makes the steps of an opening that come after the reset.
-fn place_and_write<P: Platform>(
-    opening: Opening,
-    platform: &mut P,
-) -> Result<BatchAnswer, StepFault>
-    requires { IsReady (P.standing platform.old) }
-    ensures { PlacesAndWrites opening (P.standing platform.old) (P.standing platform.new) result }
-{
-    match place(opening, platform) {
-        Err(fault) => Err(fault),
-        Ok(opening) => write(opening, platform),
+    match end(Ok(found), platform) {
+        Ended::Answered(answer) => Ok(Committed { answer }),
+        Ended::Broken { fault, .. } => Err(fault),
+        Ended::Refused(_) => unreachable!(),
     }
 }
 
@@ -201,21 +177,27 @@ fn call<M: Module, P: Platform>(
     ensures { Calls (M.meaning «module».now) (P.standing platform.old) (P.standing platform.new)
         offer.now (batch_of batch.entry) result }
 {
-    match prepare_batch(alloc, module, platform, offer, batch) {
+    match begin(batch) {
         Err(refusal) => Err(refusal),
-        Ok(prepared) => finish(prepared, platform),
+        Ok(call) => finished(call, alloc, module, platform, offer, batch),
     }
 }
 
-// The rest of a call whose reading steps were made.
-fn finish<P: Platform>(prepared: Prepared, platform: &mut P) -> Result<BatchAnswer, Refusal>
-    requires { MayCommit prepared (P.standing platform.old) }
-    ensures { Commits prepared (P.standing platform.old) (P.standing platform.new) result }
+// The rest of a call that was just begun.
+fn finished<M: Module, P: Platform>(
+    call: Call,
+    alloc: Global,
+    module: &M,
+    platform: &mut P,
+    offer: &[u8],
+    batch: Batch<'_>,
+) -> Result<BatchAnswer, Refusal>
+    requires short { is_long (batch_of batch) ≡ false }
+    requires begun { call ≡ Begun }
+    ensures { Calls (M.meaning «module».now) (P.standing platform.old) (P.standing platform.new)
+        offer.now (batch_of batch.entry) result }
 {
-    match prepared.commit(platform) {
-        Err(fault) => Err(Refusal::Device(fault)),
-        Ok(committed) => Ok(committed.answer()),
-    }
+    call.finish(alloc, module, platform, offer, batch).result()
 }
 
 /// One call: asks for a batch of requests, offering a snapshot. A new batch is committed whole or not at all, and
