@@ -24,3 +24,4 @@ pub mod OptLaw
 pub mod Continuing
 pub mod Checkpoints
 pub mod Keeping
+pub mod Tied

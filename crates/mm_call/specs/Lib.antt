@@ -14,3 +14,4 @@ pub mod Trails
 pub mod Laws
 pub mod Checkpoints
 pub mod Ended
+pub mod Tied

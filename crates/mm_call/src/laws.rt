@@ -2,6 +2,7 @@
 
 ghost use Rattle.mm_call.specs.Checkpoints.{BasicCheckpointsAgree, OptCheckpointsAgree};
 ghost use Rattle.mm_call.specs.Laws.{BasicCallsAgree, OptCallsAgree};
+ghost use Rattle.mm_call.specs.Tied.{OptTied};
 ghost use Rattle.mm_call.specs.Trails.{TrailsLead};
 
 /// A call of Basic is by digests what it is by lists, on every course, where no two messages of the history and the
@@ -29,4 +30,10 @@ pub fn opt_checkpoints_agree()
 /// A trail of device steps leads from the digests that a platform stands at to those that its walk gives.
 pub fn trails_lead()
     ensures { TrailsLead }
+{}
+
+/// What counts of the moves of a call of Opt is what the register shows of them: the items behind those that counted when
+/// the call began.
+pub fn opt_tied()
+    ensures { OptTied }
 {}

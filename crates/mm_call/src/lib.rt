@@ -16,6 +16,7 @@ pub use ended::Ended;
 pub use examining::{examine, has_tab};
 pub use first::Provisioned;
 pub use laws::{
-    basic_calls_agree, basic_checkpoints_agree, opt_calls_agree, opt_checkpoints_agree, trails_lead,
+    basic_calls_agree, basic_checkpoints_agree, opt_calls_agree, opt_checkpoints_agree, opt_tied,
+    trails_lead,
 };
 pub use run::{Ran, answer, run_batch};

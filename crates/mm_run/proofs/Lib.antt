@@ -4,3 +4,5 @@ pub mod BasicRuns
 pub mod OptRuns
 pub mod Running
 pub mod Counting
+pub mod Naming
+pub mod MetPremises

@@ -93,13 +93,13 @@ module _ (others : List (List ℕ)) where
   walk_among fates (Writes m ∷ steps) n own h =
       step_among (Writes m) (fates n).brings (fates n).ends (walk fates (n + 1) steps) (λ made. writes_among made m (fates n).brings own.0 (h n)) (walk_among fates steps (n + 1) own.1 h)
 
-own_asked : (flag fresh : Bool) (b : Batch) → AreOwn (ask_steps Opt flag fresh b)
+pub own_asked : (flag fresh : Bool) (b : Batch) → AreOwn (ask_steps Opt flag fresh b)
 own_asked true true b = (refl, tt)
 own_asked true false b = tt
 own_asked false true b = (refl, (refl, (refl, tt)))
 own_asked false false b = tt
 
-own_checked : (flag lost : Bool) → AreOwn (checkpoint_steps Opt flag lost)
+pub own_checked : (flag lost : Bool) → AreOwn (checkpoint_steps Opt flag lost)
 own_checked true true = tt
 own_checked true false = (refl, tt)
 own_checked false lost = tt

@@ -1,6 +1,12 @@
 //! The laws of whole runs, each the contract of a function that does nothing.
 
-ghost use Rattle.mm_run.specs.Laws.{BasicIsExpected, OptIsExpected, ExpectedRuns, GoesOn};
+ghost use Rattle.std.specs.Prelude.{ℕ, List};
+ghost use Rattle.mm_module.specs.Meaning.{Meaning};
+ghost use Rattle.mm_module.specs.CounterTable.{counter};
+ghost use Rattle.mm_model.specs.Instance.{basic, opt};
+ghost use Rattle.mm_run.specs.Held.{world_barrier};
+ghost use Rattle.mm_run.specs.Premises.{IsClearRun, IsGenuineRun};
+ghost use Rattle.mm_run.specs.Laws.{BasicIsExpected, OptIsExpected, ExpectedRuns, GoesOn, IssuedNamePositions, one_ask};
 
 /// A schedule of Basic is told as expected, where no two messages of the run share a digest and each right offer
 /// names a position.
@@ -21,4 +27,18 @@ pub fn expected_runs()
 /// A schedule goes on from what stands after its first events.
 pub fn schedules_go_on()
     ensures { GoesOn }
+{}
+
+/// Every snapshot that was issued names a position of the history, after each schedule.
+pub fn issued_snapshots_name_positions()
+    ensures basic { (meaning : Meaning) (key : List ℕ) → IssuedNamePositions (basic meaning key) }
+    ensures opt { (meaning : Meaning) (key barrier : List ℕ) → IssuedNamePositions (opt meaning key barrier) }
+{}
+
+/// The premises on digests and offers can be met: a counter's run of `ask last add 5` meets them, under every key; in Opt
+/// with the barrier of each world.
+pub fn premises_are_met()
+    ensures basic { (key : List ℕ) → IsClearRun (basic counter key) one_ask × IsGenuineRun (basic counter key) one_ask }
+    ensures opt { (key : List ℕ) → IsClearRun (opt counter key world_barrier) one_ask
+        × IsGenuineRun (opt counter key world_barrier) one_ask }
 {}

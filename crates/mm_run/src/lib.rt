@@ -5,4 +5,7 @@
 
 mod laws;
 
-pub use laws::{basic_is_expected, expected_runs, opt_is_expected, schedules_go_on};
+pub use laws::{
+    basic_is_expected, expected_runs, issued_snapshots_name_positions, opt_is_expected,
+    premises_are_met, schedules_go_on,
+};

@@ -1,0 +1,5 @@
+use Rattle.mm_call.proofs.Tied.{opt_tied}
+use Rattle.mm_call.proofs.laws.opt_tied.Goals as goal
+
+pub returns : goal.returns
+returns c = opt_tied

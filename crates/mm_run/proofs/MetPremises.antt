@@ -1,0 +1,423 @@
+-- The premises of the laws are met by a run of one request, as its digests show.
+use Rattle.std.proofs.Common.{ℕ, zero, suc, ◌≡◌, ◌≢◌, ◌+◌, ◌*◌, ◌/◌, take, drop, Bool, true, false, ◌&&◌, List, [], ◌∷◌, ◌++◌, length, map, None, Some, Result, Ok, Err, refl, sym, ap, ◌∙◌, subst, arith, inl, inr, ◌⊎◌}
+use Rattle.std.specs.Prelude.{if◌then◌else◌, nat_eq, slice_index, codes}
+use Rattle.std.specs.List.{AllByRecursion, Contains}
+use Rattle.std.specs.Str.{bytes_eq}
+use Rattle.std.proofs.lemmas.Bool.{and_parts}
+use Rattle.std.proofs.lemmas.Bool.Decides.{nat_tests}
+use Rattle.std.proofs.lemmas.List.Elements.{Contains-append_cases, Contains-push_cases}
+use Rattle.sha2.specs.Sha256.{sha256, next_word, first_words, schedule, rounds, add_state, compress, hash_after, digest_bytes, initial_hash_256, padded_message}
+use Rattle.mm_digest.specs.declared.variant.Variant.TheVariants.{Basic, Opt}
+use Rattle.mm_digest.specs.Messages.{zero_bytes, start_message, start_of, extended_of, extended_message, anchored_message, anchored_of}
+use Rattle.mm_digest.proofs.Lengths.{length-zero_bytes, length-start_of}
+use Rattle.mm_module.specs.Batch.{Batch, One}
+use Rattle.mm_module.specs.CounterTable.{counter}
+use Rattle.mm_module.specs.CounterLaws.{counter_is_lawful}
+use Rattle.mm_module.specs.Meaning.{Meaning, IsLawful}
+use Rattle.mm_schedule.specs.Events.{Ask}
+use Rattle.mm_schedule.specs.declared.event.Offer.TheVariants.{Last}
+use Rattle.mm_model.specs.Long.{is_long}
+use Rattle.mm_model.specs.Chains.{link_message, guard_message, guard, anchor_of}
+use Rattle.mm_model.specs.Instance.{Instance, basic, opt}
+use Rattle.mm_model.specs.History.{first_history, Move}
+use Rattle.mm_model.specs.Messages.{IsClear, Within, form_messages, point_messages, offer_messages}
+use Rattle.mm_model.specs.Places.{Names, anchor_after, digest_of, issued}
+use Rattle.mm_model.specs.Standing.{IsRight, IsGenuine, issued_bytes}
+use Rattle.mm_model.specs.Steps.{ask_steps}
+use Rattle.mm_model.proofs.Ends.{first_sound}
+use Rattle.mm_model.proofs.Forms.{reads_zero}
+use Rattle.mm_model.proofs.Lists.{each_append}
+use Rattle.mm_model.proofs.Named.{basic_issued, opt_issued}
+use Rattle.mm_platform.specs.declared.plan.Stop.TheVariants.{Quiet}
+use Rattle.mm_seal.specs.declared.snapshot.PartsFault.{PartsFault}
+use Rattle.mm_seal.specs.declared.snapshot.Place.TheVariants.{Opt as InOpt}
+use Rattle.mm_seal.specs.Snapshot.{Content, IsContent, Snapshot, tag_of}
+use Rattle.mm_seal.proofs.SealLaws.{sealed_once}
+use Rattle.mm_call.specs.Found.{found_at, found_in, is_fresh, content_if_right, right_content}
+use Rattle.mm_run.specs.Held.{world_barrier, rising_from}
+use Rattle.mm_run.specs.Laws.{one_ask}
+use Rattle.mm_run.specs.Folds.{course_of}
+use Rattle.mm_call.specs.Levels.{by_lists}
+use Rattle.mm_seal.specs.Parts.{parts_of}
+use Rattle.mm_call.specs.Asked.{right_messages, moves_messages}
+use Rattle.mm_run.specs.Premises.{run_messages, IsClearRun, IsGenuineRun}
+use Rattle.mm_call.specs.Courses.{walk}
+use Rattle.mm_call.proofs.Moving.{summary-nil}
+use Rattle.mm_call.proofs.OptFinding.{each_at}
+use Rattle.mm_call.proofs.Reading.{is_right}
+
+-- the first byte of a message's digest
+first_byte : (List ℕ → List ℕ) → List ℕ → ℕ
+first_byte hash m = slice_index (hash m) 0
+
+-- no number of the list is this one
+abbrev pub apart_from : ℕ → List ℕ → Bool
+apart_from a [] = true
+apart_from a (b ∷ bs) = if nat_eq b a then false else apart_from a bs
+
+-- no number is 0, and none stands twice
+abbrev pub all_apart : List ℕ → Bool
+all_apart [] = true
+all_apart (a ∷ others) = if apart_from a others then (if nat_eq a 0 then false else all_apart others) else false
+
+if_true : (c : Bool) (b : Bool) → (if c then b else false) ≡ true → (c ≡ true) × (b ≡ true)
+if_true true b e = (refl, e)
+if_true false b e = cc
+
+if_false : (c : Bool) (b : Bool) → (if c then false else b) ≡ true → (c ≡ false) × (b ≡ true)
+if_false false b e = (refl, e)
+if_false true b e = cc
+
+nat_eq_self : (a b : ℕ) → nat_eq b a ≡ false → b ≢ a
+nat_eq_self a b e f = grind (arith, nat_tests)
+
+apart_at : (hash : List ℕ → List ℕ) (a : ℕ) (ms : List (List ℕ)) → apart_from a (map (first_byte hash) ms) ≡ true
+    → AllByRecursion (λ m. first_byte hash m ≢ a) ms
+apart_at hash a [] e = tt
+apart_at hash a (m ∷ ms) e =
+    let t = if_false (nat_eq (first_byte hash m) a) (apart_from a (map (first_byte hash) ms)) e in
+    (nat_eq_self a (first_byte hash m) t.0, apart_at hash a ms t.1)
+
+member : (x m : List ℕ) (xs : List (List ℕ)) → Contains (x ∷ xs) m → (x ≡ m) ⊎ Contains xs m
+member x m xs c =
+    elim (Contains-append_cases (x ∷ []) xs m c) [
+      | inl first ↦
+          elim (Contains-push_cases [] x m first) [
+            | inl none ↦ absurd (omega (arith, none.1))
+            | inr e ↦ inl e
+          ]
+      | inr later ↦ inr later
+    ]
+
+-- messages whose digests begin with bytes that are apart are apart
+same_by_first : (hash : List ℕ → List ℕ) (all : List (List ℕ)) → all_apart (map (first_byte hash) all) ≡ true
+    → (m n : List ℕ) → Contains all m → Contains all n → first_byte hash m ≡ first_byte hash n → m ≡ n
+same_by_first hash [] e m n c d f = absurd (omega (arith, c.1))
+same_by_first hash (x ∷ xs) e m n c d f =
+    let t = if_true (apart_from (first_byte hash x) (map (first_byte hash) xs)) _ e in
+    let u = if_false (nat_eq (first_byte hash x) 0) (all_apart (map (first_byte hash) xs)) t.1 in
+    let others = apart_at hash (first_byte hash x) xs t.0 in
+    elim (member x m xs c) [
+      | inl a ↦
+          elim (member x n xs d) [
+            | inl b ↦ sym a ∙ b
+            | inr b ↦ absurd (each_at (λ v. first_byte hash v ≢ first_byte hash x) xs n others b (sym f ∙ ap (first_byte hash) (sym a)))
+          ]
+      | inr a ↦
+          elim (member x n xs d) [
+            | inl b ↦ absurd (each_at (λ v. first_byte hash v ≢ first_byte hash x) xs m others a (f ∙ ap (first_byte hash) (sym b)))
+            | inr b ↦ same_by_first hash xs u.1 m n a b f
+          ]
+    ]
+
+none_zero : (hash : List ℕ → List ℕ) (all : List (List ℕ)) → all_apart (map (first_byte hash) all) ≡ true
+    → AllByRecursion (λ m. first_byte hash m ≢ 0) all
+none_zero hash [] e = tt
+none_zero hash (x ∷ xs) e =
+    let t = if_true (apart_from (first_byte hash x) (map (first_byte hash) xs)) _ e in
+    let u = if_false (nat_eq (first_byte hash x) 0) (all_apart (map (first_byte hash) xs)) t.1 in
+    (nat_eq_self 0 (first_byte hash x) u.0, none_zero hash xs u.1)
+
+zero_first : slice_index zero_bytes 0 ≡ 0
+unfolding zero_bytes
+zero_first = refl
+
+clear_by_first : (all : List (List ℕ)) → all_apart (map (first_byte sha256) all) ≡ true → IsClear all
+unfolding first_byte
+clear_by_first all e = record {
+  apart = λ m n c d same. same_by_first sha256 all e m n c d (ap (λ v. slice_index v 0) same);
+  nonzero = λ m c same. each_at (λ v. first_byte sha256 v ≢ 0) all m (none_zero sha256 all e) c (ap (λ v. slice_index v 0) same ∙ zero_first);
+}
+
+-- what is asked of a list is asked of each part of it
+clear_within : (all some : List (List ℕ)) → IsClear all → Within some all → IsClear some
+clear_within all some clear within = record {
+  apart = λ m n c d same. clear.apart m n (each_at (Contains all) some m within c) (each_at (Contains all) some n within d) same;
+  nonzero = λ m c. clear.nonzero m (each_at (Contains all) some m within c);
+}
+
+-- SHA-256 with each word of a block's schedule computed once
+abbrev grown : List ℕ → ℕ → List ℕ
+grown w n = w ++ next_word w (n + 16) ∷ []
+
+abbrev words : List ℕ → ℕ → List ℕ
+words b zero = first_words b 16
+words b (suc n) = grown (words b n) n
+
+words_are : (b : List ℕ) (n : ℕ) → words b n ≡ schedule b n
+unfolding schedule
+words_are b zero = refl
+words_are b (suc n) = ap (λ w. grown w n) (words_are b n)
+
+abbrev compressed : List ℕ → List ℕ → List ℕ
+compressed h b = add_state h (rounds h (words b 48) 64)
+
+compressed_is : (h b : List ℕ) → compressed h b ≡ compress h b
+unfolding compress
+compressed_is h b = ap (λ w. add_state h (rounds h w 64)) (words_are b 48)
+
+abbrev blocks : List ℕ → List ℕ → ℕ → List ℕ
+blocks h p zero = h
+blocks h p (suc n) = compressed (blocks h p n) (take 64 (drop (n * 64) p))
+
+blocks_are : (h p : List ℕ) (n : ℕ) → blocks h p n ≡ hash_after h p n
+unfolding hash_after
+blocks_are h p zero = refl
+blocks_are h p (suc n) =
+    ap (λ x. compressed x (take 64 (drop (n * 64) p))) (blocks_are h p n) ∙ compressed_is (hash_after h p n) (take 64 (drop (n * 64) p))
+
+abbrev digest : List ℕ → List ℕ
+digest m = digest_bytes (blocks initial_hash_256 (padded_message m) (length (padded_message m) / 64)) 8
+
+digest_is : (m : List ℕ) → digest m ≡ sha256 m
+unfolding sha256
+digest_is m = ap (λ h. digest_bytes h 8) (blocks_are initial_hash_256 (padded_message m) (length (padded_message m) / 64))
+
+-- Basic: the digests of the run's messages
+
+abbrev basic_start : List ℕ
+basic_start = 0xfb ∷ 0xb5 ∷ 0x9e ∷ 0xd1 ∷ 0x0e ∷ 0x9c ∷ 0xd4 ∷ 0xff ∷ 0x45 ∷ 0xa1 ∷ 0x2c ∷ 0x5b ∷ 0xb9 ∷ 0x2c ∷ 0xbd ∷ 0x80 ∷ 0xdf ∷ 0x98 ∷ 0x4b ∷ 0xa1 ∷ 0xfe ∷ 0x60 ∷ 0xf2 ∷ 0x6a ∷ 0x30 ∷ 0xfe ∷ 0xbf ∷ 0x21 ∷ 0x8e ∷ 0x2f ∷ 0x0f ∷ 0x5e ∷ []
+
+basic_starts : start_of Basic 1 ≡ basic_start
+unfolding start_of first_words rounds digest_bytes
+basic_starts = sym (digest_is (start_message Basic 1)) ∙ refl
+
+basic_start_byte : first_byte sha256 (start_message Basic 1) ≡ 251
+unfolding first_byte start_of
+basic_start_byte = ap (λ d. slice_index d 0) basic_starts
+
+basic_link_byte : first_byte sha256 (link_message basic_start (One (codes "add 5"))) ≡ 94
+unfolding first_byte first_words rounds digest_bytes
+basic_link_byte = ap (λ d. slice_index d 0) (sym (digest_is (link_message basic_start (One (codes "add 5"))))) ∙ refl
+
+basic_messages : List (List ℕ)
+basic_messages = start_message Basic 1 ∷ link_message (start_of Basic 1) (One (codes "add 5")) ∷ []
+
+basic_listed : Contains basic_messages (start_message Basic 1) × Contains basic_messages (link_message (start_of Basic 1) (One (codes "add 5")))
+unfolding basic_messages
+basic_listed = ((0, omega arith, refl), (1, omega arith, refl))
+
+basic_clear : IsClear basic_messages
+unfolding basic_messages
+basic_clear =
+    let link_byte : first_byte sha256 (link_message (start_of Basic 1) (One (codes "add 5"))) ≡ 94 =
+    ap (λ s. first_byte sha256 (link_message s (One (codes "add 5")))) basic_starts ∙ basic_link_byte in
+    clear_by_first (start_message Basic 1 ∷ link_message (start_of Basic 1) (One (codes "add 5")) ∷ [])
+    (ap (λ a. all_apart (a ∷ first_byte sha256 (link_message (start_of Basic 1) (One (codes "add 5"))) ∷ [])) basic_start_byte
+    ∙ ap (λ b. all_apart (251 ∷ b ∷ [])) link_byte)
+
+-- Opt: the digests of the run's messages
+
+abbrev opt_start : List ℕ
+opt_start = 0x8d ∷ 0x9f ∷ 0xe7 ∷ 0x31 ∷ 0x7f ∷ 0x06 ∷ 0x6d ∷ 0xea ∷ 0xca ∷ 0x4f ∷ 0xdb ∷ 0x6c ∷ 0x31 ∷ 0x31 ∷ 0x94 ∷ 0xe5 ∷ 0xbb ∷ 0x5d ∷ 0x22 ∷ 0x69 ∷ 0xec ∷ 0xf6 ∷ 0x72 ∷ 0xf1 ∷ 0xaf ∷ 0x9f ∷ 0xc7 ∷ 0x90 ∷ 0xa2 ∷ 0x20 ∷ 0x59 ∷ 0x91 ∷ []
+
+opt_starts : start_of Opt 1 ≡ opt_start
+unfolding start_of first_words rounds digest_bytes
+opt_starts = sym (digest_is (start_message Opt 1)) ∙ refl
+
+abbrev the_guard : List ℕ
+the_guard = 0x98 ∷ 0xe0 ∷ 0x13 ∷ 0xc5 ∷ 0x85 ∷ 0xfd ∷ 0x16 ∷ 0x27 ∷ 0x0b ∷ 0x69 ∷ 0x8a ∷ 0xd6 ∷ 0xd2 ∷ 0xb6 ∷ 0x16 ∷ 0x4a ∷ 0x92 ∷ 0x44 ∷ 0x12 ∷ 0x7b ∷ 0xda ∷ 0xaf ∷ 0xc7 ∷ 0x7b ∷ 0xf5 ∷ 0xc0 ∷ 0xcc ∷ 0x2f ∷ 0x19 ∷ 0xde ∷ 0x90 ∷ 0xcd ∷ []
+
+guards : guard world_barrier (One (codes "add 5")) ≡ the_guard
+unfolding guard world_barrier rising_from first_words rounds digest_bytes
+guards = sym (digest_is (guard_message world_barrier (One (codes "add 5")))) ∙ refl
+
+abbrev the_extension : List ℕ
+the_extension = 0x4b ∷ 0x1c ∷ 0x76 ∷ 0x7b ∷ 0x03 ∷ 0x73 ∷ 0x96 ∷ 0x15 ∷ 0xa1 ∷ 0x87 ∷ 0x9a ∷ 0xf1 ∷ 0xe9 ∷ 0x82 ∷ 0x9c ∷ 0x0b ∷ 0x72 ∷ 0xa4 ∷ 0xfc ∷ 0x44 ∷ 0x31 ∷ 0xf2 ∷ 0xbd ∷ 0xf3 ∷ 0xee ∷ 0x13 ∷ 0x78 ∷ 0x0b ∷ 0x81 ∷ 0x9a ∷ 0xe7 ∷ 0x6d ∷ []
+
+extends : extended_of zero_bytes the_guard ≡ the_extension
+unfolding extended_of zero_bytes first_words rounds digest_bytes
+extends = sym (digest_is (extended_message zero_bytes the_guard)) ∙ refl
+
+opt_start_byte : first_byte sha256 (start_message Opt 1) ≡ 141
+unfolding first_byte start_of
+opt_start_byte = ap (λ d. slice_index d 0) opt_starts
+
+guard_byte : first_byte sha256 (guard_message world_barrier (One (codes "add 5"))) ≡ 152
+unfolding first_byte guard
+guard_byte = ap (λ d. slice_index d 0) guards
+
+extension_byte : first_byte sha256 (extended_message zero_bytes the_guard) ≡ 75
+unfolding first_byte extended_of
+extension_byte = ap (λ d. slice_index d 0) extends
+
+anchored_byte : first_byte sha256 (anchored_message opt_start the_extension) ≡ 41
+unfolding first_byte first_words rounds digest_bytes
+anchored_byte = ap (λ d. slice_index d 0) (sym (digest_is (anchored_message opt_start the_extension))) ∙ refl
+
+opt_messages : List (List ℕ)
+opt_messages =
+    start_message Opt 1 ∷ guard_message world_barrier (One (codes "add 5"))
+    ∷ extended_message zero_bytes (guard world_barrier (One (codes "add 5")))
+    ∷ anchored_message (start_of Opt 1) (extended_of zero_bytes (guard world_barrier (One (codes "add 5")))) ∷ []
+
+opt_listed : Contains opt_messages (start_message Opt 1)
+    × Contains opt_messages (guard_message world_barrier (One (codes "add 5")))
+    × Contains opt_messages (extended_message zero_bytes (guard world_barrier (One (codes "add 5"))))
+    × Contains opt_messages (anchored_message (start_of Opt 1) (extended_of zero_bytes (guard world_barrier (One (codes "add 5")))))
+unfolding opt_messages
+opt_listed = ((0, omega arith, refl), (1, omega arith, refl), (2, omega arith, refl), (3, omega arith, refl))
+
+opt_clear : IsClear opt_messages
+unfolding opt_messages
+opt_clear =
+    let v = guard world_barrier (One (codes "add 5")) in
+    let f : List ℕ → ℕ = first_byte sha256 in
+    let third : f (extended_message zero_bytes v) ≡ 75 = ap (λ g. f (extended_message zero_bytes g)) guards ∙ extension_byte in
+    let fourth : f (anchored_message (start_of Opt 1) (extended_of zero_bytes v)) ≡ 41 =
+    ap (λ g. f (anchored_message (start_of Opt 1) (extended_of zero_bytes g))) guards
+    ∙ ap (λ e. f (anchored_message (start_of Opt 1) e)) extends ∙ ap (λ a. f (anchored_message a the_extension)) opt_starts ∙ anchored_byte in
+    clear_by_first
+    (start_message Opt 1 ∷ guard_message world_barrier (One (codes "add 5")) ∷ extended_message zero_bytes v
+    ∷ anchored_message (start_of Opt 1) (extended_of zero_bytes v) ∷ [])
+    (ap (λ a. all_apart (a ∷ f (guard_message world_barrier (One (codes "add 5"))) ∷ f (extended_message zero_bytes v)
+    ∷ f (anchored_message (start_of Opt 1) (extended_of zero_bytes v)) ∷ [])) opt_start_byte
+    ∙ ap (λ a. all_apart (141 ∷ a ∷ f (extended_message zero_bytes v) ∷ f (anchored_message (start_of Opt 1) (extended_of zero_bytes v)) ∷ [])) guard_byte
+    ∙ ap (λ a. all_apart (141 ∷ 152 ∷ a ∷ f (anchored_message (start_of Opt 1) (extended_of zero_bytes v)) ∷ [])) third
+    ∙ ap (λ a. all_apart (141 ∷ 152 ∷ 75 ∷ a ∷ [])) fourth)
+
+if_within : (i : Instance) (b : Batch) (all : List (List ℕ)) (test : Bool) (content : Content)
+    → (test ≡ true → Within (offer_messages i content.place b) all) → Within (right_messages i b (if test then Some content else None)) all
+if_within i b all true content h = h refl
+if_within i b all false content h = tt
+
+right_by : (i : Instance) (bytes : List ℕ) (b : Batch) (all : List (List ℕ)) (parts : Result Snapshot PartsFault)
+    → parts_of i.variant i.meaning.id bytes ≡ parts
+    → ((c : Content) → IsRight i bytes c → Within (offer_messages i c.place b) all) → Within (right_messages i b (content_if_right i parts)) all
+right_by i bytes b all (Err fault) e h = tt
+right_by i bytes b all (Ok s) e h =
+    if_within i b all (i.meaning.is_spelled s.content.state && bytes_eq s.tag (tag_of i.key s.content)) s.content
+    (λ test. let t = and_parts (i.meaning.is_spelled s.content.state) (bytes_eq s.tag (tag_of i.key s.content)) test in
+    h s.content (is_right i bytes s e t.0 t.1))
+
+-- what is asked of the first snapshot
+right_within : (i : Instance) (b : Batch) (all : List (List ℕ)) → IsContent (issued i first_history)
+    → Within (offer_messages i (issued i first_history).place b) all
+    → Within (right_messages i b (right_content i (issued_bytes i first_history))) all
+right_within i b all formed h =
+    right_by i (issued_bytes i first_history) b all (parts_of i.variant i.meaning.id (issued_bytes i first_history)) refl
+    (λ c right. subst (λ (x : Content). Within (offer_messages i x.place b) all)
+    (sealed_once i.key i.key (issued i first_history) c formed right.formed right.sealed) h)
+
+first_genuine : (i : Instance) → IsContent (issued i first_history) → Names i first_history (issued i first_history)
+    → IsGenuine i first_history (issued_bytes i first_history)
+first_genuine i formed names content right =
+    subst (λ (x : Content). Names i first_history x) (sealed_once i.key i.key (issued i first_history) content formed right.formed right.sealed) names
+
+-- a list, unless the batch is too long
+if_short : (all : List (List ℕ)) (long : Bool) (xs : List (List ℕ)) → long ≡ false → Within xs all → Within (if long then [] else xs) all
+if_short all true xs e h = tt
+if_short all false xs e h = h
+
+if_moves : (i : Instance) (all : List (List ℕ)) (long : Bool) (moves : List Move) → long ≡ false → Within (moves_messages i first_history moves) all
+    → Within (moves_messages i first_history (if long then [] else moves)) all
+if_moves i all true moves e h = tt
+if_moves i all false moves e h = h
+
+-- Basic
+
+basic_formed : (meaning : Meaning) (key : List ℕ) → IsLawful meaning → IsContent (issued (basic meaning key) first_history)
+basic_formed meaning key lawful = record {
+  place = ap length (sym (summary-nil meaning.id)) ∙ length-start_of Basic meaning.id;
+  position = omega arith;
+  state = lawful.fits meaning.first lawful.begins;
+}
+
+basic_moves : (meaning : Meaning) (key r : List ℕ) (all : List (List ℕ)) (fresh : Bool)
+    → Within (moves_messages (basic meaning key) first_history (walk (course_of Quiet []).fates 1 (ask_steps Basic false fresh (One r))).moves) all
+basic_moves meaning key r all false = tt
+basic_moves meaning key r all true = tt
+
+basic_run : (meaning : Meaning) (key r : List ℕ) (all : List (List ℕ)) → is_long (One r) ≡ false
+    → Contains all (start_message Basic meaning.id)
+    → Within (right_messages (basic meaning key) (One r) (right_content (basic meaning key) (issued_bytes (basic meaning key) first_history))) all
+    → Within (run_messages (basic meaning key) (Ask [] Quiet Last (One r) ∷ [])) all
+basic_run meaning key r all short starts asked =
+    let i = basic meaning key in
+    let P : List ℕ → Type 0 = Contains all in
+    let found = found_in (found_at i (by_lists i) first_history (One r) (issued_bytes i first_history)) false in
+    let heard = if is_long (One r) then [] else right_messages i (One r) (right_content i (issued_bytes i first_history)) in
+    let made = moves_messages i first_history (if is_long (One r) then [] else (walk (course_of Quiet []).fates 1 (ask_steps Basic false (is_fresh found) (One r))).moves) in (
+      starts,
+      each_append P (heard ++ made) [] (each_append P heard made (if_short all (is_long (One r)) _ short asked)
+          (if_moves i all (is_long (One r)) (walk (course_of Quiet []).fates 1 (ask_steps Basic false (is_fresh found) (One r))).moves short (basic_moves meaning key r all (is_fresh found)))) tt,
+    )
+
+pub basic_met : (key : List ℕ) → IsClearRun (basic counter key) one_ask × IsGenuineRun (basic counter key) one_ask
+basic_met key =
+    let i = basic counter key in
+    let formed = basic_formed counter key counter_is_lawful in
+    let P : List ℕ → Type 0 = λ s. Contains basic_messages (link_message s (One (codes "add 5"))) in
+    let offered : Within (offer_messages i (issued i first_history).place (One (codes "add 5"))) basic_messages = (subst P (summary-nil 1) basic_listed.1, tt) in (
+      record {
+        clear = clear_within basic_messages (run_messages i one_ask) basic_clear
+            (basic_run counter key (codes "add 5") basic_messages refl basic_listed.0 (right_within i (One (codes "add 5")) basic_messages formed offered));
+        apart = tt;
+      },
+      (first_genuine i formed (basic_issued counter key first_history), tt),
+    )
+
+-- Opt
+
+anchor_nil : (meaning : Meaning) (key barrier : List ℕ) → anchor_after (opt meaning key barrier) [] ≡ start_of Opt meaning.id
+unfolding anchor_of
+anchor_nil meaning key barrier = refl
+
+zero_is_zero : bytes_eq zero_bytes zero_bytes ≡ true
+unfolding zero_bytes
+zero_is_zero = refl
+
+opt_formed : (meaning : Meaning) (key barrier : List ℕ) → IsLawful meaning → IsContent (issued (opt meaning key barrier) first_history)
+opt_formed meaning key barrier lawful = record {
+  place = (ap length (anchor_nil meaning key barrier) ∙ length-start_of Opt meaning.id, length-zero_bytes);
+  position = omega arith;
+  state = lawful.fits meaning.first lawful.begins;
+}
+
+opt_moves : (meaning : Meaning) (key barrier r : List ℕ) (all : List (List ℕ)) (fresh : Bool) → Contains all (extended_message zero_bytes (guard barrier (One r)))
+    → Within (moves_messages (opt meaning key barrier) first_history (walk (course_of Quiet []).fates 1 (ask_steps Opt false fresh (One r))).moves) all
+opt_moves meaning key barrier r all false listed = tt
+opt_moves meaning key barrier r all true listed =
+    let P : List ℕ → Type 0 = λ x. Contains all (extended_message x (guard barrier (One r))) in (subst P (sym reads_zero) listed, tt)
+
+opt_run : (meaning : Meaning) (key barrier r : List ℕ) (all : List (List ℕ)) → is_long (One r) ≡ false
+    → Contains all (start_message Opt meaning.id)
+    → Within (right_messages (opt meaning key barrier) (One r) (right_content (opt meaning key barrier) (issued_bytes (opt meaning key barrier) first_history))) all
+    → Contains all (extended_message zero_bytes (guard barrier (One r)))
+    → Within (run_messages (opt meaning key barrier) (Ask [] Quiet Last (One r) ∷ [])) all
+opt_run meaning key barrier r all short starts asked listed =
+    let i = opt meaning key barrier in
+    let P : List ℕ → Type 0 = Contains all in
+    let found = found_in (found_at i (by_lists i) first_history (One r) (issued_bytes i first_history)) false in
+    let heard = if is_long (One r) then [] else right_messages i (One r) (right_content i (issued_bytes i first_history)) in
+    let made = moves_messages i first_history (if is_long (One r) then [] else (walk (course_of Quiet []).fates 1 (ask_steps Opt false (is_fresh found) (One r))).moves) in (
+      starts,
+      each_append P (heard ++ made) [] (each_append P heard made (if_short all (is_long (One r)) _ short asked)
+          (if_moves i all (is_long (One r)) (walk (course_of Quiet []).fates 1 (ask_steps Opt false (is_fresh found) (One r))).moves short (opt_moves meaning key barrier r all (is_fresh found) listed))) tt,
+    )
+
+opt_offered : (meaning : Meaning) (key barrier r : List ℕ) (all : List (List ℕ)) → Contains all (guard_message barrier (One r))
+    → Contains all (extended_message zero_bytes (guard barrier (One r)))
+    → Contains all (anchored_message (start_of Opt meaning.id) (extended_of zero_bytes (guard barrier (One r))))
+    → Within (offer_messages (opt meaning key barrier) (issued (opt meaning key barrier) first_history).place (One r)) all
+opt_offered meaning key barrier r all guarded extended anchored =
+    let v = guard barrier (One r) in
+    let start = start_of Opt meaning.id in
+    let P : List ℕ → Type 0 = λ a. Within (offer_messages (opt meaning key barrier) (InOpt (digest_of a) (digest_of zero_bytes)) (One r)) all in
+    let Q : Bool → Type 0 = λ same. Within (if same then [] else anchored_message start zero_bytes ∷ form_messages (anchored_of start zero_bytes) zero_bytes v) all in
+    let point : Within (point_messages start zero_bytes v) all = (extended, (anchored, subst Q (sym zero_is_zero) tt)) in
+    subst P (sym (anchor_nil meaning key barrier)) (guarded, point)
+
+pub opt_met : (key : List ℕ) → IsClearRun (opt counter key world_barrier) one_ask × IsGenuineRun (opt counter key world_barrier) one_ask
+opt_met key =
+    let i = opt counter key world_barrier in
+    let formed = opt_formed counter key world_barrier counter_is_lawful in
+    let offered = opt_offered counter key world_barrier (codes "add 5") opt_messages opt_listed.1 opt_listed.2 opt_listed.3 in (
+      record {
+        clear = clear_within opt_messages (run_messages i one_ask) opt_clear
+            (opt_run counter key world_barrier (codes "add 5") opt_messages refl opt_listed.0
+            (right_within i (One (codes "add 5")) opt_messages formed offered) opt_listed.2);
+        apart = λ d b c among. absurd (omega (arith, c.1));
+      },
+      (first_genuine i formed (opt_issued counter key world_barrier first_history first_sound refl), tt),
+    )
