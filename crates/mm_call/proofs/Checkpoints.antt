@@ -1,27 +1,25 @@
 -- A checkpoint is by digests what it is by lists, on every course.
-use Rattle.std.proofs.Common.{ℕ, ◌≡◌, Bool, true, false, List, [], ◌∷◌, ◌++◌, map, Option, None, Some, refl, sym, ap, ◌∙◌, subst}
+use Rattle.std.proofs.Common.{ℕ, ◌≡◌, Bool, true, false, List, [], ◌∷◌, ◌++◌, map, Option, Some, refl, sym, ap, ◌∙◌, subst}
 use Rattle.std.specs.List.{AllByRecursion, Contains}
 use Rattle.std.proofs.lemmas.List.{append-nil}
-use Rattle.mm_digest.specs.declared.variant.Variant.TheVariants.{Basic, Opt}
+use Rattle.mm_digest.specs.declared.variant.Variant.TheVariants.{Opt}
 use Rattle.mm_platform.specs.declared.fault.StepFault.{StepFault}
 use Rattle.mm_module.specs.Meaning.{Meaning}
 use Rattle.mm_module.specs.Batch.{Batch}
-use Rattle.mm_model.specs.Instance.{Instance, basic, opt}
+use Rattle.mm_model.specs.Instance.{basic, opt}
 use Rattle.mm_model.specs.History.{Value, History, Move, Foreign, Close}
-use Rattle.mm_model.specs.Sound.{IsSound}
 use Rattle.mm_model.specs.Life.{life_of, is_lost, is_empty}
-use Rattle.mm_model.specs.Messages.{Within}
 use Rattle.mm_model.specs.Moves.{Digests}
 use Rattle.mm_model.specs.Steps.{Step, Reads, Writes, checkpoint_steps}
 use Rattle.mm_call.specs.Levels.{by_lists, by_digests, all_made, Agrees}
 use Rattle.mm_call.specs.Courses.{End, Done, Fails, Fate, Course, Walked, after_step, walk, closes}
-use Rattle.mm_call.specs.Asked.{foreign_in, IsPlain, IsWithin}
-use Rattle.mm_call.specs.Checkpoints.{Closing, Stops, Checkpointed, closing_of, closed_by, checkpointed_by, checkpointed, IsClosedWithin, IsSameCheckpoint, BasicCheckpointsAgree, OptCheckpointsAgree}
+use Rattle.mm_call.specs.Asked.{IsPlain, IsWithin}
+use Rattle.mm_call.specs.Checkpoints.{Closing, Checkpointed, closing_of, closed_by, checkpointed_by, checkpointed, IsClosedWithin, IsSameCheckpoint, BasicCheckpointsAgree, OptCheckpointsAgree}
 use Rattle.mm_call.proofs.Moving.{agrees-made, plain-made, committed_in, same_batches}
 use Rattle.mm_call.proofs.Calling.{listed_same}
 use Rattle.mm_call.proofs.OptHolding.{Holds}
 use Rattle.mm_call.proofs.OptFinding.{lost_same, not_lost}
-use Rattle.mm_call.proofs.Walks.{committed-foreign, finished, taking, taking_is, foreign_in-foreign}
+use Rattle.mm_call.proofs.Walks.{committed-foreign, finished, taking_is, foreign_in-foreign}
 use Rattle.mm_call.proofs.OptWalks.{holds_made, foreign_all, Ready, AreOwn, walk_fine}
 use Rattle.mm_call.proofs.OptReady.{ready_closing}
 use Rattle.mm_call.proofs.OptShapes.{two_reads, reading, past, cut}

@@ -1,5 +1,5 @@
 -- A call that goes by digests goes by lists, under the law.
-use Rattle.std.proofs.Common.{ℕ, ◌≡◌, List, Result, refl, ap, ◌∙◌, subst}
+use Rattle.std.proofs.Common.{ℕ, List, Result, refl, ap, ◌∙◌, subst}
 use Rattle.mm_digest.specs.declared.variant.Variant.{Variant}
 use Rattle.mm_digest.specs.declared.variant.Variant.TheVariants.{Basic, Opt}
 use Rattle.mm_platform.specs.Standing.{Standing}

@@ -1,32 +1,32 @@
 -- Opt: what counts of the moves of a call is what the register shows of them.
-use Rattle.std.proofs.Common.{ℕ, ◌≡◌, ◌+◌, Bool, true, false, List, [], ◌∷◌, ◌++◌, map, refl, sym, ap, ◌∙◌, subst, append_assoc, inl, inr}
+use Rattle.std.proofs.Common.{ℕ, ◌≡◌, Bool, true, false, List, [], ◌∷◌, ◌++◌, map, refl, sym, ap, ◌∙◌, subst, append_assoc, inl, inr}
 use Rattle.std.specs.Prelude.{if◌then◌else◌}
 use Rattle.std.proofs.lemmas.List.{append-nil, map-append}
 use Rattle.mm_digest.specs.declared.variant.Variant.TheVariants.{Opt}
-use Rattle.mm_digest.specs.Messages.{zero_bytes, extended_message, extended_of}
+use Rattle.mm_digest.specs.Messages.{zero_bytes, extended_message}
 use Rattle.mm_platform.specs.Standing.{Item, own_item, foreign_item, values_of}
 use Rattle.mm_module.specs.Meaning.{Meaning}
 use Rattle.mm_module.specs.Batch.{Batch}
 use Rattle.mm_model.specs.Chains.{after, trail, guard, register_of}
 use Rattle.mm_model.specs.Instance.{Instance, opt}
-use Rattle.mm_model.specs.History.{Entry, Own, Value, History, Move, Commit, Foreign, Placed, Reset, moved, committed, renamed, register_value_of, values_of as entry_values}
+use Rattle.mm_model.specs.History.{Entry, Own, Value, History, Move, Commit, Foreign, Placed, Reset, moved, committed, register_value_of, values_of as entry_values}
 use Rattle.mm_model.specs.Messages.{moving_messages, move_messages}
 use Rattle.mm_model.specs.Moves.{Digests, made, committing}
-use Rattle.mm_model.specs.Steps.{Step, Reads, Changes, Writes, ask_steps}
+use Rattle.mm_model.specs.Steps.{Reads, Changes, Writes}
 use Rattle.mm_model.proofs.Chains.{after-append, trail-append}
 use Rattle.mm_model.proofs.Histories.{values_of-append}
 use Rattle.mm_model.proofs.MovedDigests.{values_renamed}
 use Rattle.mm_call.specs.Levels.{by_lists, by_digests, all_made}
 use Rattle.mm_call.specs.Found.{found_at, found_in, is_fresh}
-use Rattle.mm_call.specs.Courses.{End, Done, Fails, Fate, Course, Walked, after_step, walk}
-use Rattle.mm_call.specs.Called.{seen_at, called}
+use Rattle.mm_call.specs.Courses.{End, Done, Fails, Fate, Walked, after_step, walk}
+use Rattle.mm_call.specs.Called.{seen_at}
 use Rattle.mm_call.specs.Standing.{shown, shown_by}
-use Rattle.mm_call.specs.Asked.{counted_part, counted_moves, from_reset, moves_messages, foreign_in}
-use Rattle.mm_call.specs.Tied.{foreign_of, standing_items, IsTied, Tied, shows, nothing, OptTied}
+use Rattle.mm_call.specs.Asked.{counted_moves, from_reset, moves_messages, foreign_in}
+use Rattle.mm_call.specs.Tied.{foreign_of, standing_items, Tied, shows, nothing, OptTied}
 use Rattle.mm_call.proofs.Trails.{all_made-append}
 use Rattle.mm_call.proofs.Walks.{made-append, foreign_in-append, from_reset-foreign, messages-made, changing, asks, finished}
 use Rattle.mm_call.proofs.OptShapes.{Shape, still, reset, shape, opening}
-use Rattle.mm_call.proofs.OptShut.{bare, bare_digests, foreign_reset, foreign_digests, counted_open, counted_shut}
+use Rattle.mm_call.proofs.OptShut.{bare, bare_digests}
 use Rattle.mm_call.proofs.OptLaw.{reset_messages}
 
 foreign_of-append : (xs ys : List Item) → foreign_of (xs ++ ys) ≡ foreign_of xs ++ foreign_of ys

@@ -1,12 +1,12 @@
 -- Basic: what is told by digests is what is expected.
-use Rattle.std.proofs.Common.{ℕ, ◌≡◌, List, [], ◌∷◌, refl, sym}
+use Rattle.std.proofs.Common.{ℕ, List, [], refl, sym}
 use Rattle.std.specs.List.{Contains}
 use Rattle.mm_digest.specs.Messages.{start_message}
 use Rattle.mm_digest.specs.declared.variant.Variant.TheVariants.{Basic}
 use Rattle.mm_module.specs.Meaning.{Meaning}
 use Rattle.mm_module.specs.Batch.{Batch}
 use Rattle.mm_model.specs.Instance.{Instance, basic}
-use Rattle.mm_model.specs.History.{History, Move, Foreign, Power as PowerMove, moved, first_history}
+use Rattle.mm_model.specs.History.{History, Foreign, Power as PowerMove, moved, first_history}
 use Rattle.mm_model.specs.Messages.{IsClear}
 use Rattle.mm_model.specs.Moves.{Digests, made}
 use Rattle.mm_model.proofs.Forms.{reads_zero}
@@ -14,7 +14,6 @@ use Rattle.mm_call.specs.Asked.{IsPlain}
 use Rattle.mm_call.proofs.Moving.{agrees-moved, plain-moved, summary-nil}
 use Rattle.mm_call.proofs.BasicLaw.{plain_outside, basic_same}
 use Rattle.mm_call.proofs.Checkpoints.{basic_checkpoint_same}
-use Rattle.mm_schedule.specs.Events.{Event}
 use Rattle.mm_run.specs.Folds.{course_of, first_issued, first_digests}
 use Rattle.mm_run.specs.Premises.{foreign_values, asked_batches, run_messages}
 use Rattle.mm_run.specs.Laws.{BasicIsExpected}

@@ -1,6 +1,6 @@
 -- What an event comes to, in either variant: at most 64 requests are committed, the reply can be printed, and at most one
 -- snapshot is issued.
-use Rattle.std.proofs.Common.{◌≡◌, ℕ, ◌+◌, ◌-◌, ◌≤◌, ◌^◌, Bool, true, false, List, [], ◌∷◌, ◌++◌, length, IsTrue, Option, None, Some, Result, Ok, Err, refl, sym, ap, ◌∙◌, subst, arith, length-append}
+use Rattle.std.proofs.Common.{◌≡◌, ℕ, ◌+◌, ◌≤◌, ◌^◌, Bool, true, false, List, [], ◌∷◌, ◌++◌, length, IsTrue, Option, None, Some, Result, Ok, Err, refl, sym, ap, subst, arith, length-append}
 use Rattle.std.specs.Prelude.{All, if◌then◌else◌, ◌||◌, nat_lt}
 use Rattle.std.specs.List.{list_any}
 use Rattle.std.proofs.lemmas.Bool.Decides.{nat_tests}
@@ -24,7 +24,7 @@ use Rattle.mm_model.specs.Instance.{Instance}
 use Rattle.mm_model.specs.History.{Move, Commit, Foreign, Placed, Reset, Close, Power as PowerMove}
 use Rattle.mm_model.specs.Long.{is_lf, is_long}
 use Rattle.mm_model.specs.Moves.{Digests, made, committing}
-use Rattle.mm_model.specs.Steps.{ask_steps, checkpoint_steps}
+use Rattle.mm_model.specs.Steps.{ask_steps}
 use Rattle.mm_model.specs.declared.refusal.Refusal.{Refusal}
 use Rattle.mm_model.specs.declared.refusal.Refusal.TheVariants as refusal
 use Rattle.mm_model.specs.declared.verdict.Verdict.{Verdict}
@@ -35,7 +35,7 @@ use Rattle.mm_call.specs.Order.{weighed, examined}
 use Rattle.mm_call.specs.Levels.{by_digests, all_made}
 use Rattle.mm_call.specs.Found.{Found, found_with, found_from, found_at, found_in, is_fresh}
 use Rattle.mm_call.specs.Courses.{Course, Walked, walk}
-use Rattle.mm_call.specs.Called.{Ending, Answers, Refuses, Breaks, Called, kept_at, ended_by, seen_at, called_with, called}
+use Rattle.mm_call.specs.Called.{Ending, Answers, Refuses, Breaks, Called, ended_by, seen_at, called}
 use Rattle.mm_call.specs.Checkpoints.{Closing, Closes, HasNone, NoSegment, LostPower, Stops, Checkpointed, checkpointed_with, checkpointed}
 use Rattle.mm_call.specs.Standing.{instance_by}
 use Rattle.mm_call.proofs.Moving.{committed_in}
@@ -43,12 +43,11 @@ use Rattle.mm_call.proofs.Walks.{Commits, nothing, batch}
 use Rattle.mm_call.proofs.BasicLaw.{unlacked}
 use Rattle.mm_schedule.specs.Events.{Event, Ask, Checkpoint, Power, Extend}
 use Rattle.mm_schedule.specs.Replies.{IsPrintable}
-use Rattle.mm_schedule.specs.declared.header.Header.{Header}
 use Rattle.mm_schedule.specs.declared.reply.Reply.TheVariants as reply
 use Rattle.mm_schedule.specs.declared.reply.Cause.TheVariants as cause
 use Rattle.mm_schedule.specs.declared.reply.Way.{Way}
 use Rattle.mm_run.specs.Offered.{offered_bytes}
-use Rattle.mm_run.specs.Folds.{Outcome, way_of, after_stop, course_of, reply_of, snapshots_of, moves_then, outcome_by, uncalled, asked, closing_reply, closing_then, closed_outcome, outcome_of}
+use Rattle.mm_run.specs.Folds.{way_of, after_stop, course_of, reply_of, snapshots_of, moves_then, outcome_by, uncalled, asked, closing_reply, closing_then, closed_outcome, outcome_of}
 use Rattle.mm_run.specs.Held.{Held, world_key, world_barrier, instance_of, outcome_in}
 use Rattle.mm_run.proofs.Running.{asks, checkpoint_none}
 

@@ -1,9 +1,8 @@
 -- A schedule gives the same by digests as by lists: one induction over events, for both variants.
-use Rattle.std.proofs.Common.{ℕ, ◌≡◌, ◌+◌, Bool, true, false, List, [], ◌∷◌, ◌++◌, map, Option, None, Some, refl, sym, ap, ◌∙◌, subst, arith, append_assoc}
+use Rattle.std.proofs.Common.{ℕ, ◌≡◌, ◌+◌, Bool, true, false, List, [], ◌∷◌, ◌++◌, map, Option, None, Some, refl, sym, ap, subst, arith, append_assoc}
 use Rattle.std.specs.Prelude.{if◌then◌else◌}
 use Rattle.std.specs.List.{AllByRecursion, Contains}
 use Rattle.std.proofs.lemmas.List.Elements.{Contains-append_right}
-use Rattle.mm_platform.specs.declared.fault.StepFault.{StepFault}
 use Rattle.mm_platform.specs.declared.plan.Meddle.{Meddle}
 use Rattle.mm_platform.specs.declared.plan.Stop.{Stop}
 use Rattle.mm_platform.specs.declared.plan.Stop.TheVariants.{Quiet, Cut, Drop, Fail}
@@ -11,13 +10,12 @@ use Rattle.mm_module.specs.Batch.{Batch, normal}
 use Rattle.mm_model.specs.Instance.{Instance}
 use Rattle.mm_model.specs.History.{History, Move, Foreign, Power as PowerMove, moved}
 use Rattle.mm_model.specs.Long.{is_long}
-use Rattle.mm_model.specs.Messages.{Within, move_messages}
+use Rattle.mm_model.specs.Messages.{Within}
 use Rattle.mm_model.specs.Moves.{Digests, made}
 use Rattle.mm_model.specs.Standing.{IsGenuine}
 use Rattle.mm_model.proofs.Lists.{each_left, each_right}
-use Rattle.mm_call.specs.Levels.{Level, by_lists, by_digests, all_made, Agrees}
+use Rattle.mm_call.specs.Levels.{by_lists, by_digests, all_made, Agrees}
 use Rattle.mm_call.specs.Found.{right_content}
-use Rattle.mm_call.specs.Courses.{Course}
 use Rattle.mm_call.specs.Called.{Ending, Answers, Refuses, Breaks, Called, called}
 use Rattle.mm_call.specs.Checkpoints.{Closing, Closes, HasNone, NoSegment, LostPower, Stops, Checkpointed, checkpointed, IsSameCheckpoint}
 use Rattle.mm_call.specs.Asked.{moves_messages, right_messages, IsWithin}

@@ -19,7 +19,7 @@ use Rattle.mm_platform.specs.declared.plan.Stop.TheVariants.{Quiet, Cut, Drop, F
 use Rattle.mm_model.specs.Chains.{guard, guard_message, register_of, own_values}
 use Rattle.mm_model.specs.Instance.{Instance, basic, opt}
 use Rattle.mm_model.specs.History.{History, Move, Commit, Foreign, Placed, Reset, Close, Power as PowerMove, moved, committed, first_history, joined, total_of}
-use Rattle.mm_model.specs.Life.{Life, Live, Spoiled, Lost as LostLife, life_of, has_value, is_lost, is_empty}
+use Rattle.mm_model.specs.Life.{Life, Live, Spoiled, Lost as LostLife, life_of, has_value, is_lost}
 use Rattle.mm_model.specs.Sound.{IsSound}
 use Rattle.mm_model.specs.Judge.{is_last, judged, judge}
 use Rattle.mm_model.specs.Long.{is_long}
@@ -41,11 +41,11 @@ use Rattle.mm_call.specs.Checkpoints.{Closing, Closes, HasNone, NoSegment, LostP
 use Rattle.mm_call.specs.Asked.{foreign_in}
 use Rattle.mm_call.proofs.Finding.{weighed_tells, found_with_tells}
 use Rattle.mm_call.proofs.OptFinding.{IsLive, lives, not_lost}
-use Rattle.mm_call.proofs.OptHolding.{IsFine, foreign_fine, power_fine}
+use Rattle.mm_call.proofs.OptHolding.{foreign_fine, power_fine}
 use Rattle.mm_call.proofs.OptReady.{IsDue, ready_inside, ready_opening, ready_closing}
 use Rattle.mm_call.proofs.OptShut.{reset_may}
 use Rattle.mm_call.proofs.OptLaw.{before, sight, sight_is}
-use Rattle.mm_call.proofs.OptWalks.{AllFine, AreOwn, Ready, walk_fine}
+use Rattle.mm_call.proofs.OptWalks.{AllFine, Ready, walk_fine}
 use Rattle.mm_call.proofs.Walks.{taking, changing}
 use Rattle.mm_call.proofs.Walks as walks
 use Rattle.mm_call.proofs.BasicLaw.{unlacked}

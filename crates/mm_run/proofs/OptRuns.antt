@@ -22,21 +22,20 @@ use Rattle.mm_model.proofs.Lists.{each_left, each_right, each_append}
 use Rattle.mm_model.proofs.Moves.{sound_moved}
 use Rattle.mm_model.proofs.Ends.{first_sound, first_outside}
 use Rattle.mm_model.proofs.MovedDigests.{outside_moved}
-use Rattle.mm_call.specs.Levels.{by_lists, by_digests, all_made, Agrees}
+use Rattle.mm_call.specs.Levels.{by_lists, by_digests, all_made}
 use Rattle.mm_call.specs.Found.{right_content, is_fresh, found_at, found_in}
 use Rattle.mm_call.specs.Courses.{End, Done, Fails, Fate, Course, Walked, made_move, step_moves, after_step, walk}
-use Rattle.mm_call.specs.Called.{Called, called, seen_at}
-use Rattle.mm_call.specs.Checkpoints.{Checkpointed, checkpointed, IsSameCheckpoint}
+use Rattle.mm_call.specs.Called.{called, seen_at}
+use Rattle.mm_call.specs.Checkpoints.{checkpointed, IsSameCheckpoint}
 use Rattle.mm_call.specs.Asked.{counted_part, counted_moves, from_reset, moves_messages, foreign_in, right_messages, IsWithin}
 use Rattle.mm_call.specs.Laws.{IsSameCall}
 use Rattle.mm_call.proofs.OptHolding.{opt_agrees_moved, foreign_may, power_may, power_brings, holds_moved, foreign_fine}
-use Rattle.mm_call.proofs.Walks.{asks, changing, taking, taking_is, messages-made, foreign_in-append, foreign_in-foreign, foreign_in-first, from_reset-foreign}
+use Rattle.mm_call.proofs.Walks.{asks, taking, taking_is, messages-made, foreign_in-append, foreign_in-foreign, foreign_in-first, from_reset-foreign}
 use Rattle.mm_call.proofs.OptWalks.{AreOwn}
 use Rattle.mm_call.proofs.OptShapes.{Shape, still, reset, shape}
 use Rattle.mm_call.proofs.OptShut.{bare, listed_bare, holds_open, within_of, within_items}
 use Rattle.mm_call.proofs.OptLaw.{reset_messages, opt_calls_agree_by_lists}
 use Rattle.mm_call.proofs.Checkpoints.{read_moves, opt_checkpoints_agree_by_lists}
-use Rattle.mm_schedule.specs.Events.{Event}
 use Rattle.mm_run.specs.Folds.{course_of, first_issued, first_digests}
 use Rattle.mm_run.specs.Premises.{foreign_values, asked_batches, run_messages}
 use Rattle.mm_run.specs.Laws.{OptIsExpected}

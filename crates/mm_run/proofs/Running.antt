@@ -1,5 +1,5 @@
 -- What is expected is a run of the machine, in each variant.
-use Rattle.std.proofs.Common.{ℕ, ◌≡◌, ◌+◌, ◌-◌, Bool, true, false, ◌&&◌, List, [], ◌∷◌, ◌++◌, length, map, Option, None, Some, Result, Ok, Err, refl, sym, ap, ◌∙◌, subst, arith}
+use Rattle.std.proofs.Common.{ℕ, ◌≡◌, ◌+◌, ◌-◌, Bool, true, false, ◌&&◌, List, [], ◌∷◌, ◌++◌, length, map, Option, None, Some, Result, Ok, Err, refl, sym, ap, ◌∙◌, subst}
 use Rattle.std.specs.Prelude.{if◌then◌else◌, nat_eq}
 use Rattle.std.specs.Str.{bytes_eq}
 use Rattle.std.proofs.lemmas.Bool.{and_parts}
@@ -31,9 +31,9 @@ use Rattle.mm_call.specs.Order.{admitted, examined}
 use Rattle.mm_call.specs.Answers.{answer_on}
 use Rattle.mm_call.specs.Levels.{by_lists, all_made}
 use Rattle.mm_call.specs.Found.{Found, found_from, found_at, found_in, is_fresh}
-use Rattle.mm_call.specs.Courses.{End, Done, Fails, Fate, Course, Walked, made_move, step_moves, after_step, walk, seen_in, commits, closes}
-use Rattle.mm_call.specs.Called.{Ending, Answers, Refuses, Breaks, Called, reading_steps, kept_at, ended_by, called_with, called}
-use Rattle.mm_call.specs.Checkpoints.{Closing, Closes, HasNone, NoSegment, LostPower, Stops, Checkpointed, closing_of, closed_by, checkpointed_with}
+use Rattle.mm_call.specs.Courses.{End, Done, Fails, Fate, Course, Walked, made_move, step_moves, after_step, walk, seen_in, commits}
+use Rattle.mm_call.specs.Called.{Ending, Answers, Refuses, Breaks, Called, reading_steps, kept_at, ended_by, called}
+use Rattle.mm_call.specs.Checkpoints.{Closing, Closes, HasNone, NoSegment, LostPower, Stops, Checkpointed, checkpointed_with}
 use Rattle.mm_call.proofs.Moving.{committed_in, same_batches, more_batches}
 use Rattle.mm_call.proofs.Walks.{Commits, nothing, batch, committed-append, commits-none, committed-foreign, foreign_first, basic_commits, opt_commits}
 use Rattle.mm_call.proofs.Walks as walks
@@ -49,7 +49,6 @@ use Rattle.mm_schedule.specs.declared.reply.Reply.TheVariants.{Told, No, Kept, N
 use Rattle.mm_run.specs.Offered.{offered_bytes}
 use Rattle.mm_run.specs.Folds.{Outcome, way_of, after_stop, course_of, reply_of, moves_then, outcome_by, asked, closing_reply, closing_then, closed_outcome, outcome_of, Followed, followed, first_issued}
 use Rattle.mm_run.specs.Laws.{ExpectedRuns}
-use Rattle.mm_model.proofs.MovedDigests.{total-push}
 
 -- a call commits nothing, or its batch
 pub asks : (variant : Variant) (fates : ℕ → Fate) (is_open fresh : Bool) (b : Batch)

@@ -6,9 +6,8 @@ use Rattle.mm_module.specs.Batch.{One}
 use Rattle.mm_platform.specs.declared.plan.Stop.TheVariants.{Quiet}
 use Rattle.mm_seal.specs.Snapshot.{Content, sealed_of}
 use Rattle.mm_model.specs.Instance.{Instance, basic, opt}
-use Rattle.mm_model.specs.History.{History, requests_of, total_of, cell_digest_of, register_value_of}
+use Rattle.mm_model.specs.History.{History, requests_of}
 use Rattle.mm_model.specs.Places.{Names}
-use Rattle.mm_model.specs.Standing.{flag_of}
 use Rattle.mm_schedule.specs.Events.{Event, Ask}
 use Rattle.mm_schedule.specs.declared.event.Offer.TheVariants.{Last}
 use Rattle.mm_schedule.specs.Machine.{Runs}
