@@ -1,0 +1,4 @@
+pub mod Checking
+pub mod Tallies
+pub mod Counting
+pub mod Reports

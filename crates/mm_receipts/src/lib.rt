@@ -1,0 +1,14 @@
+//! The check of receipts, pair by pair: what the command `receipts KEY` does.
+#![tactic(auto)]
+
+mod pair;
+mod player;
+mod report;
+mod tally;
+mod write;
+
+pub use player::receipts;
+pub use report::ReceiptReport;
+
+#[cfg(test)]
+mod tests;

@@ -1,0 +1,221 @@
+//! What was found so far.
+
+ghost use Rattle.std.specs.Prelude.{◌≡◌, ◌≤◌, ◌<◌, ◌^◌, ◌+◌, ℕ, List, false, length, IfOk, IfSome, OnOk, option_map};
+ghost use Rattle.std.specs.List.{position};
+ghost use Rattle.mm_module.specs.Words.{is_space};
+ghost use Rattle.mm_receipts.specs.Checking.{asked_at, compared};
+
+use crate::pair::{Asked, Pair, Verdict};
+use crate::write::text_of;
+use mm_base::{Bytes, Memory, Sink, read_decimal, write_all};
+use mm_play::{Refused, TakeFault};
+use mm_receipt::{NotReceipt, verify};
+use std::alloc::Global;
+use std::collections::BTreeMap;
+
+/// The most pairs.
+const MOST_PAIRS: u32 = 20_000;
+
+/// The most bytes of lines, each without its LF.
+const MOST_READ: u64 = 268_435_456;
+
+/// The highest position.
+const MOST: u64 = 281474976710656;
+
+/// The good pairs by their positions, and what counts against the limits.
+#[derive(Drop)]
+pub struct Tally {
+    key: [u8; 32],
+    known: BTreeMap<u64, Pair>,
+    /// The good pairs, those that came again counted again.
+    good: u32,
+    /// The pairs answered.
+    pairs: u32,
+    /// The bytes of their lines.
+    read: u64,
+    ghost few: { pairs ≤ 20000 },
+    ghost right: { good ≤ pairs },
+    ghost short: { read ≤ 268435456 },
+}
+
+/// Where the first space is.
+fn space_in(line: &[u8]) -> Option<usize>
+    ensures { result ≡ position is_space line.now }
+{
+    line.iter().position(|byte| *byte == b' ')
+}
+
+impl Tally {
+    ghost use Rattle.mm_receipts.specs.Checking.{is_too_much, first_tally, first_answer, verdict_of, counted_in, remembered, after_pair, second_answer};
+    ghost use Rattle.mm_receipts.specs.Tallies.{tallied, IsFirst};
+    ghost use Rattle.mm_play.specs.Takes.{Takes, CountsWrites};
+
+    /// Nothing was found yet. Takes no memory.
+    pub fn new(alloc: Global, key: &[u8; 32]) -> Tally
+        ensures { tallied result ≡ first_tally key.now }
+    {
+        Tally {
+            key: *key,
+            known: BTreeMap::new(alloc),
+            good: 0,
+            pairs: 0,
+            read: 0,
+        }
+    }
+
+    /// The counts of good pairs and of pairs.
+    pub fn counts(&self) -> (u32, u32)
+        ensures { result ≡ (self.now.good, self.now.pairs) }
+    {
+        (self.good, self.pairs)
+    }
+
+    // Whether a pair more would be too many, or a line more too many bytes.
+    fn is_full(&self, line: &[u8]) -> bool
+        requires { length line.now ≤ 8400 }
+        ensures { result ≡ is_too_much (tallied self.now) line.now }
+    {
+        self.pairs >= MOST_PAIRS || self.read + line.len() as u64 > MOST_READ
+    }
+
+    /// Takes the first line of a pair.
+    pub fn first(&mut self, alloc: Global, line: &[u8]) -> Result<Asked, TakeFault>
+        requires { length line.now ≤ 8400 }
+        ensures first { IsFirst (first_answer (tallied self.old) line.now) (tallied self.new) result }
+        ensures short { IfOk result (λ asked. length asked.request ≤ 4096) }
+    {
+        let (position, request) = match read_asked(line) {
+            Some(parts) => parts,
+            None => return Err(TakeFault::Refused(Refused::Bad)),
+        };
+        if self.is_full(line) {
+            return Err(TakeFault::Refused(Refused::Much));
+        }
+        match Bytes::copy_of(alloc, request) {
+            Ok(request) => {
+                self.read += line.len() as u64;
+                Ok(Asked { position, request })
+            }
+            Err(_) => Err(TakeFault::Memory),
+        }
+    }
+
+    // What a pair is answered.
+    fn verdict(&self, asked: &Asked, output: &[u8]) -> Verdict
+        requires { length asked.now.request ≤ 4096 }
+        ensures { result ≡ verdict_of (tallied self.now) asked.now output.now }
+    {
+        match verify(&self.key, asked.position, asked.request.as_slice(), output) {
+            Ok(()) => {}
+            Err(NotReceipt::Form) => return Verdict::NoForm,
+            Err(NotReceipt::Tag) => return Verdict::NoTag,
+        }
+        match self.known.get(&asked.position) {
+            None => Verdict::Good,
+            Some(pair) => compared(pair, asked.request.as_slice(), output),
+        }
+    }
+
+    // Counts a pair and its second line.
+    fn count(&mut self, line: &[u8])
+        requires line { length line.now ≤ 8400 }
+        requires room { is_too_much (tallied self.old) line.now ≡ false }
+        ensures { tallied self.new ≡ counted_in (tallied self.old) line.now }
+    {
+        self.pairs += 1;
+        self.read += line.len() as u64;
+    }
+
+    // Remembers a good pair.
+    fn remember(&mut self, alloc: Global, asked: Asked, output: &[u8]) -> Result<(), Memory>
+        ensures { OnOk result (tallied self.new ≡ remembered (tallied self.old) asked output.now) }
+    {
+        let output = Bytes::copy_of(alloc, output)?;
+        let Asked { position, request } = asked;
+        match self.known.insert(position, Pair { request, output }) {
+            Ok(_) => Ok(()),
+            Err(_) => Err(Memory),
+        }
+    }
+
+    // Counts a pair with this verdict, and remembers it where it is good.
+    fn settle(
+        &mut self,
+        alloc: Global,
+        asked: Asked,
+        output: &[u8],
+        verdict: Verdict,
+    ) -> Result<(), Memory>
+        requires line { length output.now ≤ 8400 }
+        requires room { is_too_much (tallied self.old) output.now ≡ false }
+        ensures { OnOk result (tallied self.new ≡ after_pair (tallied self.old) asked output.now verdict) }
+    {
+        self.count(output);
+        match verdict {
+            Verdict::Good => {
+                self.remember(alloc, asked, output)?;
+                self.good += 1;
+                Ok(())
+            }
+            _ => Ok(()),
+        }
+    }
+
+    /// Answers a pair by its second line.
+    pub fn second<K: Sink>(
+        &mut self,
+        alloc: Global,
+        asked: Asked,
+        line: &[u8],
+        out: &mut K,
+    ) -> Result<(), TakeFault>
+        requires line { length line.now ≤ 8400 }
+        requires short { length asked.request ≤ 4096 }
+        ensures takes { Takes (second_answer (tallied self.old) asked line.now) (tallied self.new)
+            (K.received out.old) (K.received out.new) result }
+        ensures counted { CountsWrites (K.faults out.old) (K.faults out.new) result }
+    {
+        if self.is_full(line) {
+            return Err(TakeFault::Refused(Refused::Much));
+        }
+        let verdict = self.verdict(&asked, line);
+        let text = match text_of(alloc, asked.position, verdict) {
+            Ok(text) => text,
+            Err(_) => return Err(TakeFault::Memory),
+        };
+        match self.settle(alloc, asked, line, verdict) {
+            Ok(()) => {}
+            Err(_) => return Err(TakeFault::Memory),
+        }
+        match write_all(out, text.as_slice()) {
+            Ok(()) => Ok(()),
+            Err(_) => Err(TakeFault::WriteFault),
+        }
+    }
+}
+
+/// The position and the request of the first line of a pair.
+fn read_asked(line: &[u8]) -> Option<(u64, &[u8])>
+    ensures asked { option_map (λ (p : _). record { position = p.0; request = p.1.now }) result ≡ asked_at line.now }
+    ensures short { IfSome result (λ p. length p.1.now ≤ 4096) }
+{
+    let at = space_in(line)?;
+    let position = read_decimal(&line[..at])?;
+    let request = &line[at + 1..];
+    if 1 <= position && position <= MOST && request.len() <= 4096 {
+        Some((position, request))
+    } else {
+        None
+    }
+}
+
+/// What a pair is answered whose position is known.
+fn compared(pair: &Pair, request: &[u8], output: &[u8]) -> Verdict
+    ensures { result ≡ compared pair.now request.now output.now }
+{
+    if request == pair.request.as_slice() && output == pair.output.as_slice() {
+        Verdict::Good
+    } else {
+        Verdict::Clash
+    }
+}
