@@ -35,7 +35,7 @@ name-part ReceiptCounter = literal (codes "receipt-counter") refl (omega arith)
 name-part ReceiptLimiter = literal (codes "receipt-limiter") refl (omega arith)
 name-part ReceiptQuota = literal (codes "receipt-quota") refl (omega arith)
 
-header-unbroken : (header : Header) → IsUnbroken (header_text header)
+pub header-unbroken : (header : Header) → IsUnbroken (header_text header)
 header-unbroken header =
     (both 20 60 (codes "memoir 1 ") (variant_text header.variant ++ 32 ∷ name_of header.module) (literal (codes "memoir 1 ") refl (omega arith))
     (both 20 40 (variant_text header.variant) (32 ∷ name_of header.module) (variant-part header.variant)

@@ -1,0 +1,2 @@
+pub mod FiveLines
+pub mod Tallying

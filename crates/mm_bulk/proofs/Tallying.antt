@@ -1,0 +1,285 @@
+-- A schedule among its events: the lines left, and what stands of its summary.
+use Rattle.std.proofs.Common.{◌≡◌, ◌≢◌, ◌<◌, ◌≤◌, ◌∙◌, ℕ, ◌+◌, suc, true, false, List, [], ◌∷◌, ◌++◌, length, map, refl, sym, ap, subst, arith, append_assoc, append-nil}
+use Rattle.std.specs.Prelude.{Option, Some, None, is_some, nat_lt, Result, Ok}
+use Rattle.std.specs.List.{AllByRecursion, fold, position, position_or_len}
+use Rattle.std.specs.Option.{option_map_or}
+use Rattle.std.proofs.Math.Seq.{take-append_seam, drop-append-add}
+use Rattle.std.proofs.lemmas.Bool.{ne_eqb}
+use Rattle.std.proofs.lemmas.Bool.Decides.{nat_tests}
+use Rattle.std.proofs.lemmas.List.{length-append}
+use Rattle.std.proofs.lemmas.List.Elements.{recursion_from_All}
+use Rattle.sha2.specs.Sha256.{sha256}
+use Rattle.mm_base.specs.Input.{IsUnbroken, joined}
+use Rattle.mm_base.specs.Streams.{Sends}
+use Rattle.mm_base.specs.declared.fault.WriteFault.{WriteFault}
+use Rattle.mm_digest.specs.declared.digest.Digest.{Digest}
+use Rattle.mm_modules.specs.declared.any.AnyModule.{AnyModule}
+use Rattle.mm_schedule.specs.declared.header.Header.{Header}
+use Rattle.mm_schedule.specs.declared.reply.Reply.{Reply}
+use Rattle.mm_schedule.specs.declared.reply.Reply.TheVariants.{Told, No, Kept, Nothing, Closed, Checkpointed, Power, Extended}
+use Rattle.mm_schedule.specs.Events.{Event}
+use Rattle.mm_schedule.specs.Grammar.{event_at}
+use Rattle.mm_schedule.specs.Headers.{header_text}
+use Rattle.mm_schedule.specs.Replies.{end_line}
+use Rattle.mm_schedule.proofs.SpelledIsRead.{spelled_is_read}
+use Rattle.mm_gen.specs.Laws.{IsEventLine}
+use Rattle.mm_gen.specs.Schedules.{schedule_lines, schedule_text}
+use Rattle.mm_gen.proofs.Readable.{header-unbroken, is_schedule}
+use Rattle.mm_world.specs.Folds.{Followed, followed, replies_by_digests}
+use Rattle.mm_world.specs.Held.{world_of}
+use Rattle.mm_world.specs.Levels.{Digests, by_digests}
+use Rattle.mm_replay.specs.Schedule.{Running, after_event, begun, outcome_in}
+use Rattle.mm_replay.specs.Text.{text_of, texts_of}
+use Rattle.mm_bulk.specs.Answered.{Answered}
+use Rattle.mm_bulk.specs.Counting.{counted, counts_of, no_counts, total}
+use Rattle.mm_bulk.specs.LineBreaks.{is_break, line_at}
+use Rattle.mm_bulk.specs.Sums.{SumsUp}
+use Rattle.mm_bulk.specs.declared.counts.Counts.{Counts}
+use Rattle.mm_bulk.specs.declared.summary.Summary.{Summary}
+
+-- ---- the first line
+
+abbrev IsNoBreak : ℕ → Type 0
+IsNoBreak byte = byte ≢ 10
+
+first_break : (line more : List ℕ) → AllByRecursion IsNoBreak line → position_or_len is_break (line ++ 10 ∷ more) ≡ length line
+first_break [] more none = refl
+first_break (byte ∷ line) more none =
+    let one : 1 + length line ≡ suc (length line) = omega arith in
+    rw (ne_eqb byte 10 none.0) (ap (λ (n : ℕ). 1 + n) (first_break line more none.1) ∙ one)
+
+pub line_again : (line more : List ℕ) → IsUnbroken line → line_at (line ++ 10 ∷ more) ≡ Some (line, more)
+unfolding line_at
+line_again line more unbroken =
+    let within : length line < length (line ++ 10 ∷ more) = omega (arith, length-append line (10 ∷ more)) in
+    let test : nat_lt (length line) (length (line ++ 10 ∷ more)) ≡ true = grind (arith, nat_tests) in
+    let found : position is_break (line ++ 10 ∷ more) ≡ Some (length line) = rw (first_break line more (recursion_from_All IsNoBreak line unbroken), test) refl in
+    rw (found, take-append_seam line (10 ∷ more), drop-append-add line (10 ∷ more) 1) refl
+
+no_line : line_at [] ≡ None
+unfolding line_at
+no_line = refl
+
+no_pair : (p : List ℕ × List ℕ) → (let none : Option (List ℕ × List ℕ) = None in none ≡ Some p) → ⊥
+no_pair p is = cc
+
+no_events : (one : Option Event) (more : List (Option Event)) → (let none : List (Option Event) = [] in one ∷ more ≡ none) → ⊥
+no_events one more is = cc
+
+-- ---- what is left
+
+-- what follows of these events
+abbrev left_of : Running → List Event → Followed Digests
+left_of r events = followed (world_of r.machine) (by_digests (world_of r.machine)) r.digests r.issued events
+
+-- the whole is what was counted and written, and then what is left
+record Rests (r : Running) (counts : Counts) (text : List ℕ) (left whole : Followed Digests) : Type 0 where
+  replies : text ++ texts_of left.replies ≡ texts_of whole.replies
+  counted : fold counted counts left.replies ≡ counts_of whole.replies
+  state : left.state ≡ whole.state
+  issued : left.issued ≡ whole.issued
+
+pub record Going (lines : List (List ℕ)) (rest : List ℕ) (r : Running) (counts : Counts) (text : List ℕ) : Type 0 where
+  left : List (List ℕ)
+  events : List Event
+  all : List Event
+  bytes : rest ≡ joined left
+  are : AllByRecursion IsEventLine left
+  read : map event_at left ≡ map Some events
+  whole : map event_at lines ≡ map Some all
+  few : total counts + length left ≤ 20000
+  rests : Rests r counts text (left_of r events) (replies_by_digests (world_of r.machine) all)
+
+-- an event line that is answered next
+pub record Next (lines : List (List ℕ)) (rest : List ℕ) (r : Running) (counts : Counts) (text line behind : List ℕ) : Type 0 where
+  pub less : length behind < length rest
+  pub machine : (reply : Reply) (new : Running) → Answered r new line reply → new.machine ≡ r.machine
+  pub short : length line ≤ 8400
+  pub known : is_some (event_at line) ≡ true
+  pub room : total counts < 20000
+  pub on : (reply : Reply) (new : Running) → Answered r new line reply → Going lines behind new (counted counts reply) (text ++ text_of reply)
+
+total-counted : (counts : Counts) (reply : Reply) → total (counted counts reply) ≡ total counts + 1
+total-counted counts (Told false before outputs) = omega arith
+total-counted counts (Told true before outputs) = omega arith
+total-counted counts (No cause) = omega arith
+total-counted counts (Kept way position) = omega arith
+total-counted counts (Nothing way) = omega arith
+total-counted counts (Closed way) = omega arith
+total-counted counts Checkpointed = omega arith
+total-counted counts Power = omega arith
+total-counted counts Extended = omega arith
+
+-- the first of the options, and the others
+heads : (one other : Option Event) (more others : List (Option Event)) → one ∷ more ≡ other ∷ others → (one ≡ other) × (more ≡ others)
+heads one other more others is = (ap (first_or one) is, ap rest_of is)
+  where
+    first_or : Option Event → List (Option Event) → Option Event
+    first_or default [] = default
+    first_or default (x ∷ xs) = x
+
+    rest_of : List (Option Event) → List (Option Event)
+    rest_of [] = []
+    rest_of (x ∷ xs) = xs
+
+answered_on : (lines more : List (List ℕ)) (line : List ℕ) (r : Running) (counts : Counts) (text : List ℕ) (event : Event) (events all : List Event)
+    → AllByRecursion IsEventLine more → map event_at more ≡ map Some events → map event_at lines ≡ map Some all
+    → total counts + length (line ∷ more) ≤ 20000
+    → Rests r counts text (left_of r (event ∷ events)) (replies_by_digests (world_of r.machine) all)
+    → Going lines (joined more) (after_event r line event) (counted counts (outcome_in r event).reply) (text ++ text_of (outcome_in r event).reply)
+answered_on lines more line r counts text event events all are read whole few rests =
+    let said : Reply = (outcome_in r event).reply in
+    let behind : Followed Digests = left_of (after_event r line event) events in
+    record {
+      left = more;
+      events = events;
+      all = all;
+      bytes = refl;
+      are = are;
+      read = read;
+      whole = whole;
+      few = omega (arith, total-counted counts said, few);
+      rests = record {
+        replies = append_assoc text (text_of said) (texts_of behind.replies) ∙ rests.replies;
+        counted = rests.counted;
+        state = rests.state;
+        issued = rests.issued;
+      };
+    }
+
+next_line : (lines left : List (List ℕ)) (rest : List ℕ) (r : Running) (counts : Counts) (text : List ℕ) (events all : List Event) (line behind : List ℕ)
+    → rest ≡ joined left → AllByRecursion IsEventLine left → map event_at left ≡ map Some events → map event_at lines ≡ map Some all
+    → total counts + length left ≤ 20000 → Rests r counts text (left_of r events) (replies_by_digests (world_of r.machine) all)
+    → line_at rest ≡ Some (line, behind) → Next lines rest r counts text line behind
+next_line lines [] rest r counts text events all line behind bytes are read whole few rests found =
+    absurd (no_pair (line, behind) (sym no_line ∙ ap line_at (sym bytes) ∙ found))
+next_line lines (l ∷ more) rest r counts text [] all line behind bytes are read whole few rests found =
+    absurd (no_events (event_at l) (map event_at more) read)
+next_line lines (l ∷ more) rest r counts text (event ∷ events) all line behind bytes are read whole few rests found =
+    let both = heads (event_at l) (Some event) (map event_at more) (map Some events) read in
+    let first : Some (l, joined more) ≡ Some (line, behind) = sym (line_again l (joined more) are.0.unbroken) ∙ ap line_at (sym bytes) ∙ found in
+    let same : (l, joined more) ≡ (line, behind) = ap (λ (o : Option (List ℕ × List ℕ)). option_map_or (λ (p : List ℕ × List ℕ). p) o (line, behind)) first in
+    let made : Next lines rest r counts text l (joined more) = record {
+      less = omega (arith, length-append l (10 ∷ joined more), ap (λ (b : List ℕ). length b) bytes);
+      machine = λ reply new answered. ap (λ (x : Running). x.machine) (answered event both.0).1;
+      short = are.0.short;
+      known = rw both.0 refl;
+      room = omega (arith, few);
+      on = λ reply new answered.
+          let is = answered event both.0 in
+          rw (is.0, is.1) (answered_on lines more l r counts text event events all are.1 both.1 whole few rests);
+    } in
+    subst (λ (p : List ℕ × List ℕ). Next lines rest r counts text p.0 p.1) same made
+
+pub next : (lines : List (List ℕ)) (rest : List ℕ) (r : Running) (counts : Counts) (text line behind : List ℕ) → Going lines rest r counts text
+    → line_at rest ≡ Some (line, behind) → Next lines rest r counts text line behind
+next lines rest r counts text line behind going found =
+    next_line lines going.left rest r counts text going.events going.all line behind going.bytes going.are going.read going.whole going.few going.rests found
+
+-- ---- the end
+
+ended_at : (lines left : List (List ℕ)) (rest : List ℕ) (r : Running) (counts : Counts) (text : List ℕ) (events all : List Event)
+    → rest ≡ joined left → AllByRecursion IsEventLine left → map event_at left ≡ map Some events → map event_at lines ≡ map Some all
+    → Rests r counts text (left_of r events) (replies_by_digests (world_of r.machine) all) → line_at rest ≡ None
+    → SumsUp r.machine lines (record {
+      counts = counts;
+      committed = r.digests.count;
+      issued = length r.issued;
+      replies = record { bytes = sha256 (text ++ end_line r.digests.count (length r.issued)) };
+    })
+ended_at lines [] rest r counts text [] all bytes are read whole rests none =
+    let written : text ≡ texts_of (replies_by_digests (world_of r.machine) all).replies = sym (append-nil text) ∙ rests.replies in
+    let numbered = rests.counted in
+    let state = rests.state in
+    let issued = rests.issued in
+    record { events = all; read = whole; told = rw (sym state, sym issued, sym numbered, sym written) refl }
+ended_at lines [] rest r counts text (event ∷ events) all bytes are read whole rests none =
+    absurd (no_events (Some event) (map Some events) (sym read))
+ended_at lines (l ∷ more) rest r counts text events all bytes are read whole rests none =
+    let some : line_at rest ≡ Some (l, joined more) = ap line_at bytes ∙ line_again l (joined more) are.0.unbroken in
+    absurd (no_pair (l, joined more) (sym none ∙ some))
+
+pub ended : (lines : List (List ℕ)) (rest : List ℕ) (r : Running) (counts : Counts) (text : List ℕ) → Going lines rest r counts text → line_at rest ≡ None
+    → SumsUp r.machine lines (record {
+      counts = counts;
+      committed = r.digests.count;
+      issued = length r.issued;
+      replies = record { bytes = sha256 (text ++ end_line r.digests.count (length r.issued)) };
+    })
+ended lines rest r counts text going none =
+    ended_at lines going.left rest r counts text going.events going.all going.bytes going.are going.read going.whole going.rests none
+
+-- ---- the beginning
+
+events_of : (lines : List (List ℕ)) → AllByRecursion IsEventLine lines → List Event
+events_of [] are = []
+events_of (line ∷ lines) are = are.0.event ∷ events_of lines are.1
+
+events_read : (lines : List (List ℕ)) (are : AllByRecursion IsEventLine lines) → map event_at lines ≡ map Some (events_of lines are)
+unfolding events_of
+events_read [] are = refl
+events_read (line ∷ lines) are =
+    rw (spelled_is_read line are.0.event are.0.spelled) (ap (λ (more : List (Option Event)). Some are.0.event ∷ more) (events_read lines are.1))
+
+pub begins : (number count : ℕ) (header : Header) → count ≤ 20000
+    → Going (schedule_lines number count header) (joined (schedule_lines number count header)) (begun header.module) no_counts []
+begins number count header few =
+    let is = is_schedule number count header few in
+    let lines : List (List ℕ) = schedule_lines number count header in
+    let are = recursion_from_All IsEventLine lines is.events in
+    let read = events_read lines are in
+    record {
+      left = lines;
+      events = events_of lines are;
+      all = events_of lines are;
+      bytes = refl;
+      are = are;
+      read = read;
+      whole = read;
+      few = omega (arith, is.counted, few);
+      rests = record { replies = refl; counted = refl; state = refl; issued = refl };
+    }
+
+pub behind_first : (number count : ℕ) (header : Header)
+    → line_at (schedule_text number count header) ≡ Some (header_text header, joined (schedule_lines number count header))
+behind_first number count header = line_again (header_text header) (joined (schedule_lines number count header)) (header-unbroken header)
+
+-- ---- what was written whole
+
+pub sent_whole : (old new bytes : List ℕ) (done : Unit {0}) → (let all : Result (Unit {0}) WriteFault = Ok done in Sends (Some old) (Some new) bytes all) → new ≡ old ++ bytes
+sent_whole old new bytes done sends =
+    sends.appended ∙ ap (λ (more : List ℕ). old ++ more) (sym (sends.parts ∙ ap (λ (more : List ℕ). sends.sent ++ more) sends.whole ∙ append-nil sends.sent))
+
+-- a summary by its parts
+pub told_at : (machine : AnyModule) (lines : List (List ℕ)) (r : Running) (counts : Counts) (committed issued : ℕ) (digest : Digest) (text : List ℕ)
+    → r.machine ≡ machine → committed ≡ r.digests.count → issued ≡ length r.issued
+    → digest.bytes ≡ sha256 (text ++ end_line r.digests.count (length r.issued))
+    → SumsUp r.machine lines (record {
+      counts = counts;
+      committed = r.digests.count;
+      issued = length r.issued;
+      replies = record { bytes = sha256 (text ++ end_line r.digests.count (length r.issued)) };
+    })
+    → SumsUp machine lines (record { counts = counts; committed = committed; issued = issued; replies = digest })
+told_at machine lines r counts committed issued digest text same one two three made =
+    let summary : Summary = record { counts = counts; committed = committed; issued = issued; replies = digest } in
+    let other : Summary = record {
+      counts = counts;
+      committed = r.digests.count;
+      issued = length r.issued;
+      replies = record { bytes = sha256 (text ++ end_line r.digests.count (length r.issued)) };
+    } in
+    let equal : summary ≡ other = λ i. record { counts = counts; committed = one i; issued = two i; replies = record { bytes = three i } } in
+    subst (λ (m : AnyModule). SumsUp m lines summary) same (subst (λ (it : Summary). SumsUp r.machine lines it) (sym equal) made)
+
+-- the beginning, by what stands there
+pub starts : (number count : ℕ) (header : Header) (rest : List ℕ) (r : Running) (counts : Counts) (text : List ℕ) → count ≤ 20000
+    → rest ≡ joined (schedule_lines number count header) → r ≡ begun header.module → counts ≡ no_counts → text ≡ []
+    → Going (schedule_lines number count header) rest r counts text
+starts number count header rest r counts text few one two three four = rw (one, two, three, four) (begins number count header few)
+
+-- a line more, by what stands behind it
+pub goes_on : (lines : List (List ℕ)) (rest : List ℕ) (r new : Running) (counts more : Counts) (text written line behind : List ℕ) (reply : Reply)
+    → Next lines rest r counts text line behind → Answered r new line reply → more ≡ counted counts reply → written ≡ text ++ text_of reply
+    → Going lines behind new more written
+goes_on lines rest r new counts more text written line behind reply step answered one two = rw (one, two) (step.on reply new answered)

@@ -1,0 +1,5 @@
+pub mod Answered
+pub mod Counting
+pub mod LineBreaks
+pub mod Summaries
+pub mod Sums

@@ -1,0 +1,90 @@
+//! A generated schedule, run from its first line to its last.
+
+ghost use Rattle.std.specs.Prelude.{◌≡◌, ◌≤◌, ℕ, List, length, true, is_some, Some, IfOk};
+ghost use Rattle.sha2.specs.Sha256.{sha256};
+ghost use Rattle.mm_digest.specs.declared.variant.Variant.TheVariants.{Basic};
+ghost use Rattle.mm_schedule.specs.Grammar.{event_at};
+ghost use Rattle.mm_schedule.specs.Replies.{IsPrintable};
+ghost use Rattle.mm_gen.specs.Schedules.{schedule_lines};
+ghost use Rattle.mm_replay.specs.Progress.{running};
+ghost use Rattle.mm_bulk.specs.Answered.{Answered};
+ghost use Rattle.mm_bulk.specs.LineBreaks.{line_at};
+ghost use Rattle.mm_bulk.specs.Sums.{SumsUp};
+
+use crate::counts::Counts;
+use crate::fault::BulkFault;
+use crate::lines::first_line;
+use crate::summary::Summary;
+use crate::text_sink::TextSink;
+use mm_digest::Digest;
+use mm_gen::generate;
+use mm_play::{Refused, TakeFault};
+use mm_replay::{Progress, write_reply};
+use mm_schedule::{EventFault, Header, Reply, read_event};
+use sha2::{Digest as _, Sha256};
+use std::alloc::Global;
+
+/// Makes the schedule of a number, with `count` events, and runs it as a replay does: its replies are counted by their
+/// kinds, and digested with the last line.
+pub fn bulk(alloc: Global, number: u64, count: u32, header: &Header) -> Result<Summary, BulkFault>
+    requires count { count ≤ 20000 }
+    requires variant { header.now.variant ≡ Basic }
+    ensures { IfOk result (SumsUp header.now.«module» (schedule_lines number count header.now)) }
+{
+    let schedule = generate(alloc, number, count, header)?;
+    let mut rest = behind_header(schedule.as_slice());
+    let mut progress = Progress::begin(alloc, header)?;
+    let mut counts = Counts::none();
+    let mut replies = TextSink::new(alloc);
+    'lines: while let Some((line, behind)) = first_line(rest) {
+        let reply = answered(alloc, line, &mut progress)?;
+        counts.count(&reply);
+        write_reply(&reply, &mut replies)?;
+        rest = behind;
+    }
+    progress.close(&mut replies)?;
+    let report = progress.report();
+    Ok(Summary {
+        counts,
+        committed: report.committed,
+        issued: report.issued,
+        replies: digest_of(replies.as_slice()),
+    })
+}
+
+/// What follows the first line.
+fn behind_header(text: &[u8]) -> &[u8]
+    ensures { (first behind : List ℕ) → line_at text.now ≡ Some (first, behind) → result.now ≡ behind }
+{
+    match first_line(text) {
+        Some((_, behind)) => behind,
+        None => text,
+    }
+}
+
+/// The reply to an event line.
+fn answered(alloc: Global, line: &[u8], progress: &mut Progress) -> Result<Reply, BulkFault>
+    requires short { length line.now ≤ 8400 }
+    requires known { is_some (event_at line.now) ≡ true }
+    ensures reply { IfOk result (Answered (running progress.old) (running progress.new) line.now) }
+    ensures printable { IfOk result IsPrintable }
+{
+    let event = match read_event(alloc, line) {
+        Ok(event) => event,
+        Err(EventFault::Memory) => return Err(BulkFault::Memory),
+        Err(EventFault::Bad) => unreachable!(),
+    };
+    match progress.answer(line, &event) {
+        Ok(reply) => Ok(reply),
+        Err(TakeFault::Refused(Refused::Much)) => Err(BulkFault::TooMuch),
+        Err(_) => Err(BulkFault::Memory),
+    }
+}
+
+fn digest_of(bytes: &[u8]) -> Digest
+    ensures { result.bytes ≡ sha256 bytes.now }
+{
+    Digest {
+        bytes: Sha256::digest(bytes),
+    }
+}
