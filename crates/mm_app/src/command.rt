@@ -4,7 +4,7 @@ ghost use Rattle.std.specs.Prelude.{◌≡◌, ◌≤◌, ◌⊎◌, ℕ, List, 
 ghost use Rattle.mm_gen.specs.Schedules.{schedule_text};
 ghost use Rattle.mm_play.specs.Play.{run_of};
 ghost use Rattle.mm_replay.specs.Schedule.{Stage, AtHeader, schedule_answer, schedule_closing};
-ghost use Rattle.mm_replay.specs.Machines.{machine_at};
+ghost use Rattle.mm_schedule.specs.Headers.{header_at};
 ghost use Rattle.mm_words.specs.Commands.{IsAllowed, Spells};
 ghost use Rattle.mm_words.specs.declared.command.Command.{Command as Told};
 ghost use Rattle.mm_words.specs.declared.command.Command.TheVariants.{Replay};
@@ -24,7 +24,7 @@ fn replayed<S: Source, K: Sink>(alloc: Global, input: &mut S, out: &mut K) -> St
     ensures replayed { Replayed (S.left input.old) (S.left input.new) (K.received out.old) (K.received out.new)
         (S.faults input.old) (S.faults input.new) (K.faults out.old) (K.faults out.new) result }
     ensures complete { (bytes : List ℕ) → (next : Stage) → S.left input.old ≡ Some bytes
-        → (run_of (schedule_answer machine_at) schedule_closing AtHeader bytes).outcome ≡ Ok next → EndsUnrefused result }
+        → (run_of (schedule_answer header_at) schedule_closing AtHeader bytes).outcome ≡ Ok next → EndsUnrefused result }
 {
     match replay(alloc, input, out) {
         Ok(_) => Status::Done,
@@ -37,7 +37,7 @@ fn replay_and_stop<S: Source, K: Sink>(alloc: Global, input: &mut S, out: &mut K
     ensures replays { ReplaysAndStops (S.left input.old) (S.left input.new) (K.received out.old) (K.received out.new)
         (S.faults input.old) (S.faults input.new) (K.faults out.old) (K.faults out.new) result }
     ensures complete { (bytes : List ℕ) → (next : Stage) → S.left input.old ≡ Some bytes
-        → (run_of (schedule_answer machine_at) schedule_closing AtHeader bytes).outcome ≡ Ok next → EndsUnrefused result }
+        → (run_of (schedule_answer header_at) schedule_closing AtHeader bytes).outcome ≡ Ok next → EndsUnrefused result }
 {
     let status = replayed(alloc, input, out);
     let _ = write_stop(status, out);
@@ -83,7 +83,7 @@ fn done<S: Source, K: Sink>(alloc: Global, command: &Command, input: &mut S, out
     ensures does { DoesOrLacks command.now (S.left input.old) (S.left input.new) (K.received out.old) (K.received out.new)
         (S.faults input.old) (S.faults input.new) (K.faults out.old) (K.faults out.new) result }
     ensures complete { command.now ≡ Replay → (bytes : List ℕ) → (next : Stage) → S.left input.old ≡ Some bytes
-        → (run_of (schedule_answer machine_at) schedule_closing AtHeader bytes).outcome ≡ Ok next → EndsUnrefused result }
+        → (run_of (schedule_answer header_at) schedule_closing AtHeader bytes).outcome ≡ Ok next → EndsUnrefused result }
     ensures usage { result ≡ Usage → IsBuilt command.now → ⊥ }
     ensures unbuilt { (IsBuilt command.now → ⊥) → IsRefused (K.received out.old) (K.received out.new) (K.faults out.old) (K.faults out.new) result }
     ensures unread { (command.now ≡ Replay → ⊥) → input.new ≡ input.old }
@@ -113,7 +113,7 @@ pub fn memoir<S: Source, K: Sink>(
 
     // A schedule within the grammar and the limits is not refused.
     ensures complete { Spells Replay (map (λ s. s.now) words.now) → (bytes : List ℕ) → (next : Stage) → S.left input.old ≡ Some bytes
-        → (run_of (schedule_answer machine_at) schedule_closing AtHeader bytes).outcome ≡ Ok next → EndsUnrefused result }
+        → (run_of (schedule_answer header_at) schedule_closing AtHeader bytes).outcome ≡ Ok next → EndsUnrefused result }
 
     // Usage comes exactly where the words spell no command that is built, but for want of memory.
     ensures usage { result ≡ Usage → (command : Told) → IsBuilt command → Spells command (map (λ s. s.now) words.now) → ⊥ }

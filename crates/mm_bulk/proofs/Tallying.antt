@@ -13,7 +13,7 @@ use Rattle.mm_base.specs.Input.{IsUnbroken, joined}
 use Rattle.mm_base.specs.Streams.{Sends}
 use Rattle.mm_base.specs.declared.fault.WriteFault.{WriteFault}
 use Rattle.mm_digest.specs.declared.digest.Digest.{Digest}
-use Rattle.mm_modules.specs.declared.any.AnyModule.{AnyModule}
+use Rattle.mm_schedule.specs.declared.header.Header.{Header}
 use Rattle.mm_schedule.specs.declared.header.Header.{Header}
 use Rattle.mm_schedule.specs.declared.reply.Reply.{Reply}
 use Rattle.mm_schedule.specs.declared.reply.Reply.TheVariants.{Told, No, Kept, Nothing, Closed, Checkpointed, Power, Extended}
@@ -25,9 +25,10 @@ use Rattle.mm_schedule.proofs.SpelledIsRead.{spelled_is_read}
 use Rattle.mm_gen.specs.Laws.{IsEventLine}
 use Rattle.mm_gen.specs.Schedules.{schedule_lines, schedule_text}
 use Rattle.mm_gen.proofs.Readable.{header-unbroken, is_schedule}
-use Rattle.mm_world.specs.Folds.{Followed, followed, replies_by_digests}
-use Rattle.mm_world.specs.Held.{world_of}
-use Rattle.mm_world.specs.Levels.{Digests, by_digests}
+use Rattle.mm_run.specs.Folds.{Followed, followed, replies_by_digests}
+use Rattle.mm_run.specs.Held.{world_of}
+use Rattle.mm_model.specs.Moves.{Digests}
+use Rattle.mm_call.specs.Levels.{by_digests}
 use Rattle.mm_replay.specs.Schedule.{Running, after_event, begun, outcome_in}
 use Rattle.mm_replay.specs.Text.{text_of, texts_of}
 use Rattle.mm_bulk.specs.Answered.{Answered}
@@ -70,7 +71,7 @@ no_events one more is = cc
 
 -- what follows of these events
 abbrev left_of : Running → List Event → Followed Digests
-left_of r events = followed (world_of r.machine) (by_digests (world_of r.machine)) r.digests r.issued events
+left_of r events = followed (world_of r.header) (by_digests (world_of r.header)) r.digests r.issued events
 
 -- the whole is what was counted and written, and then what is left
 record Rests (r : Running) (counts : Counts) (text : List ℕ) (left whole : Followed Digests) : Type 0 where
@@ -88,12 +89,12 @@ pub record Going (lines : List (List ℕ)) (rest : List ℕ) (r : Running) (coun
   read : map event_at left ≡ map Some events
   whole : map event_at lines ≡ map Some all
   few : total counts + length left ≤ 20000
-  rests : Rests r counts text (left_of r events) (replies_by_digests (world_of r.machine) all)
+  rests : Rests r counts text (left_of r events) (replies_by_digests (world_of r.header) all)
 
 -- an event line that is answered next
 pub record Next (lines : List (List ℕ)) (rest : List ℕ) (r : Running) (counts : Counts) (text line behind : List ℕ) : Type 0 where
   pub less : length behind < length rest
-  pub machine : (reply : Reply) (new : Running) → Answered r new line reply → new.machine ≡ r.machine
+  pub header : (reply : Reply) (new : Running) → Answered r new line reply → new.header ≡ r.header
   pub short : length line ≤ 8400
   pub known : is_some (event_at line) ≡ true
   pub room : total counts < 20000
@@ -125,7 +126,7 @@ heads one other more others is = (ap (first_or one) is, ap rest_of is)
 answered_on : (lines more : List (List ℕ)) (line : List ℕ) (r : Running) (counts : Counts) (text : List ℕ) (event : Event) (events all : List Event)
     → AllByRecursion IsEventLine more → map event_at more ≡ map Some events → map event_at lines ≡ map Some all
     → total counts + length (line ∷ more) ≤ 20000
-    → Rests r counts text (left_of r (event ∷ events)) (replies_by_digests (world_of r.machine) all)
+    → Rests r counts text (left_of r (event ∷ events)) (replies_by_digests (world_of r.header) all)
     → Going lines (joined more) (after_event r line event) (counted counts (outcome_in r event).reply) (text ++ text_of (outcome_in r event).reply)
 answered_on lines more line r counts text event events all are read whole few rests =
     let said : Reply = (outcome_in r event).reply in
@@ -149,7 +150,7 @@ answered_on lines more line r counts text event events all are read whole few re
 
 next_line : (lines left : List (List ℕ)) (rest : List ℕ) (r : Running) (counts : Counts) (text : List ℕ) (events all : List Event) (line behind : List ℕ)
     → rest ≡ joined left → AllByRecursion IsEventLine left → map event_at left ≡ map Some events → map event_at lines ≡ map Some all
-    → total counts + length left ≤ 20000 → Rests r counts text (left_of r events) (replies_by_digests (world_of r.machine) all)
+    → total counts + length left ≤ 20000 → Rests r counts text (left_of r events) (replies_by_digests (world_of r.header) all)
     → line_at rest ≡ Some (line, behind) → Next lines rest r counts text line behind
 next_line lines [] rest r counts text events all line behind bytes are read whole few rests found =
     absurd (no_pair (line, behind) (sym no_line ∙ ap line_at (sym bytes) ∙ found))
@@ -161,7 +162,7 @@ next_line lines (l ∷ more) rest r counts text (event ∷ events) all line behi
     let same : (l, joined more) ≡ (line, behind) = ap (λ (o : Option (List ℕ × List ℕ)). option_map_or (λ (p : List ℕ × List ℕ). p) o (line, behind)) first in
     let made : Next lines rest r counts text l (joined more) = record {
       less = omega (arith, length-append l (10 ∷ joined more), ap (λ (b : List ℕ). length b) bytes);
-      machine = λ reply new answered. ap (λ (x : Running). x.machine) (answered event both.0).1;
+      header = λ reply new answered. ap (λ (x : Running). x.header) (answered event both.0).1;
       short = are.0.short;
       known = rw both.0 refl;
       room = omega (arith, few);
@@ -180,15 +181,15 @@ next lines rest r counts text line behind going found =
 
 ended_at : (lines left : List (List ℕ)) (rest : List ℕ) (r : Running) (counts : Counts) (text : List ℕ) (events all : List Event)
     → rest ≡ joined left → AllByRecursion IsEventLine left → map event_at left ≡ map Some events → map event_at lines ≡ map Some all
-    → Rests r counts text (left_of r events) (replies_by_digests (world_of r.machine) all) → line_at rest ≡ None
-    → SumsUp r.machine lines (record {
+    → Rests r counts text (left_of r events) (replies_by_digests (world_of r.header) all) → line_at rest ≡ None
+    → SumsUp r.header lines (record {
       counts = counts;
       committed = r.digests.count;
       issued = length r.issued;
       replies = record { bytes = sha256 (text ++ end_line r.digests.count (length r.issued)) };
     })
 ended_at lines [] rest r counts text [] all bytes are read whole rests none =
-    let written : text ≡ texts_of (replies_by_digests (world_of r.machine) all).replies = sym (append-nil text) ∙ rests.replies in
+    let written : text ≡ texts_of (replies_by_digests (world_of r.header) all).replies = sym (append-nil text) ∙ rests.replies in
     let numbered = rests.counted in
     let state = rests.state in
     let issued = rests.issued in
@@ -200,7 +201,7 @@ ended_at lines (l ∷ more) rest r counts text events all bytes are read whole r
     absurd (no_pair (l, joined more) (sym none ∙ some))
 
 pub ended : (lines : List (List ℕ)) (rest : List ℕ) (r : Running) (counts : Counts) (text : List ℕ) → Going lines rest r counts text → line_at rest ≡ None
-    → SumsUp r.machine lines (record {
+    → SumsUp r.header lines (record {
       counts = counts;
       committed = r.digests.count;
       issued = length r.issued;
@@ -251,17 +252,17 @@ sent_whole old new bytes done sends =
     sends.appended ∙ ap (λ (more : List ℕ). old ++ more) (sym (sends.parts ∙ ap (λ (more : List ℕ). sends.sent ++ more) sends.whole ∙ append-nil sends.sent))
 
 -- a summary by its parts
-pub told_at : (machine : AnyModule) (lines : List (List ℕ)) (r : Running) (counts : Counts) (committed issued : ℕ) (digest : Digest) (text : List ℕ)
-    → r.machine ≡ machine → committed ≡ r.digests.count → issued ≡ length r.issued
+pub told_at : (header : Header) (lines : List (List ℕ)) (r : Running) (counts : Counts) (committed issued : ℕ) (digest : Digest) (text : List ℕ)
+    → r.header ≡ header → committed ≡ r.digests.count → issued ≡ length r.issued
     → digest.bytes ≡ sha256 (text ++ end_line r.digests.count (length r.issued))
-    → SumsUp r.machine lines (record {
+    → SumsUp r.header lines (record {
       counts = counts;
       committed = r.digests.count;
       issued = length r.issued;
       replies = record { bytes = sha256 (text ++ end_line r.digests.count (length r.issued)) };
     })
-    → SumsUp machine lines (record { counts = counts; committed = committed; issued = issued; replies = digest })
-told_at machine lines r counts committed issued digest text same one two three made =
+    → SumsUp header lines (record { counts = counts; committed = committed; issued = issued; replies = digest })
+told_at header lines r counts committed issued digest text same one two three made =
     let summary : Summary = record { counts = counts; committed = committed; issued = issued; replies = digest } in
     let other : Summary = record {
       counts = counts;
@@ -270,7 +271,7 @@ told_at machine lines r counts committed issued digest text same one two three m
       replies = record { bytes = sha256 (text ++ end_line r.digests.count (length r.issued)) };
     } in
     let equal : summary ≡ other = λ i. record { counts = counts; committed = one i; issued = two i; replies = record { bytes = three i } } in
-    subst (λ (m : AnyModule). SumsUp m lines summary) same (subst (λ (it : Summary). SumsUp r.machine lines it) (sym equal) made)
+    subst (λ (m : Header). SumsUp m lines summary) same (subst (λ (it : Summary). SumsUp r.header lines it) (sym equal) made)
 
 -- the beginning, by what stands there
 pub starts : (number count : ℕ) (header : Header) (rest : List ℕ) (r : Running) (counts : Counts) (text : List ℕ) → count ≤ 20000

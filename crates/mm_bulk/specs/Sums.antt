@@ -1,13 +1,13 @@
 -- What a schedule comes to.
 use Rattle.std.specs.Prelude.{◌≡◌, ℕ, List, ◌++◌, length, map, Some}
 use Rattle.sha2.specs.Sha256.{sha256}
-use Rattle.mm_modules.specs.declared.any.AnyModule.{AnyModule}
+use Rattle.mm_schedule.specs.declared.header.Header.{Header}
 use Rattle.mm_schedule.specs.Events.{Event}
 use Rattle.mm_schedule.specs.Grammar.{event_at}
 use Rattle.mm_schedule.specs.Replies.{end_line}
-use Rattle.mm_world.specs.Folds.{Followed, replies_by_digests}
-use Rattle.mm_world.specs.Held.{world_of}
-use Rattle.mm_world.specs.Levels.{Digests}
+use Rattle.mm_run.specs.Folds.{Followed, replies_by_digests}
+use Rattle.mm_run.specs.Held.{world_of}
+use Rattle.mm_model.specs.Moves.{Digests}
 use Rattle.mm_replay.specs.Text.{texts_of}
 use Rattle.mm_bulk.specs.Counting.{counts_of}
 use Rattle.mm_bulk.specs.declared.summary.Summary.{Summary}
@@ -22,7 +22,7 @@ summary_of run = record {
 }
 
 -- The lines are events, and the summary is that of the replies that a replay gives to them.
-pub record SumsUp (machine : AnyModule) (lines : List (List ℕ)) (it : Summary) : Type 0 where
+pub record SumsUp (header : Header) (lines : List (List ℕ)) (it : Summary) : Type 0 where
   pub events : List Event
   pub read : map event_at lines ≡ map Some events
-  pub told : it ≡ summary_of (replies_by_digests (world_of machine) events)
+  pub told : it ≡ summary_of (replies_by_digests (world_of header) events)

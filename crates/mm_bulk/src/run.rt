@@ -2,7 +2,6 @@
 
 ghost use Rattle.std.specs.Prelude.{◌≡◌, ◌≤◌, ℕ, List, length, true, is_some, Some, IfOk};
 ghost use Rattle.sha2.specs.Sha256.{sha256};
-ghost use Rattle.mm_digest.specs.declared.variant.Variant.TheVariants.{Basic};
 ghost use Rattle.mm_schedule.specs.Grammar.{event_at};
 ghost use Rattle.mm_schedule.specs.Replies.{IsPrintable};
 ghost use Rattle.mm_gen.specs.Schedules.{schedule_lines};
@@ -28,8 +27,7 @@ use std::alloc::Global;
 /// kinds, and digested with the last line.
 pub fn bulk(alloc: Global, number: u64, count: u32, header: &Header) -> Result<Summary, BulkFault>
     requires count { count ≤ 20000 }
-    requires variant { header.now.variant ≡ Basic }
-    ensures { IfOk result (SumsUp header.now.«module» (schedule_lines number count header.now)) }
+    ensures { IfOk result (SumsUp header.now (schedule_lines number count header.now)) }
 {
     let schedule = generate(alloc, number, count, header)?;
     let mut rest = behind_header(schedule.as_slice());

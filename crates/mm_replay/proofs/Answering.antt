@@ -5,20 +5,21 @@ use Rattle.std.proofs.lemmas.Bool.Decides.{nat_tests}
 use Rattle.std.proofs.lemmas.List.Sums.{sum_by-append}
 use Rattle.mm_base.specs.declared.replay_fault.ReplayFault.{ReplayFault}
 use Rattle.mm_base.specs.declared.replay_fault.ReplayFault.TheVariants.{LineLong}
-use Rattle.mm_modules.specs.declared.any.AnyModule.{AnyModule}
+use Rattle.mm_schedule.specs.declared.header.Header.{Header}
 use Rattle.mm_play.specs.declared.player.Refused.TheVariants.{Bad, Much}
 use Rattle.mm_play.specs.Play.{Told, told, stopped, after_writing, line_limit, refusal_at, answered, run}
 use Rattle.mm_play.proofs.Runs.{not_ok, ok_same}
 use Rattle.mm_schedule.specs.Events.{Event}
 use Rattle.mm_schedule.specs.Grammar.{event_at}
-use Rattle.mm_world.specs.Levels.{Digests, by_digests}
-use Rattle.mm_world.specs.Folds.{Followed, followed}
-use Rattle.mm_world.specs.Held.{world_of}
+use Rattle.mm_model.specs.Moves.{Digests}
+use Rattle.mm_call.specs.Levels.{by_digests}
+use Rattle.mm_run.specs.Folds.{Followed, followed}
+use Rattle.mm_run.specs.Held.{world_of}
 use Rattle.mm_replay.specs.Schedule.{Running, most_events, most_kept, is_too_much, outcome_in, after_event, Stage, InEvents, event_answer, schedule_answer}
 use Rattle.mm_replay.specs.Text.{text_of, texts_of}
 
 abbrev pub followed_in : Running → List Event → Followed Digests
-followed_in r events = followed (world_of r.machine) (by_digests (world_of r.machine)) r.digests r.issued events
+followed_in r events = followed (world_of r.header) (by_digests (world_of r.header)) r.digests r.issued events
 
 -- behind these lines and their events, the line is one too many
 abbrev pub IsOverFrom : Running → List (List ℕ) → List Event → List ℕ → Type 0
@@ -38,7 +39,7 @@ pub record AnswersFrom (r : Running) (lines : List (List ℕ)) (written : List �
   pub sent : written ≡ texts_of (followed_in r events).replies
   pub state : last.digests ≡ (followed_in r events).state
   pub issued : last.issued ≡ (followed_in r events).issued
-  pub machine : last.machine ≡ r.machine
+  pub header : last.header ≡ r.header
   pub counted : last.events ≡ r.events + length lines
   pub bytes : last.read ≡ r.read + sum_by length lines
   pub stands : p ≡ InEvents last
@@ -110,8 +111,8 @@ within_more r line lines event is few on (first ∷ before) l after (e ∷ event
       | inr h ↦ inr (omega (arith, h, sums, ap (sum_by length) issued))
     ])
 
-abbrev rest_of : (List ℕ → Option AnyModule) → List (List ℕ) → ℕ → Stage → Told Stage
-rest_of header lines number next = run (schedule_answer header) (number + 1) next lines
+abbrev rest_of : (List ℕ → Option Header) → List (List ℕ) → ℕ → Stage → Told Stage
+rest_of heading lines number next = run (schedule_answer heading) (number + 1) next lines
 
 written_of : (t u : Told Stage) → t ≡ u → t.written ≡ u.written
 written_of t u h = ap (λ (x : Told Stage). x.written) h
@@ -133,7 +134,7 @@ answers_more r line lines event written p is few a = record {
   sent = ap (λ bytes. text_of (outcome_in r event).reply ++ bytes) a.sent;
   state = a.state;
   issued = a.issued;
-  machine = a.machine;
+  header = a.header;
   counted = omega (arith, a.counted);
   bytes = omega (arith, a.bytes, sums_more line lines);
   stands = a.stands;
@@ -141,60 +142,60 @@ answers_more r line lines event written p is few a = record {
 }
 
 -- what comes behind the line's event
-abbrev Onward : (List ℕ → Option AnyModule) → Running → List ℕ → List (List ℕ) → ℕ → Type 0
-Onward header r line lines number =
-    (event : Event) (written : List ℕ) (p : Stage) → rest_of header lines number (InEvents (after_event r line event)) ≡ told written (Ok p)
+abbrev Onward : (List ℕ → Option Header) → Running → List ℕ → List (List ℕ) → ℕ → Type 0
+Onward heading r line lines number =
+    (event : Event) (written : List ℕ) (p : Stage) → rest_of heading lines number (InEvents (after_event r line event)) ≡ told written (Ok p)
     → AnswersFrom (after_event r line event) lines written p
 
 not_stopped : (why : ReplayFault) (written : List ℕ) (p : Stage) → stopped why ≡ told written (Ok p) → ⊥
 not_stopped why written p h = not_ok why p (outcome_is (stopped why) (told written (Ok p)) h)
 
 -- by whether the event is one too many
-answers_event : (header : List ℕ → Option AnyModule) (r : Running) (line : List ℕ) (lines : List (List ℕ)) (number : ℕ) (event : Event) (written : List ℕ) (p : Stage) (much : Bool)
-    → is_too_much r line ≡ much → event_at line ≡ Some event → Onward header r line lines number
-    → answered (rest_of header lines number) number
+answers_event : (heading : List ℕ → Option Header) (r : Running) (line : List ℕ) (lines : List (List ℕ)) (number : ℕ) (event : Event) (written : List ℕ) (p : Stage) (much : Bool)
+    → is_too_much r line ≡ much → event_at line ≡ Some event → Onward heading r line lines number
+    → answered (rest_of heading lines number) number
     (cond much (Err Much) (Ok (text_of (outcome_in r event).reply, InEvents (after_event r line event)))) ≡ told written (Ok p)
     → AnswersFrom r (line ∷ lines) written p
-answers_event header r line lines number event written p true full is on h = absurd (not_stopped (refusal_at number Much) written p h)
-answers_event header r line lines number event written p false full is on h =
-    let t = rest_of header lines number (InEvents (after_event r line event)) in
+answers_event heading r line lines number event written p true full is on h = absurd (not_stopped (refusal_at number Much) written p h)
+answers_event heading r line lines number event written p false full is on h =
+    let t = rest_of heading lines number (InEvents (after_event r line event)) in
     let text = text_of (outcome_in r event).reply in
     let went = told_both t t.written (Ok p) refl (outcome_is (after_writing text t) (told written (Ok p)) h) in
     subst (λ (w : List ℕ). AnswersFrom r (line ∷ lines) w p) (written_of (after_writing text t) (told written (Ok p)) h)
     (answers_more r line lines event t.written p is full (on event t.written p went))
 
 -- by what event the line is
-answers_found : (header : List ℕ → Option AnyModule) (r : Running) (line : List ℕ) (lines : List (List ℕ)) (number : ℕ) (written : List ℕ) (p : Stage) (found : Option Event)
-    → event_at line ≡ found → Onward header r line lines number
-    → answered (rest_of header lines number) number (event_answer r line found) ≡ told written (Ok p)
+answers_found : (heading : List ℕ → Option Header) (r : Running) (line : List ℕ) (lines : List (List ℕ)) (number : ℕ) (written : List ℕ) (p : Stage) (found : Option Event)
+    → event_at line ≡ found → Onward heading r line lines number
+    → answered (rest_of heading lines number) number (event_answer r line found) ≡ told written (Ok p)
     → AnswersFrom r (line ∷ lines) written p
-answers_found header r line lines number written p None is on h = absurd (not_stopped (refusal_at number Bad) written p h)
-answers_found header r line lines number written p (Some event) is on h =
-    answers_event header r line lines number event written p (is_too_much r line) refl is on h
+answers_found heading r line lines number written p None is on h = absurd (not_stopped (refusal_at number Bad) written p h)
+answers_found heading r line lines number written p (Some event) is on h =
+    answers_event heading r line lines number event written p (is_too_much r line) refl is on h
 
 -- by whether the line is too long
-answers_line : (header : List ℕ → Option AnyModule) (r : Running) (line : List ℕ) (lines : List (List ℕ)) (number : ℕ) (written : List ℕ) (p : Stage) (long : Bool)
-    → Onward header r line lines number
-    → cond long (stopped (LineLong number)) (answered (rest_of header lines number) number (event_answer r line (event_at line))) ≡ told written (Ok p)
+answers_line : (heading : List ℕ → Option Header) (r : Running) (line : List ℕ) (lines : List (List ℕ)) (number : ℕ) (written : List ℕ) (p : Stage) (long : Bool)
+    → Onward heading r line lines number
+    → cond long (stopped (LineLong number)) (answered (rest_of heading lines number) number (event_answer r line (event_at line))) ≡ told written (Ok p)
     → AnswersFrom r (line ∷ lines) written p
-answers_line header r line lines number written p true on h = absurd (not_stopped (LineLong number) written p h)
-answers_line header r line lines number written p false on h = answers_found header r line lines number written p (event_at line) refl on h
+answers_line heading r line lines number written p true on h = absurd (not_stopped (LineLong number) written p h)
+answers_line heading r line lines number written p false on h = answers_found heading r line lines number written p (event_at line) refl on h
 
-pub answers_from : (header : List ℕ → Option AnyModule) (lines : List (List ℕ)) (number : ℕ) (r : Running) (written : List ℕ) (p : Stage)
-    → run (schedule_answer header) number (InEvents r) lines ≡ told written (Ok p) → AnswersFrom r lines written p
-answers_from header [] number r written p h = record {
+pub answers_from : (heading : List ℕ → Option Header) (lines : List (List ℕ)) (number : ℕ) (r : Running) (written : List ℕ) (p : Stage)
+    → run (schedule_answer heading) number (InEvents r) lines ≡ told written (Ok p) → AnswersFrom r lines written p
+answers_from heading [] number r written p h = record {
   events = [];
   last = r;
   read = refl;
   sent = sym (written_of (told [] (Ok (InEvents r))) (told written (Ok p)) h);
   state = refl;
   issued = refl;
-  machine = refl;
+  header = refl;
   counted = omega arith;
   bytes = omega arith;
   stands = sym (ok_same (InEvents r) p (outcome_is (told [] (Ok (InEvents r))) (told written (Ok p)) h));
   within = λ before line after events split read over. no_line before line after split;
 }
-answers_from header (line ∷ lines) number r written p h =
-    answers_line header r line lines number written p (nat_lt line_limit (length line))
-    (λ event w q. answers_from header lines (number + 1) (after_event r line event) w q) h
+answers_from heading (line ∷ lines) number r written p h =
+    answers_line heading r line lines number written p (nat_lt line_limit (length line))
+    (λ event w q. answers_from heading lines (number + 1) (after_event r line event) w q) h

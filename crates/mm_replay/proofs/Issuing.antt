@@ -1,39 +1,28 @@
 -- An event hands out at most one snapshot.
-use Rattle.std.proofs.Common.{◌≡◌, ℕ, Bool, true, false, List, Result, Ok, Err, Option, None, Some, refl, inl, inr}
+use Rattle.std.proofs.Common.{◌≡◌, ℕ, Bool, true, false, List, ◌++◌, Option, None, Some, refl, inl, inr}
+use Rattle.std.proofs.lemmas.List.{append-nil}
 use Rattle.mm_module.specs.Batch.{Batch, normal}
 use Rattle.mm_platform.specs.declared.plan.Meddle.{Meddle}
 use Rattle.mm_platform.specs.declared.plan.Stop.{Stop}
 use Rattle.mm_model.specs.Instance.{Instance}
 use Rattle.mm_model.specs.Long.{is_long}
-use Rattle.mm_model.specs.Steps.{ask_steps}
-use Rattle.mm_model.specs.declared.refusal.Refusal.{Refusal}
+use Rattle.mm_model.specs.Moves.{Digests}
 use Rattle.mm_schedule.specs.Events.{Event, Ask, Checkpoint, Power, Extend}
-use Rattle.mm_schedule.specs.declared.reply.Way.{Way}
-use Rattle.mm_world.specs.Offered.{offered_bytes}
-use Rattle.mm_world.specs.Walk.{Walked, walk}
-use Rattle.mm_world.specs.Levels.{Digests, by_digests}
-use Rattle.mm_world.specs.Folds.{Found, found_at, all_made, is_fresh, reading_steps, seen_at, ended, called, asked, outcome_of}
+use Rattle.mm_call.specs.Levels.{by_digests}
+use Rattle.mm_call.specs.Called.{Ending, Answers, Refuses, Breaks, called}
+use Rattle.mm_run.specs.Offered.{offered_bytes}
+use Rattle.mm_run.specs.Folds.{course_of, snapshots_of, asked, outcome_of}
 use Rattle.mm_replay.specs.Issues.{Issues}
 
-ended_issues : (i : Instance) (seen s : Digests) (issued : List (List ℕ)) (b : Batch) (walked : Walked) (broken : Option Way) (result : Result Found Refusal)
-    → Issues issued (ended (by_digests i) seen s issued b walked broken result).issued
-ended_issues i seen s issued b walked (Some way) result = inl refl
-ended_issues i seen s issued b walked None (Err why) = inl refl
-ended_issues i seen s issued b walked None (Ok found) = inr (((by_digests i).answer found.again seen s found.offered b).snapshot, refl)
-
-called_issues : (i : Instance) (d : Digests) (issued : List (List ℕ)) (meddles : List Meddle) (stop : Stop) (bytes : List ℕ) (b : Batch)
-    → Issues issued (called i (by_digests i) d issued meddles stop bytes b).issued
-called_issues i d issued meddles stop bytes b =
-    let level = by_digests i in
-    let seen = seen_at level d meddles (reading_steps i.variant) in
-    let found = found_at i level seen b bytes in
-    let walked = walk stop meddles 1 (ask_steps i.variant (level.is_open d) (is_fresh found) b) in
-    ended_issues i seen (all_made level d walked.moves) issued b walked walked.broken found
+ended_issues : (issued : List (List ℕ)) (ending : Ending) → Issues issued (issued ++ snapshots_of ending)
+ended_issues issued (Answers answer) = inr (answer.snapshot, refl)
+ended_issues issued (Refuses why) = inl (append-nil issued)
+ended_issues issued (Breaks fault kept) = inl (append-nil issued)
 
 long_issues : (i : Instance) (d : Digests) (issued : List (List ℕ)) (meddles : List Meddle) (stop : Stop) (bytes : List ℕ) (b : Batch) (long : Bool)
     → is_long b ≡ long → Issues issued (asked i (by_digests i) d issued meddles stop (Some bytes) b).issued
 long_issues i d issued meddles stop bytes b true is = rw is (inl refl)
-long_issues i d issued meddles stop bytes b false is = rw is (called_issues i d issued meddles stop bytes (normal b))
+long_issues i d issued meddles stop bytes b false is = rw is (ended_issues issued (called i (by_digests i) d (course_of stop meddles) bytes (normal b)).ending)
 
 asked_issues : (i : Instance) (d : Digests) (issued : List (List ℕ)) (meddles : List Meddle) (stop : Stop) (bytes : Option (List ℕ)) (b : Batch)
     → Issues issued (asked i (by_digests i) d issued meddles stop bytes b).issued

@@ -4,12 +4,19 @@ use Rattle.std.specs.List.{sum_by, slice_get}
 use Rattle.std.proofs.lemmas.List.Sums.{sum_by-append}
 use Rattle.std.proofs.Math.Nat.{min-eq_left}
 use Rattle.std.proofs.lemmas.Option.{slice_get_past}
-use Rattle.mm_modules.specs.declared.any.AnyModule.{AnyModule}
-use Rattle.mm_schedule.specs.Events.{Event}
+use Rattle.mm_schedule.specs.declared.header.Header.{Header}
+use Rattle.mm_platform.specs.declared.plan.Meddle.{Meddle}
+use Rattle.mm_platform.specs.declared.plan.Stop.{Stop}
+use Rattle.mm_call.specs.Courses.{seen_in}
+use Rattle.mm_call.specs.Called.{reading_steps}
+use Rattle.mm_run.specs.Folds.{course_of}
+use Rattle.mm_world.proofs.Committing.{count_none}
+use Rattle.mm_world.proofs.Worlds.{seen_commits}
+use Rattle.mm_schedule.specs.Events.{Event, Ask, Checkpoint, Power, Extend}
 use Rattle.mm_schedule.specs.declared.reply.Reply.{Reply}
-use Rattle.mm_world.specs.Levels.{Digests}
-use Rattle.mm_world.specs.Held.{Held, instance_of, within_bits, Follows}
-use Rattle.mm_world.specs.Held as held
+use Rattle.mm_model.specs.Moves.{Digests}
+use Rattle.mm_run.specs.Held.{Held, instance_of, within_bits, having_read, Follows, Wants}
+use Rattle.mm_run.specs.Held as held
 use Rattle.std.specs.Io.KnownBytes.{Appends}
 use Rattle.mm_base.specs.Streams.{Sends}
 use Rattle.mm_base.specs.declared.fault.WriteFault.{WriteFault}
@@ -25,12 +32,12 @@ use Rattle.mm_replay.proofs.Issuing.{outcome_issues}
 within-small : (d : Digests) → d.count ≤ 2 ^ 64 - 1 → within_bits d ≡ d
 within-small d h = ap (λ (n : ℕ). record d { count = n }) (min-eq_left h)
 
-abbrev stands : AnyModule → Digests → List (List ℕ) → ℕ → ℕ → Running
-stands m d issued events read = record { machine = m; digests = d; issued = issued; events = events; read = read }
+abbrev stands : Header → Digests → List (List ℕ) → ℕ → ℕ → Running
+stands m d issued events read = record { header = m; digests = d; issued = issued; events = events; read = read }
 
 -- what an event leaves
 pub record Leaves (old new : Held) (event : Event) : Type 0 where
-  pub machine : new.machine ≡ old.machine
+  pub header : new.header ≡ old.header
   pub digests : new.digests ≡ (held.outcome_in old event).state
   pub issued : new.issued ≡ (held.outcome_in old event).issued
   pub fits : new.digests.count ≤ old.digests.count + 64
@@ -42,22 +49,46 @@ leaves old new event said few more f =
     let same : within_bits (held.outcome_in old event).state ≡ (held.outcome_in old event).state = within-small (held.outcome_in old event).state (omega (arith, few, more)) in
     let is = f.digests ∙ same in
     record {
-      machine = f.machine;
+      header = f.header;
       digests = is;
       issued = f.issued;
       fits = subst (λ (d : Digests). d.count ≤ old.digests.count + 64) (sym is) more;
       issues = subst (λ (s : List (List ℕ)). Issues old.issued s) (sym f.issued) (outcome_issues (instance_of old) old.digests old.issued event);
     }
 
+-- what an event leaves where memory was wanting
+pub record Stays (old new : Held) : Type 0 where
+  pub issued : new.issued ≡ old.issued
+  pub count : new.digests.count ≡ old.digests.count
+
+same_stays : (old new : Held) → new ≡ old → Stays old new
+same_stays old new e = record { issued = ap (λ (w : Held). w.issued) e; count = ap (λ (w : Held). w.digests.count) e }
+
+read_stays : (old new : Held) (meddles : List Meddle) (stop : Stop) → new ≡ having_read stop meddles old → Stays old new
+read_stays old new meddles stop e =
+    let i = instance_of old in
+    let fates = (course_of stop meddles).fates in
+    record {
+      issued = ap (λ (w : Held). w.issued) e;
+      count = ap (λ (w : Held). w.digests.count) e
+          ∙ count_none i (seen_in fates (reading_steps i.variant) 1) old.digests (seen_commits fates (reading_steps i.variant) 1);
+    }
+
+pub stays : (event : Event) (old new : Held) → Wants event old new → Stays old new
+stays (Ask meddles stop offer b) old new w = elim w [ inl e ↦ same_stays old new e | inr e ↦ read_stays old new meddles stop e ]
+stays (Checkpoint meddles stop) old new e = same_stays old new e
+stays Power old new e = absurd e
+stays (Extend value) old new e = same_stays old new e
+
 -- what stands after it
 pub stands_after : (old new : Held) (event : Event) (line : List ℕ) (events read : ℕ) → Leaves old new event
-    → (let now : Running = record { machine = new.machine; digests = new.digests; issued = new.issued; events = events + 1; read = read + length line } in
-    let before : Running = record { machine = old.machine; digests = old.digests; issued = old.issued; events = events; read = read } in
+    → (let now : Running = record { header = new.header; digests = new.digests; issued = new.issued; events = events + 1; read = read + length line } in
+    let before : Running = record { header = old.header; digests = old.digests; issued = old.issued; events = events; read = read } in
     now ≡ after_event before line event)
 stands_after old new event line events read l =
-    ap (λ (m : AnyModule). stands m new.digests new.issued (events + 1) (read + length line)) l.machine
-    ∙ ap (λ (d : Digests). stands old.machine d new.issued (events + 1) (read + length line)) l.digests
-    ∙ ap (λ (s : List (List ℕ)). stands old.machine (held.outcome_in old event).state s (events + 1) (read + length line)) l.issued
+    ap (λ (m : Header). stands m new.digests new.issued (events + 1) (read + length line)) l.header
+    ∙ ap (λ (d : Digests). stands old.header d new.issued (events + 1) (read + length line)) l.digests
+    ∙ ap (λ (s : List (List ℕ)). stands old.header (held.outcome_in old event).state s (events + 1) (read + length line)) l.issued
 
 -- the bytes of the snapshots
 last_of : (xs : List (List ℕ)) (x : List ℕ) → slice_get (xs ++ x ∷ []) (length xs) ≡ Some x

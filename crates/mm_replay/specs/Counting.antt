@@ -2,7 +2,7 @@
 use Rattle.std.specs.Prelude.{◌≡◌, ℕ, ◌+◌, ◌-◌, ◌<◌, ◌^◌, Bool, true, false, ◌||◌, nat_le, List, Option, None, Some, Result, Ok, Err, if◌then◌else◌}
 use Rattle.std.proofs.Common.{refl, ap, subst, arith}
 use Rattle.std.proofs.lemmas.Bool.Decides.{nat_tests}
-use Rattle.mm_modules.specs.declared.any.AnyModule.{AnyModule}
+use Rattle.mm_schedule.specs.declared.header.Header.{Header}
 use Rattle.mm_schedule.specs.Events.{Event}
 use Rattle.mm_schedule.specs.Grammar.{event_at}
 use Rattle.mm_play.specs.declared.player.Refused.{Refused}
@@ -17,7 +17,7 @@ no_answer why reply next h = cc
 same_next : (reply said : List ℕ) (next stage : Stage) → (let r : Result (List ℕ × Stage) Refused = Ok (said, stage) in r ≡ Ok (reply, next)) → stage ≡ next
 same_next reply said next stage h = let p : (said, stage) ≡ (reply, next) = cc in ap (λ (q : List ℕ × Stage). q.1) p
 
-header_counts : (found : Option AnyModule) (reply : List ℕ) (next : Stage) → header_answer found ≡ Ok (reply, next) → lines_left_at next < most_events + 1
+header_counts : (found : Option Header) (reply : List ℕ) (next : Stage) → header_answer found ≡ Ok (reply, next) → lines_left_at next < most_events + 1
 header_counts None reply next h = absurd (no_answer Bad reply next h)
 header_counts (Some i) reply next h =
     subst (λ (s : Stage). lines_left_at s < most_events + 1) (same_next reply _ next (InEvents (begun i)) h) (omega arith)
@@ -43,9 +43,9 @@ found_counts r line None reply next h = absurd (no_answer Bad reply next h)
 found_counts r line (Some event) reply next h = event_counts r line event (is_too_much r line) reply next refl h
 
 -- an answered line leaves fewer
-pub schedule_counts_down : (header : List ℕ → Option AnyModule) (it next : Stage) (line reply : List ℕ) → schedule_answer header it line ≡ Ok (reply, next) → lines_left_at next < lines_left_at it
-schedule_counts_down header AtHeader next line reply h = header_counts (header line) reply next h
-schedule_counts_down header (InEvents r) next line reply h = found_counts r line (event_at line) reply next h
+pub schedule_counts_down : (heading : List ℕ → Option Header) (it next : Stage) (line reply : List ℕ) → schedule_answer heading it line ≡ Ok (reply, next) → lines_left_at next < lines_left_at it
+schedule_counts_down heading AtHeader next line reply h = header_counts (heading line) reply next h
+schedule_counts_down heading (InEvents r) next line reply h = found_counts r line (event_at line) reply next h
 
 -- and there are few at first
 pub schedule_is_short : (it : Stage) → lines_left_at it < 2 ^ 31

@@ -3,7 +3,7 @@ use Rattle.std.specs.Prelude.{◌≡◌, ◌≤◌, ◌<◌, ◌+◌, ℕ, List,
 use Rattle.std.specs.List.{sum_by}
 use Rattle.mm_base.specs.declared.replay_fault.ReplayFault.{ReplayFault}
 use Rattle.mm_modules.specs.Modules.{meaning_of}
-use Rattle.mm_modules.specs.declared.any.AnyModule.{AnyModule}
+use Rattle.mm_schedule.specs.declared.header.Header.{Header}
 use Rattle.mm_play.specs.Tells.{TellsBy}
 use Rattle.mm_schedule.specs.Events.{Event}
 use Rattle.mm_schedule.specs.Grammar.{event_at}
@@ -11,82 +11,82 @@ use Rattle.mm_schedule.specs.Machine.{Runs}
 use Rattle.mm_schedule.specs.Promises.{Promises}
 use Rattle.mm_schedule.specs.Replies.{end_line}
 use Rattle.mm_schedule.specs.declared.reply.Reply.{Reply}
-use Rattle.mm_world.specs.Folds.{expected, replies_by_digests}
-use Rattle.mm_world.specs.Held.{world_of}
-use Rattle.mm_world.specs.Premises.{IsClearRun, IsGenuineRun}
+use Rattle.mm_run.specs.Folds.{expected, replies_by_digests}
+use Rattle.mm_run.specs.Held.{world_of}
+use Rattle.mm_run.specs.Premises.{IsClearRun, IsGenuineRun}
 use Rattle.mm_replay.specs.Schedule.{most_events, most_kept}
 use Rattle.mm_replay.specs.Text.{texts_of}
 
 -- The replies to the events are those of one run of the module on one list of requests, as the verdict on histories
 -- gives them; so many requests were committed, and as many snapshots issued as that verdict issues.
 -- And what the module promises of a run holds of the requests and of the replies.
-pub record IsOneRun (machine : AnyModule) (events : List Event) (replies : List Reply) (committed issued : ℕ) : Type 0 where
+pub record IsOneRun (header : Header) (events : List Event) (replies : List Reply) (committed issued : ℕ) : Type 0 where
   pub requests : List (List ℕ)
-  pub runs : Runs (meaning_of machine) [] events replies requests
-  pub judged : replies ≡ (expected (world_of machine) events).replies
+  pub runs : Runs (meaning_of header.«module») [] events replies requests
+  pub judged : replies ≡ (expected (world_of header) events).replies
   pub count : committed ≡ length requests
-  pub shown : issued ≡ length (expected (world_of machine) events).issued
-  pub promised : Promises machine requests replies
+  pub shown : issued ≡ length (expected (world_of header) events).issued
+  pub promised : Promises header.«module» requests replies
 
 -- The headline: so it is where no two different messages of the run share a digest, no digest is zero, no value that
 -- others extend the register by is the guard of a batch, and no tag is forged.
-abbrev pub IsContinuous : AnyModule → List Event → Type 0
-IsContinuous machine events =
-    let i = world_of machine in
+abbrev pub IsContinuous : Header → List Event → Type 0
+IsContinuous header events =
+    let i = world_of header in
     IsClearRun i events → IsGenuineRun i events →
-    IsOneRun machine events (replies_by_digests i events).replies (replies_by_digests i events).state.count (length (replies_by_digests i events).issued)
+    IsOneRun header events (replies_by_digests i events).replies (replies_by_digests i events).state.count (length (replies_by_digests i events).issued)
 
 -- Behind these event lines, and their events, the line is one too many: it is event 20,001, or the event lines with it
 -- and the snapshots issued before it have more than 268,435,456 bytes.
-abbrev pub IsOver : AnyModule → List (List ℕ) → List Event → List ℕ → Type 0
-IsOver machine before events line = (most_events ≤ length before)
-    ⊎ (most_kept < sum_by length before + length line + sum_by length (replies_by_digests (world_of machine) events).issued)
+abbrev pub IsOver : Header → List (List ℕ) → List Event → List ℕ → Type 0
+IsOver header before events line = (most_events ≤ length before)
+    ⊎ (most_kept < sum_by length before + length line + sum_by length (replies_by_digests (world_of header) events).issued)
 
 -- none of these event lines was one too many
-abbrev pub IsWithinLimits : AnyModule → List (List ℕ) → Type 0
-IsWithinLimits machine lines = (before : List (List ℕ)) (line : List ℕ) (after : List (List ℕ)) (events : List Event)
-    → lines ≡ before ++ line ∷ after → map event_at before ≡ map Some events → IsOver machine before events line → ⊥
+abbrev pub IsWithinLimits : Header → List (List ℕ) → Type 0
+IsWithinLimits header lines = (before : List (List ℕ)) (line : List ℕ) (after : List (List ℕ)) (events : List Event)
+    → lines ≡ before ++ line ∷ after → map event_at before ≡ map Some events → IsOver header before events line → ⊥
 
 -- The lines are a header and events. What is written is the replies to the events, by digests, and then the last line.
-pub record AnswersEvents (header : List ℕ → Option AnyModule) (lines : List (List ℕ)) (written : List ℕ) (last : ℕ → ℕ → List ℕ) : Type 0 where
+pub record AnswersEvents (heading : List ℕ → Option Header) (lines : List (List ℕ)) (written : List ℕ) (last : ℕ → ℕ → List ℕ) : Type 0 where
   pub first : List ℕ
   pub others : List (List ℕ)
-  pub machine : AnyModule
+  pub header : Header
   pub events : List Event
   pub split : lines ≡ first ∷ others
-  pub headed : header first ≡ Some machine
+  pub headed : heading first ≡ Some header
   pub read : map event_at others ≡ map Some events
-  pub told : written ≡ texts_of (replies_by_digests (world_of machine) events).replies
-      ++ last (replies_by_digests (world_of machine) events).state.count (length (replies_by_digests (world_of machine) events).issued)
-  pub within : IsWithinLimits machine others
-  pub headline : IsContinuous machine events
+  pub told : written ≡ texts_of (replies_by_digests (world_of header) events).replies
+      ++ last (replies_by_digests (world_of header) events).state.count (length (replies_by_digests (world_of header) events).issued)
+  pub within : IsWithinLimits header others
+  pub headline : IsContinuous header events
 
 -- no last line
 abbrev pub unended : ℕ → ℕ → List ℕ
 unended committed issued = []
 
 -- Not even a header was answered; or a header and events were.
-abbrev pub AnswersLines : (List ℕ → Option AnyModule) → List (List ℕ) → List ℕ → Type 0
-AnswersLines header lines written = ((lines ≡ []) × (written ≡ [])) ⊎ AnswersEvents header lines written unended
+abbrev pub AnswersLines : (List ℕ → Option Header) → List (List ℕ) → List ℕ → Type 0
+AnswersLines heading lines written = ((lines ≡ []) × (written ≡ [])) ⊎ AnswersEvents heading lines written unended
 
 -- a schedule whole, with its last line
-abbrev pub AnswersAll : (List ℕ → Option AnyModule) → List (List ℕ) → List ℕ → Type 0
-AnswersAll header lines written = AnswersEvents header lines written end_line
+abbrev pub AnswersAll : (List ℕ → Option Header) → List (List ℕ) → List ℕ → Type 0
+AnswersAll heading lines written = AnswersEvents heading lines written end_line
 
 -- The lines are a header and events, and the first of the rest is one too many.
-pub record IsTooMuch (header : List ℕ → Option AnyModule) (done rest : List (List ℕ)) : Type 0 where
+pub record IsTooMuch (heading : List ℕ → Option Header) (done rest : List (List ℕ)) : Type 0 where
   pub first : List ℕ
   pub others : List (List ℕ)
-  pub machine : AnyModule
+  pub header : Header
   pub events : List Event
   pub line : List ℕ
   pub more : List (List ℕ)
   pub split : done ≡ first ∷ others
-  pub headed : header first ≡ Some machine
+  pub headed : heading first ≡ Some header
   pub read : map event_at others ≡ map Some events
   pub follows : rest ≡ line ∷ more
-  pub over : IsOver machine others events line
+  pub over : IsOver header others events line
 
 -- What is out, by how a replay ended, where these bytes of the input were taken and those written.
-abbrev pub Tells : {T : Type 0} → (List ℕ → Option AnyModule) → Option (List ℕ) → List ℕ → List ℕ → Result T ReplayFault → Type 0
-Tells header left taken sent result = TellsBy (AnswersLines header) (AnswersAll header) (IsTooMuch header) left taken sent result
+abbrev pub Tells : {T : Type 0} → (List ℕ → Option Header) → Option (List ℕ) → List ℕ → List ℕ → Result T ReplayFault → Type 0
+Tells heading left taken sent result = TellsBy (AnswersLines heading) (AnswersAll heading) (IsTooMuch heading) left taken sent result

@@ -4,5 +4,4 @@ pub mod Headline
 pub mod Counting
 pub mod Issues
 pub mod Progress
-pub mod Machines
 pub mod Replays

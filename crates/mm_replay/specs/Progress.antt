@@ -12,7 +12,7 @@ use Rattle.mm_replay.specs.declared.progress.Progress.{Progress}
 -- what stands, by digests
 abbrev pub running : Progress → Running
 running p = record {
-  machine = p.world.machine;
+  header = p.world.header;
   digests = p.world.digests;
   issued = p.world.issued;
   events = p.events;

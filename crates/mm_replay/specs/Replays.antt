@@ -7,7 +7,7 @@ use Rattle.mm_play.specs.Play.{run, run_of}
 use Rattle.mm_play.specs.Plays.{Settles}
 use Rattle.mm_replay.specs.Schedule.{Stage, AtHeader, InEvents, schedule_answer, schedule_closing}
 use Rattle.mm_replay.specs.Headline.{Tells}
-use Rattle.mm_replay.specs.Machines.{machine_at}
+use Rattle.mm_schedule.specs.Headers.{header_at}
 
 -- how many requests were committed and snapshots issued
 abbrev pub Reports : Stage → Report → Type 0
@@ -26,6 +26,6 @@ pub record Replays (left left' received received' : Option (List ℕ)) (result :
   pub next : Stage
   pub consumed : Consumes left left' taken
   pub appended : Appends received received' sent
-  pub settled : Settles (run (schedule_answer machine_at) 1 AtHeader) (run_of (schedule_answer machine_at) schedule_closing AtHeader) next left' taken sent result
-  pub told : Tells machine_at left' taken sent result
+  pub settled : Settles (run (schedule_answer header_at) 1 AtHeader) (run_of (schedule_answer header_at) schedule_closing AtHeader) next left' taken sent result
+  pub told : Tells header_at left' taken sent result
   pub reported : IsReported next result

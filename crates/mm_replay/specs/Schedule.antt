@@ -1,13 +1,14 @@
 -- A schedule line by line: the header, and then the events.
 use Rattle.std.specs.Prelude.{ℕ, ◌+◌, ◌-◌, Bool, ◌||◌, nat_le, nat_lt, List, [], length, Option, None, Some, Result, Ok, Err, if◌then◌else◌}
 use Rattle.std.specs.List.{sum_by}
-use Rattle.mm_modules.specs.declared.any.AnyModule.{AnyModule}
+use Rattle.mm_schedule.specs.declared.header.Header.{Header}
 use Rattle.mm_schedule.specs.Events.{Event}
 use Rattle.mm_schedule.specs.Grammar.{event_at}
 use Rattle.mm_schedule.specs.Replies.{end_line}
-use Rattle.mm_world.specs.Levels.{Digests, by_digests, first_digests}
-use Rattle.mm_world.specs.Folds.{Outcome, outcome_of, first_issued}
-use Rattle.mm_world.specs.Held.{world_of}
+use Rattle.mm_model.specs.Moves.{Digests}
+use Rattle.mm_call.specs.Levels.{by_digests}
+use Rattle.mm_run.specs.Folds.{Outcome, outcome_of, first_issued, first_digests}
+use Rattle.mm_run.specs.Held.{world_of}
 use Rattle.mm_play.specs.declared.player.Refused.{Refused}
 use Rattle.mm_play.specs.declared.player.Refused.TheVariants.{Bad, Much}
 use Rattle.mm_replay.specs.Text.{text_of}
@@ -19,20 +20,20 @@ most_events = 20000
 abbrev pub most_kept : ℕ
 most_kept = 268435456
 
--- what stands between two events, by digests: the module, the snapshots issued, the events answered, and the bytes of
+-- what stands between two events, by digests: the header, the snapshots issued, the events answered, and the bytes of
 -- their lines
 pub record Running : Type 0 where
-  pub machine : AnyModule
+  pub header : Header
   pub digests : Digests
   pub issued : List (List ℕ)
   pub events : ℕ
   pub read : ℕ
 
-abbrev pub begun : AnyModule → Running
-begun machine = record {
-  machine = machine;
-  digests = first_digests (world_of machine);
-  issued = first_issued (world_of machine);
+abbrev pub begun : Header → Running
+begun header = record {
+  header = header;
+  digests = first_digests (world_of header);
+  issued = first_issued (world_of header);
   events = 0;
   read = 0;
 }
@@ -43,11 +44,11 @@ is_too_much r line = nat_le most_events r.events || nat_lt most_kept (r.read + l
 
 -- what an event comes to
 abbrev pub outcome_in : Running → Event → Outcome Digests
-outcome_in r event = outcome_of (world_of r.machine) (by_digests (world_of r.machine)) r.digests r.issued event
+outcome_in r event = outcome_of (world_of r.header) (by_digests (world_of r.header)) r.digests r.issued event
 
 abbrev pub after_event : Running → List ℕ → Event → Running
 after_event r line event = record {
-  machine = r.machine;
+  header = r.header;
   digests = (outcome_in r event).state;
   issued = (outcome_in r event).issued;
   events = r.events + 1;
@@ -64,15 +65,15 @@ event_answer r line None = Err Bad
 event_answer r line (Some event) =
     if is_too_much r line then Err Much else Ok (text_of (outcome_in r event).reply, InEvents (after_event r line event))
 
--- a header of a module that can be replayed
-abbrev pub header_answer : Option AnyModule → Result (List ℕ × Stage) Refused
+-- a header begins the events
+abbrev pub header_answer : Option Header → Result (List ℕ × Stage) Refused
 header_answer None = Err Bad
-header_answer (Some machine) = Ok ([], InEvents (begun machine))
+header_answer (Some header) = Ok ([], InEvents (begun header))
 
 -- the reply to a line, by what the header line names
-abbrev pub schedule_answer : (List ℕ → Option AnyModule) → Stage → List ℕ → Result (List ℕ × Stage) Refused
-schedule_answer header AtHeader line = header_answer (header line)
-schedule_answer header (InEvents r) line = event_answer r line (event_at line)
+abbrev pub schedule_answer : (List ℕ → Option Header) → Stage → List ℕ → Result (List ℕ × Stage) Refused
+schedule_answer heading AtHeader line = header_answer (heading line)
+schedule_answer heading (InEvents r) line = event_answer r line (event_at line)
 
 -- the last line, which needs a header before it
 abbrev pub schedule_closing : Stage → Option (List ℕ)

@@ -2,7 +2,6 @@
 
 ghost use Rattle.std.specs.Prelude.{◌≡◌, ◌≤◌, ◌<◌, ◌+◌, ◌*◌, ◌^◌, length, IfOk, OnOk, false, ℕ, List, Some, None, slice_get};
 ghost use Rattle.std.specs.List.{sum_by};
-ghost use Rattle.mm_digest.specs.declared.variant.Variant.TheVariants.{Basic};
 
 use crate::report::Report;
 use crate::write::{write_end, write_reply};
@@ -61,8 +60,7 @@ impl Progress {
 
     /// A replay at its first event.
     pub fn begin(alloc: Global, header: &Header) -> Result<Progress, Memory>
-        requires { header.now.variant ≡ Basic }
-        ensures { IfOk result (λ progress. running progress ≡ begun header.now.«module») }
+        ensures { IfOk result (λ progress. running progress ≡ begun header.now) }
     {
         let world = World::new(alloc, header)?;
         let issued = match world.snapshot(0) {

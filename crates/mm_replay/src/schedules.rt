@@ -1,22 +1,20 @@
 //! Schedules, from the header to the last line.
 
 ghost use Rattle.std.specs.Prelude.{◌≡◌, ℕ, List, Some, Ok, OnOk};
-ghost use Rattle.mm_schedule.specs.Headers.{header_at};
 ghost use Rattle.mm_play.specs.Play.{run_of};
 ghost use Rattle.mm_play.specs.Plays.{IsBlamed, IsUnrefused, is_read_fault, is_write_fault};
 ghost use Rattle.mm_replay.specs.Schedule.{Stage, AtHeader, header_answer, schedule_answer, schedule_closing, lines_left_at};
 ghost use Rattle.mm_replay.specs.Counting.{schedule_counts_down, schedule_is_short};
-ghost use Rattle.mm_replay.specs.Machines.{machine_at};
+ghost use Rattle.mm_schedule.specs.Headers.{header_at};
 ghost use Rattle.mm_replay.specs.Progress.{stage_of, Begins};
 ghost use Rattle.mm_replay.specs.Replays.{Replays, Reports};
 
 use crate::progress::Progress;
 use crate::report::Report;
 use mm_base::{ReplayFault, Sink, Source, WriteFault};
-use mm_digest::Variant;
 use mm_play::{Player, Refused, TakeFault, play};
+use mm_run::{basic_is_expected, expected_runs, opt_is_expected};
 use mm_schedule::read_header;
-use mm_world::laws::{basic_is_expected, expected_runs};
 use std::alloc::Global;
 use std::marker::Model;
 
@@ -54,25 +52,22 @@ impl SchedulePlayer {
     }
 }
 
-/// Begins a replay by its header line. Opt is not built yet, and refused as a line outside the grammar is.
+/// Begins a replay by its header line.
 fn begin(alloc: Global, line: &[u8]) -> Result<Progress, TakeFault>
-    ensures { Begins (header_answer (machine_at line.now)) result }
+    ensures { Begins (header_answer (header_at line.now)) result }
 {
     let header = match read_header(line) {
         Some(header) => header,
         None => return Err(TakeFault::Refused(Refused::Bad)),
     };
-    match header.variant {
-        Variant::Basic => match Progress::begin(alloc, &header) {
-            Ok(progress) => Ok(progress),
-            Err(_) => Err(TakeFault::Memory),
-        },
-        Variant::Opt => Err(TakeFault::Refused(Refused::Bad)),
+    match Progress::begin(alloc, &header) {
+        Ok(progress) => Ok(progress),
+        Err(_) => Err(TakeFault::Memory),
     }
 }
 
 impl Player for SchedulePlayer {
-    ghost answer = { schedule_answer machine_at };
+    ghost answer = { schedule_answer header_at };
 
     ghost closing = { schedule_closing };
 
@@ -98,7 +93,7 @@ impl Player for SchedulePlayer {
         }
     }
 
-    ghost counts_down = { schedule_counts_down machine_at };
+    ghost counts_down = { schedule_counts_down header_at };
 
     ghost few = { schedule_is_short };
 }
@@ -120,9 +115,10 @@ pub fn replay<S: Source, K: Sink>(
 
     // A schedule within the grammar and the limits is not refused.
     ensures complete { (bytes : List ℕ) → (next : Stage) → S.left input.old ≡ Some bytes
-        → (run_of (schedule_answer machine_at) schedule_closing AtHeader bytes).outcome ≡ Ok next → IsUnrefused result }
+        → (run_of (schedule_answer header_at) schedule_closing AtHeader bytes).outcome ≡ Ok next → IsUnrefused result }
 {
     basic_is_expected();
+    opt_is_expected();
     expected_runs();
     let mut player = SchedulePlayer::new();
     match play(alloc, &mut player, input, out) {

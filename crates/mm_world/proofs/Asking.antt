@@ -1,245 +1,340 @@
--- A call with its plan, and a checkpoint of Basic, come to their outcomes by digests.
-use Rattle.std.proofs.Common.{◌≡◌, ℕ, Bool, true, false, List, [], ◌∷◌, ◌++◌, map, Option, None, Some, Result, Ok, Err, inl, inr, refl, sym, ap, ◌∙◌, subst, arith}
-use Rattle.std.specs.Prelude.{if◌then◌else◌}
+-- A planned call comes to what it does by digests.
+use Rattle.std.proofs.Common.{◌≡◌, ℕ, suc, ◌+◌, Bool, true, false, ◌&&◌, List, [], ◌∷◌, ◌++◌, length, map, Option, None, Some, Result, Ok, Err, refl, sym, ap, ◌∙◌, subst, arith}
+use Rattle.std.specs.Prelude.{if◌then◌else◌, option_to_list}
+use Rattle.std.specs.Option.{option_map}
 use Rattle.std.proofs.lemmas.List.{append-nil}
-use Rattle.mm_base.specs.declared.fault.Memory.{Memory}
-use Rattle.mm_module.specs.Meaning.{Meaning}
-use Rattle.mm_module.specs.Batch.{Batch, normal}
+use Rattle.mm_digest.specs.declared.variant.Variant.{Variant}
+use Rattle.mm_digest.specs.declared.variant.Variant.TheVariants.{Basic, Opt}
+use Rattle.mm_digest.specs.Messages.{zero_bytes}
+use Rattle.mm_module.specs.Batch.{Batch}
 use Rattle.mm_platform.specs.declared.fault.StepFault.{StepFault}
-use Rattle.mm_platform.specs.declared.plan.Meddle.{Meddle}
 use Rattle.mm_platform.specs.declared.plan.Stop.{Stop}
 use Rattle.mm_platform.specs.declared.plan.Stop.TheVariants.{Quiet, Cut, Drop, Fail}
-use Rattle.mm_platform.specs.Standing.{Plan, Standing, due}
-use Rattle.mm_platform.specs.Steps.{ReadCell, fault_at}
-use Rattle.mm_platform.specs.Told.{quiet_plan}
-use Rattle.mm_model.specs.Instance.{basic}
-use Rattle.mm_model.specs.History.{Move, Foreign}
-use Rattle.mm_model.specs.Long.{is_long}
-use Rattle.mm_model.specs.Steps.{Reads}
-use Rattle.mm_schedule.specs.declared.reply.Cause.{Cause}
-use Rattle.mm_schedule.specs.declared.reply.Cause.TheVariants as cause
-use Rattle.mm_schedule.specs.declared.reply.Reply.TheVariants as reply
-use Rattle.mm_world.specs.declared.call.Called.{Called}
-use Rattle.mm_world.specs.Walk.{Walked, after_stop, way_of, closes}
-use Rattle.mm_world.specs.Levels.{Digests, by_digests}
-use Rattle.mm_world.specs.Folds.{Outcome, all_made, outcome, uncalled, called, asked, checkpointed, checkpoint_ended}
-use Rattle.mm_world.specs.Stands.{basic_digests, StandsAt, grown, plan_at}
-use Rattle.mm_world.specs.Calls.{refused_as, broken_as, is_cut, Restores, CameTo, RunsAs}
-use Rattle.mm_world.specs.Held.{IsQuiet}
-use Rattle.mm_world.specs.Asks.{Came, Lacks, EndsAs, AsksAs, ChecksAs, ReadsOnce}
-use Rattle.mm_world.proofs.Stepping.{GoesAt, goes_at, stands_read, stands_restored, register_kept, on_quiet, on_restored}
-use Rattle.mm_world.proofs.Outcomes.{outcome_by, walk_on, walk_off, foreign-made, stopped-made}
-use Rattle.mm_world.proofs.CallRuns.{some_plan}
+use Rattle.mm_platform.specs.Standing.{Item, Standing, values_of, register_of}
+use Rattle.mm_platform.specs.Steps.{items_cycled}
+use Rattle.mm_model.specs.Instance.{Instance}
+use Rattle.mm_model.specs.History.{Move, Commit, Foreign, Power}
+use Rattle.mm_model.specs.Moves.{Digests, made}
+use Rattle.mm_model.specs.Standing.{register_reads}
+use Rattle.mm_model.specs.Steps.{Step, Reads, Changes, Writes, ask_steps}
+use Rattle.mm_model.specs.declared.answer.BatchAnswer.{BatchAnswer}
+use Rattle.mm_model.specs.declared.refusal.Refusal.{Refusal}
+use Rattle.mm_model.specs.declared.refusal.Refusal.TheVariants as refusal
+use Rattle.mm_call.specs.Levels.{by_digests, all_made}
+use Rattle.mm_call.specs.Found.{Found, found_at, found_in, is_fresh}
+use Rattle.mm_call.specs.Courses.{End, Done, Fails, Fate, Walked, walk, after_step, commits, seen_in}
+use Rattle.mm_call.specs.Called.{Ending, Answers, Refuses, Breaks, Called, called, called_by, position_of, told, ended_by, reading_steps, kept_at}
+use Rattle.mm_call.specs.Standing.{RegisterAt, StandsAt, shown, counted_by}
+use Rattle.mm_call.specs.Ended.{StaysOn}
+use Rattle.mm_call.specs.Refusals.{fault_of}
+use Rattle.mm_call.proofs.Moving.{committed_in}
+use Rattle.mm_call.proofs.Walks.{changing, committed-foreign, foreign_first, commits-none}
+use Rattle.mm_run.specs.Folds.{way_of, after_stop, reply_of, snapshots_of, moves_then, outcome_by}
+use Rattle.mm_world.specs.declared.call.Called as code
+use Rattle.mm_world.specs.Stands.{Stands}
+use Rattle.mm_world.specs.Calls.{is_cut, Settles}
+use Rattle.mm_world.specs.Asks.{Came}
+use Rattle.mm_world.proofs.Committing.{committed_by, reads_shown}
 
-abbrev pub with_plan : Standing → Plan → Standing
-with_plan standing plan = record standing { plan = Some plan }
+-- steps that read
 
-stands_with : (id : ℕ) (key summary register : List ℕ) (s : Standing) (plan : Plan) → StandsAt id key s summary register → StandsAt id key (with_plan s plan) summary register
-stands_with id key summary register s plan a = record { key_size = a.key_size; size = a.size; cell = a.cell; reads = a.reads }
+abbrev AreReads : List Step → Type 0
+AreReads [] = Unit {0}
+AreReads (Reads ∷ steps) = AreReads steps
+AreReads (Changes m ∷ steps) = ⊥
+AreReads (Writes m ∷ steps) = ⊥
 
--- nothing was called
-pub uncalled_there : (id : ℕ) (key summary register : List ℕ) (count : ℕ) (issued : List (List ℕ)) (old : Standing) (why : Cause)
-    → StandsAt id key old summary register → IsQuiet old
-    → Came id key (uncalled (basic_digests summary register count) issued (reply.No why)) count issued old old (refused_as why)
-uncalled_there id key summary register count issued old why s q = record {
-  came = record {
-    reply = refl;
-    issues = append-nil issued;
-    stands = s;
-    flag = refl;
-    counts = omega arith;
-    is_on = q.is_on;
-    plan = some_plan old.plan quiet_plan q.plan;
-    steps = refl;
-    writes = refl;
-  };
-  quiet = q;
+reading_reads : (variant : Variant) → AreReads (reading_steps variant)
+reading_reads Basic = tt
+reading_reads Opt = tt
+
+-- what a call makes behind its reading steps
+abbrev behind : Variant → Bool → Bool → Batch → List Step
+behind variant flag false b = []
+behind Basic flag true b = Writes (Commit b) ∷ []
+behind Opt flag true b = changing flag true b
+
+ask_split : (variant : Variant) (flag fresh : Bool) (b : Batch) → ask_steps variant flag fresh b ≡ reading_steps variant ++ behind variant flag fresh b
+ask_split Basic flag false b = refl
+ask_split Basic flag true b = refl
+ask_split Opt true false b = refl
+ask_split Opt false false b = refl
+ask_split Opt true true b = refl
+ask_split Opt false true b = refl
+
+-- reading steps are all done, or one of them fails: then it doesn't matter what would follow
+data Reading (fates : ℕ → Fate) (n : ℕ) (reads rest : List Step) : Type 0 where
+  whole : (walk fates n reads).broken ≡ None → Reading fates n reads rest
+  cut_off : (fault : StepFault) → (walk fates n reads).broken ≡ Some fault → walk fates n (reads ++ rest) ≡ walk fates n reads → Reading fates n reads rest
+
+reading_more : (fates : ℕ → Fate) (n : ℕ) (reads rest : List Step) (e : End) → (fates n).ends ≡ e → Reading fates (n + 1) reads rest → Reading fates n (Reads ∷ reads) rest
+reading_more fates n reads rest Done e (whole none) =
+    whole (ap (λ x. (after_step Reads (fates n).brings x (walk fates (n + 1) reads)).broken) e ∙ none)
+reading_more fates n reads rest Done e (cut_off fault broken same) =
+    cut_off fault (ap (λ x. (after_step Reads (fates n).brings x (walk fates (n + 1) reads)).broken) e ∙ broken)
+    (ap (λ w. after_step Reads (fates n).brings (fates n).ends w) same)
+reading_more fates n reads rest (Fails fault made) e r =
+    let P : Walked → End → Walked = λ w x. after_step Reads (fates n).brings x w in
+    cut_off fault (ap (λ x. (P (walk fates (n + 1) reads) x).broken) e)
+    (ap (P (walk fates (n + 1) (reads ++ rest))) e ∙ sym (ap (P (walk fates (n + 1) reads)) e))
+
+reading : (fates : ℕ → Fate) (n : ℕ) (reads rest : List Step) → AreReads reads → Reading fates n reads rest
+reading fates n [] rest are = whole refl
+reading fates n (Reads ∷ reads) rest are = reading_more fates n reads rest (fates n).ends refl (reading fates (n + 1) reads rest are)
+reading fates n (Changes m ∷ reads) rest are = absurd are
+reading fates n (Writes m ∷ reads) rest are = absurd are
+
+pub reads_commit_end : (values : List (List ℕ)) (e : End) (rest : Walked) → committed_in rest.moves ≡ [] → committed_in (after_step Reads values e rest).moves ≡ []
+reads_commit_end values Done rest h = foreign_first values rest.moves ∙ h
+reads_commit_end values (Fails fault made) rest h = committed-foreign values
+
+reads_commit : (fates : ℕ → Fate) (n : ℕ) (reads : List Step) → AreReads reads → committed_in (walk fates n reads).moves ≡ []
+reads_commit fates n [] are = refl
+reads_commit fates n (Reads ∷ reads) are = reads_commit_end (fates n).brings (fates n).ends (walk fates (n + 1) reads) (reads_commit fates (n + 1) reads are)
+reads_commit fates n (Changes m ∷ reads) are = absurd are
+reads_commit fates n (Writes m ∷ reads) are = absurd are
+
+-- reading steps that are all done
+record AllRead (fates : ℕ → Fate) (n : ℕ) (reads : List Step) : Type 0 where
+  pub moves : (walk fates n reads).moves ≡ seen_in fates reads n
+  pub steps : (walk fates n reads).steps ≡ length reads
+  pub writes : (walk fates n reads).writes ≡ 0
+
+all_read_more : (fates : ℕ → Fate) (n : ℕ) (reads : List Step) (e : End) → (fates n).ends ≡ e
+    → (after_step Reads (fates n).brings e (walk fates (n + 1) reads)).broken ≡ None
+    → ((walk fates (n + 1) reads).broken ≡ None → AllRead fates (n + 1) reads) → AllRead fates n (Reads ∷ reads)
+all_read_more fates n reads Done e none later =
+    let l = later none in
+    let P : End → Walked = λ x. after_step Reads (fates n).brings x (walk fates (n + 1) reads) in record {
+      moves = ap (λ x. (P x).moves) e ∙ ap (λ ms. map Foreign (fates n).brings ++ ms) l.moves;
+      steps = ap (λ x. (P x).steps) e ∙ ap suc l.steps;
+      writes = ap (λ x. (P x).writes) e ∙ l.writes;
+    }
+all_read_more fates n reads (Fails fault made) e none later = cc
+
+all_read : (fates : ℕ → Fate) (n : ℕ) (reads : List Step) → AreReads reads → (walk fates n reads).broken ≡ None → AllRead fates n reads
+all_read fates n [] are none = record { moves = refl; steps = refl; writes = refl }
+all_read fates n (Reads ∷ reads) are none =
+    all_read_more fates n reads (fates n).ends refl none (λ later. all_read fates (n + 1) reads are later)
+all_read fates n (Changes m ∷ reads) are none = absurd are
+all_read fates n (Writes m ∷ reads) are none = absurd are
+
+-- the step at which a walk is broken off
+pub record BreaksAt (fates : ℕ → Fate) (n : ℕ) (walked : Walked) : Type 0 where
+  pub before : ℕ
+  pub fault : StepFault
+  pub made : Bool
+  pub steps : walked.steps ≡ suc before
+  pub fails : (fates (n + before)).ends ≡ Fails fault made
+
+breaks_more : (fates : ℕ → Fate) (n : ℕ) (step : Step) (rest : Walked) (e : End) (f : StepFault) → (fates n).ends ≡ e
+    → (after_step step (fates n).brings e rest).broken ≡ Some f → (rest.broken ≡ Some f → BreaksAt fates (n + 1) rest)
+    → BreaksAt fates n (after_step step (fates n).brings e rest)
+breaks_more fates n step rest Done f e broken later =
+    let l = later broken in record {
+      before = suc l.before;
+      fault = l.fault;
+      made = l.made;
+      steps = ap suc l.steps;
+      fails = subst (λ k. (fates k).ends ≡ Fails l.fault l.made) (omega arith) l.fails;
+    }
+breaks_more fates n step rest (Fails fault made) f e broken later = record {
+  before = 0;
+  fault = fault;
+  made = made;
+  steps = refl;
+  fails = subst (λ k. (fates k).ends ≡ Fails fault made) (omega arith) e;
 }
 
-pub lacks_there : (id : ℕ) (key summary register : List ℕ) (meddles : List Meddle) (old : Standing) → StandsAt id key old summary register → IsQuiet old
-    → Lacks id key summary register meddles old old
-lacks_there id key summary register meddles old s q = record { values = []; stands = s; quiet = q; called = inl (refl, refl); writes = refl }
+pub breaks_at : (fates : ℕ → Fate) (n : ℕ) (steps : List Step) (f : StepFault) → (walk fates n steps).broken ≡ Some f → BreaksAt fates n (walk fates n steps)
+breaks_at fates n [] f broken = cc
+breaks_at fates n (step ∷ steps) f broken =
+    breaks_more fates n step (walk fates (n + 1) steps) (fates n).ends f refl broken (λ later. breaks_at fates (n + 1) steps f later)
 
-asked_long : (meaning : Meaning) (key : List ℕ) (d : Digests) (issued : List (List ℕ)) (meddles : List Meddle) (stop : Stop) (offer : List ℕ) (b : Batch) (long : Bool)
-    → is_long b ≡ long → asked (basic meaning key) (by_digests (basic meaning key)) d issued meddles stop (Some offer) b
-    ≡ (if long then uncalled d issued (reply.No cause.Long) else called (basic meaning key) (by_digests (basic meaning key)) d issued meddles stop offer (normal b))
-asked_long meaning key d issued meddles stop offer b long e =
-    ap (λ (x : Bool). if x then uncalled d issued (reply.No cause.Long) else called (basic meaning key) (by_digests (basic meaning key)) d issued meddles stop offer (normal b)) e
+-- want of memory
 
--- the batch is too long
-pub asks_long : (meaning : Meaning) (old : Standing) (issued : List (List ℕ)) (meddles : List Meddle) (stop : Stop) (offer : List ℕ) (b : Batch) (it : Called)
-    → is_long b ≡ true → it ≡ refused_as cause.Long → AsksAs meaning old old issued meddles stop (Some offer) b (Ok it)
-asks_long meaning old issued meddles stop offer b it long e = λ (key summary register : List ℕ) (count : ℕ) s q.
-    subst (λ (x : Called). Came meaning.id key (asked (basic meaning key) (by_digests (basic meaning key)) (basic_digests summary register count) issued meddles stop (Some offer) b) count issued old old x) (sym e)
-    (subst (λ (o : Outcome Digests). Came meaning.id key o count issued old old (refused_as cause.Long))
-    (sym (asked_long meaning key (basic_digests summary register count) issued meddles stop offer b true long))
-    (uncalled_there meaning.id key summary register count issued old cause.Long s q))
+-- with nothing left to make but reading steps
+same_broken : (i : Instance) (d seen s : Digests) (b : Batch) (f : Found) (walked : Walked) (fault : StepFault) (broken : Option StepFault) → walked.broken ≡ broken
+    → broken ≡ Some fault → commits walked.moves ≡ false
+    → ended_by (by_digests i) seen s b (Err refusal.Memory) walked.moves broken ≡ ended_by (by_digests i) seen s b (Ok f) walked.moves broken
+same_broken i d seen s b f walked fault None e known none = cc
+same_broken i d seen s b f walked fault (Some g) e known none =
+    ap (λ c. Breaks g (kept_at c 0)) none ∙ sym (ap (λ c. Breaks g (kept_at c (position_of (by_digests i) seen s b (Ok f)))) none)
 
--- nothing is offered
-pub asks_none : (meaning : Meaning) (old : Standing) (issued : List (List ℕ)) (meddles : List Meddle) (stop : Stop) (b : Batch) (it : Called)
-    → it ≡ refused_as cause.Snapshot → AsksAs meaning old old issued meddles stop None b (Ok it)
-asks_none meaning old issued meddles stop b it e = λ (key summary register : List ℕ) (count : ℕ) s q.
-    subst (λ (x : Called). Came meaning.id key (uncalled (basic_digests summary register count) issued (reply.No cause.Snapshot)) count issued old old x) (sym e)
-    (uncalled_there meaning.id key summary register count issued old cause.Snapshot s q)
+pub data Lacking (o o' : Called Digests) : Type 0 where
+  refuses : o.ending ≡ Refuses refusal.Memory → Lacking o o'
+  same : o ≡ o' → Lacking o o'
 
-pub ends_lacking : (meaning : Meaning) (old new : Standing) (issued : List (List ℕ)) (meddles : List Meddle) (o : List ℕ → Digests → Outcome Digests) (memory : Memory)
-    → new ≡ old → EndsAs meaning old new issued meddles o (Err memory)
-ends_lacking meaning old new issued meddles o memory e = λ (key summary register : List ℕ) (count : ℕ) s q.
-    subst (λ (x : Standing). Lacks meaning.id key summary register meddles old x) (sym e) (lacks_there meaning.id key summary register meddles old s q)
+abbrev call_of : Instance → Digests → Digests → Batch → Result Found Refusal → Walked → Called Digests
+call_of i d seen b found walked = called_by (by_digests i) d seen b found walked
 
--- a planned call
-ran_there : (meaning : Meaning) (old mid : Standing) (issued : List (List ℕ)) (meddles : List Meddle) (stop : Stop) (offer : List ℕ) (b : Batch) (result : Result Called Memory)
-    → is_long b ≡ false → RunsAs meaning (with_plan old (plan_at stop meddles 0)) mid stop offer b result
-    → AsksAs meaning old (with_plan mid quiet_plan) issued meddles stop (Some offer) b result
-ran_there meaning old mid issued meddles stop offer b (Ok it) short runs = λ (key summary register : List ℕ) (count : ℕ) s q.
-    let c = runs key summary register count issued meddles (stands_with meaning.id key summary register old (plan_at stop meddles 0) s)
-    (record { is_on = q.is_on; plan = refl }) in
-    let o : Outcome Digests = called (basic meaning key) (by_digests (basic meaning key)) (basic_digests summary register count) issued meddles stop offer (normal b) in
-    subst (λ (x : Outcome Digests). Came meaning.id key x count issued old (with_plan mid quiet_plan) it)
-    (sym (asked_long meaning key (basic_digests summary register count) issued meddles stop offer b false short))
-    (record {
-      came = record {
-        reply = c.reply;
-        issues = c.issues;
-        stands = stands_with meaning.id key o.state.digest o.state.register mid quiet_plan c.stands;
-        flag = c.flag;
-        counts = c.counts;
-        is_on = c.is_on;
-        plan = refl;
-        steps = c.steps;
-        writes = c.writes;
-      };
-      quiet = record { is_on = c.is_on; plan = refl };
-    })
-ran_there meaning old mid issued meddles stop offer b (Err memory) short runs = λ (key summary register : List ℕ) (count : ℕ) s q.
-    let f = runs key summary register count issued meddles (stands_with meaning.id key summary register old (plan_at stop meddles 0) s)
-    (record { is_on = q.is_on; plan = refl }) in
-    record {
-      values = due 1 meddles;
-      stands = stands_with meaning.id key summary (grown register (due 1 meddles)) mid quiet_plan f.stands;
-      quiet = record { is_on = f.is_on; plan = refl };
-      called = inr (refl, f.steps);
-      writes = f.writes;
+refuses_by : (i : Instance) (d seen : Digests) (b : Batch) (walked : Walked) (broken : Option StepFault) → walked.broken ≡ broken → broken ≡ None
+    → ended_by (by_digests i) seen (all_made (by_digests i) d walked.moves) b (Err refusal.Memory) walked.moves broken ≡ Refuses refusal.Memory
+refuses_by i d seen b walked None e none = refl
+refuses_by i d seen b walked (Some f) e none = cc
+
+lacking_found : (i : Instance) (d seen : Digests) (b : Batch) (fates : ℕ → Fate) (rest : List Step) (f : Found)
+    → Reading fates 1 (reading_steps i.variant) rest
+    → Lacking (call_of i d seen b (Err refusal.Memory) (walk fates 1 (reading_steps i.variant)))
+    (call_of i d seen b (Ok f) (walk fates 1 (reading_steps i.variant ++ rest)))
+lacking_found i d seen b fates rest f (whole none) =
+    let w = walk fates 1 (reading_steps i.variant) in refuses (refuses_by i d seen b w w.broken refl none)
+lacking_found i d seen b fates rest f (cut_off fault broken alike) =
+    let w = walk fates 1 (reading_steps i.variant) in
+    let none = commits-none w.moves (reads_commit fates 1 (reading_steps i.variant) (reading_reads i.variant)) in
+    let ends = same_broken i d seen (all_made (by_digests i) d w.moves) b f w fault w.broken refl broken none in
+    same ((λ j. record { state = all_made (by_digests i) d w.moves; ending = ends j; moves = w.moves; steps = w.steps; writes = w.writes })
+    ∙ ap (call_of i d seen b (Ok f)) (sym alike))
+
+read_only : (variant : Variant) (flag : Bool) (b : Batch) (fates : ℕ → Fate) → walk fates 1 (ask_steps variant flag false b) ≡ walk fates 1 (reading_steps variant)
+read_only variant flag b fates = ap (walk fates 1) (ask_split variant flag false b ∙ append-nil (reading_steps variant))
+
+lacking : (i : Instance) (d seen : Digests) (b : Batch) (fates : ℕ → Fate) (found : Result Found Refusal)
+    → Lacking (call_of i d seen b (found_in found true) (walk fates 1 (ask_steps i.variant d.flag (is_fresh (found_in found true)) b)))
+    (call_of i d seen b (found_in found false) (walk fates 1 (ask_steps i.variant d.flag (is_fresh (found_in found false)) b)))
+lacking i d seen b fates (Err why) = same refl
+lacking i d seen b fates (Ok f) =
+    let fresh = is_fresh (Ok f) in
+    let rest = behind i.variant d.flag fresh b in
+    let P : Walked → Walked → Type 0 = λ w v. Lacking (call_of i d seen b (Err refusal.Memory) w) (call_of i d seen b (Ok f) v) in
+    subst (λ w. P w (walk fates 1 (ask_steps i.variant d.flag fresh b))) (sym (read_only i.variant d.flag b fates))
+    (subst (λ v. P (walk fates 1 (reading_steps i.variant)) v) (sym (ap (walk fates 1) (ask_split i.variant d.flag fresh b)))
+    (lacking_found i d seen b fates rest f (reading fates 1 (reading_steps i.variant) rest (reading_reads i.variant))))
+
+-- a call on a course is refused for want of memory, or is the call with memory at hand
+pub lacks_or_same : (i : Instance) (d : Digests) (fates : ℕ → Fate) (lacks : Bool) (bytes : List ℕ) (b : Batch)
+    → Lacking (called i (by_digests i) d (record { fates = fates; lacks = lacks }) bytes b) (called i (by_digests i) d (record { fates = fates; lacks = false }) bytes b)
+lacks_or_same i d fates false bytes b = same refl
+lacks_or_same i d fates true bytes b =
+    let seen = all_made (by_digests i) d (seen_in fates (reading_steps i.variant) 1) in
+    lacking i d seen b fates (found_at i (by_digests i) seen b bytes)
+
+-- a call that is refused has made its reading steps, and no others
+
+pub record HasRead (i : Instance) (d : Digests) (fates : ℕ → Fate) (o : Called Digests) : Type 0 where
+  pub state : o.state ≡ all_made (by_digests i) d (seen_in fates (reading_steps i.variant) 1)
+  pub steps : o.steps ≡ length (reading_steps i.variant)
+  pub writes : o.writes ≡ 0
+
+unbroken : (i : Instance) (d seen s : Digests) (b : Batch) (found : Result Found Refusal) (why : Refusal) (moves : List Move) (broken : Option StepFault)
+    → ended_by (by_digests i) seen s b found moves broken ≡ Refuses why → (broken ≡ None) × (is_fresh found ≡ false)
+unbroken i d seen s b (Err w) why moves None e = (refl, refl)
+unbroken i d seen s b (Ok f) why moves None e = cc
+unbroken i d seen s b (Err w) why moves (Some fault) e = cc
+unbroken i d seen s b (Ok f) why moves (Some fault) e = cc
+
+pub refused_read : (i : Instance) (d seen : Digests) (b : Batch) (fates : ℕ → Fate) (found : Result Found Refusal) (why : Refusal)
+    → (let o = call_of i d seen b found (walk fates 1 (ask_steps i.variant d.flag (is_fresh found) b)) in o.ending ≡ Refuses why → HasRead i d fates o)
+refused_read i d seen b fates found why e =
+    let w = walk fates 1 (ask_steps i.variant d.flag (is_fresh found) b) in
+    let u = unbroken i d seen (all_made (by_digests i) d w.moves) b found why w.moves w.broken e in
+    let is : w ≡ walk fates 1 (reading_steps i.variant) = ap (λ x. walk fates 1 (ask_steps i.variant d.flag x b)) u.1 ∙ read_only i.variant d.flag b fates in
+    let r = all_read fates 1 (reading_steps i.variant) (reading_reads i.variant) (ap (λ (x : Walked). x.broken) (sym is) ∙ u.0) in record {
+      state = ap (λ (x : Walked). all_made (by_digests i) d x.moves) is ∙ ap (all_made (by_digests i) d) r.moves;
+      steps = ap (λ (x : Walked). x.steps) is ∙ r.steps;
+      writes = ap (λ (x : Walked). x.writes) is ∙ r.writes;
     }
 
-pub asks_ran : (meaning : Meaning) (old planned mid new : Standing) (issued : List (List ℕ)) (meddles : List Meddle) (stop : Stop) (offer : List ℕ) (b : Batch) (result : Result Called Memory)
-    → is_long b ≡ false → planned ≡ with_plan old (plan_at stop meddles 0) → RunsAs meaning planned mid stop offer b result
-    → new ≡ with_plan mid quiet_plan → AsksAs meaning old new issued meddles stop (Some offer) b result
-asks_ran meaning old planned mid new issued meddles stop offer b result short p runs n =
-    subst (λ (x : Standing). AsksAs meaning old x issued meddles stop (Some offer) b result) (sym n)
-    (ran_there meaning old mid issued meddles stop offer b result short (subst (λ (x : Standing). RunsAs meaning x mid stop offer b result) p runs))
+-- what a result tells of an ending
 
--- the bytes that are offered
-pub asks_offered : (meaning : Meaning) (old new : Standing) (issued : List (List ℕ)) (meddles : List Meddle) (stop : Stop) (offer bytes : List ℕ) (offered : Option (List ℕ)) (b : Batch) (result : Result Called Memory)
-    → bytes ≡ offer → Some offer ≡ offered → AsksAs meaning old new issued meddles stop (Some bytes) b result → AsksAs meaning old new issued meddles stop offered b result
-asks_offered meaning old new issued meddles stop offer bytes offered b result e f a =
-    subst (λ (x : Option (List ℕ)). AsksAs meaning old new issued meddles stop x b result) (ap Some e ∙ f) a
+pub told_ok : (e : Ending) (a : BatchAnswer) → told e ≡ Ok a → e ≡ Answers a
+told_ok (Answers x) a e = let s : x ≡ a = cc in ap Answers s
+told_ok (Refuses why) a e = cc
+told_ok (Breaks fault kept) a e = cc
 
--- a checkpoint of Basic: its step is made, or stopped
-closes-foreign : (values : List (List ℕ)) (moves : List Move) → closes (map Foreign values ++ moves) ≡ closes moves
-closes-foreign [] moves = refl
-closes-foreign (v ∷ values) moves = closes-foreign values moves
+pub told_err : (e : Ending) (why : Refusal) → told e ≡ Err why → fault_of why ≡ None → e ≡ Refuses why
+told_err (Answers x) why e none = cc
+told_err (Refuses x) why e none = let s : x ≡ why = cc in ap Refuses s
+told_err (Breaks fault kept) why e none =
+    let s : refusal.Device fault ≡ why = cc in let clash : Some fault ≡ None = ap fault_of s ∙ none in absurd (cc)
 
-closes-stop : (stop : Stop) → closes (after_stop stop) ≡ false
-closes-stop Quiet = refl
-closes-stop (Cut n) = refl
-closes-stop (Drop n) = refl
-closes-stop (Fail n done) = refl
+-- the outcome, on the platform
 
-abbrev checks : (meaning : Meaning) (key summary register : List ℕ) (count : ℕ) → List (List ℕ) → Walked → Outcome Digests
-checks meaning key summary register count issued w =
-    outcome (all_made (by_digests (basic meaning key)) (basic_digests summary register count) w.moves) issued
-    (checkpoint_ended (closes w.moves) w.broken (reply.No cause.Kind)) w
+pub register_at : (variant : Variant) (reads : Option (List ℕ)) (register : List ℕ) → reads ≡ Some register → RegisterAt variant reads register
+register_at Basic reads register e = tt
+register_at Opt reads register e = e
 
-check_quiet : (meaning : Meaning) (key summary register : List ℕ) (count : ℕ) (issued : List (List ℕ)) (meddles : List Meddle) (stop : Stop) → fault_at stop 1 ≡ None
-    → checkpointed (basic meaning key) (by_digests (basic meaning key)) (basic_digests summary register count) issued meddles stop
-    ≡ outcome_by (basic_digests summary (grown register (due 1 meddles)) count) issued (reply.No cause.Kind) 1 0
-check_quiet meaning key summary register count issued meddles stop e =
-    ap (checks meaning key summary register count issued) (walk_on stop meddles 1 Reads [] e)
-    ∙ ap (λ (d : Digests). outcome_by d issued (reply.No cause.Kind) 1 0)
-    (foreign-made (basic meaning key) summary register count (due 1 meddles) [])
+-- whether a call was broken off
+abbrev pub breaks : Ending → Bool
+breaks (Answers answer) = false
+breaks (Refuses why) = false
+breaks (Breaks fault kept) = true
 
-check_stopped : (meaning : Meaning) (key summary register : List ℕ) (count : ℕ) (issued : List (List ℕ)) (meddles : List Meddle) (stop : Stop) (f : StepFault) → fault_at stop 1 ≡ Some f
-    → checkpointed (basic meaning key) (by_digests (basic meaning key)) (basic_digests summary register count) issued meddles stop
-    ≡ outcome_by (basic_digests summary (register_kept (is_cut stop) (grown register (due 1 meddles))) count) issued (reply.Nothing (way_of stop)) 1 0
-check_stopped meaning key summary register count issued meddles stop f e =
-    let values : List (List ℕ) = due 1 meddles in
-    let moves : List Move = map Foreign values ++ after_stop stop in
-    ap (checks meaning key summary register count issued) (walk_off stop meddles 1 Reads [] f e)
-    ∙ ap (λ (d : Digests). outcome_by d issued (checkpoint_ended (closes moves) (Some (way_of stop)) (reply.No cause.Kind)) 1 0)
-    (stopped-made (basic meaning key) summary register count values stop)
-    ∙ ap (λ (c : Bool). outcome_by (basic_digests summary (register_kept (is_cut stop) (grown register values)) count) issued (checkpoint_ended c (Some (way_of stop)) (reply.No cause.Kind)) 1 0)
-    (closes-foreign values (after_stop stop) ∙ closes-stop stop)
+-- the loss of power by a cut
+abbrev pub power_if : Bool → List Move
+power_if true = Power ∷ []
+power_if false = []
 
-checked_there : (meaning : Meaning) (key summary register : List ℕ) (count : ℕ) (issued : List (List ℕ)) (meddles : List Meddle) (stop : Stop) (old read mid : Standing) (it : Called) (fault : Option StepFault)
-    → StandsAt meaning.id key old summary register → GoesAt ReadCell old read stop meddles 1 fault
-    → (fault ≡ None → (it ≡ refused_as cause.Kind) × (mid ≡ read))
-    → ((f : StepFault) → fault ≡ Some f → (it ≡ broken_as stop false 0 0) × Restores stop read mid)
-    → CameTo meaning.id key (checkpointed (basic meaning key) (by_digests (basic meaning key)) (basic_digests summary register count) issued meddles stop) count issued old mid it
-checked_there meaning key summary register count issued meddles stop old read mid it None s g answered broken =
-    let w = answered refl in
-    let no : fault_at stop 1 ≡ None = sym g.answers in
-    let o : Outcome Digests = checkpointed (basic meaning key) (by_digests (basic meaning key)) (basic_digests summary register count) issued meddles stop in
-    subst (λ (x : Standing). CameTo meaning.id key o count issued old x it) (sym w.1)
-    (subst (λ (x : Called). CameTo meaning.id key o count issued old read x) (sym w.0)
-    (subst (λ (x : Outcome Digests). CameTo meaning.id key x count issued old read (refused_as cause.Kind)) (sym (check_quiet meaning key summary register count issued meddles stop no))
-    (record {
-      reply = refl;
-      issues = append-nil issued;
-      stands = stands_read meaning.id key summary register old read stop meddles 1 None s g;
-      flag = refl;
-      counts = omega arith;
-      is_on = g.is_on ∙ on_quiet stop 1 no;
-      plan = some_plan read.plan (plan_at stop meddles 1) g.plan;
-      steps = g.steps;
-      writes = g.writes;
-    })))
-checked_there meaning key summary register count issued meddles stop old read mid it (Some f) s g answered broken =
-    let w = broken f refl in
-    let r = w.1 in
-    let o : Outcome Digests = checkpointed (basic meaning key) (by_digests (basic meaning key)) (basic_digests summary register count) issued meddles stop in
-    subst (λ (x : Called). CameTo meaning.id key o count issued old mid x) (sym w.0)
-    (subst (λ (x : Outcome Digests). CameTo meaning.id key x count issued old mid (broken_as stop false 0 0)) (sym (check_stopped meaning key summary register count issued meddles stop f (sym g.answers)))
-    (record {
-      reply = refl;
-      issues = append-nil issued;
-      stands = stands_restored meaning.id key summary (grown register (due 1 meddles)) read mid stop
-          (stands_read meaning.id key summary register old read stop meddles 1 (Some f) s g) r;
-      flag = refl;
-      counts = omega arith;
-      is_on = r.is_on ∙ on_restored stop 1 read.is_on g.is_on;
-      plan = some_plan mid.plan (plan_at stop meddles 1) (r.plan ∙ g.plan);
-      steps = r.steps ∙ g.steps;
-      writes = r.writes ∙ g.writes;
-    }))
+pub stop_power : (stop : Stop) → after_stop stop ≡ power_if (is_cut stop)
+stop_power Quiet = refl
+stop_power (Cut n) = refl
+stop_power (Drop n) = refl
+stop_power (Fail n done) = refl
 
-check_there : (meaning : Meaning) (old mid : Standing) (issued : List (List ℕ)) (meddles : List Meddle) (stop : Stop) (it : Called)
-    → ReadsOnce (with_plan old (plan_at stop meddles 0)) mid stop it → ChecksAs meaning old (with_plan mid quiet_plan) issued meddles stop (Ok it)
-check_there meaning old mid issued meddles stop it r = λ (key summary register : List ℕ) (count : ℕ) s q.
-    let planned : Standing = with_plan old (plan_at stop meddles 0) in
-    let g : GoesAt ReadCell planned r.read stop meddles 1 r.fault = goes_at ReadCell planned r.read stop meddles 0 r.fault (record { is_on = q.is_on; plan = refl }) r.goes in
-    let o : Outcome Digests = checkpointed (basic meaning key) (by_digests (basic meaning key)) (basic_digests summary register count) issued meddles stop in
-    let c : CameTo meaning.id key o count issued planned mid it =
-    checked_there meaning key summary register count issued meddles stop planned r.read mid it r.fault
-    (stands_with meaning.id key summary register old (plan_at stop meddles 0) s) g r.answered r.broken in
+moves_power : (stop : Stop) (e : Ending) → moves_then stop e ≡ power_if (breaks e && is_cut stop)
+moves_power stop (Answers answer) = refl
+moves_power stop (Refuses why) = refl
+moves_power stop (Breaks fault kept) = stop_power stop
+
+reads_none : (items : Option (List Item)) (r : List ℕ) → option_map (λ xs. register_of (values_of xs)) items ≡ Some r
+    → option_map (λ xs. register_of (values_of xs)) (items_cycled true items) ≡ Some zero_bytes
+reads_none None r e = cc
+reads_none (Some xs) r e = refl
+
+pub stands_settled : (i : Instance) (d : Digests) (mid new : Standing) (lost : Bool) → Stands i mid d → new.cell ≡ mid.cell
+    → new.items ≡ items_cycled lost mid.items → Stands i new (all_made (by_digests i) d (power_if lost))
+stands_settled i d mid new false s cell items =
+    let r : register_reads new ≡ Some d.register = ap (λ x. option_map (λ xs. register_of (values_of xs)) x) items ∙ s.register in
+    record { at = record { spells = s.at.spells; cell = cell ∙ s.at.cell; reads = register_at i.variant (register_reads new) d.register r }; register = r }
+stands_settled i d mid new true s cell items =
+    let r : register_reads new ≡ Some zero_bytes = ap (λ x. option_map (λ xs. register_of (values_of xs)) x) items ∙ reads_none mid.items d.register s.register in
+    record { at = record { spells = s.at.spells; cell = cell ∙ s.at.cell; reads = register_at i.variant (register_reads new) zero_bytes r }; register = r }
+
+pub on_settled : (stop : Stop) (broken : Bool) (mid new : Standing) → StaysOn stop broken mid → new.is_on ≡ (if broken && is_cut stop then true else mid.is_on) → new.is_on ≡ true
+on_settled (Cut n) true mid new stays e = e
+on_settled (Cut n) false mid new stays e = e ∙ stays
+on_settled Quiet true mid new stays e = e ∙ stays
+on_settled Quiet false mid new stays e = e ∙ stays
+on_settled (Drop n) true mid new stays e = e ∙ stays
+on_settled (Drop n) false mid new stays e = e ∙ stays
+on_settled (Fail n done) true mid new stays e = e ∙ stays
+on_settled (Fail n done) false mid new stays e = e ∙ stays
+
+-- what a call came to, in the words of its ending
+pub record Tells (stop : Stop) (size : ℕ) (e : Ending) (it : code.Called) : Type 0 where
+  pub reply : it.reply ≡ reply_of (way_of stop) e
+  pub snapshot : option_to_list it.snapshot ≡ snapshots_of e
+  pub committed : it.committed ≡ committed_by e size
+
+pub power_count : (i : Instance) (d : Digests) (lost : Bool) → (all_made (by_digests i) d (power_if lost)).count ≡ d.count
+power_count i d true = refl
+power_count i d false = refl
+
+-- what the register reads after the moves that it showed
+pub came_register : (i : Instance) (d : Digests) (o : Called Digests) (planned_at mid : Standing) → mid.items ≡ option_map (shown i d o.moves) planned_at.items
+    → o.state ≡ all_made (by_digests i) d o.moves → register_reads planned_at ≡ Some d.register → register_reads mid ≡ Some o.state.register
+came_register i d o planned_at mid items state register =
+    ap (λ x. option_map (λ xs. register_of (values_of xs)) x) items ∙ reads_shown i o.moves d planned_at.items register ∙ ap (λ (e : Digests). Some e.register) (sym state)
+
+pub came : (i : Instance) (d : Digests) (stop : Stop) (issued : List (List ℕ)) (size : ℕ) (o : Called Digests) (old planned_at mid new : Standing) (it : code.Called)
+    → StandsAt i mid o.state → mid.items ≡ option_map (shown i d o.moves) planned_at.items → o.state ≡ all_made (by_digests i) d o.moves
+    → mid.steps ≡ counted_by o.steps planned_at.steps → mid.writes ≡ counted_by o.writes planned_at.writes
+    → planned_at.steps ≡ old.steps → planned_at.writes ≡ old.writes → register_reads planned_at ≡ Some d.register
+    → o.state.count ≡ d.count + committed_by o.ending size → Settles stop (breaks o.ending) mid new → StaysOn stop (breaks o.ending) mid
+    → Tells stop size o.ending it
+    → Came i (outcome_by (by_digests i) stop issued o) d.count issued old new it
+came i d stop issued size o old planned_at mid new it stands items state steps writes s w register counts settles stays tells =
+    let read = came_register i d o planned_at mid items state register in
+    let lost = breaks o.ending && is_cut stop in
+    let P : List Move → Type 0 = λ ms. Stands i new (all_made (by_digests i) o.state ms) in
+    let C : List Move → Type 0 = λ ms. (all_made (by_digests i) o.state ms).count ≡ d.count + it.committed in
+    let power = moves_power stop o.ending in
     record {
-      came = record {
-        reply = c.reply;
-        issues = c.issues;
-        stands = stands_with meaning.id key o.state.digest o.state.register mid quiet_plan c.stands;
-        flag = c.flag;
-        counts = c.counts;
-        is_on = c.is_on;
-        plan = refl;
-        steps = c.steps;
-        writes = c.writes;
-      };
-      quiet = record { is_on = c.is_on; plan = refl };
+      reply = tells.reply;
+      issues = ap (λ x. issued ++ x) tells.snapshot;
+      stands = subst P (sym power) (stands_settled i o.state mid new lost (record { at = stands; register = read }) settles.cell settles.items);
+      counts = subst C (sym power) (power_count i o.state lost ∙ counts ∙ ap (λ n. d.count + n) (sym tells.committed));
+      quiet = record { is_on = on_settled stop (breaks o.ending) mid new stays settles.is_on; plan = settles.plan };
+      steps = settles.steps ∙ steps ∙ ap (counted_by o.steps) s;
+      writes = settles.writes ∙ writes ∙ ap (counted_by o.writes) w;
     }
-
-pub checks_read : (meaning : Meaning) (old planned mid new : Standing) (issued : List (List ℕ)) (meddles : List Meddle) (stop : Stop) (it : Called)
-    → planned ≡ with_plan old (plan_at stop meddles 0) → ReadsOnce planned mid stop it → new ≡ with_plan mid quiet_plan
-    → ChecksAs meaning old new issued meddles stop (Ok it)
-checks_read meaning old planned mid new issued meddles stop it p r n =
-    subst (λ (x : Standing). ChecksAs meaning old x issued meddles stop (Ok it)) (sym n)
-    (check_there meaning old mid issued meddles stop it (subst (λ (x : Standing). ReadsOnce x mid stop it) p r))

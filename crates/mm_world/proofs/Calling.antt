@@ -1,151 +1,292 @@
--- Basic: a call gives the same by digests as by lists.
-use Rattle.std.proofs.Common.{ℕ, ◌≡◌, ◌+◌, ◌-◌, Bool, true, false, List, [], ◌∷◌, ◌++◌, length, drop, refl, sym, ap, ◌∙◌, subst, arith}
-use Rattle.std.specs.Prelude.{if◌then◌else◌}
-use Rattle.std.specs.List.{Contains}
-use Rattle.std.proofs.lemmas.Grind.{flat_map-append}
+-- A planned call, however it ended, comes to what it does by digests.
+use Rattle.std.proofs.Common.{◌≡◌, ℕ, ◌+◌, Bool, true, false, List, length, Option, None, Some, Result, Ok, Err, inl, inr, refl, sym, ap, ◌∙◌, subst, arith}
 use Rattle.std.proofs.lemmas.List.{append-nil}
-use Rattle.mm_digest.specs.declared.variant.Variant.TheVariants.{Basic}
-use Rattle.mm_digest.specs.Messages.{start_of}
-use Rattle.mm_module.specs.Meaning.{Meaning, state_from, state_after, outputs_from}
-use Rattle.mm_module.specs.Batch.{Batch, members_of, size_of}
-use Rattle.mm_module.proofs.RunLaws.{state_after-append, outputs_from-append, length-outputs_from}
-use Rattle.mm_seal.specs.Snapshot.{Content, sealed_of}
-use Rattle.mm_seal.specs.declared.snapshot.Place.{Place}
-use Rattle.mm_seal.specs.declared.snapshot.Place.TheVariants.{Basic as InBasic, Opt as InOpt}
-use Rattle.mm_model.specs.Chains.{link, link_message, summary_of, trail}
-use Rattle.mm_model.specs.Instance.{Instance, basic}
-use Rattle.mm_model.specs.History.{History, requests_of, total_of}
-use Rattle.mm_model.specs.Messages.{Within, history_messages, offer_messages}
-use Rattle.mm_model.specs.Places.{digest_of, IsPlaceOf}
-use Rattle.mm_model.proofs.Chains.{trail_push}
-use Rattle.mm_model.proofs.Digests.{summary-push}
-use Rattle.mm_model.proofs.MovedDigests.{total-push}
-use Rattle.mm_world.specs.Levels.{Answer, Digests, by_lists, by_digests, answer_by_lists, answer_by_digests}
-use Rattle.mm_world.specs.Folds.{Found}
-use Rattle.mm_world.specs.Laws.{Agrees}
-use Rattle.mm_world.proofs.Finding.{Placed}
+use Rattle.std.specs.Prelude.{if◌then◌else◌, ◌==◌, IsSome, IsErr, MatchResult}
+use Rattle.mm_base.specs.declared.fault.Memory.{Memory}
+use Rattle.mm_digest.specs.declared.variant.Variant.{Variant}
+use Rattle.mm_module.specs.Meaning.{Meaning}
+use Rattle.mm_module.specs.Batch.{Batch, size_of, normal}
+use Rattle.mm_module.proofs.BatchLaws.{members_of-normal}
+use Rattle.mm_platform.specs.declared.fault.StepFault.{StepFault}
+use Rattle.mm_platform.specs.declared.fault.StepFault.TheVariants as step
+use Rattle.mm_platform.specs.declared.plan.Meddle.{Meddle}
+use Rattle.mm_platform.specs.declared.plan.Stop.{Stop}
+use Rattle.mm_platform.specs.declared.plan.Stop.TheVariants.{Quiet, Cut, Drop, Fail}
+use Rattle.mm_platform.specs.Standing.{Standing}
+use Rattle.mm_platform.specs.Steps.{fault_at, is_made_at}
+use Rattle.mm_model.specs.Instance.{Instance}
+use Rattle.mm_model.specs.History.{Move}
+use Rattle.mm_model.specs.Long.{is_long}
+use Rattle.mm_model.specs.Moves.{Digests}
+use Rattle.mm_model.specs.Standing.{register_reads}
+use Rattle.mm_model.specs.Steps.{ask_steps}
+use Rattle.mm_model.specs.declared.refusal.Refusal.{Refusal}
+use Rattle.mm_model.specs.declared.refusal.Refusal.TheVariants as refusal
+use Rattle.mm_call.specs.declared.ended.Ended.{Ended}
+use Rattle.mm_call.specs.declared.ended.Ended.TheVariants.{Answered, Refused, Broken}
+use Rattle.mm_call.specs.Levels.{by_digests, all_made}
+use Rattle.mm_call.specs.Found.{Found, found_at, found_in, is_fresh}
+use Rattle.mm_call.specs.Courses.{End, Done, Fails, Fate, Course, walk, end_of, planned, seen_in}
+use Rattle.mm_call.specs.Called.{Ending, Answers, Refuses, Breaks, Called, called, ended_by, seen_at, reading_steps}
+use Rattle.mm_call.specs.CallsOn.{GoesBy}
+use Rattle.mm_call.specs.Standing.{instance_by, StandsAt, counted_by}
+use Rattle.mm_call.specs.Ended.{result_of, kept_by, KeepsAs, is_broken, StaysOn, CallsTo}
+use Rattle.mm_schedule.specs.declared.reply.Reply.TheVariants as reply
+use Rattle.mm_schedule.specs.declared.reply.Cause.{Cause}
+use Rattle.mm_schedule.specs.declared.reply.Cause.TheVariants as cause
+use Rattle.mm_run.specs.Folds.{way_of, plan_of, course_of, cause_of, broken_reply, outcome_by, uncalled}
+use Rattle.mm_world.specs.declared.call.Called as code
+use Rattle.mm_world.specs.Stands.{Stands, IsQuiet}
+use Rattle.mm_world.specs.Calls.{refused_as, told_as, broken_as, takes_effect, size_if, RefusedAs, CalledAs, Settles}
+use Rattle.mm_world.specs.Asks.{Came, Lacks, AsksAs}
+use Rattle.mm_world.proofs.Committing.{call_commits, committed_by, counted_end}
+use Rattle.mm_world.proofs.Asking.{breaks_at, Lacking, refuses, same, lacks_or_same, refused_read, told_ok, told_err, breaks, stands_settled, on_settled, Tells, came_register, came}
 
-pub requests-append : (bs cs : List Batch) → requests_of (bs ++ cs) ≡ requests_of bs ++ requests_of cs
-requests-append bs cs = flat_map-append members_of bs cs
+-- A call over a planned platform, that ended so.
+pub record Over (i : Instance) (d : Digests) (stop : Stop) (meddles : List Meddle) (bytes : List ℕ) (b : Batch) (old mid new : Standing) (ended : Ended) : Type 0 where
+  pub course : Course
+  pub fates : (n : ℕ) → course.fates n ≡ planned (plan_of stop meddles) n
+  pub goes : GoesBy i d (called i (by_digests i) d course bytes b) (record old { plan = Some (plan_of stop meddles) }) mid (result_of ended)
+  pub keeps : KeepsAs course.fates (called i (by_digests i) d course bytes b) ended
+  pub register : register_reads old ≡ Some d.register
+  pub settles : Settles stop (is_broken ended) mid new
+  pub stays : StaysOn stop (is_broken ended) mid
 
-pub requests-push : (bs : List Batch) (b : Batch) → requests_of (bs ++ b ∷ []) ≡ requests_of bs ++ members_of b
-requests-push bs b = requests-append bs (b ∷ []) ∙ ap (λ v. requests_of bs ++ v) (append-nil (members_of b))
+abbrev called_on : Instance → Digests → Course → List ℕ → Batch → Called Digests
+called_on i d c bytes b = called i (by_digests i) d c bytes b
 
-drop-front : (xs ys : List (List ℕ)) → drop (length xs) (xs ++ ys) ≡ ys
-drop-front [] ys = refl
-drop-front (x ∷ xs) ys = drop-front xs ys
+abbrev planned_call : Instance → Digests → Stop → List Meddle → List ℕ → Batch → Called Digests
+planned_call i d stop meddles bytes b = called_on i d (course_of stop meddles) bytes b
 
-pub drop-at : (n : ℕ) (xs ys : List (List ℕ)) → n ≡ length xs → drop n (xs ++ ys) ≡ ys
-drop-at n xs ys e = ap (λ k. drop k (xs ++ ys)) e ∙ drop-front xs ys
+-- with memory at hand a course with the planned fates is the planned one
+course_told : (fates : ℕ → Fate) (stop : Stop) (meddles : List Meddle) → ((n : ℕ) → fates n ≡ planned (plan_of stop meddles) n)
+    → record { fates = fates; lacks = false } ≡ course_of stop meddles
+course_told fates stop meddles told = λ j. record { fates = λ n. told n j; lacks = false }
 
--- the batch ends the history: the answer by lists
-abbrev pub answer_after : Instance → List Batch → Batch → Answer
-answer_after i named b = record {
-  before = total_of named;
-  outputs = outputs_from i.meaning (state_after i.meaning (requests_of named)) (members_of b);
-  snapshot = sealed_of i.key (record {
-    id = i.meaning.id;
-    place = InBasic (digest_of (summary_of i.meaning.id (named ++ b ∷ [])));
-    position = total_of named + size_of b;
-    state = state_from i.meaning (state_after i.meaning (requests_of named)) (members_of b);
-  });
+call_count : (i : Instance) (d : Digests) (c : Course) (bytes : List ℕ) (b : Batch)
+    → (called_on i d c bytes b).state.count ≡ d.count + committed_by (called_on i d c bytes b).ending (size_of b)
+call_count i d c bytes b =
+    let seen = seen_at i (by_digests i) d c in
+    let found = found_in (found_at i (by_digests i) seen b bytes) c.lacks in
+    let w = walk c.fates 1 (ask_steps i.variant d.flag (is_fresh found) b) in
+    counted_end i d seen b found w w.broken refl (call_commits i.variant c.fates d.flag (is_fresh found) b)
+
+-- the call that is planned is the call that was made, where that wasn't refused for want of memory
+planned_by : (i : Instance) (d : Digests) (fates : ℕ → Fate) (lacks : Bool) (stop : Stop) (meddles : List Meddle) (bytes : List ℕ) (b : Batch)
+    → ((n : ℕ) → fates n ≡ planned (plan_of stop meddles) n)
+    → Lacking (called_on i d (record { fates = fates; lacks = lacks }) bytes b) (called_on i d (record { fates = fates; lacks = false }) bytes b)
+    → ((called_on i d (record { fates = fates; lacks = lacks }) bytes b).ending ≡ Refuses refusal.Memory → ⊥)
+    → called_on i d (record { fates = fates; lacks = lacks }) bytes b ≡ planned_call i d stop meddles bytes b
+planned_by i d fates lacks stop meddles bytes b told (refuses e) never = absurd (never e)
+planned_by i d fates lacks stop meddles bytes b told (same e) never =
+    e ∙ ap (λ c. called_on i d c bytes b) (course_told fates stop meddles told)
+
+-- a call that was answered, refused for another reason than want of memory, or broken off
+came_call : (i : Instance) (d : Digests) (stop : Stop) (meddles : List Meddle) (bytes : List ℕ) (b : Batch) (old mid new : Standing) (ended : Ended)
+    (r : Over i d stop meddles bytes b old mid new ended) (issued : List (List ℕ)) (it : code.Called) (ending : Ending)
+    → (called_on i d r.course bytes b).ending ≡ ending → breaks ending ≡ is_broken ended → (ending ≡ Refuses refusal.Memory → ⊥) → Tells stop (size_of b) ending it
+    → Came i (outcome_by (by_digests i) stop issued (planned_call i d stop meddles bytes b)) d.count issued old new it
+came_call i d stop meddles bytes b old mid new ended r issued it ending e alike never tells =
+    let o = called_on i d r.course bytes b in
+    let is = planned_by i d r.course.fates r.course.lacks stop meddles bytes b r.fates (lacks_or_same i d r.course.fates r.course.lacks bytes b) (λ x. never (sym e ∙ x)) in
+    let broken : is_broken ended ≡ breaks o.ending = sym alike ∙ ap breaks (sym e) in
+    subst (λ x. Came i (outcome_by (by_digests i) stop issued x) d.count issued old new it) is
+    (came i d stop issued (size_of b) o old (record old { plan = Some (plan_of stop meddles) }) mid new it r.goes.stands r.goes.items refl r.goes.steps r.goes.writes refl refl
+    r.register (call_count i d r.course bytes b) (subst (λ x. Settles stop x mid new) broken r.settles) (subst (λ x. StaysOn stop x mid) broken r.stays)
+    (subst (λ x. Tells stop (size_of b) x it) (sym e) tells))
+
+-- the position that was kept
+
+ended_broken : (i : Instance) (seen s : Digests) (b : Batch) (found : Result Found Refusal) (moves : List Move) (broken : Option StepFault) (fault : StepFault) (kept : Option ℕ)
+    → ended_by (by_digests i) seen s b found moves broken ≡ Breaks fault kept → broken ≡ Some fault
+ended_broken i seen s b (Err why) moves None fault kept e = cc
+ended_broken i seen s b (Ok found) moves None fault kept e = cc
+ended_broken i seen s b found moves (Some f) fault kept e = let x : f ≡ fault = cc in ap Some x
+
+effect_off : (at : Bool) (fault : StepFault) (made : Bool) → end_of (if at then Some step.Off else None) true ≡ Fails fault made → made ≡ true
+effect_off true fault made e = cc
+effect_off false fault made e = cc
+
+effect_failed : (at done : Bool) (fault : StepFault) (made : Bool) → end_of (if at then Some step.Failed else None) (if at then done else true) ≡ Fails fault made → made ≡ done
+effect_failed true done fault made e = cc
+effect_failed false done fault made e = cc
+
+effect_of : (stop : Stop) (n : ℕ) (fault : StepFault) (made : Bool) → end_of (fault_at stop n) (is_made_at stop n) ≡ Fails fault made → made ≡ takes_effect stop
+effect_of Quiet n fault made e = cc
+effect_of (Cut at) n fault made e = effect_off (at == n) fault made e
+effect_of (Drop at) n fault made e = effect_off (at == n) fault made e
+effect_of (Fail at done) n fault made e = effect_failed (at == n) done fault made e
+
+kept_made : (e : End) (fault : StepFault) (made : Bool) (commits : Option ℕ) → e ≡ Fails fault made → kept_by e commits ≡ (if made then commits else None)
+kept_made Done fault made commits e = cc
+kept_made (Fails f true) fault made commits e = let x : true ≡ made = cc in ap (λ m. if m then commits else None) x
+kept_made (Fails f false) fault made commits e = let x : false ≡ made = cc in ap (λ m. if m then commits else None) x
+
+kept_planned : (i : Instance) (d : Digests) (c : Course) (stop : Stop) (meddles : List Meddle) (bytes : List ℕ) (b : Batch) (fault : StepFault) (kept commits : Option ℕ)
+    → ((n : ℕ) → c.fates n ≡ planned (plan_of stop meddles) n) → (called_on i d c bytes b).ending ≡ Breaks fault kept
+    → kept_by (c.fates (called_on i d c bytes b).steps).ends commits ≡ (if takes_effect stop then commits else None)
+kept_planned i d c stop meddles bytes b fault kept commits told e =
+    let seen = seen_at i (by_digests i) d c in
+    let found = found_in (found_at i (by_digests i) seen b bytes) c.lacks in
+    let steps = ask_steps i.variant d.flag (is_fresh found) b in
+    let w = walk c.fates 1 steps in
+    let at = breaks_at c.fates 1 steps fault (ended_broken i seen (all_made (by_digests i) d w.moves) b found w.moves w.broken fault kept e) in
+    let fails : (c.fates w.steps).ends ≡ Fails at.fault at.made = ap (λ n. (c.fates n).ends) (at.steps ∙ omega arith) ∙ at.fails in
+    let made = effect_of stop w.steps at.fault at.made (ap (λ (f : Fate). f.ends) (sym (told w.steps)) ∙ fails) in
+    kept_made (c.fates w.steps).ends at.fault at.made commits fails ∙ ap (λ m. if m then commits else None) made
+
+-- want of memory
+
+refused_same : (one other : Refusal) → Refuses one ≡ Refuses other → one ≡ other
+refused_same one other e = cc
+
+lacks_call : (i : Instance) (d : Digests) (stop : Stop) (meddles : List Meddle) (bytes : List ℕ) (b : Batch) (old mid new : Standing) (ended : Ended)
+    (r : Over i d stop meddles bytes b old mid new ended) → is_broken ended ≡ false → (called_on i d r.course bytes b).ending ≡ Refuses refusal.Memory
+    → Lacks i d meddles stop old new
+lacks_call i d stop meddles bytes b old mid new ended r unbroken e =
+    let c = r.course in
+    let o = called_on i d c bytes b in
+    let seen = seen_at i (by_digests i) d c in
+    let found = found_in (found_at i (by_digests i) seen b bytes) c.lacks in
+    let h = refused_read i d seen b c.fates found refusal.Memory e in
+    let settles = subst (λ x. Settles stop x mid new) unbroken r.settles in
+    let stays = subst (λ x. StaysOn stop x mid) unbroken r.stays in
+    let read = came_register i d o (record old { plan = Some (plan_of stop meddles) }) mid r.goes.items refl r.register in
+    let stands : Stands i new o.state = stands_settled i o.state mid new false (record { at = r.goes.stands; register = read }) settles.cell settles.items in
+    let to : o.state ≡ seen_at i (by_digests i) d (course_of stop meddles) =
+    h.state ∙ ap (λ x. all_made (by_digests i) d (seen_in x (reading_steps i.variant) 1)) (λ j. λ n. r.fates n j) in record {
+      quiet = record { is_on = on_settled stop false mid new stays settles.is_on; plan = settles.plan };
+      writes = settles.writes ∙ r.goes.writes ∙ ap (λ n. counted_by n old.writes) h.writes;
+      called = inr (subst (Stands i new) to stands, settles.steps ∙ r.goes.steps ∙ ap (λ n. counted_by n old.steps) h.steps);
+    }
+
+-- what was called
+
+abbrev Ends : Instance → Digests → Stop → List Meddle → List ℕ → Batch → Standing → Standing → List (List ℕ) → Result code.Called Memory → Type 0
+Ends i d stop meddles bytes b old new issued result =
+    MatchResult result (Came i (outcome_by (by_digests i) stop issued (planned_call i d stop meddles bytes b)) d.count issued old new) (λ _. Lacks i d meddles stop old new)
+
+ends_ok : (i : Instance) (d : Digests) (stop : Stop) (meddles : List Meddle) (bytes : List ℕ) (b : Batch) (old new : Standing) (issued : List (List ℕ)) (it : code.Called) (result : Result code.Called Memory)
+    → result ≡ Ok it → Came i (outcome_by (by_digests i) stop issued (planned_call i d stop meddles bytes b)) d.count issued old new it
+    → Ends i d stop meddles bytes b old new issued result
+ends_ok i d stop meddles bytes b old new issued it result e c = subst (Ends i d stop meddles bytes b old new issued) (sym e) c
+
+ends_lacking : (i : Instance) (d : Digests) (stop : Stop) (meddles : List Meddle) (bytes : List ℕ) (b : Batch) (old new : Standing) (issued : List (List ℕ)) (result : Result code.Called Memory)
+    → IsErr result → Lacks i d meddles stop old new → Ends i d stop meddles bytes b old new issued result
+ends_lacking i d stop meddles bytes b old new issued (Ok it) e l = absurd (cc)
+ends_lacking i d stop meddles bytes b old new issued (Err memory) e l = l
+
+-- a call that was refused, but for want of memory
+ends_refused : (i : Instance) (d : Digests) (stop : Stop) (meddles : List Meddle) (bytes : List ℕ) (b : Batch) (old mid new : Standing) (why : Refusal) (issued : List (List ℕ)) (result : Result code.Called Memory)
+    → Over i d stop meddles bytes b old mid new (Refused why) → (why ≡ refusal.Memory → ⊥) → result ≡ Ok (refused_as (cause_of why))
+    → Ends i d stop meddles bytes b old new issued result
+ends_refused i d stop meddles bytes b old mid new why issued result r never e =
+    ends_ok i d stop meddles bytes b old new issued (refused_as (cause_of why)) result e
+    (came_call i d stop meddles bytes b old mid new (Refused why) r issued (refused_as (cause_of why)) (Refuses why)
+    (told_err (called_on i d r.course bytes b).ending why (sym r.goes.gives) r.keeps) refl
+    (λ x. never (refused_same why refusal.Memory x)) (record { reply = refl; snapshot = refl; committed = refl }))
+
+ends_why : (i : Instance) (d : Digests) (stop : Stop) (meddles : List Meddle) (bytes : List ℕ) (b : Batch) (old mid new : Standing) (why : Refusal) (issued : List (List ℕ)) (result : Result code.Called Memory)
+    → Over i d stop meddles bytes b old mid new (Refused why) → RefusedAs why result → Ends i d stop meddles bytes b old new issued result
+ends_why i d stop meddles bytes b old mid new refusal.Memory issued result r e =
+    ends_lacking i d stop meddles bytes b old new issued result e
+    (lacks_call i d stop meddles bytes b old mid new (Refused refusal.Memory) r refl
+    (told_err (called_on i d r.course bytes b).ending refusal.Memory (sym r.goes.gives) r.keeps))
+ends_why i d stop meddles bytes b old mid new refusal.Lost issued result r e = ends_refused i d stop meddles bytes b old mid new refusal.Lost issued result r (λ x. cc) e
+ends_why i d stop meddles bytes b old mid new refusal.Form issued result r e = ends_refused i d stop meddles bytes b old mid new refusal.Form issued result r (λ x. cc) e
+ends_why i d stop meddles bytes b old mid new refusal.Kind issued result r e = ends_refused i d stop meddles bytes b old mid new refusal.Kind issued result r (λ x. cc) e
+ends_why i d stop meddles bytes b old mid new refusal.State issued result r e = ends_refused i d stop meddles bytes b old mid new refusal.State issued result r (λ x. cc) e
+ends_why i d stop meddles bytes b old mid new refusal.Tag issued result r e = ends_refused i d stop meddles bytes b old mid new refusal.Tag issued result r (λ x. cc) e
+ends_why i d stop meddles bytes b old mid new refusal.Stale issued result r e = ends_refused i d stop meddles bytes b old mid new refusal.Stale issued result r (λ x. cc) e
+ends_why i d stop meddles bytes b old mid new refusal.Full issued result r e = ends_refused i d stop meddles bytes b old mid new refusal.Full issued result r (λ x. cc) e
+ends_why i d stop meddles bytes b old mid new refusal.Long issued result r e = ends_refused i d stop meddles bytes b old mid new refusal.Long issued result r (λ x. cc) e
+ends_why i d stop meddles bytes b old mid new refusal.Blank issued result r e = ends_refused i d stop meddles bytes b old mid new refusal.Blank issued result r (λ x. cc) e
+ends_why i d stop meddles bytes b old mid new refusal.Cell issued result r e = ends_refused i d stop meddles bytes b old mid new refusal.Cell issued result r (λ x. cc) e
+ends_why i d stop meddles bytes b old mid new (refusal.Device fault) issued result r e = ends_refused i d stop meddles bytes b old mid new (refusal.Device fault) issued result r (λ x. cc) e
+
+ends_all : (i : Instance) (d : Digests) (stop : Stop) (meddles : List Meddle) (bytes : List ℕ) (b : Batch) (old mid new : Standing) (size : ℕ) (ended : Ended) (issued : List (List ℕ)) (result : Result code.Called Memory)
+    → Over i d stop meddles bytes b old mid new ended → size ≡ size_of b → CalledAs stop size ended result → Ends i d stop meddles bytes b old new issued result
+ends_all i d stop meddles bytes b old mid new size (Answered answer) issued result r n e =
+    ends_ok i d stop meddles bytes b old new issued (told_as answer) result e
+    (came_call i d stop meddles bytes b old mid new (Answered answer) r issued (told_as answer) (Answers answer)
+    (told_ok (called_on i d r.course bytes b).ending answer (sym r.goes.gives)) refl (λ x. cc) (record { reply = refl; snapshot = refl; committed = refl }))
+ends_all i d stop meddles bytes b old mid new size (Refused why) issued result r n e = ends_why i d stop meddles bytes b old mid new why issued result r e
+ends_all i d stop meddles bytes b old mid new size (Broken fault commits) issued result r n e =
+    let o = called_on i d r.course bytes b in
+    let kept = kept_by (r.course.fates o.steps).ends commits in
+    let made : kept ≡ (if takes_effect stop then commits else None) = kept_planned i d r.course stop meddles bytes b fault kept commits r.fates r.keeps in
+    let it = broken_as stop (if takes_effect stop then commits else None) size in
+    ends_ok i d stop meddles bytes b old new issued it result e
+    (came_call i d stop meddles bytes b old mid new (Broken fault commits) r issued it (Breaks fault kept) r.keeps refl (λ x. cc)
+    (record {
+      reply = ap (broken_reply (way_of stop)) (sym made);
+      snapshot = refl;
+      committed = ap (λ m. size_if m size) (sym made) ∙ ap (size_if kept) n;
+    }))
+
+-- a call that isn't too long, over a planned platform
+pub asks_planned : (variant : Variant) (meaning : Meaning) (old mid new : Standing) (meddles : List Meddle) (stop : Stop) (bytes : List ℕ) (b : Batch) (size : ℕ) (ended : Ended) (result : Result code.Called Memory)
+    → is_long b ≡ false → size ≡ size_of b → CallsTo variant meaning (record old { plan = Some (plan_of stop meddles) }) mid bytes b ended
+    → (IsSome mid.plan → Settles stop (is_broken ended) mid new) → CalledAs stop size ended result
+    → (issued : List (List ℕ)) → AsksAs variant meaning old new issued meddles stop (Some bytes) b result
+asks_planned variant meaning old mid new meddles stop bytes b size ended result short n calls settles told issued = λ key barrier d s q.
+    let i = instance_by variant meaning key barrier in
+    let at : Standing = record old { plan = Some (plan_of stop meddles) } in
+    let planned_stands : StandsAt i at d = record { spells = s.at.spells; cell = s.at.cell; reads = s.at.reads } in
+    let stays = calls.plans (plan_of stop meddles) q.is_on refl refl in
+    let r : Over i d stop meddles bytes (normal b) old mid new ended = record {
+      course = calls.calls.course;
+      fates = calls.calls.tells (plan_of stop meddles) q.is_on refl refl;
+      goes = calls.calls.goes key barrier d planned_stands;
+      keeps = calls.keeps key barrier d planned_stands;
+      register = s.register;
+      settles = settles stays.1;
+      stays = stays.0;
+    } in
+    subst (λ x. MatchResult result (Came i (if x then uncalled d issued (reply.No cause.Long)
+    else outcome_by (by_digests i) stop issued (planned_call i d stop meddles bytes (normal b))) d.count issued old new) (λ _. Lacks i d meddles stop old new)) (sym short)
+    (ends_all i d stop meddles bytes (normal b) old mid new size ended issued result r (n ∙ ap (λ xs. length xs) (sym (members_of-normal b))) told)
+
+-- the same, in the words of the code
+pub asks_over : (variant : Variant) (meaning : Meaning) (old planned_at mid new : Standing) (meddles : List Meddle) (stop : Stop) (bytes : List ℕ) (b : Batch) (size : ℕ) (broken : Bool) (ended : Ended) (result : Result code.Called Memory)
+    → is_long b ≡ false → size ≡ size_of b → planned_at ≡ record old { plan = Some (plan_of stop meddles) } → CallsTo variant meaning planned_at mid bytes b ended
+    → broken ≡ is_broken ended → (IsSome mid.plan → Settles stop broken mid new) → CalledAs stop size ended result
+    → (issued : List (List ℕ)) → AsksAs variant meaning old new issued meddles stop (Some bytes) b result
+asks_over variant meaning old planned_at mid new meddles stop bytes b size broken ended result short n planned calls is settles told issued =
+    asks_planned variant meaning old mid new meddles stop bytes b size ended result short n
+    (subst (λ (s : Standing). CallsTo variant meaning s mid bytes b ended) planned calls) (λ some. subst (λ x. Settles stop x mid new) is (settles some)) told issued
+
+-- nothing was called
+
+pub uncalled_came : (i : Instance) (d : Digests) (issued : List (List ℕ)) (old : Standing) (why : Cause) → Stands i old d → IsQuiet old
+    → Came i (uncalled d issued (reply.No why)) d.count issued old old (refused_as why)
+uncalled_came i d issued old why s q = record {
+  reply = refl;
+  issues = append-nil issued;
+  stands = s;
+  counts = omega arith;
+  quiet = q;
+  steps = refl;
+  writes = refl;
 }
 
--- the position before the last batch, and what is said to it
-pub before_last : (batches named : List Batch) (b : Batch) → batches ≡ named ++ b ∷ [] → total_of batches - size_of b ≡ total_of named
-before_last batches named b e =
-    let total : total_of batches ≡ total_of named + size_of b = ap total_of e ∙ total-push named b in omega arith
+pub asks_long : (variant : Variant) (meaning : Meaning) (old : Standing) (meddles : List Meddle) (stop : Stop) (bytes : List ℕ) (b : Batch) → is_long b ≡ true
+    → (issued : List (List ℕ)) → AsksAs variant meaning old old issued meddles stop (Some bytes) b (Ok (refused_as cause.Long))
+asks_long variant meaning old meddles stop bytes b long issued = λ key barrier d s q.
+    let i = instance_by variant meaning key barrier in
+    subst (λ x. Came i (if x then uncalled d issued (reply.No cause.Long)
+    else outcome_by (by_digests i) stop issued (planned_call i d stop meddles bytes (normal b))) d.count issued old old (refused_as cause.Long)) (sym long)
+    (uncalled_came i d issued old cause.Long s q)
 
-pub said_last : (meaning : Meaning) (batches named : List Batch) (b : Batch) → batches ≡ named ++ b ∷ []
-    → drop (total_of batches - size_of b) (outputs_from meaning meaning.first (requests_of batches))
-    ≡ outputs_from meaning (state_after meaning (requests_of named)) (members_of b)
-said_last meaning batches named b e =
-    let requests : requests_of batches ≡ requests_of named ++ members_of b = ap requests_of e ∙ requests-push named b in
-    let outputs : outputs_from meaning meaning.first (requests_of batches)
-    ≡ outputs_from meaning meaning.first (requests_of named) ++ outputs_from meaning (state_after meaning (requests_of named)) (members_of b) =
-    ap (outputs_from meaning meaning.first) requests ∙ outputs_from-append meaning meaning.first (requests_of named) (members_of b) in
-    ap (λ n. drop n (outputs_from meaning meaning.first (requests_of batches))) (before_last batches named b e)
-    ∙ ap (drop (total_of named)) outputs
-    ∙ drop-at (total_of named) (outputs_from meaning meaning.first (requests_of named)) _ (sym (length-outputs_from meaning meaning.first (requests_of named)))
+pub asks_none : (variant : Variant) (meaning : Meaning) (old : Standing) (meddles : List Meddle) (stop : Stop) (b : Batch) (issued : List (List ℕ))
+    → AsksAs variant meaning old old issued meddles stop None b (Ok (refused_as cause.Snapshot))
+asks_none variant meaning old meddles stop b issued = λ key barrier d s q. uncalled_came (instance_by variant meaning key barrier) d issued old cause.Snapshot s q
 
-pub answer-lists : (meaning : Meaning) (key : List ℕ) (y : History) (named : List Batch) (b : Batch) → y.batches ≡ named ++ b ∷ []
-    → answer_by_lists (basic meaning key) y b ≡ answer_after (basic meaning key) named b
-answer-lists meaning key y named b e =
-    let total : total_of y.batches ≡ total_of named + size_of b = ap total_of e ∙ total-push named b in
-    let before = before_last y.batches named b e in
-    let said = said_last meaning y.batches named b e in
-    let place = ap (λ v. InBasic (digest_of (summary_of meaning.id v))) e in
-    let state = ap (λ v. state_after meaning (requests_of v)) e ∙ ap (state_after meaning) (requests-push named b)
-    ∙ state_after-append meaning (requests_of named) (members_of b) in
-    λ j. record {
-      before = before j;
-      outputs = said j;
-      snapshot = sealed_of key (record { id = meaning.id; place = place j; position = total j; state = state j });
-    }
-
--- the answer by digests, where what is found is the first batches of the history
-answer-digests : (meaning : Meaning) (key : List ℕ) (d : Digests) (named : List Batch) (b : Batch) (again : Bool) (offered : Content)
-    → offered.position ≡ total_of named → offered.state ≡ state_after meaning (requests_of named)
-    → (if again then d.digest else link d.digest b) ≡ summary_of meaning.id (named ++ b ∷ [])
-    → answer_by_digests (basic meaning key) again d offered b ≡ answer_after (basic meaning key) named b
-answer-digests meaning key d named b again offered position state place =
-    λ j. record {
-      before = position j;
-      outputs = outputs_from meaning (state j) (members_of b);
-      snapshot = sealed_of key (record {
-        id = meaning.id;
-        place = InBasic (digest_of (place j));
-        position = position j + size_of b;
-        state = state_from meaning (state j) (members_of b);
-      });
-    }
-
--- the summary after the batch
-summary_then : (id : ℕ) (batches named : List Batch) (b : Batch) (again : Bool) (digest : List ℕ) → digest ≡ summary_of id batches
-    → (again ≡ false → named ≡ batches) → (again ≡ true → named ++ b ∷ [] ≡ batches)
-    → (if again then digest else link digest b) ≡ summary_of id (named ++ b ∷ [])
-summary_then id batches named b true digest e fresh repeat = e ∙ ap (summary_of id) (sym (repeat refl))
-summary_then id batches named b false digest e fresh repeat =
-    ap (λ x. link x b) (e ∙ ap (summary_of id) (sym (fresh refl))) ∙ sym (summary-push id named b)
-
-pub answers_same : (meaning : Meaning) (key : List ℕ) (seen : History) (d : Digests) (y : History) (d' : Digests) (b : Batch) (found : Found)
-    → Agrees (basic meaning key) seen d → (p : Placed (basic meaning key) seen b found) → y.batches ≡ p.named ++ b ∷ []
-    → (by_digests (basic meaning key)).answer found.again d d' found.offered b ≡ (by_lists (basic meaning key)).answer found.again seen y found.offered b
-answers_same meaning key seen d y d' b found agrees p e =
-    answer-digests meaning key d p.named b found.again found.offered p.position p.state
-    (summary_then meaning.id seen.batches p.named b found.again d.digest agrees.digest p.fresh p.repeat)
-    ∙ sym (answer-lists meaning key y p.named b e)
-
--- the batches at the end of a call that isn't broken off, or that committed its batch
-pub ended_batches : (batches named committed : List Batch) (b : Batch) (again : Bool)
-    → (again ≡ false → named ≡ batches) → (again ≡ true → named ++ b ∷ [] ≡ batches)
-    → (again ≡ true → committed ≡ []) → (again ≡ false → committed ≡ b ∷ [])
-    → batches ++ committed ≡ named ++ b ∷ []
-ended_batches batches named committed b true fresh repeat none one =
-    ap (λ v. batches ++ v) (none refl) ∙ append-nil batches ∙ sym (repeat refl)
-ended_batches batches named committed b false fresh repeat none one =
-    ap (λ v. batches ++ v) (one refl) ∙ ap (λ v. v ++ b ∷ []) (sym (fresh refl))
-
--- the messages of a history that goes on by the batch
-pub listed_push : (meaning : Meaning) (key : List ℕ) (all : List (List ℕ)) (y y' : History) (b : Batch)
-    → Within (history_messages (basic meaning key) y) all → Contains all (link_message (summary_of meaning.id y.batches) b)
-    → y'.batches ≡ y.batches ++ b ∷ [] → Within (history_messages (basic meaning key) y') all
-unfolding summary_of
-listed_push meaning key all y y' b listed called e =
-    let P : List Batch → Type 0 = λ v. Within (trail link_message (start_of Basic meaning.id) v) all in
-    (listed.0, subst P (sym e) (trail_push link_message (start_of Basic meaning.id) y.batches b all listed.1 called))
-
-pub listed_same : (meaning : Meaning) (key : List ℕ) (all : List (List ℕ)) (y y' : History)
-    → Within (history_messages (basic meaning key) y) all → y'.batches ≡ y.batches → Within (history_messages (basic meaning key) y') all
-listed_same meaning key all y y' listed e =
-    let P : List Batch → Type 0 = λ v. Within (trail link_message (start_of Basic meaning.id) v) all in
-    (listed.0, subst P (sym e) listed.1)
-
--- the message of a batch that is asked at the end of the history
-pub called_message : (meaning : Meaning) (key : List ℕ) (all : List (List ℕ)) (y : History) (b : Batch) (place : Place) (named : List Batch)
-    → Within (offer_messages (basic meaning key) place b) all → IsPlaceOf Basic (basic meaning key) y named place → named ≡ y.batches
-    → Contains all (link_message (summary_of meaning.id y.batches) b)
-called_message meaning key all y b (InBasic s) named called is e =
-    let P : List ℕ → Type 0 = λ v. Contains all (link_message v b) in
-    subst P (is ∙ ap (summary_of meaning.id) e) called.0
-called_message meaning key all y b (InOpt a x) named called is e = absurd is
+-- want of memory before a call
+pub asks_wanting : (variant : Variant) (meaning : Meaning) (old new : Standing) (meddles : List Meddle) (stop : Stop) (bytes : Option (List ℕ)) (b : Batch) (memory : Memory) → new ≡ old
+    → (issued : List (List ℕ)) → AsksAs variant meaning old new issued meddles stop bytes b (Err memory)
+asks_wanting variant meaning old new meddles stop bytes b memory e issued = λ key barrier d s q. record {
+  quiet = subst IsQuiet (sym e) q;
+  writes = ap (λ (x : Standing). x.writes) e;
+  called = inl e;
+}

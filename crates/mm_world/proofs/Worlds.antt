@@ -1,257 +1,233 @@
 -- A world goes on as its platform does.
 use Rattle.std.proofs.Common.{◌≡◌, ℕ, ◌+◌, ◌-◌, ◌<◌, ◌≤◌, ◌^◌, Bool, true, false, List, [], ◌∷◌, ◌++◌, length, take, drop, Option, None, Some, Result, Ok, Err, IfOk, OnErr, inl, inr, refl, sym, ap, ◌∙◌, subst, arith, length-append}
-use Rattle.std.specs.Prelude.{◌⊎◌, option_to_list, min, is_some}
+use Rattle.std.specs.Option.{option_map}
+use Rattle.std.specs.Prelude.{◌⊎◌, ◌==◌, option_to_list, min, is_some, slice_index}
 use Rattle.mm_base.specs.declared.fault.Memory.{Memory}
-use Rattle.mm_digest.specs.Messages.{zero_bytes, extended_of, start_of}
-use Rattle.mm_digest.specs.declared.variant.Variant.TheVariants.{Basic}
-use Rattle.mm_digest.proofs.Lengths.{length-start_of}
+use Rattle.mm_digest.specs.declared.variant.Variant.{Variant}
+use Rattle.mm_digest.specs.declared.variant.Variant.TheVariants.{Basic, Opt}
+use Rattle.mm_digest.specs.Messages.{zero_bytes, start_of}
+use Rattle.mm_digest.proofs.Lengths.{length-zero_bytes, length-start_of}
 use Rattle.mm_module.specs.Batch.{Batch}
+use Rattle.mm_module.specs.Meaning.{Meaning}
 use Rattle.mm_seal.specs.declared.cell.Cell.{Cell}
-use Rattle.mm_seal.specs.Cell.{cell_spelling}
+use Rattle.mm_seal.specs.Cell.{flag_byte, cell_spelling}
+use Rattle.mm_seal.proofs.Fields.{take_front}
 use Rattle.mm_platform.specs.declared.fault.StepFault.{StepFault}
 use Rattle.mm_platform.specs.declared.plan.Meddle.{Meddle}
 use Rattle.mm_platform.specs.declared.plan.Stop.{Stop}
-use Rattle.mm_platform.specs.Standing.{Standing, due}
+use Rattle.mm_platform.specs.Standing.{Item, Standing, values_of, register_of}
 use Rattle.mm_platform.specs.Steps.{beside, Cycles, EndsCycle, items_cycled}
 use Rattle.mm_platform.specs.Memory.{fresh}
-use Rattle.mm_model.specs.History.{first_history}
+use Rattle.mm_model.specs.Chains.{anchor_of}
+use Rattle.mm_model.specs.Instance.{Instance}
+use Rattle.mm_model.specs.History.{Foreign, Power as PowerMove, first_history}
+use Rattle.mm_model.specs.Moves.{Digests, made}
 use Rattle.mm_model.specs.Standing.{cell_of, issued_bytes, register_reads}
-use Rattle.mm_modules.specs.declared.any.AnyModule.{AnyModule}
+use Rattle.mm_model.specs.Steps.{Step}
+use Rattle.mm_call.specs.Levels.{by_digests}
+use Rattle.mm_call.specs.Courses.{Fate, seen_in}
+use Rattle.mm_call.specs.Called.{seen_at, reading_steps}
+use Rattle.mm_call.specs.Standing.{instance_by, cell_at, shown}
+use Rattle.mm_call.proofs.Moving.{summary-nil, committed_in}
+use Rattle.mm_call.proofs.Walks.{foreign_first}
 use Rattle.mm_modules.specs.Modules.{meaning_of}
+use Rattle.mm_schedule.specs.declared.header.Header.{Header}
 use Rattle.mm_schedule.specs.declared.event.Offer.{Offer}
 use Rattle.mm_schedule.specs.declared.reply.Reply.{Reply}
 use Rattle.mm_schedule.specs.declared.reply.Reply.TheVariants as reply
-use Rattle.mm_schedule.specs.Events.{Ask, Checkpoint, Power, Extend, Event}
-use Rattle.mm_world.proofs.Moving.{summary-nil}
+use Rattle.mm_schedule.specs.Events.{Ask, Checkpoint, Power, Extend}
+use Rattle.mm_run.specs.Folds.{Outcome, course_of, first_issued, first_digests}
+use Rattle.mm_run.specs.Held.{Held, rising_from, world_key, world_barrier, world_of, first_held, outcome_in, Follows, having_read, Wants}
+use Rattle.mm_run.specs.Offered.{offered_bytes}
 use Rattle.mm_world.specs.declared.call.Called.{Called}
-use Rattle.mm_world.specs.Levels.{Digests}
-use Rattle.mm_world.specs.Folds.{Outcome, first_issued}
-use Rattle.mm_world.specs.Offered.{offered_bytes}
-use Rattle.mm_world.specs.Stands.{cell_at, StandsAt, grown}
-use Rattle.mm_world.specs.Asks.{Came, Lacks, AsksAs, ChecksAs, quiet_as, called_by}
-use Rattle.mm_world.specs.Held.{Held, rising_from, world_key, world_of, first_held, summary_in, value_in, held_in, outcome_in, IsQuiet, IsSettled, Follows, Lacked, read_once, Wants}
-use Rattle.mm_seal.proofs.Fields.{take_front}
-use Rattle.mm_world.proofs.Stepping.{reads_of, reads-beside, cycled}
+use Rattle.mm_world.specs.Stands.{Stands, IsQuiet}
+use Rattle.mm_world.specs.Asks.{Came, Lacks, AsksAs, ChecksAs, quiet_as}
+use Rattle.mm_world.specs.Held.{digest_in, flag_in, value_in, digests_in, held_in, IsSettled}
+use Rattle.mm_world.proofs.Committing.{reads_shown, count_none}
+use Rattle.mm_world.proofs.Asking.{register_at, stands_settled}
 
-summary_spelled : (c : Cell) → length c.summary.bytes ≡ 32 → take 32 (drop 8 (cell_spelling c)) ≡ c.summary.bytes
+-- what a cell and a register show
+
+digest_spelled : (c : Cell) → length c.summary.bytes ≡ 32 → take 32 (drop 8 (cell_spelling c)) ≡ c.summary.bytes
 unfolding cell_spelling
-summary_spelled c h = take_front 32 c.summary.bytes (c.key ++ c.barrier) h
+digest_spelled c h = take_front 32 c.summary.bytes (c.key ++ c.barrier) h
 
-summary-read : (id : ℕ) (key summary register : List ℕ) (s : Standing) → StandsAt id key s summary register → summary_in s.cell ≡ summary
-summary-read id key summary register s a = ap summary_in a.cell ∙ summary_spelled (cell_at id key summary) a.size
+flag_told : (flag : Bool) → (flag_byte flag == 1) ≡ flag
+flag_told true = refl
+flag_told false = refl
 
-value-read : (id : ℕ) (key summary register : List ℕ) (s : Standing) → StandsAt id key s summary register → value_in (register_reads s) ≡ register
-value-read id key summary register s a = ap value_in a.reads
+flag_spelled : (c : Cell) → (slice_index (cell_spelling c) 6 == 1) ≡ c.flag
+unfolding cell_spelling
+flag_spelled c = flag_told c.flag
 
-pub settles : (machine : AnyModule) (s : Standing) (summary register : List ℕ) (issued : List (List ℕ)) (committed : ℕ)
-    → StandsAt (meaning_of machine).id world_key s summary register → IsQuiet s → length issued ≤ 2 ^ 32 - 1 → committed ≤ 2 ^ 64 - 1
-    → IsSettled machine s issued committed
-settles machine s summary register issued committed a q few fits =
-    let id : ℕ = (meaning_of machine).id in
-    record {
-      stands = subst (λ (x : List ℕ). StandsAt id world_key s x (value_in (register_reads s))) (sym (summary-read id world_key summary register s a))
-          (subst (λ (x : List ℕ). StandsAt id world_key s summary x) (sym (value-read id world_key summary register s a)) a);
-      quiet = q;
-      few = few;
-      fits = fits;
-    }
+digests_are : (i : Instance) (d : Digests) (s : Standing) (committed : ℕ) → Stands i s d → digests_in s committed ≡ record d { count = committed }
+digests_are i d s committed a =
+    let cell = cell_at i d in
+    let digest : digest_in s.cell ≡ d.digest = ap digest_in a.at.cell ∙ digest_spelled cell a.at.spells.summary in
+    let flag : flag_in s.cell ≡ d.flag = ap flag_in a.at.cell ∙ flag_spelled cell in
+    let register : value_in (register_reads s) ≡ d.register = ap value_in a.register in
+    λ j. record { digest = digest j; flag = flag j; register = register j; count = committed }
+
+counting : (i : Instance) (d : Digests) (s : Standing) (count : ℕ) → Stands i s d → Stands i s (record d { count = count })
+counting i d s count a = record { at = record { spells = a.at.spells; cell = a.at.cell; reads = a.at.reads }; register = a.register }
+
+pub settles : (h : Header) (s : Standing) (d : Digests) (issued : List (List ℕ)) (committed : ℕ) → Stands (world_of h) s d → IsQuiet s
+    → length issued ≤ 2 ^ 32 - 1 → committed ≤ 2 ^ 64 - 1 → IsSettled h s issued committed
+settles h s d issued committed a q few fits = record {
+  stands = subst (Stands (world_of h) s) (sym (digests_are (world_of h) d s committed a)) (counting (world_of h) d s committed a);
+  quiet = q;
+  few = few;
+  fits = fits;
+}
 
 few_more : (issued : List (List ℕ)) (snapshot : Option (List ℕ)) → length issued < 2 ^ 32 - 1 → length (issued ++ option_to_list snapshot) ≤ 2 ^ 32 - 1
 few_more issued None h = omega (arith, length-append issued [])
 few_more issued (Some s) h = omega (arith, length-append issued (s ∷ []))
 
-follows : (machine : AnyModule) (o : Outcome Digests) (old new : Standing) (issued issued' : List (List ℕ)) (committed committed' : ℕ) (it : Called)
-    → Came (meaning_of machine).id world_key o committed issued old new it
+follows : (h : Header) (o : Outcome Digests) (old new : Standing) (issued issued' : List (List ℕ)) (committed committed' : ℕ) (it : Called)
+    → Came (world_of h) o committed issued old new it
     → issued' ≡ issued ++ option_to_list it.snapshot → committed' ≡ min (committed + it.committed) (2 ^ 64 - 1)
-    → Follows o (held_in machine old issued committed) (held_in machine new issued' committed') it.reply
-follows machine o old new issued issued' committed committed' it c i n =
-    let id : ℕ = (meaning_of machine).id in
-    let a : summary_in new.cell ≡ o.state.digest = summary-read id world_key o.state.digest o.state.register new c.came.stands in
-    let b : value_in (register_reads new) ≡ o.state.register = value-read id world_key o.state.digest o.state.register new c.came.stands in
-    let f : false ≡ o.state.flag = sym c.came.flag in
-    let e : committed' ≡ min o.state.count (2 ^ 64 - 1) = n ∙ ap (λ (x : ℕ). min x (2 ^ 64 - 1)) (sym c.came.counts) in
+    → Follows o (held_in h old issued committed) (held_in h new issued' committed') it.reply
+follows h o old new issued issued' committed committed' it c i n =
+    let e : committed' ≡ min o.state.count (2 ^ 64 - 1) = n ∙ ap (λ (x : ℕ). min x (2 ^ 64 - 1)) (sym c.counts) in
     record {
-      reply = c.came.reply;
-      machine = refl;
-      digests = λ j. record { digest = a j; flag = f j; register = b j; count = e j };
-      issued = i ∙ c.came.issues;
-      steps = c.came.steps;
-      writes = c.came.writes;
+      reply = c.reply;
+      header = refl;
+      digests = digests_are (world_of h) o.state new committed' c.stands ∙ (λ j. record o.state { count = e j });
+      issued = i ∙ c.issues;
+      steps = c.steps;
+      writes = c.writes;
     }
 
--- memory was wanting: the world is as before, or its reading step was called
-wants : (machine : AnyModule) (old new : Standing) (issued issued' : List (List ℕ)) (committed : ℕ) (meddles : List Meddle)
-    → Lacks (meaning_of machine).id world_key (summary_in old.cell) (value_in (register_reads old)) meddles old new → issued' ≡ issued
-    → (held_in machine new issued' committed ≡ held_in machine old issued committed)
-    ⊎ (held_in machine new issued' committed ≡ read_once (due 1 meddles) (held_in machine old issued committed))
-wants machine old new issued issued' committed meddles l i =
-    let id : ℕ = (meaning_of machine).id in
-    let value : List ℕ = value_in (register_reads old) in
-    let a : summary_in new.cell ≡ summary_in old.cell = summary-read id world_key (summary_in old.cell) (grown value l.values) new l.stands in
-    let b : value_in (register_reads new) ≡ grown value l.values = value-read id world_key (summary_in old.cell) (grown value l.values) new l.stands in
+-- want of memory
+
+pub seen_commits : (fates : ℕ → Fate) (steps : List Step) (n : ℕ) → committed_in (seen_in fates steps n) ≡ []
+seen_commits fates [] n = refl
+seen_commits fates (step ∷ steps) n = foreign_first (fates n).brings (seen_in fates steps (n + 1)) ∙ seen_commits fates steps (n + 1)
+
+-- memory was wanting: the world is as before, or its reading steps were made
+wants : (h : Header) (old new : Standing) (issued issued' : List (List ℕ)) (committed : ℕ) (meddles : List Meddle) (stop : Stop)
+    → Lacks (world_of h) (digests_in old committed) meddles stop old new → issued' ≡ issued
+    → (held_in h new issued' committed ≡ held_in h old issued committed)
+    ⊎ (held_in h new issued' committed ≡ having_read stop meddles (held_in h old issued committed))
+wants h old new issued issued' committed meddles stop l i =
+    let d = digests_in old committed in
+    let c = course_of stop meddles in
     let w = l.writes in
     elim l.called [
-      | inl e ↦
-          let r : value_in (register_reads new) ≡ value = b ∙ ap (grown value) e.0 in
-          let n = e.1 in
-          inl (λ j. record { machine = machine; digests = record { digest = a j; flag = false; register = r j; count = committed }; issued = i j; steps = n j; writes = w j })
+      | inl e ↦ inl (λ j. held_in h (e j) (i j) committed)
       | inr e ↦
-          let r : value_in (register_reads new) ≡ grown value (due 1 meddles) = b ∙ ap (grown value) e.0 in
-          let n = e.1 in
-          inr (λ j. record { machine = machine; digests = record { digest = a j; flag = false; register = r j; count = committed }; issued = i j; steps = n j; writes = w j })
+          let seen = seen_at (world_of h) (by_digests (world_of h)) d c in
+          let n : seen.count ≡ committed = count_none (world_of h) (seen_in c.fates (reading_steps (world_of h).variant) 1) d (seen_commits c.fates (reading_steps (world_of h).variant) 1) in
+          let there : digests_in new committed ≡ seen = digests_are (world_of h) seen new committed e.0 ∙ (λ j. record seen { count = sym n j }) in
+          let steps = e.1 in
+          inr (λ j. record { header = h; digests = there j; issued = i j; steps = steps j; writes = w j })
     ]
 
--- nothing has changed
-lacked_same : (old new : Held) → new ≡ old → Lacked old new
-lacked_same old new e = record {
-  values = [];
-  machine = ap (λ (w : Held). w.machine) e;
-  digests = ap (λ (w : Held). w.digests) e;
-  issued = ap (λ (w : Held). w.issued) e;
-  steps = inl (ap (λ (w : Held). w.steps) e);
-  writes = ap (λ (w : Held). w.writes) e;
-}
-
-lacked_read : (values : List (List ℕ)) (old new : Held) → new ≡ read_once values old → Lacked old new
-lacked_read values old new e = record {
-  values = values;
-  machine = ap (λ (w : Held). w.machine) e;
-  digests = ap (λ (w : Held). w.digests) e;
-  issued = ap (λ (w : Held). w.issued) e;
-  steps = inr (ap (λ (w : Held). w.steps) e);
-  writes = ap (λ (w : Held). w.writes) e;
-}
-
-lacked_wanting : (event : Event) (old new : Held) → Wants event old new → Lacked old new
-lacked_wanting (Ask meddles stop offer b) old new w = elim w [ inl e ↦ lacked_same old new e | inr e ↦ lacked_read (due 1 meddles) old new e ]
-lacked_wanting (Checkpoint meddles stop) old new e = lacked_same old new e
-lacked_wanting Power old new e = absurd e
-lacked_wanting (Extend value) old new e = lacked_same old new e
-
-pub lacked_event : (event : Event) (old new : Held) (result : Result Reply Memory) → OnErr result (Wants event old new) → OnErr result (Lacked old new)
-lacked_event event old new (Ok said) w = tt
-lacked_event event old new (Err memory) w = lacked_wanting event old new w
-
 -- an ask that is answered, over the fields of a world
-pub follows_ask : (machine : AnyModule) (old new : Standing) (issued lent issued' : List (List ℕ)) (committed committed' : ℕ) (meddles : List Meddle) (stop : Stop) (offer : Offer) (b : Batch) (it : Called) (world : Held)
-    → held_in machine old issued committed ≡ world → IsSettled machine old issued committed → lent ≡ issued
-    → AsksAs (meaning_of machine) old new lent meddles stop (offered_bytes lent offer) b (Ok it)
+pub follows_ask : (h : Header) (old new : Standing) (issued lent issued' : List (List ℕ)) (committed committed' : ℕ) (meddles : List Meddle) (stop : Stop) (offer : Offer) (b : Batch) (it : Called) (world : Held)
+    → held_in h old issued committed ≡ world → IsSettled h old issued committed → lent ≡ issued
+    → AsksAs h.variant (meaning_of h.«module») old new lent meddles stop (offered_bytes lent offer) b (Ok it)
     → issued' ≡ issued ++ option_to_list it.snapshot → committed' ≡ min (committed + it.committed) (2 ^ 64 - 1)
-    → Follows (outcome_in world (Ask meddles stop offer b)) world (held_in machine new issued' committed') it.reply
-follows_ask machine old new issued lent issued' committed committed' meddles stop offer b it world is s same asks i n =
-    let there : AsksAs (meaning_of machine) old new issued meddles stop (offered_bytes issued offer) b (Ok it) =
-    subst (λ (x : List (List ℕ)). AsksAs (meaning_of machine) old new x meddles stop (offered_bytes x offer) b (Ok it)) same asks in
-    subst (λ (w : Held). Follows (outcome_in w (Ask meddles stop offer b)) w (held_in machine new issued' committed') it.reply) is
-    (follows machine (outcome_in (held_in machine old issued committed) (Ask meddles stop offer b)) old new issued issued' committed committed' it
-    (there world_key (summary_in old.cell) (value_in (register_reads old)) committed s.stands s.quiet) i n)
+    → Follows (outcome_in world (Ask meddles stop offer b)) world (held_in h new issued' committed') it.reply
+follows_ask h old new issued lent issued' committed committed' meddles stop offer b it world is s same asks i n =
+    let there : AsksAs h.variant (meaning_of h.«module») old new issued meddles stop (offered_bytes issued offer) b (Ok it) =
+    subst (λ (x : List (List ℕ)). AsksAs h.variant (meaning_of h.«module») old new x meddles stop (offered_bytes x offer) b (Ok it)) same asks in
+    subst (λ (w : Held). Follows (outcome_in w (Ask meddles stop offer b)) w (held_in h new issued' committed') it.reply) is
+    (follows h (outcome_in (held_in h old issued committed) (Ask meddles stop offer b)) old new issued issued' committed committed' it
+    (there world_key world_barrier (digests_in old committed) s.stands s.quiet) i n)
 
-pub settled_ask : (machine : AnyModule) (old new : Standing) (issued lent issued' : List (List ℕ)) (committed committed' : ℕ) (meddles : List Meddle) (stop : Stop) (offer : Offer) (b : Batch) (it : Called)
-    → IsSettled machine old issued committed → AsksAs (meaning_of machine) old new lent meddles stop (offered_bytes lent offer) b (Ok it)
+pub settled_ask : (h : Header) (old new : Standing) (issued lent issued' : List (List ℕ)) (committed committed' : ℕ) (meddles : List Meddle) (stop : Stop) (offer : Offer) (b : Batch) (it : Called)
+    → IsSettled h old issued committed → AsksAs h.variant (meaning_of h.«module») old new lent meddles stop (offered_bytes lent offer) b (Ok it)
     → issued' ≡ issued ++ option_to_list it.snapshot → committed' ≡ min (committed + it.committed) (2 ^ 64 - 1) → length issued < 2 ^ 32 - 1
-    → IsSettled machine new issued' committed'
-settled_ask machine old new issued lent issued' committed committed' meddles stop offer b it s asks i n room =
-    let c = asks world_key (summary_in old.cell) (value_in (register_reads old)) committed s.stands s.quiet in
-    subst (λ (x : List (List ℕ)). IsSettled machine new x committed') (sym i)
-    (settles machine new _ _ (issued ++ option_to_list it.snapshot) committed' c.came.stands c.quiet (few_more issued it.snapshot room) (omega (arith, n)))
+    → IsSettled h new issued' committed'
+settled_ask h old new issued lent issued' committed committed' meddles stop offer b it s asks i n room =
+    let c = asks world_key world_barrier (digests_in old committed) s.stands s.quiet in
+    subst (λ (x : List (List ℕ)). IsSettled h new x committed') (sym i)
+    (settles h new _ (issued ++ option_to_list it.snapshot) committed' c.stands c.quiet (few_more issued it.snapshot room) (omega (arith, n)))
 
-pub wants_ask : (machine : AnyModule) (old new : Standing) (issued lent issued' : List (List ℕ)) (committed : ℕ) (meddles : List Meddle) (stop : Stop) (offer : Offer) (b : Batch) (memory : Memory) (world : Held)
-    → held_in machine old issued committed ≡ world → IsSettled machine old issued committed
-    → AsksAs (meaning_of machine) old new lent meddles stop (offered_bytes lent offer) b (Err memory) → issued' ≡ issued
-    → Wants (Ask meddles stop offer b) world (held_in machine new issued' committed)
-wants_ask machine old new issued lent issued' committed meddles stop offer b memory world is s asks i =
-    subst (λ (w : Held). Wants (Ask meddles stop offer b) w (held_in machine new issued' committed)) is
-    (wants machine old new issued issued' committed meddles (asks world_key (summary_in old.cell) (value_in (register_reads old)) committed s.stands s.quiet) i)
+pub wants_ask : (h : Header) (old new : Standing) (issued lent issued' : List (List ℕ)) (committed : ℕ) (meddles : List Meddle) (stop : Stop) (offer : Offer) (b : Batch) (memory : Memory) (world : Held)
+    → held_in h old issued committed ≡ world → IsSettled h old issued committed
+    → AsksAs h.variant (meaning_of h.«module») old new lent meddles stop (offered_bytes lent offer) b (Err memory) → issued' ≡ issued
+    → Wants (Ask meddles stop offer b) world (held_in h new issued' committed)
+wants_ask h old new issued lent issued' committed meddles stop offer b memory world is s asks i =
+    subst (λ (w : Held). Wants (Ask meddles stop offer b) w (held_in h new issued' committed)) is
+    (wants h old new issued issued' committed meddles stop (asks world_key world_barrier (digests_in old committed) s.stands s.quiet) i)
 
-pub settled_lacking : (machine : AnyModule) (old new : Standing) (issued lent issued' : List (List ℕ)) (committed : ℕ) (meddles : List Meddle) (stop : Stop) (offer : Offer) (b : Batch) (memory : Memory)
-    → IsSettled machine old issued committed
-    → AsksAs (meaning_of machine) old new lent meddles stop (offered_bytes lent offer) b (Err memory) → issued' ≡ issued → IsSettled machine new issued' committed
-settled_lacking machine old new issued lent issued' committed meddles stop offer b memory s asks i =
-    let l = asks world_key (summary_in old.cell) (value_in (register_reads old)) committed s.stands s.quiet in
-    subst (λ (x : List (List ℕ)). IsSettled machine new x committed) (sym i) (settles machine new _ _ issued committed l.stands l.quiet s.few s.fits)
+settled_wanting : (h : Header) (old new : Standing) (issued : List (List ℕ)) (committed : ℕ) (meddles : List Meddle) (stop : Stop) → IsSettled h old issued committed
+    → Lacks (world_of h) (digests_in old committed) meddles stop old new → IsSettled h new issued committed
+settled_wanting h old new issued committed meddles stop s l = elim l.called [
+  | inl e ↦ subst (λ (x : Standing). IsSettled h x issued committed) (sym e) s
+  | inr e ↦ settles h new _ issued committed e.0 l.quiet s.few s.fits
+]
+
+pub settled_lacking : (h : Header) (old new : Standing) (issued lent issued' : List (List ℕ)) (committed : ℕ) (meddles : List Meddle) (stop : Stop) (offer : Offer) (b : Batch) (memory : Memory)
+    → IsSettled h old issued committed
+    → AsksAs h.variant (meaning_of h.«module») old new lent meddles stop (offered_bytes lent offer) b (Err memory) → issued' ≡ issued → IsSettled h new issued' committed
+settled_lacking h old new issued lent issued' committed meddles stop offer b memory s asks i =
+    subst (λ (x : List (List ℕ)). IsSettled h new x committed) (sym i)
+    (settled_wanting h old new issued committed meddles stop s (asks world_key world_barrier (digests_in old committed) s.stands s.quiet))
 
 -- a checkpoint, over the fields of a world
-pub follows_checkpoint : (machine : AnyModule) (old new : Standing) (issued : List (List ℕ)) (committed : ℕ) (meddles : List Meddle) (stop : Stop) (it : Called) (world : Held)
-    → held_in machine old issued committed ≡ world → IsSettled machine old issued committed
-    → ChecksAs (meaning_of machine) old new issued meddles stop (Ok it) → it.committed ≡ 0
-    → Follows (outcome_in world (Checkpoint meddles stop)) world (held_in machine new issued committed) it.reply
-follows_checkpoint machine old new issued committed meddles stop it world is s checks none =
-    let c = checks world_key (summary_in old.cell) (value_in (register_reads old)) committed s.stands s.quiet in
-    let o : Outcome Digests = outcome_in (held_in machine old issued committed) (Checkpoint meddles stop) in
-    let n : committed ≡ min (committed + it.committed) (2 ^ 64 - 1) = (let fits = s.fits in omega (arith, none, fits)) in
-    let f = follows machine o old new issued (issued ++ option_to_list it.snapshot) committed committed it c refl n in
-    subst (λ (w : Held). Follows (outcome_in w (Checkpoint meddles stop)) w (held_in machine new issued committed) it.reply) is
-    (record { reply = f.reply; machine = refl; digests = f.digests; issued = refl; steps = f.steps; writes = f.writes })
+pub settled_checked : (h : Header) (old new : Standing) (issued : List (List ℕ)) (committed : ℕ) (meddles : List Meddle) (stop : Stop) (result : Result Reply Memory)
+    → IsSettled h old issued committed → ChecksAs h.variant (meaning_of h.«module») old new issued meddles stop result → IsSettled h new issued committed
+settled_checked h old new issued committed meddles stop (Ok said) s checks =
+    let c = checks world_key world_barrier (digests_in old committed) s.stands s.quiet in settles h new _ issued committed c.stands c.quiet s.few s.fits
+settled_checked h old new issued committed meddles stop (Err memory) s checks =
+    let e : new ≡ old = checks world_key world_barrier (digests_in old committed) s.stands s.quiet in subst (λ (x : Standing). IsSettled h x issued committed) (sym e) s
 
-pub settled_checkpoint : (machine : AnyModule) (old new : Standing) (issued : List (List ℕ)) (committed : ℕ) (meddles : List Meddle) (stop : Stop) (it : Called)
-    → IsSettled machine old issued committed → ChecksAs (meaning_of machine) old new issued meddles stop (Ok it) → IsSettled machine new issued committed
-settled_checkpoint machine old new issued committed meddles stop it s checks =
-    let c = checks world_key (summary_in old.cell) (value_in (register_reads old)) 0 s.stands s.quiet in
-    settles machine new _ _ issued committed c.came.stands c.quiet s.few s.fits
+pub follows_checked : (h : Header) (old new : Standing) (issued : List (List ℕ)) (committed : ℕ) (meddles : List Meddle) (stop : Stop) (result : Result Reply Memory) (world : Held)
+    → held_in h old issued committed ≡ world → IsSettled h old issued committed
+    → ChecksAs h.variant (meaning_of h.«module») old new issued meddles stop result
+    → IfOk result (Follows (outcome_in world (Checkpoint meddles stop)) world (held_in h new issued committed))
+follows_checked h old new issued committed meddles stop (Ok said) world is s checks =
+    let c = checks world_key world_barrier (digests_in old committed) s.stands s.quiet in
+    let o : Outcome Digests = outcome_in (held_in h old issued committed) (Checkpoint meddles stop) in
+    let n : committed ≡ min (committed + 0) (2 ^ 64 - 1) = (let fits = s.fits in omega (arith, fits)) in
+    let f = follows h o old new issued (issued ++ []) committed committed (quiet_as said) c refl n in
+    subst (λ (w : Held). Follows (outcome_in w (Checkpoint meddles stop)) w (held_in h new issued committed) said) is
+    (record { reply = f.reply; header = refl; digests = f.digests; issued = refl; steps = f.steps; writes = f.writes })
+follows_checked h old new issued committed meddles stop (Err memory) world is s checks = tt
 
-pub settled_unchecked : (machine : AnyModule) (old new : Standing) (issued : List (List ℕ)) (committed : ℕ) (meddles : List Meddle) (stop : Stop) (memory : Memory)
-    → IsSettled machine old issued committed → ChecksAs (meaning_of machine) old new issued meddles stop (Err memory) → IsSettled machine new issued committed
-settled_unchecked machine old new issued committed meddles stop memory s checks =
-    let l = checks world_key (summary_in old.cell) (value_in (register_reads old)) 0 s.stands s.quiet in
-    settles machine new _ _ issued committed l.stands l.quiet s.few s.fits
-
--- whatever a checkpoint answers
-pub settled_checked : (machine : AnyModule) (old new : Standing) (issued : List (List ℕ)) (committed : ℕ) (meddles : List Meddle) (stop : Stop) (result : Result Reply Memory)
-    → IsSettled machine old issued committed → ChecksAs (meaning_of machine) old new issued meddles stop (called_by result) → IsSettled machine new issued committed
-settled_checked machine old new issued committed meddles stop (Ok said) s checks = settled_checkpoint machine old new issued committed meddles stop (quiet_as said) s checks
-settled_checked machine old new issued committed meddles stop (Err memory) s checks = settled_unchecked machine old new issued committed meddles stop memory s checks
-
-pub follows_checked : (machine : AnyModule) (old new : Standing) (issued : List (List ℕ)) (committed : ℕ) (meddles : List Meddle) (stop : Stop) (result : Result Reply Memory) (world : Held)
-    → held_in machine old issued committed ≡ world → IsSettled machine old issued committed
-    → ChecksAs (meaning_of machine) old new issued meddles stop (called_by result)
-    → IfOk result (Follows (outcome_in world (Checkpoint meddles stop)) world (held_in machine new issued committed))
-follows_checked machine old new issued committed meddles stop (Ok said) world is s checks =
-    follows_checkpoint machine old new issued committed meddles stop (quiet_as said) world is s checks refl
-follows_checked machine old new issued committed meddles stop (Err memory) world is s checks = tt
-
-pub same_checked : (machine : AnyModule) (old new : Standing) (issued : List (List ℕ)) (committed : ℕ) (result : Result Reply Memory) (world : Held)
-    → held_in machine old issued committed ≡ world → OnErr result (new ≡ old) → OnErr result (held_in machine new issued committed ≡ world)
-same_checked machine old new issued committed (Ok said) world is e = tt
-same_checked machine old new issued committed (Err memory) world is e = ap (λ (x : Standing). held_in machine x issued committed) e ∙ is
+pub same_checked : (h : Header) (old new : Standing) (issued : List (List ℕ)) (committed : ℕ) (meddles : List Meddle) (stop : Stop) (result : Result Reply Memory) (world : Held)
+    → held_in h old issued committed ≡ world → IsSettled h old issued committed
+    → ChecksAs h.variant (meaning_of h.«module») old new issued meddles stop result → OnErr result (held_in h new issued committed ≡ world)
+same_checked h old new issued committed meddles stop (Ok said) world is s checks = tt
+same_checked h old new issued committed meddles stop (Err memory) world is s checks =
+    let e : new ≡ old = checks world_key world_barrier (digests_in old committed) s.stands s.quiet in ap (λ (x : Standing). held_in h x issued committed) e ∙ is
 
 -- power
 cycled_all : (fault : Option StepFault) (old new : Standing) (emptied : Bool) → fault ≡ None → EndsCycle fault old new emptied → (emptied ≡ true) × (new.is_on ≡ true)
 cycled_all None old new emptied e c = (c.0, c.1)
 cycled_all (Some f) old new emptied e c = absurd (cc)
 
-stands_cycled : (id : ℕ) (key summary register : List ℕ) (old new : Standing) (fault : Option StepFault) → StandsAt id key old summary register → IsQuiet old
-    → Cycles old new fault → StandsAt id key new summary zero_bytes × IsQuiet new
-stands_cycled id key summary register old new fault s q c =
+stands_cycled : (i : Instance) (d : Digests) (old new : Standing) (fault : Option StepFault) → Stands i old d → IsQuiet old
+    → Cycles old new fault → Stands i new (made i d PowerMove) × IsQuiet new
+stands_cycled i d old new fault s q c =
     let none : fault ≡ None = c.told (ap (λ p. is_some p) q.plan) in
     let all = cycled_all fault old new c.is_emptied none c.ends in (
-      record {
-        key_size = s.key_size;
-        size = s.size;
-        cell = c.cell ∙ s.cell;
-        reads = ap reads_of (c.items ∙ ap (λ (x : Bool). items_cycled x old.items) all.0) ∙ cycled true old.items register s.reads;
-      },
+      stands_settled i d old new true s c.cell (c.items ∙ ap (λ (x : Bool). items_cycled x old.items) all.0),
       record { is_on = all.1; plan = c.plan ∙ q.plan },
     )
 
-pub settled_power : (machine : AnyModule) (old new : Standing) (issued : List (List ℕ)) (committed : ℕ) (fault : Option StepFault) → IsSettled machine old issued committed → Cycles old new fault
-    → IsSettled machine new issued committed
-settled_power machine old new issued committed fault s c =
-    let t = stands_cycled (meaning_of machine).id world_key (summary_in old.cell) (value_in (register_reads old)) old new fault s.stands s.quiet c in
-    settles machine new (summary_in old.cell) zero_bytes issued committed t.0 t.1 s.few s.fits
+pub settled_power : (h : Header) (old new : Standing) (issued : List (List ℕ)) (committed : ℕ) (fault : Option StepFault) → IsSettled h old issued committed → Cycles old new fault
+    → IsSettled h new issued committed
+settled_power h old new issued committed fault s c =
+    let t = stands_cycled (world_of h) (digests_in old committed) old new fault s.stands s.quiet c in settles h new _ issued committed t.0 t.1 s.few s.fits
 
-pub follows_power : (machine : AnyModule) (old new : Standing) (issued : List (List ℕ)) (committed : ℕ) (fault : Option StepFault) (world : Held)
-    → held_in machine old issued committed ≡ world → IsSettled machine old issued committed → Cycles old new fault
-    → Follows (outcome_in world Power) world (held_in machine new issued committed) reply.Power
-follows_power machine old new issued committed fault world is s c =
-    let id : ℕ = (meaning_of machine).id in
-    let t = stands_cycled id world_key (summary_in old.cell) (value_in (register_reads old)) old new fault s.stands s.quiet c in
-    let a : summary_in new.cell ≡ summary_in old.cell = summary-read id world_key (summary_in old.cell) zero_bytes new t.0 in
-    let b : value_in (register_reads new) ≡ zero_bytes = value-read id world_key (summary_in old.cell) zero_bytes new t.0 in
+pub follows_power : (h : Header) (old new : Standing) (issued : List (List ℕ)) (committed : ℕ) (fault : Option StepFault) (world : Held)
+    → held_in h old issued committed ≡ world → IsSettled h old issued committed → Cycles old new fault
+    → Follows (outcome_in world Power) world (held_in h new issued committed) reply.Power
+follows_power h old new issued committed fault world is s c =
+    let d = digests_in old committed in
+    let t = stands_cycled (world_of h) d old new fault s.stands s.quiet c in
     let n : committed ≡ min committed (2 ^ 64 - 1) = (let fits = s.fits in omega (arith, fits)) in
-    subst (λ (w : Held). Follows (outcome_in w Power) w (held_in machine new issued committed) reply.Power) is
+    let after = made (world_of h) d PowerMove in
+    subst (λ (w : Held). Follows (outcome_in w Power) w (held_in h new issued committed) reply.Power) is
     (record {
       reply = refl;
-      machine = refl;
-      digests = λ j. record { digest = a j; flag = false; register = b j; count = n j };
+      header = refl;
+      digests = digests_are (world_of h) after new committed t.0 ∙ (λ j. record after { count = n j });
       issued = refl;
       steps = c.steps;
       writes = c.writes;
@@ -261,102 +237,120 @@ follows_power machine old new issued committed fault world is s c =
 abbrev extended_by : Standing → List ℕ → Standing
 extended_by old value = record old { items = beside (value ∷ []) old.items }
 
-stands_extended : (id : ℕ) (key summary register value : List ℕ) (old : Standing) → StandsAt id key old summary register
-    → StandsAt id key (extended_by old value) summary (extended_of register value)
-stands_extended id key summary register value old s = record {
-  key_size = s.key_size;
-  size = s.size;
-  cell = s.cell;
-  reads = reads-beside old.items (value ∷ []) register s.reads;
-}
+beside_shown : (i : Instance) (d : Digests) (value : List ℕ) (items : Option (List Item)) → beside (value ∷ []) items ≡ option_map (shown i d (Foreign value ∷ [])) items
+beside_shown i d value None = refl
+beside_shown i d value (Some items) = refl
 
-pub settled_extend : (machine : AnyModule) (old new : Standing) (issued : List (List ℕ)) (committed : ℕ) (value : List ℕ) → IsSettled machine old issued committed → new ≡ extended_by old value
-    → IsSettled machine new issued committed
-settled_extend machine old new issued committed value s e =
-    subst (λ (x : Standing). IsSettled machine x issued committed) (sym e)
-    (settles machine (extended_by old value) (summary_in old.cell) (extended_of (value_in (register_reads old)) value) issued committed
-    (stands_extended (meaning_of machine).id world_key (summary_in old.cell) (value_in (register_reads old)) value old s.stands)
+stands_extended : (i : Instance) (d : Digests) (value : List ℕ) (old : Standing) → Stands i old d → Stands i (extended_by old value) (made i d (Foreign value))
+stands_extended i d value old s =
+    let r : register_reads (extended_by old value) ≡ Some (made i d (Foreign value)).register =
+    ap (λ x. option_map (λ xs. register_of (values_of xs)) x) (beside_shown i d value old.items) ∙ reads_shown i (Foreign value ∷ []) d old.items s.register in
+    record {
+      at = record { spells = s.at.spells; cell = s.at.cell; reads = register_at i.variant (register_reads (extended_by old value)) (made i d (Foreign value)).register r };
+      register = r;
+    }
+
+pub settled_extend : (h : Header) (old new : Standing) (issued : List (List ℕ)) (committed : ℕ) (value : List ℕ) → IsSettled h old issued committed → new ≡ extended_by old value
+    → IsSettled h new issued committed
+settled_extend h old new issued committed value s e =
+    subst (λ (x : Standing). IsSettled h x issued committed) (sym e)
+    (settles h (extended_by old value) _ issued committed (stands_extended (world_of h) (digests_in old committed) value old s.stands)
     (record { is_on = s.quiet.is_on; plan = s.quiet.plan }) s.few s.fits)
 
-follows_extended : (machine : AnyModule) (old : Standing) (issued : List (List ℕ)) (committed : ℕ) (value : List ℕ) → IsSettled machine old issued committed
-    → Follows (outcome_in (held_in machine old issued committed) (Extend value)) (held_in machine old issued committed) (held_in machine (extended_by old value) issued committed) reply.Extended
-follows_extended machine old issued committed value s =
-    let id : ℕ = (meaning_of machine).id in
-    let t = stands_extended id world_key (summary_in old.cell) (value_in (register_reads old)) value old s.stands in
-    let b : value_in (register_reads (extended_by old value)) ≡ extended_of (value_in (register_reads old)) value =
-    value-read id world_key (summary_in old.cell) (extended_of (value_in (register_reads old)) value) (extended_by old value) t in
+follows_extended : (h : Header) (old : Standing) (issued : List (List ℕ)) (committed : ℕ) (value : List ℕ) → IsSettled h old issued committed
+    → Follows (outcome_in (held_in h old issued committed) (Extend value)) (held_in h old issued committed) (held_in h (extended_by old value) issued committed) reply.Extended
+follows_extended h old issued committed value s =
+    let d = digests_in old committed in
+    let after = made (world_of h) d (Foreign value) in
+    let t = stands_extended (world_of h) d value old s.stands in
     let n : committed ≡ min committed (2 ^ 64 - 1) = (let fits = s.fits in omega (arith, fits)) in
     record {
       reply = refl;
-      machine = refl;
-      digests = λ j. record { digest = summary_in old.cell; flag = false; register = b j; count = n j };
+      header = refl;
+      digests = digests_are (world_of h) after (extended_by old value) committed t ∙ (λ j. record after { count = n j });
       issued = refl;
       steps = refl;
       writes = refl;
     }
 
-pub follows_extend : (machine : AnyModule) (old new : Standing) (issued : List (List ℕ)) (committed : ℕ) (value : List ℕ) (world : Held)
-    → held_in machine old issued committed ≡ world → IsSettled machine old issued committed → new ≡ extended_by old value
-    → Follows (outcome_in world (Extend value)) world (held_in machine new issued committed) reply.Extended
-follows_extend machine old new issued committed value world is s e =
-    subst (λ (w : Held). Follows (outcome_in w (Extend value)) w (held_in machine new issued committed) reply.Extended) is
-    (subst (λ (x : Standing). Follows (outcome_in (held_in machine old issued committed) (Extend value)) (held_in machine old issued committed) (held_in machine x issued committed) reply.Extended)
-    (sym e) (follows_extended machine old issued committed value s))
+pub follows_extend : (h : Header) (old new : Standing) (issued : List (List ℕ)) (committed : ℕ) (value : List ℕ) (world : Held)
+    → held_in h old issued committed ≡ world → IsSettled h old issued committed → new ≡ extended_by old value
+    → Follows (outcome_in world (Extend value)) world (held_in h new issued committed) reply.Extended
+follows_extend h old new issued committed value world is s e =
+    subst (λ (w : Held). Follows (outcome_in w (Extend value)) w (held_in h new issued committed) reply.Extended) is
+    (subst (λ (x : Standing). Follows (outcome_in (held_in h old issued committed) (Extend value)) (held_in h old issued committed) (held_in h x issued committed) reply.Extended)
+    (sym e) (follows_extended h old issued committed value s))
 
 -- a new world
+
 length-world_key : length world_key ≡ 32
 unfolding world_key rising_from
 length-world_key = refl
 
-pub stands_first : (machine : AnyModule) (cell : List ℕ) → cell ≡ cell_spelling (cell_of (world_of machine) first_history)
-    → StandsAt (meaning_of machine).id world_key (fresh cell) (start_of Basic (meaning_of machine).id) zero_bytes
-stands_first machine cell e =
-    let id : ℕ = (meaning_of machine).id in
+length-world_barrier : length world_barrier ≡ 32
+unfolding world_barrier rising_from
+length-world_barrier = refl
+
+anchor-nil : (id : ℕ) → start_of Opt id ≡ anchor_of id []
+unfolding anchor_of
+anchor-nil id = refl
+
+stands_new : (variant : Variant) (meaning : Meaning) (cell : List ℕ) → cell ≡ cell_spelling (cell_of (instance_by variant meaning world_key world_barrier) first_history)
+    → Stands (instance_by variant meaning world_key world_barrier) (fresh cell) (first_digests (instance_by variant meaning world_key world_barrier))
+stands_new Basic meaning cell e =
+    let i = instance_by Basic meaning world_key world_barrier in
     record {
-      key_size = length-world_key;
-      size = length-start_of Basic id;
-      cell = ap Some (e ∙ ap (λ (s : List ℕ). cell_spelling (cell_at id world_key s)) (sym (summary-nil id)));
-      reads = refl;
+      at = record {
+        spells = record { summary = length-start_of Basic meaning.id; key = length-world_key; barrier = length-zero_bytes; variant = (refl, refl) };
+        cell = ap Some (e ∙ ap (λ (s : List ℕ). cell_spelling (cell_at i (record { digest = s; flag = false; register = zero_bytes; count = 0 }))) (sym (summary-nil meaning.id)));
+        reads = tt;
+      };
+      register = refl;
+    }
+stands_new Opt meaning cell e =
+    let i = instance_by Opt meaning world_key world_barrier in
+    record {
+      at = record {
+        spells = record { summary = length-start_of Opt meaning.id; key = length-world_key; barrier = length-world_barrier; variant = tt };
+        cell = ap Some (e ∙ ap (λ (s : List ℕ). cell_spelling (cell_at i (record { digest = s; flag = false; register = zero_bytes; count = 0 }))) (sym (anchor-nil meaning.id)));
+        reads = refl;
+      };
+      register = refl;
     }
 
-pub settled_first : (machine : AnyModule) (cell : List ℕ) (standing : Standing) (issued : List (List ℕ)) → cell ≡ cell_spelling (cell_of (world_of machine) first_history)
-    → standing ≡ fresh cell → length issued ≤ 2 ^ 32 - 1 → IsSettled machine standing issued 0
-settled_first machine cell standing issued e f few =
-    subst (λ (x : Standing). IsSettled machine x issued 0) (sym f)
-    (settles machine (fresh cell) (start_of Basic (meaning_of machine).id) zero_bytes issued 0 (stands_first machine cell e) (record { is_on = refl; plan = refl }) few (omega arith))
+pub stands_first : (h : Header) (cell : List ℕ) → cell ≡ cell_spelling (cell_of (world_of h) first_history) → Stands (world_of h) (fresh cell) (first_digests (world_of h))
+stands_first h cell e = stands_new h.variant (meaning_of h.«module») cell e
 
-first_there : (machine : AnyModule) (cell : List ℕ) (issued : List (List ℕ)) → cell ≡ cell_spelling (cell_of (world_of machine) first_history)
-    → issued ≡ first_issued (world_of machine) → held_in machine (fresh cell) issued 0 ≡ first_held machine
-first_there machine cell issued e i =
-    let id : ℕ = (meaning_of machine).id in
-    let a : summary_in (Some cell) ≡ start_of Basic id = summary-read id world_key (start_of Basic id) zero_bytes (fresh cell) (stands_first machine cell e) in
-    λ j. record {
-      machine = machine;
-      digests = record { digest = a j; flag = false; register = zero_bytes; count = 0 };
-      issued = i j;
-      steps = 0;
-      writes = 0;
-    }
+settled_first : (h : Header) (cell : List ℕ) (standing : Standing) (issued : List (List ℕ)) → cell ≡ cell_spelling (cell_of (world_of h) first_history)
+    → standing ≡ fresh cell → length issued ≤ 2 ^ 32 - 1 → IsSettled h standing issued 0
+settled_first h cell standing issued e f few =
+    subst (λ (x : Standing). IsSettled h x issued 0) (sym f)
+    (settles h (fresh cell) (first_digests (world_of h)) issued 0 (stands_first h cell e) (record { is_on = refl; plan = refl }) few (omega arith))
 
-pub first_world : (machine : AnyModule) (cell : List ℕ) (standing : Standing) (issued : List (List ℕ)) → cell ≡ cell_spelling (cell_of (world_of machine) first_history)
-    → standing ≡ fresh cell → issued ≡ first_issued (world_of machine) → held_in machine standing issued 0 ≡ first_held machine
-first_world machine cell standing issued e f i =
-    ap (λ (x : Standing). held_in machine x issued 0) f ∙ first_there machine cell issued e i
+first_there : (h : Header) (cell : List ℕ) (issued : List (List ℕ)) → cell ≡ cell_spelling (cell_of (world_of h) first_history)
+    → issued ≡ first_issued (world_of h) → held_in h (fresh cell) issued 0 ≡ first_held h
+first_there h cell issued e i =
+    let there : digests_in (fresh cell) 0 ≡ first_digests (world_of h) = digests_are (world_of h) (first_digests (world_of h)) (fresh cell) 0 (stands_first h cell e) in
+    λ j. record { header = h; digests = there j; issued = i j; steps = 0; writes = 0 }
+
+first_world : (h : Header) (cell : List ℕ) (standing : Standing) (issued : List (List ℕ)) → cell ≡ cell_spelling (cell_of (world_of h) first_history)
+    → standing ≡ fresh cell → issued ≡ first_issued (world_of h) → held_in h standing issued 0 ≡ first_held h
+first_world h cell standing issued e f i = ap (λ (x : Standing). held_in h x issued 0) f ∙ first_there h cell issued e i
 
 -- the room for one more snapshot
-pub room_in : (machine : AnyModule) (standing : Standing) (issued : List (List ℕ)) (committed : ℕ) (world : Held)
-    → held_in machine standing issued committed ≡ world → length world.issued < 2 ^ 32 - 1 → length issued < 2 ^ 32 - 1
-room_in machine standing issued committed world is h = omega (arith, ap (λ (w : Held). length w.issued) is)
+pub room_in : (h : Header) (standing : Standing) (issued : List (List ℕ)) (committed : ℕ) (world : Held)
+    → held_in h standing issued committed ≡ world → length world.issued < 2 ^ 32 - 1 → length issued < 2 ^ 32 - 1
+room_in h standing issued committed world is room = omega (arith, ap (λ (w : Held). length w.issued) is)
 
 few_first : (issued : List (List ℕ)) (snapshot : List ℕ) → issued ≡ snapshot ∷ [] → length issued ≤ 2 ^ 32 - 1
 few_first issued snapshot e = omega (arith, ap (λ (x : List (List ℕ)). length x) e)
 
 -- a world that was provisioned
-pub settled_provisioned : (machine : AnyModule) (cell snapshot : List ℕ) (standing : Standing) (issued : List (List ℕ)) → cell ≡ cell_spelling (cell_of (world_of machine) first_history)
-    → standing ≡ fresh cell → issued ≡ snapshot ∷ [] → IsSettled machine standing issued 0
-settled_provisioned machine cell snapshot standing issued e f i = settled_first machine cell standing issued e f (few_first issued snapshot i)
+pub settled_provisioned : (h : Header) (cell snapshot : List ℕ) (standing : Standing) (issued : List (List ℕ)) → cell ≡ cell_spelling (cell_of (world_of h) first_history)
+    → standing ≡ fresh cell → issued ≡ snapshot ∷ [] → IsSettled h standing issued 0
+settled_provisioned h cell snapshot standing issued e f i = settled_first h cell standing issued e f (few_first issued snapshot i)
 
-pub world_provisioned : (machine : AnyModule) (cell snapshot : List ℕ) (standing : Standing) (issued : List (List ℕ)) → cell ≡ cell_spelling (cell_of (world_of machine) first_history)
-    → snapshot ≡ issued_bytes (world_of machine) first_history → standing ≡ fresh cell → issued ≡ snapshot ∷ [] → held_in machine standing issued 0 ≡ first_held machine
-world_provisioned machine cell snapshot standing issued e s f i =
-    first_world machine cell standing issued e f (i ∙ ap (λ (x : List ℕ). x ∷ []) s)
+pub world_provisioned : (h : Header) (cell snapshot : List ℕ) (standing : Standing) (issued : List (List ℕ)) → cell ≡ cell_spelling (cell_of (world_of h) first_history)
+    → snapshot ≡ issued_bytes (world_of h) first_history → standing ≡ fresh cell → issued ≡ snapshot ∷ [] → held_in h standing issued 0 ≡ first_held h
+world_provisioned h cell snapshot standing issued e s f i =
+    first_world h cell standing issued e f (i ∙ ap (λ (x : List ℕ). x ∷ []) s)

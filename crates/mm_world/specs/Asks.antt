@@ -1,66 +1,62 @@
 -- What a call with its plan comes to, over the platform of a world.
-use Rattle.std.specs.Prelude.{◌≡◌, ℕ, List, [], Option, None, Some, Result, Ok, Err, MatchResult, ◌⊎◌, false}
-use Rattle.mm_base.specs.Faults.{counted}
+use Rattle.std.specs.Prelude.{◌≡◌, ℕ, ◌+◌, List, ◌++◌, length, Option, None, Result, MatchResult, option_to_list, ◌⊎◌}
 use Rattle.mm_base.specs.declared.fault.Memory.{Memory}
+use Rattle.mm_digest.specs.declared.variant.Variant.{Variant}
 use Rattle.mm_module.specs.Meaning.{Meaning}
 use Rattle.mm_module.specs.Batch.{Batch}
-use Rattle.mm_platform.specs.declared.fault.StepFault.{StepFault}
 use Rattle.mm_platform.specs.declared.plan.Meddle.{Meddle}
 use Rattle.mm_platform.specs.declared.plan.Stop.{Stop}
-use Rattle.mm_platform.specs.Standing.{Standing, due}
-use Rattle.mm_platform.specs.Steps.{ReadCell, Goes}
-use Rattle.mm_model.specs.Instance.{basic}
+use Rattle.mm_platform.specs.Standing.{Standing}
+use Rattle.mm_model.specs.Moves.{Digests}
+use Rattle.mm_model.specs.Instance.{Instance}
+use Rattle.mm_call.specs.Levels.{by_digests}
+use Rattle.mm_call.specs.Called.{seen_at, reading_steps}
+use Rattle.mm_call.specs.Standing.{instance_by, counted_by}
 use Rattle.mm_schedule.specs.declared.reply.Reply.{Reply}
-use Rattle.mm_schedule.specs.declared.reply.Cause.TheVariants as cause
+use Rattle.mm_run.specs.Folds.{Outcome, course_of, asked}
+use Rattle.mm_run.specs.Folds.{closed_outcome}
+use Rattle.mm_call.specs.Checkpoints.{checkpointed}
 use Rattle.mm_world.specs.declared.call.Called.{Called}
-use Rattle.mm_world.specs.Levels.{Digests, by_digests}
-use Rattle.mm_world.specs.Folds.{Outcome, asked, checkpointed}
-use Rattle.mm_world.specs.Stands.{basic_digests, StandsAt, grown}
-use Rattle.mm_world.specs.Calls.{CameTo, Restores, refused_as, broken_as}
-use Rattle.mm_world.specs.Held.{IsQuiet}
+use Rattle.mm_world.specs.Stands.{Stands, IsQuiet}
 
--- the call came to this outcome, and its plan is over
-pub record Came (id : ℕ) (key : List ℕ) (o : Outcome Digests) (count : ℕ) (issued : List (List ℕ)) (old new : Standing) (it : Called) : Type 0 where
-  pub came : CameTo id key o count issued old new it
+-- The call came to this outcome, after these snapshots, and its plan is over.
+pub record Came (i : Instance) (o : Outcome Digests) (count : ℕ) (issued : List (List ℕ)) (old new : Standing) (it : Called) : Type 0 where
+  pub reply : it.reply ≡ o.reply
+  pub issues : issued ++ option_to_list it.snapshot ≡ o.issued
+  pub stands : Stands i new o.state
+  pub counts : o.state.count ≡ count + it.committed
   pub quiet : IsQuiet new
+  pub steps : new.steps ≡ counted_by o.steps old.steps
+  pub writes : new.writes ≡ counted_by o.writes old.writes
 
--- Memory was wanting: nothing has changed, but that the reading step may have been called, just before which others
--- put into the register what is due there.
-pub record Lacks (id : ℕ) (key summary register : List ℕ) (meddles : List Meddle) (old new : Standing) : Type 0 where
-  pub values : List (List ℕ)
-  pub stands : StandsAt id key new summary (grown register values)
+-- Memory was wanting: nothing has changed, but that the reading steps may have been made.
+pub record Lacks (i : Instance) (d : Digests) (meddles : List Meddle) (stop : Stop) (old new : Standing) : Type 0 where
   pub quiet : IsQuiet new
-  pub called : ((values ≡ []) × (new.steps ≡ old.steps)) ⊎ ((values ≡ due 1 meddles) × (new.steps ≡ counted old.steps))
   pub writes : new.writes ≡ old.writes
+  pub called : (new ≡ old)
+      ⊎ (Stands i new (seen_at i (by_digests i) d (course_of stop meddles)) × (new.steps ≡ counted_by (length (reading_steps i.variant)) old.steps))
 
--- a call over a quiet platform comes to an outcome by digests
-abbrev pub EndsAs : Meaning → Standing → Standing → List (List ℕ) → List Meddle → (List ℕ → Digests → Outcome Digests) → Result Called Memory → Type 0
-EndsAs meaning old new issued meddles outcome result =
-    (key summary register : List ℕ) (count : ℕ) → StandsAt meaning.id key old summary register → IsQuiet old
-    → MatchResult result (Came meaning.id key (outcome key (basic_digests summary register count)) count issued old new)
-    (λ _. Lacks meaning.id key summary register meddles old new)
-
--- the batch is asked of these bytes, if any are offered
-abbrev pub AsksAs : Meaning → Standing → Standing → List (List ℕ) → List Meddle → Stop → Option (List ℕ) → Batch → Result Called Memory → Type 0
-AsksAs meaning old new issued meddles stop bytes b result =
-    EndsAs meaning old new issued meddles (λ key d. asked (basic meaning key) (by_digests (basic meaning key)) d issued meddles stop bytes b) result
-
-abbrev pub ChecksAs : Meaning → Standing → Standing → List (List ℕ) → List Meddle → Stop → Result Called Memory → Type 0
-ChecksAs meaning old new issued meddles stop result =
-    EndsAs meaning old new issued meddles (λ key d. checkpointed (basic meaning key) (by_digests (basic meaning key)) d issued meddles stop) result
+-- the batch is asked of these bytes, if any are offered, over a quiet platform
+abbrev pub AsksAs : Variant → Meaning → Standing → Standing → List (List ℕ) → List Meddle → Stop → Option (List ℕ) → Batch → Result Called Memory → Type 0
+AsksAs variant meaning old new issued meddles stop bytes b result =
+    (key barrier : List ℕ) (d : Digests) → Stands (instance_by variant meaning key barrier) old d → IsQuiet old
+    → MatchResult result
+    (Came (instance_by variant meaning key barrier)
+    (asked (instance_by variant meaning key barrier) (by_digests (instance_by variant meaning key barrier)) d issued meddles stop bytes b)
+    d.count issued old new)
+    (λ _. Lacks (instance_by variant meaning key barrier) d meddles stop old new)
 
 -- a call that hands out no snapshot and commits nothing
 abbrev pub quiet_as : Reply → Called
 quiet_as said = record { reply = said; snapshot = None; committed = 0 }
 
-abbrev pub called_by : Result Reply Memory → Result Called Memory
-called_by (Ok said) = Ok (quiet_as said)
-called_by (Err memory) = Err memory
-
--- the only step of a checkpoint of Basic
-pub record ReadsOnce (old new : Standing) (stop : Stop) (it : Called) : Type 0 where
-  pub read : Standing
-  pub fault : Option StepFault
-  pub goes : Goes ReadCell old read fault
-  pub answered : fault ≡ None → (it ≡ refused_as cause.Kind) × (new ≡ read)
-  pub broken : (f : StepFault) → fault ≡ Some f → (it ≡ broken_as stop false 0 0) × Restores stop read new
+-- a checkpoint over a quiet platform
+abbrev pub ChecksAs : Variant → Meaning → Standing → Standing → List (List ℕ) → List Meddle → Stop → Result Reply Memory → Type 0
+ChecksAs variant meaning old new issued meddles stop result =
+    (key barrier : List ℕ) (d : Digests) → Stands (instance_by variant meaning key barrier) old d → IsQuiet old
+    → MatchResult result
+    (λ said. Came (instance_by variant meaning key barrier)
+    (closed_outcome (by_digests (instance_by variant meaning key barrier)) stop issued
+    (checkpointed (instance_by variant meaning key barrier) (by_digests (instance_by variant meaning key barrier)) d (course_of stop meddles)))
+    d.count issued old new (quiet_as said))
+    (λ _. new ≡ old)

@@ -1,9 +1,3 @@
-pub mod Offered
-pub mod Walk
-pub mod Levels
-pub mod Folds
-pub mod Premises
-pub mod Laws
 pub mod Stands
 pub mod Calls
 pub mod Held

@@ -1,25 +1,26 @@
-//! The calls of a world, each moved step by step over its platform in memory.
+//! The calls of a world over its platform in memory.
 
-ghost use Rattle.std.specs.Prelude.{◌≡◌, ◌≢◌, ℕ, List, None, Some, false, Ok, IsSome, IsErr, OnErr};
+ghost use Rattle.std.specs.Prelude.{◌≡◌, ℕ, List, Some, false, IsSome, OnErr};
 ghost use Rattle.mm_module.specs.Batch.{size_of};
 ghost use Rattle.mm_module.specs.Batches.{batch_of};
-ghost use Rattle.mm_platform.specs.declared.fault.StepFault.{StepFault};
-ghost use Rattle.mm_basic.specs.declared.found.Ready.{Ready};
-ghost use Rattle.mm_model.specs.Long.{is_long};
-ghost use Rattle.mm_call.specs.Refusals.{fault_of};
-ghost use Rattle.mm_world.specs.Walk.{way_of};
-ghost use Rattle.mm_world.specs.Folds.{cause_of};
-ghost use Rattle.mm_world.specs.Offered.{offered_bytes};
-ghost use Rattle.mm_world.specs.Asks.{AsksAs, ChecksAs, ReadsOnce, quiet_as, called_by};
 ghost use Rattle.mm_module.specs.Meaning.{Meaning};
-ghost use Rattle.mm_world.specs.Calls.{refused_as, told_as, broken_as, takes_effect, Restores, Writes, RunsAs};
+ghost use Rattle.mm_digest.specs.declared.variant.Variant.{Variant};
+ghost use Rattle.mm_digest.specs.declared.variant.Variant.TheVariants.{Basic, Opt};
+ghost use Rattle.mm_model.specs.Long.{is_long};
+ghost use Rattle.mm_call.specs.Ended.{CallsTo, is_broken};
+ghost use Rattle.mm_run.specs.Folds.{way_of, cause_of};
+ghost use Rattle.mm_run.specs.Offered.{offered_bytes};
+ghost use Rattle.mm_world.specs.Asks.{AsksAs, ChecksAs};
+ghost use Rattle.mm_world.specs.Calls.{refused_as, told_as, broken_as, takes_effect, CalledAs, Restores, Settles, closes_at, closing_as, stops_in};
 
 use crate::offered::offered;
 use mm_base::{Bytes, Memory};
-use mm_basic::{Call, Turn, begin};
-use mm_model::{BatchAnswer, Refusal};
+use mm_call::Ended;
+use mm_digest::Variant;
+use mm_model::{BatchAnswer, Refusal, is_long};
 use mm_module::{Batch, Module};
-use mm_platform::{Meddle, MemPlatform, Nv, Platform, Stop};
+use mm_opt::{CheckpointRefusal, Checkpointed};
+use mm_platform::{Meddle, MemPlatform, Platform, Stop};
 use mm_schedule::{Cause, Offer, Reply, Way};
 use std::alloc::Global;
 
@@ -35,12 +36,9 @@ pub struct Called {
 
 impl Called {
     ghost use Rattle.std.specs.Prelude.{◌≡◌};
-    ghost use Rattle.mm_world.specs.Offered.{offered_bytes};
-    ghost use Rattle.mm_world.specs.Asks.{AsksAs, ChecksAs, ReadsOnce, quiet_as, called_by};
-    ghost use Rattle.mm_module.specs.Meaning.{Meaning};
     ghost use Rattle.mm_world.specs.Calls.{refused_as, told_as, broken_as};
 
-    pub fn refused(cause: Cause) -> Called
+    fn refused(cause: Cause) -> Called
         ensures { result ≡ refused_as cause }
     {
         Called {
@@ -50,7 +48,7 @@ impl Called {
         }
     }
 
-    pub fn told(answer: BatchAnswer) -> Called
+    fn told(answer: BatchAnswer) -> Called
         ensures { result ≡ told_as answer }
     {
         let BatchAnswer {
@@ -71,21 +69,22 @@ impl Called {
         }
     }
 
-    pub fn broken(stop: Stop, kept: bool, position: u64, size: u64) -> Called
-        ensures { result ≡ broken_as stop kept position size }
+    // A call that was broken off: it has committed its batch of this size up to this position, if there is one.
+    fn broken(stop: Stop, kept: Option<u64>, size: u64) -> Called
+        ensures { result ≡ broken_as stop kept size }
     {
         let way = way(stop);
-        if kept {
-            return Called {
+        match kept {
+            Some(position) => Called {
                 reply: Reply::Kept { way, position },
                 snapshot: None,
                 committed: size,
-            };
-        }
-        Called {
-            reply: Reply::Nothing { way },
-            snapshot: None,
-            committed: 0,
+            },
+            None => Called {
+                reply: Reply::Nothing { way },
+                snapshot: None,
+                committed: 0,
+            },
         }
     }
 }
@@ -111,15 +110,6 @@ fn takes_effect(stop: Stop) -> bool
     }
 }
 
-// Power comes back after a call that was cut.
-fn restore(platform: &mut MemPlatform, stop: Stop)
-    ensures { (some : IsSome platform.old.plan) → Restores stop platform.old platform.new }
-{
-    if let Stop::Cut(_) = stop {
-        let _ = platform.cycle();
-    }
-}
-
 // The cause that a reply names. A world's calls are refused for no other reason.
 fn cause(refusal: Refusal) -> Cause
     ensures { result ≡ cause_of refusal }
@@ -137,75 +127,106 @@ fn cause(refusal: Refusal) -> Cause
     }
 }
 
-// What a call comes to that was refused at its reading step, or broken off there.
-fn refused(platform: &mut MemPlatform, refusal: Refusal, stop: Stop) -> Result<Called, Memory>
-    ensures memory { refusal ≡ Refusal.Memory → IsErr result × (platform.new ≡ platform.old) }
-    ensures broken { (fault : StepFault) → refusal ≡ Refusal.Device fault → IsSome platform.old.plan
-        → (result ≡ Ok (broken_as stop false 0 0)) × Restores stop platform.old platform.new }
-    ensures refused { fault_of refusal ≡ None → refusal ≢ Refusal.Memory
-        → (result ≡ Ok (refused_as (cause_of refusal))) × (platform.new ≡ platform.old) }
+// The plan of a call is over, and power is back where the call was broken off by a cut.
+fn settle(platform: &mut MemPlatform, stop: Stop, is_broken: bool)
+    ensures { IsSome platform.old.plan → Settles stop is_broken platform.old platform.new }
 {
-    match refusal {
-        Refusal::Memory => Err(Memory),
-        Refusal::Device(_) => {
-            restore(platform, stop);
-            Ok(Called::broken(stop, false, 0, 0))
+    if is_broken {
+        restore(platform, stop);
+    }
+    platform.end_plan();
+}
+
+// What a call of a batch of this size came to, that was stopped so.
+fn came_to(stop: Stop, ended: Ended, size: u64) -> Result<Called, Memory>
+    ensures { CalledAs stop size ended result }
+{
+    match ended {
+        Ended::Answered(answer) => Ok(Called::told(answer)),
+        Ended::Refused(Refusal::Memory) => Err(Memory),
+        Ended::Refused(refusal) => Ok(Called::refused(cause(refusal))),
+        Ended::Broken { commits, .. } => {
+            let kept = if takes_effect(stop) { commits } else { None };
+            Ok(Called::broken(stop, kept, size))
         }
-        _ => Ok(Called::refused(cause(refusal))),
     }
 }
 
-// Makes the writing step of a call.
-fn write<M: Module>(
+// Makes the call of Basic.
+fn basic<M: Module>(
     alloc: Global,
     module: &M,
     platform: &mut MemPlatform,
-    call: Call,
     offer: &[u8],
     batch: Batch<'_>,
-    stop: Stop,
-) -> Called
+) -> Ended
     requires short { is_long (batch_of batch) ≡ false }
-    requires ready { IsSome call }
-    ensures { (ready : Ready) → call ≡ Some ready → IsSome platform.old.plan
-        → Writes ready (size_of (batch_of batch.entry)) platform.old platform.new stop result }
+    ensures { CallsTo Basic (M.meaning «module».now) platform.old platform.new offer.now (batch_of batch.entry) result }
 {
-    let position = call.position().unwrap_or(0);
-    let size = batch.len() as u64;
-    match call.advance(alloc, module, platform, offer, batch) {
-        Turn::Done(answer) => Called::told(answer),
-        Turn::Refused(_) => {
-            restore(platform, stop);
-            Called::broken(stop, takes_effect(stop), position, size)
-        }
-        Turn::Going(_) => unreachable!(),
+    match mm_basic::begin(batch) {
+        Ok(call) => call.finish(alloc, module, platform, offer, batch),
+        Err(_) => unreachable!(),
     }
 }
 
-// Moves a call to its end over a platform whose plan is made.
-fn run<M: Module>(
+// Makes the call of Opt.
+fn opt<M: Module>(
     alloc: Global,
     module: &M,
     platform: &mut MemPlatform,
-    call: Call,
     offer: &[u8],
     batch: Batch<'_>,
-    stop: Stop,
-) -> Result<Called, Memory>
+) -> Ended
     requires short { is_long (batch_of batch) ≡ false }
-    requires begun { call ≡ None }
-    ensures { RunsAs (M.meaning «module».now) platform.old platform.new stop offer.now (batch_of batch.entry) result }
+    ensures { CallsTo Opt (M.meaning «module».now) platform.old platform.new offer.now (batch_of batch.entry) result }
 {
-    match call.advance(alloc, module, platform, offer, batch) {
-        Turn::Refused(refusal) => refused(platform, refusal, stop),
-        Turn::Done(answer) => Ok(Called::told(answer)),
-        Turn::Going(call) => Ok(write(alloc, module, platform, call, offer, batch, stop)),
+    match mm_opt::begin(batch) {
+        Ok(call) => call.finish(alloc, module, platform, offer, batch),
+        Err(_) => unreachable!(),
+    }
+}
+
+// Makes the call of either variant.
+fn finish<M: Module>(
+    alloc: Global,
+    variant: Variant,
+    module: &M,
+    platform: &mut MemPlatform,
+    offer: &[u8],
+    batch: Batch<'_>,
+) -> Ended
+    requires short { is_long (batch_of batch) ≡ false }
+    ensures { CallsTo variant (M.meaning «module».now) platform.old platform.new offer.now (batch_of batch.entry) result }
+{
+    match variant {
+        Variant::Basic => basic(alloc, module, platform, offer, batch),
+        Variant::Opt => opt(alloc, module, platform, offer, batch),
+    }
+}
+
+// Whether a call was broken off.
+fn is_broken(ended: &Ended) -> bool
+    ensures { result ≡ is_broken ended.now }
+{
+    match ended {
+        Ended::Broken { .. } => true,
+        Ended::Answered(_) | Ended::Refused(_) => false,
+    }
+}
+
+// Power comes back after a call that was cut.
+fn restore(platform: &mut MemPlatform, stop: Stop)
+    ensures { IsSome platform.old.plan → Restores stop platform.old platform.new }
+{
+    if let Stop::Cut(_) = stop {
+        let _ = platform.cycle();
     }
 }
 
 // Asks for a batch, offering these bytes, over a platform that is on and has no plan.
 fn ask<M: Module>(
     alloc: Global,
+    variant: Variant,
     module: &M,
     platform: &mut MemPlatform,
     offer: &[u8],
@@ -213,23 +234,24 @@ fn ask<M: Module>(
     meddles: &[Meddle],
     stop: Stop,
 ) -> Result<Called, Memory>
-    ensures { (issued : List (List ℕ)) → AsksAs (M.meaning «module».now) platform.old platform.new issued meddles.now stop (Some offer.now) (batch_of batch.entry) result }
+    ensures { (issued : List (List ℕ)) → AsksAs variant (M.meaning «module».now) platform.old platform.new issued meddles.now stop
+        (Some offer.now) (batch_of batch.entry) result }
 {
-    let call = match begin(batch) {
-        Err(_) => return Ok(Called::refused(Cause::Long)),
-        Ok(call) => call,
-    };
+    if is_long(&batch) {
+        return Ok(Called::refused(Cause::Long));
+    }
     if let Err(memory) = platform.plan(stop, meddles) {
         return Err(memory);
     }
-    let called = run(alloc, module, platform, call, offer, batch, stop);
-    platform.end_plan();
-    called
+    let ended = finish(alloc, variant, module, platform, offer, batch);
+    settle(platform, stop, is_broken(&ended));
+    came_to(stop, ended, batch.len() as u64)
 }
 
 /// Asks for a batch, by the issued snapshots.
 pub fn asked<M: Module>(
     alloc: Global,
+    variant: Variant,
     module: &M,
     platform: &mut MemPlatform,
     issued: &[Bytes],
@@ -238,14 +260,15 @@ pub fn asked<M: Module>(
     meddles: &[Meddle],
     stop: Stop,
 ) -> Result<Called, Memory>
-    ensures { AsksAs (M.meaning «module».now) platform.old platform.new issued.now meddles.now stop (offered_bytes issued.now offer.now)
-        (batch_of batch.entry) result }
+    ensures { AsksAs variant (M.meaning «module».now) platform.old platform.new issued.now meddles.now stop
+        (offered_bytes issued.now offer.now) (batch_of batch.entry) result }
 {
     match offered(alloc, issued, offer) {
         Err(memory) => Err(memory),
         Ok(None) => Ok(Called::refused(Cause::Snapshot)),
         Ok(Some(offered)) => ask(
             alloc,
+            variant,
             module,
             platform,
             offered.bytes(),
@@ -256,35 +279,50 @@ pub fn asked<M: Module>(
     }
 }
 
-/// A checkpoint, which Basic refuses once its step is made: it has no segments to close.
+// Whether a checkpoint that is stopped so has closed its segment: its third step does that, by writing the cell.
+fn closes(stop: Stop) -> bool
+    ensures { result ≡ closes_at stop }
+{
+    match stop {
+        Stop::Quiet => false,
+        Stop::Cut(step) | Stop::Drop(step) => step == 3,
+        Stop::Fail { step, done } => step == 3 && done,
+    }
+}
+
+// What a checkpoint that was stopped so is told as.
+fn closing(stop: Stop, ended: Result<Checkpointed, CheckpointRefusal>) -> Reply
+    ensures { result ≡ closing_as stop ended }
+{
+    match ended {
+        Ok(Checkpointed::Done) => Reply::Checkpointed,
+        Ok(Checkpointed::NoSegment) => Reply::No(Cause::Segment),
+        Err(CheckpointRefusal::Lost) => Reply::No(Cause::Lost),
+        Err(CheckpointRefusal::Device(_)) if closes(stop) => Reply::Closed { way: way(stop) },
+        Err(CheckpointRefusal::Device(_)) => Reply::Nothing { way: way(stop) },
+        Err(CheckpointRefusal::Kind | CheckpointRefusal::Blank | CheckpointRefusal::Cell) =>
+            Reply::No(Cause::Kind),
+    }
+}
+
+// Whether a checkpoint was broken off.
+fn is_stopped(ended: &Result<Checkpointed, CheckpointRefusal>) -> bool
+    ensures { result ≡ stops_in ended.now }
+{
+    matches!(ended, Err(CheckpointRefusal::Device(_)))
+}
+
+/// Closes the open segment. In Basic there is none, and its first step finds that.
 pub fn checkpoint(
     platform: &mut MemPlatform,
     meddles: &[Meddle],
     stop: Stop,
 ) -> Result<Reply, Memory>
-    ensures ends { (meaning : Meaning) (issued : List (List ℕ)) → ChecksAs meaning platform.old platform.new issued meddles.now stop (called_by result) }
-    ensures memory { OnErr result (platform.new ≡ platform.old) }
+    ensures { (variant : Variant) (meaning : Meaning) (issued : List (List ℕ)) →
+        ChecksAs variant meaning platform.old platform.new issued meddles.now stop result }
 {
-    match platform.plan(stop, meddles) {
-        Err(memory) => Err(memory),
-        Ok(()) => {
-            let said = read_once(platform, stop);
-            platform.end_plan();
-            Ok(said)
-        }
-    }
-}
-
-// Makes the only step of a checkpoint of Basic.
-fn read_once(platform: &mut MemPlatform, stop: Stop) -> Reply
-    ensures { IsSome platform.old.plan → ReadsOnce platform.old platform.new stop (quiet_as result) }
-{
-    let mut bytes = [0; 104];
-    match platform.nv_read(&mut bytes) {
-        Ok(()) => Reply::No(Cause::Kind),
-        Err(_) => {
-            restore(platform, stop);
-            Reply::Nothing { way: way(stop) }
-        }
-    }
+    platform.plan(stop, meddles)?;
+    let ended = mm_opt::checkpoint(platform);
+    settle(platform, stop, is_stopped(&ended));
+    Ok(closing(stop, ended))
 }

@@ -1,9 +1,8 @@
-//! Schedules over a platform in memory.
+//! Schedules over a platform in memory, in either variant.
 #![tactic(auto)]
 
 mod call;
 mod keys;
-pub mod laws;
 mod offered;
 mod parts;
 mod world;

@@ -2,7 +2,7 @@
 
 ghost use Rattle.std.specs.Prelude.{◌≡◌, ◌∷◌, ◌++◌, IfOk, slice_get, option_copied};
 ghost use Rattle.std.specs.Option.{option_map};
-ghost use Rattle.mm_world.specs.Offered.{offered_bytes, flipped};
+ghost use Rattle.mm_run.specs.Offered.{offered_bytes, flipped};
 ghost use Rattle.mm_world.specs.OfferedBytes.{bytes_in};
 
 use mm_base::{Bytes, Memory};

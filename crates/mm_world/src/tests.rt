@@ -25,16 +25,19 @@ fn check(
     Ok(())
 }
 
-fn counter(rt: &impl Abort, alloc: Global) -> Result<World, Fail> {
-    let header = read_header(b"memoir 1 basic counter").ok_or("no header")?;
-    assert!(rt; header.variant == mm_digest::Variant::Basic);
+fn world(alloc: Global, header: &[u8]) -> Result<World, Fail> {
+    let header = read_header(header).ok_or("no header")?;
     let world = World::new(alloc, &header)?;
     Ok(world)
 }
 
+fn counter(alloc: Global) -> Result<World, Fail> {
+    world(alloc, b"memoir 1 basic counter")
+}
+
 #[test]
 fn events(rt: HostRuntime) -> Result<(), Fail> {
-    let mut world = counter(&rt, rt.alloc())?;
+    let mut world = counter(rt.alloc())?;
     let rows: [(&[u8], &[u8]); 14] = [
         (b"ask 0 add 5", b"ok 1 5\n"),
         (b"ask 0 add 5", b"again 1 5\n"),
@@ -91,9 +94,40 @@ fn stops(rt: HostRuntime) -> Result<(), Fail> {
         (b"drop 3 ask last add 1", b"ok 1 1\n", b"again 1 1\n"),
     ];
     for (line, text, then) in rows {
-        let mut world = counter(&rt, rt.alloc())?;
+        let mut world = counter(rt.alloc())?;
         check(&rt, rt.alloc(), &mut world, line, text)?;
         check(&rt, rt.alloc(), &mut world, b"ask 0 add 1", then)?;
     }
+    Ok(())
+}
+
+// A segment is opened, closed, lost and broken off at each step of a checkpoint.
+#[test]
+fn segments(rt: HostRuntime) -> Result<(), Fail> {
+    let mut world = world(rt.alloc(), b"memoir 1 opt counter")?;
+    let rows: [(&[u8], &[u8]); 18] = [
+        (b"checkpoint", b"no segment\n"),
+        (b"ask last add 5", b"ok 1 5\n"),
+        (b"ask 0 add 5", b"again 1 5\n"),
+        (b"ask last add 2", b"ok 2 7\n"),
+        (b"drop 2 checkpoint", b"drop lost\n"),
+        (b"fail 3 undone checkpoint", b"fault lost\n"),
+        (b"drop 3 checkpoint", b"drop closed\n"),
+        (b"checkpoint", b"no segment\n"),
+        (b"power", b"power\n"),
+        (b"ask last read", b"ok 3 7\n"),
+        (b"drop 3 ask last add 1", b"drop kept 4\n"),
+        (b"ask last add 1", b"again 4 8\n"),
+        (b"checkpoint", b"checkpointed\n"),
+        (b"drop 4 ask last read", b"drop lost\n"),
+        (b"ask last read", b"ok 5 8\n"),
+        (b"power", b"power\n"),
+        (b"ask last read", b"no lost\n"),
+        (b"checkpoint", b"no lost\n"),
+    ];
+    for (line, text) in rows {
+        check(&rt, rt.alloc(), &mut world, line, text)?;
+    }
+    assert!(rt; world.committed() == 5);
     Ok(())
 }

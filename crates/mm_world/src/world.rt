@@ -1,73 +1,87 @@
 //! A world: a platform in memory with a module on it, and the snapshots that were handed out.
 
+ghost use Rattle.std.specs.Prelude.{◌≡◌, IfOk};
+ghost use Rattle.mm_seal.specs.Cell.{cell_spelling};
+ghost use Rattle.mm_model.specs.History.{first_history};
+ghost use Rattle.mm_model.specs.Standing.{cell_of, issued_bytes};
+ghost use Rattle.mm_run.specs.Held.{world_of};
+
 use crate::call::{Called, asked, checkpoint};
 use crate::keys::{barrier, key};
 use crate::parts::{first, keep, listed};
 use mm_base::{Bytes, Memory};
-use mm_basic::{Provisioned, provision};
-use mm_digest::Digest;
+use mm_call::Provisioned;
+use mm_digest::{Digest, Variant};
 use mm_module::Batch;
-use mm_modules::AnyModule;
 use mm_platform::{Meddle, MemPlatform, Platform, Stop};
 use mm_schedule::{Event, Header, Offer, Reply};
 use std::alloc::Global;
 use std::marker::Model;
 
-/// A world, which contracts see by digests: the module, where it stands, the issued snapshots by their numbers, and
+/// A world, which contracts see by digests: the header, where it stands, the issued snapshots by their numbers, and
 /// the counts of steps.
 #[derive(Drop)]
 pub struct World {
-    module: AnyModule,
+    header: Header,
     platform: MemPlatform,
     issued: Vec<Bytes>,
     committed: u64,
 }
 
 impl Model for World {
-    ghost use Rattle.mm_world.specs.Held.{Held, held_in, IsSettled};
+    ghost use Rattle.mm_run.specs.Held.{Held};
+    ghost use Rattle.mm_world.specs.Held.{held_in, IsSettled};
 
     ghost Value = { Held };
 
-    ghost view = { λ w. held_in w.«module» w.platform w.issued.items w.committed };
+    ghost view = { λ w. held_in w.header w.platform w.issued.items w.committed };
 
-    ghost invariant = { λ w. IsSettled w.«module» w.platform w.issued.items w.committed };
+    ghost invariant = { λ w. IsSettled w.header w.platform w.issued.items w.committed };
+}
+
+// The first cell and snapshot of a world.
+fn provisioned(alloc: Global, header: &Header) -> Result<Provisioned, Memory>
+    ensures cell { IfOk result (λ made. made.cell ≡ cell_spelling (cell_of (world_of header.now) first_history)) }
+    ensures snapshot { IfOk result (λ made. made.snapshot ≡ issued_bytes (world_of header.now) first_history) }
+{
+    match header.variant {
+        Variant::Basic => mm_basic::provision(alloc, &header.module, &key(), &barrier()),
+        Variant::Opt => mm_opt::provision(alloc, &header.module, &key(), &barrier()),
+    }
 }
 
 impl World {
     ghost use Rattle.std.specs.Prelude.{◌≡◌, ◌<◌, ◌≤◌, ◌+◌, ◌-◌, ◌^◌, IfOk, OnErr, length, slice_get, option_copied};
-    ghost use Rattle.mm_digest.specs.declared.variant.Variant.TheVariants.{Basic};
     ghost use Rattle.mm_module.specs.Batches.{batch_of};
     ghost use Rattle.mm_schedule.specs.Events.{Ask, Checkpoint, Power, Extend, event_of};
     ghost use Rattle.mm_schedule.specs.Replies.{IsPrintable};
     ghost use Rattle.mm_seal.specs.Cell.{cell_spelling};
     ghost use Rattle.mm_model.specs.History.{first_history};
     ghost use Rattle.mm_model.specs.Standing.{cell_of, issued_bytes};
-    ghost use Rattle.mm_world.specs.Held.{first_held, world_of, HoldsWorld, outcome_in, Follows, Lacked, Wants};
+    ghost use Rattle.mm_run.specs.Held.{first_held, world_of, outcome_in, Follows, Wants};
+    ghost use Rattle.mm_world.specs.Held.{HoldsWorld};
 
-    /// A new world: the platform is provisioned for the header's module, and its first snapshot has number 0. Opt
-    /// is not built yet.
+    /// A new world: the platform is provisioned for the header's module, and its first snapshot has number 0.
     pub fn new(alloc: Global, header: &Header) -> Result<World, Memory>
-        requires { header.now.variant ≡ Basic }
-        ensures { IfOk result (λ world. world ≡ first_held header.now.«module») }
+        ensures { IfOk result (λ world. world ≡ first_held header.now) }
     {
-        let module = header.module;
-        match provision(alloc, &module, &key(), &barrier()) {
+        match provisioned(alloc, header) {
             Err(memory) => Err(memory),
-            Ok(made) => World::provisioned(alloc, module, made),
+            Ok(made) => World::over(alloc, *header, made),
         }
     }
 
     // A world with this first cell and snapshot.
-    fn provisioned(alloc: Global, module: AnyModule, made: Provisioned) -> Result<World, Memory>
-        requires cell { made.cell ≡ cell_spelling (cell_of (world_of «module») first_history) }
-        requires snapshot { made.snapshot ≡ issued_bytes (world_of «module») first_history }
-        ensures { IfOk result (λ world. world ≡ first_held «module») }
+    fn over(alloc: Global, header: Header, made: Provisioned) -> Result<World, Memory>
+        requires cell { made.cell ≡ cell_spelling (cell_of (world_of header) first_history) }
+        requires snapshot { made.snapshot ≡ issued_bytes (world_of header) first_history }
+        ensures { IfOk result (λ world. world ≡ first_held header) }
     {
         let Provisioned { cell, snapshot } = made;
         match first(alloc, snapshot) {
             Err(memory) => Err(memory),
             Ok(issued) => Ok(World {
-                module,
+                header,
                 platform: MemPlatform::new(alloc, &cell),
                 issued,
                 committed: 0,
@@ -75,12 +89,11 @@ impl World {
         }
     }
 
-    /// Runs one event, and answers it. After want of memory nothing has changed but the count of steps, and what
-    /// others put into the register.
+    /// Runs one event, and answers it. After want of memory nothing has changed, but that a call may have made its
+    /// reading steps.
     pub fn event(&mut self, event: &Event) -> Result<Reply, Memory>
         requires { length self.old.issued < 2 ^ 32 - 1 }
         ensures ok { IfOk result (Follows (outcome_in self.old (event_of event.now)) self.old self.new) }
-        ensures memory { OnErr result (Lacked self.old self.new) }
         ensures wants { OnErr result (Wants (event_of event.now) self.old self.new) }
 
         // The reply can be printed; at most one snapshot is issued, and at most 64 requests are committed.
@@ -169,7 +182,8 @@ impl World {
         let alloc = *self.issued.allocator();
         match asked(
             alloc,
-            &self.module,
+            self.header.variant,
+            &self.header.module,
             &mut self.platform,
             self.issued.as_slice(),
             offer,

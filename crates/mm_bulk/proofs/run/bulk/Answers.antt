@@ -14,7 +14,7 @@ lines-init c =
     record {
       going = starts c.args.number c.args.count c.args.header.now _ (running c.in_ok-progress.progress) _ _ c.requires.count rest
           c.in_ok-progress.ensures c.none-counts.ensures c.new-replies.ensures;
-      machine = ap (λ (r : Running). r.machine) c.in_ok-progress.ensures;
+      header = ap (λ (r : Running). r.header) c.in_ok-progress.ensures;
     }
 
 pub answered-requires-clause-short : goal.answered-requires-clause-short
@@ -38,7 +38,7 @@ lines-preserved-in_ok-write_reply c =
     record {
       going = goes_on _ _ _ (running c.answered.new.progress) _ _ _ _ c.in-Some.line.now c.in-Some.behind.now c.in_ok-reply.reply step
           c.in_ok-reply.ensures.reply c.count.ensures.counted (sent_whole _ _ _ _ c.in_ok-write_reply.ensures.sent);
-      machine = step.machine c.in_ok-reply.reply (running c.answered.new.progress) c.in_ok-reply.ensures.reply ∙ c.lines.invariant.machine;
+      header = step.header c.in_ok-reply.reply (running c.answered.new.progress) c.in_ok-reply.ensures.reply ∙ c.lines.invariant.header;
     }
 
 pub lines-preserved : goal.lines-preserved
@@ -47,14 +47,14 @@ lines-preserved c =
     record {
       going = goes_on _ _ _ (running c.answered.new.progress) _ _ _ _ c.in-Some.line.now c.in-Some.behind.now c.in_ok-reply.reply step
           c.in_ok-reply.ensures.reply c.count.ensures.counted (sent_whole _ _ _ _ c.in_ok-write_reply.ensures.sent);
-      machine = step.machine c.in_ok-reply.reply (running c.answered.new.progress) c.in_ok-reply.ensures.reply ∙ c.lines.invariant.machine;
+      header = step.header c.in_ok-reply.reply (running c.answered.new.progress) c.in_ok-reply.ensures.reply ∙ c.lines.invariant.header;
     }
 
 pub returns : goal.returns
 returns c =
     let made = ended _ _ (running c.lines.progress) c.lines.counts c.lines.replies.text c.lines.invariant.going (sym c.in_default.ensures) in
     let sent = sent_whole _ _ _ _ c.in_ok-close.ensures.sent in
-    told_at c.args.header.now.module (schedule_lines c.args.number c.args.count c.args.header.now) (running c.lines.progress) c.lines.counts
+    told_at c.args.header.now (schedule_lines c.args.number c.args.count c.args.header.now) (running c.lines.progress) c.lines.counts
     c.report-report.result.committed c.report-report.result.issued c.digest_of.result c.lines.replies.text
-    c.lines.invariant.machine c.report-report.ensures.0 c.report-report.ensures.1
+    c.lines.invariant.header c.report-report.ensures.0 c.report-report.ensures.1
     (c.digest_of.ensures ∙ ap sha256 (c.as_slice-2.ensures ∙ sent)) made

@@ -7,7 +7,7 @@ use Rattle.mm_bulk.proofs.run.bulk.Given as goal
 abbrev pub invariant-lines : goal.invariant-lines
 invariant-lines l = record {
   going : Going (schedule_lines l.number l.count l.header) l.rest (running l.progress) l.counts l.replies.text;
-  machine : (running l.progress).machine ≡ l.header.module;
+  header : (running l.progress).header ≡ l.header;
 }
 
 abbrev pub decreases-lines : goal.decreases-lines

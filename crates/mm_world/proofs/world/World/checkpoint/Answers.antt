@@ -4,15 +4,17 @@ use Rattle.mm_world.proofs.world.World.checkpoint.Goals as goal
 
 pub invariant_of-self : goal.invariant_of-self
 invariant_of-self c =
-    settled_checked c.self.inside.module c.self.inside.platform c.checkpoint.new.platform c.self.inside.issued.items c.self.inside.committed c.args.meddles.now c.args.stop
-    c.checkpoint.result c.self.invariant (c.checkpoint.ensures.ends (meaning_of c.self.inside.module) c.self.inside.issued.items)
+    settled_checked c.self.inside.header c.self.inside.platform c.checkpoint.new.platform c.self.inside.issued.items c.self.inside.committed c.args.meddles.now c.args.stop
+    c.checkpoint.result c.self.invariant (c.checkpoint.ensures c.self.inside.header.variant (meaning_of c.self.inside.header.«module») c.self.inside.issued.items)
 
 pub returns-clause-ok : goal.returns-clause-ok
 returns-clause-ok c =
-    follows_checked c.self.inside.module c.self.inside.platform c.checkpoint.new.platform c.self.inside.issued.items c.self.inside.committed c.args.meddles.now c.args.stop
-    c.checkpoint.result c.args.self.now c.self.view_is c.self.invariant (c.checkpoint.ensures.ends (meaning_of c.self.inside.module) c.self.inside.issued.items)
+    follows_checked c.self.inside.header c.self.inside.platform c.checkpoint.new.platform c.self.inside.issued.items c.self.inside.committed c.args.meddles.now c.args.stop
+    c.checkpoint.result c.args.self.now c.self.view_is c.self.invariant
+    (c.checkpoint.ensures c.self.inside.header.variant (meaning_of c.self.inside.header.«module») c.self.inside.issued.items)
 
 pub returns-clause-memory : goal.returns-clause-memory
 returns-clause-memory c =
-    same_checked c.self.inside.module c.self.inside.platform c.checkpoint.new.platform c.self.inside.issued.items c.self.inside.committed
-    c.checkpoint.result c.args.self.now c.self.view_is c.checkpoint.ensures.memory
+    same_checked c.self.inside.header c.self.inside.platform c.checkpoint.new.platform c.self.inside.issued.items c.self.inside.committed c.args.meddles.now c.args.stop
+    c.checkpoint.result c.args.self.now c.self.view_is c.self.invariant
+    (c.checkpoint.ensures c.self.inside.header.variant (meaning_of c.self.inside.header.«module») c.self.inside.issued.items)

@@ -1,0 +1,206 @@
+-- A planned checkpoint, however it ended, comes to what it does by digests.
+use Rattle.std.proofs.Common.{◌≡◌, ℕ, ◌+◌, Bool, true, false, ◌&&◌, List, [], ◌∷◌, ◌++◌, map, Option, None, Some, Result, Ok, Err, refl, sym, ap, ◌∙◌, subst, arith}
+use Rattle.std.proofs.lemmas.Bool.{eqb-true}
+use Rattle.std.proofs.lemmas.List.{append-nil}
+use Rattle.std.specs.Prelude.{if◌then◌else◌, ◌==◌, IsSome}
+use Rattle.std.specs.Option.{option_map}
+use Rattle.mm_base.specs.declared.fault.Memory.{Memory}
+use Rattle.mm_digest.specs.declared.variant.Variant.{Variant}
+use Rattle.mm_digest.specs.declared.variant.Variant.TheVariants.{Basic, Opt}
+use Rattle.mm_module.specs.Meaning.{Meaning}
+use Rattle.mm_platform.specs.declared.fault.StepFault.{StepFault}
+use Rattle.mm_platform.specs.declared.fault.StepFault.TheVariants as step
+use Rattle.mm_platform.specs.declared.plan.Meddle.{Meddle}
+use Rattle.mm_platform.specs.declared.plan.Stop.{Stop}
+use Rattle.mm_platform.specs.declared.plan.Stop.TheVariants.{Quiet, Cut, Drop, Fail}
+use Rattle.mm_platform.specs.Standing.{Standing, values_of, register_of}
+use Rattle.mm_platform.specs.Steps.{fault_at, is_made_at}
+use Rattle.mm_model.specs.Instance.{Instance}
+use Rattle.mm_model.specs.History.{Move, Foreign, Close}
+use Rattle.mm_model.specs.Moves.{Digests}
+use Rattle.mm_model.specs.Standing.{register_reads}
+use Rattle.mm_model.specs.Steps.{Reads, Writes, checkpoint_steps}
+use Rattle.mm_opt.specs.declared.segment.Checkpointed.{Checkpointed as Said}
+use Rattle.mm_opt.specs.declared.segment.CheckpointRefusal.{CheckpointRefusal}
+use Rattle.mm_opt.specs.ChecksOn.{closing_told, ChecksBy, ChecksOn}
+use Rattle.mm_call.specs.Levels.{by_digests, all_made}
+use Rattle.mm_call.specs.Courses.{End, Done, Fails, Fate, Walked, walk, after_step, end_of, planned, made_move, closes}
+use Rattle.mm_call.specs.Called.{seen_at}
+use Rattle.mm_call.specs.Checkpoints.{closing_of, closed_by, checkpointed}
+use Rattle.mm_call.specs.Standing.{instance_by, StandsAt}
+use Rattle.mm_call.specs.Ended.{StaysOn}
+use Rattle.mm_call.proofs.Moving.{committed_in}
+use Rattle.mm_call.proofs.Walks.{committed-foreign, foreign_first}
+use Rattle.mm_schedule.specs.declared.reply.Reply.{Reply}
+use Rattle.mm_run.specs.Folds.{way_of, plan_of, course_of, stopped_reply, closing_reply, closing_then, closed_outcome}
+use Rattle.mm_world.specs.Stands.{Stands}
+use Rattle.mm_world.specs.Calls.{takes_effect, is_cut, Settles, number_of, closes_at, closing_as, stops_in}
+use Rattle.mm_world.specs.Asks.{Came, ChecksAs, quiet_as}
+use Rattle.mm_world.proofs.Committing.{reads_shown, count_none}
+use Rattle.mm_world.proofs.Asking.{stands_settled, on_settled, reads_commit_end, power_if, stop_power, power_count}
+
+-- the step at which a planned call is broken off
+record StoppedAt (stop : Stop) (n : ℕ) (made : Bool) : Type 0 where
+  pub number : number_of stop ≡ n
+  pub effect : made ≡ takes_effect stop
+
+stopped_off : (stop : Stop) (at n : ℕ) (here : Bool) (fault : StepFault) (made : Bool) → (at == n) ≡ here → number_of stop ≡ at → takes_effect stop ≡ true
+    → end_of (if here then Some step.Off else None) true ≡ Fails fault made → StoppedAt stop n made
+stopped_off stop at n true fault made here number effect e = record { number = number ∙ eqb-true at n here; effect = (let x : true ≡ made = cc in sym x ∙ sym effect) }
+stopped_off stop at n false fault made here number effect e = cc
+
+stopped_failed : (stop : Stop) (at n : ℕ) (here done : Bool) (fault : StepFault) (made : Bool) → (at == n) ≡ here → number_of stop ≡ at → takes_effect stop ≡ done
+    → end_of (if here then Some step.Failed else None) (if here then done else true) ≡ Fails fault made → StoppedAt stop n made
+stopped_failed stop at n true done fault made here number effect e = record { number = number ∙ eqb-true at n here; effect = (let x : done ≡ made = cc in sym x ∙ sym effect) }
+stopped_failed stop at n false done fault made here number effect e = cc
+
+stopped_at : (stop : Stop) (n : ℕ) (fault : StepFault) (made : Bool) → end_of (fault_at stop n) (is_made_at stop n) ≡ Fails fault made → StoppedAt stop n made
+stopped_at Quiet n fault made e = cc
+stopped_at (Cut at) n fault made e = stopped_off (Cut at) at n (at == n) fault made refl refl refl e
+stopped_at (Drop at) n fault made e = stopped_off (Drop at) at n (at == n) fault made refl refl refl e
+stopped_at (Fail at done) n fault made e = stopped_failed (Fail at done) at n (at == n) done fault made refl refl refl e
+
+-- whether the segment was closed
+
+closes_foreign : (values : List (List ℕ)) → closes (map Foreign values) ≡ false
+closes_foreign [] = refl
+closes_foreign (v ∷ values) = closes_foreign values
+
+closes_then : (values : List (List ℕ)) (moves : List Move) → closes (map Foreign values ++ moves) ≡ closes moves
+closes_then [] moves = refl
+closes_then (v ∷ values) moves = closes_then values moves
+
+closes_write : (made : Bool) (values : List (List ℕ)) → closes (made_move made Close ++ map Foreign values) ≡ made
+closes_write true values = refl
+closes_write false values = closes_foreign values
+
+abbrev Planned : (ℕ → Fate) → Stop → Type 0
+Planned fates stop = (n : ℕ) → (fates n).ends ≡ end_of (fault_at stop n) (is_made_at stop n)
+
+-- a reading step, before a walk of which this holds
+read_closes : (fates : ℕ → Fate) (stop : Stop) (n : ℕ) (values : List (List ℕ)) (e : End) (rest : Walked) (fault : StepFault) → e ≡ end_of (fault_at stop n) (is_made_at stop n) → (n == 3) ≡ false
+    → (after_step Reads values e rest).broken ≡ Some fault → (rest.broken ≡ Some fault → closes rest.moves ≡ closes_at stop)
+    → closes (after_step Reads values e rest).moves ≡ closes_at stop
+read_closes fates stop n values Done rest fault ends other broken later = closes_then values rest.moves ∙ later broken
+read_closes fates stop n values (Fails f made) rest fault ends other broken later =
+    let at = stopped_at stop n f made (sym ends) in
+    closes_foreign values ∙ sym (ap (λ k. (k == 3) && takes_effect stop) at.number ∙ ap (λ x. x && takes_effect stop) other)
+
+-- the step that closes
+write_closes : (stop : Stop) (values : List (List ℕ)) (e : End) (rest : Walked) (fault : StepFault) → e ≡ end_of (fault_at stop 3) (is_made_at stop 3) → rest.broken ≡ None
+    → (after_step (Writes Close) values e rest).broken ≡ Some fault → closes (after_step (Writes Close) values e rest).moves ≡ closes_at stop
+write_closes stop values Done rest fault ends none broken = cc
+write_closes stop values (Fails f made) rest fault ends none broken =
+    let at = stopped_at stop 3 f made (sym ends) in
+    closes_write made values ∙ at.effect ∙ sym (ap (λ k. (k == 3) && takes_effect stop) at.number)
+
+nothing_more : (broken : Option StepFault) (fault : StepFault) (stop : Stop) → broken ≡ None → broken ≡ Some fault → false ≡ closes_at stop
+nothing_more broken fault stop none some = cc
+
+closes_planned : (fates : ℕ → Fate) (stop : Stop) (variant : Variant) (is_open is_lost : Bool) (fault : StepFault) → Planned fates stop
+    → (walk fates 1 (checkpoint_steps variant is_open is_lost)).broken ≡ Some fault
+    → closes (walk fates 1 (checkpoint_steps variant is_open is_lost)).moves ≡ closes_at stop
+closes_planned fates stop Basic is_open is_lost fault told broken =
+    read_closes fates stop 1 (fates 1).brings (fates 1).ends (walk fates 2 []) fault (told 1) refl broken (nothing_more None fault stop refl)
+closes_planned fates stop Opt false is_lost fault told broken =
+    read_closes fates stop 1 (fates 1).brings (fates 1).ends (walk fates 2 []) fault (told 1) refl broken (nothing_more None fault stop refl)
+closes_planned fates stop Opt true true fault told broken =
+    read_closes fates stop 1 (fates 1).brings (fates 1).ends (walk fates 2 (Reads ∷ [])) fault (told 1) refl broken (λ later.
+    read_closes fates stop 2 (fates 2).brings (fates 2).ends (walk fates 3 []) fault (told 2) refl later (nothing_more None fault stop refl))
+closes_planned fates stop Opt true false fault told broken =
+    read_closes fates stop 1 (fates 1).brings (fates 1).ends (walk fates 2 (Reads ∷ Writes Close ∷ [])) fault (told 1) refl broken (λ later.
+    read_closes fates stop 2 (fates 2).brings (fates 2).ends (walk fates 3 (Writes Close ∷ [])) fault (told 2) refl later (λ last.
+    write_closes stop (fates 3).brings (fates 3).ends (walk fates 4 []) fault (told 3) refl last))
+
+-- a checkpoint commits nothing
+
+close_commits : (values : List (List ℕ)) (e : End) (rest : Walked) → committed_in rest.moves ≡ [] → committed_in (after_step (Writes Close) values e rest).moves ≡ []
+close_commits values Done rest none = foreign_first values rest.moves ∙ none
+close_commits values (Fails fault true) rest none = committed-foreign values
+close_commits values (Fails fault false) rest none = committed-foreign values
+
+pub closing_commits : (fates : ℕ → Fate) (variant : Variant) (is_open is_lost : Bool) → committed_in (walk fates 1 (checkpoint_steps variant is_open is_lost)).moves ≡ []
+closing_commits fates Basic is_open is_lost = reads_commit_end (fates 1).brings (fates 1).ends (walk fates 2 []) refl
+closing_commits fates Opt false is_lost = reads_commit_end (fates 1).brings (fates 1).ends (walk fates 2 []) refl
+closing_commits fates Opt true true =
+    reads_commit_end (fates 1).brings (fates 1).ends (walk fates 2 (Reads ∷ [])) (reads_commit_end (fates 2).brings (fates 2).ends (walk fates 3 []) refl)
+closing_commits fates Opt true false =
+    reads_commit_end (fates 1).brings (fates 1).ends (walk fates 2 (Reads ∷ Writes Close ∷ []))
+    (reads_commit_end (fates 2).brings (fates 2).ends (walk fates 3 (Writes Close ∷ [])) (close_commits (fates 3).brings (fates 3).ends (walk fates 4 []) refl))
+
+-- what is told
+
+closing_said : (stop : Stop) (variant : Variant) (is_open is_lost closed : Bool) (broken : Option StepFault) (result : Result Said CheckpointRefusal)
+    → result ≡ closing_told (closed_by broken closed (closing_of variant is_open is_lost)) → ((fault : StepFault) → broken ≡ Some fault → closed ≡ closes_at stop)
+    → closing_as stop result ≡ closing_reply (way_of stop) (closed_by broken closed (closing_of variant is_open is_lost))
+closing_said stop variant is_open is_lost closed (Some fault) result e known =
+    ap (closing_as stop) e ∙ ap (stopped_reply (way_of stop)) (sym (known fault refl))
+closing_said stop Basic is_open is_lost closed None result e known = ap (closing_as stop) e
+closing_said stop Opt false is_lost closed None result e known = ap (closing_as stop) e
+closing_said stop Opt true true closed None result e known = ap (closing_as stop) e
+closing_said stop Opt true false closed None result e known = ap (closing_as stop) e
+
+stops_said : (variant : Variant) (is_open is_lost closed : Bool) (broken : Option StepFault) (result : Result Said CheckpointRefusal)
+    → result ≡ closing_told (closed_by broken closed (closing_of variant is_open is_lost)) → (stop : Stop)
+    → closing_then stop (closed_by broken closed (closing_of variant is_open is_lost)) ≡ power_if (stops_in result && is_cut stop)
+stops_said variant is_open is_lost closed (Some fault) result e stop = stop_power stop ∙ sym (ap (λ x. power_if (stops_in x && is_cut stop)) e)
+stops_said Basic is_open is_lost closed None result e stop = sym (ap (λ x. power_if (stops_in x && is_cut stop)) e)
+stops_said Opt false is_lost closed None result e stop = sym (ap (λ x. power_if (stops_in x && is_cut stop)) e)
+stops_said Opt true true closed None result e stop = sym (ap (λ x. power_if (stops_in x && is_cut stop)) e)
+stops_said Opt true false closed None result e stop = sym (ap (λ x. power_if (stops_in x && is_cut stop)) e)
+
+-- a checkpoint on the planned course
+closed_came : (i : Instance) (d : Digests) (stop : Stop) (meddles : List Meddle) (old mid new : Standing) (result : Result Said CheckpointRefusal) (issued : List (List ℕ))
+    → ChecksBy i d (checkpointed i (by_digests i) d (course_of stop meddles)) (record old { plan = Some (plan_of stop meddles) }) mid result
+    → register_reads old ≡ Some d.register → Settles stop (stops_in result) mid new → StaysOn stop (stops_in result) mid
+    → Came i (closed_outcome (by_digests i) stop issued (checkpointed i (by_digests i) d (course_of stop meddles))) d.count issued old new (quiet_as (closing_as stop result))
+closed_came i d stop meddles old mid new result issued goes register settles stays =
+    let c = course_of stop meddles in
+    let is_lost = (by_digests i).is_lost (seen_at i (by_digests i) d c) in
+    let o = checkpointed i (by_digests i) d c in
+    let w = walk c.fates 1 (checkpoint_steps i.variant d.flag is_lost) in
+    let read : register_reads mid ≡ Some o.state.register =
+    ap (λ x. option_map (λ xs. register_of (values_of xs)) x) goes.items ∙ reads_shown i o.moves d old.items register in
+    let lost = stops_in result && is_cut stop in
+    let power = stops_said i.variant d.flag is_lost (closes w.moves) w.broken result goes.gives stop in
+    let P : List Move → Type 0 = λ ms. Stands i new (all_made (by_digests i) o.state ms) in
+    let C : List Move → Type 0 = λ ms. (all_made (by_digests i) o.state ms).count ≡ d.count + 0 in
+    record {
+      reply = closing_said stop i.variant d.flag is_lost (closes w.moves) w.broken result goes.gives
+          (λ fault broken. closes_planned c.fates stop i.variant d.flag is_lost fault (λ n. refl) broken);
+      issues = append-nil issued;
+      stands = subst P (sym power) (stands_settled i o.state mid new lost (record { at = goes.stands; register = read }) settles.cell settles.items);
+      counts = subst C (sym power) (power_count i o.state lost ∙ count_none i w.moves d (closing_commits c.fates i.variant d.flag is_lost) ∙ omega arith);
+      quiet = record { is_on = on_settled stop (stops_in result) mid new stays settles.is_on; plan = settles.plan };
+      steps = settles.steps ∙ goes.steps;
+      writes = settles.writes ∙ goes.writes;
+    }
+
+-- a checkpoint over a planned platform
+pub checks_planned : (old mid new : Standing) (meddles : List Meddle) (stop : Stop) (result : Result Said CheckpointRefusal)
+    → ChecksOn (record old { plan = Some (plan_of stop meddles) }) mid result → (IsSome mid.plan → Settles stop (stops_in result) mid new)
+    → (variant : Variant) (meaning : Meaning) (issued : List (List ℕ)) → ChecksAs variant meaning old new issued meddles stop (Ok (closing_as stop result))
+checks_planned old mid new meddles stop result checks settles variant meaning issued = λ key barrier d s q.
+    let i = instance_by variant meaning key barrier in
+    let at : Standing = record old { plan = Some (plan_of stop meddles) } in
+    let stands : StandsAt i at d = record { spells = s.at.spells; cell = s.at.cell; reads = s.at.reads } in
+    let stays = checks.plans (plan_of stop meddles) q.is_on refl refl in
+    let told = checks.tells (plan_of stop meddles) q.is_on refl refl in
+    let goes : ChecksBy i d (checkpointed i (by_digests i) d (course_of stop meddles)) at mid result =
+    subst (λ (f : ℕ → Fate). ChecksBy i d (checkpointed i (by_digests i) d (record { fates = f; lacks = false })) at mid result) (λ j. λ n. told n j)
+    (checks.goes variant meaning key barrier d stands) in
+    closed_came i d stop meddles old mid new result issued goes s.register (settles stays.1) stays.0
+
+pub checks_wanting : (old new : Standing) (meddles : List Meddle) (stop : Stop) (memory : Memory) → new ≡ old
+    → (variant : Variant) (meaning : Meaning) (issued : List (List ℕ)) → ChecksAs variant meaning old new issued meddles stop (Err memory)
+checks_wanting old new meddles stop memory e variant meaning issued = λ key barrier d s q. e
+
+-- the same, in the words of the code
+pub checks_over : (old planned_at mid new : Standing) (meddles : List Meddle) (stop : Stop) (broken : Bool) (said : Reply) (result : Result Said CheckpointRefusal)
+    → planned_at ≡ record old { plan = Some (plan_of stop meddles) } → ChecksOn planned_at mid result → broken ≡ stops_in result
+    → (IsSome mid.plan → Settles stop broken mid new) → said ≡ closing_as stop result
+    → (variant : Variant) (meaning : Meaning) (issued : List (List ℕ)) → ChecksAs variant meaning old new issued meddles stop (Ok said)
+checks_over old planned_at mid new meddles stop broken said result planned checks is settles told variant meaning issued =
+    subst (λ r. ChecksAs variant meaning old new issued meddles stop (Ok r)) (sym told)
+    (checks_planned old mid new meddles stop result (subst (λ (s : Standing). ChecksOn s mid result) planned checks)
+    (λ some. subst (λ x. Settles stop x mid new) is (settles some)) variant meaning issued)

@@ -1,0 +1,139 @@
+-- How many requests a call commits, and what the register reads after its moves.
+use Rattle.std.proofs.Common.{◌≡◌, ℕ, ◌+◌, Bool, true, false, List, [], ◌∷◌, ◌++◌, length, Option, None, Some, Result, Ok, Err, refl, ap, ◌∙◌, arith}
+use Rattle.std.specs.Prelude.{if◌then◌else◌}
+use Rattle.std.specs.Option.{option_map}
+use Rattle.std.proofs.lemmas.List.{map-append}
+use Rattle.std.proofs.lemmas.List.Sums.{fold-append}
+use Rattle.mm_digest.specs.declared.variant.Variant.{Variant}
+use Rattle.mm_digest.specs.declared.variant.Variant.TheVariants.{Basic, Opt}
+use Rattle.mm_digest.specs.Messages.{zero_bytes, extended_of}
+use Rattle.mm_module.specs.Batch.{Batch, members_of, size_of}
+use Rattle.mm_module.specs.Meaning.{outputs_from}
+use Rattle.mm_module.proofs.RunLaws.{length-outputs_from}
+use Rattle.mm_platform.specs.declared.fault.StepFault.{StepFault}
+use Rattle.mm_platform.specs.Standing.{Item, own_item, foreign_item, values_of, register_of}
+use Rattle.mm_model.specs.Chains.{guard}
+use Rattle.mm_model.specs.Instance.{Instance}
+use Rattle.mm_model.specs.History.{Move, Commit, Foreign, Placed, Reset, Close, Power}
+use Rattle.mm_model.specs.Moves.{Digests, made, committing}
+use Rattle.mm_model.specs.Steps.{ask_steps}
+use Rattle.mm_model.specs.declared.refusal.Refusal.{Refusal}
+use Rattle.mm_call.specs.Levels.{by_digests, all_made}
+use Rattle.mm_call.specs.Found.{Found, is_fresh}
+use Rattle.mm_call.specs.Courses.{Fate, Walked, walk, commits}
+use Rattle.mm_call.specs.Called.{Ending, Answers, Refuses, Breaks, position_of, kept_at, ended_by}
+use Rattle.mm_call.specs.Standing.{shown_by, shown}
+use Rattle.mm_call.proofs.Endings.{again_of, fresh_of}
+use Rattle.mm_call.proofs.Moving.{committed_in}
+use Rattle.mm_call.proofs.Walks.{Commits, nothing, batch, commits-none, asks, basic_commits, opt_commits}
+use Rattle.mm_world.specs.Calls.{size_if}
+
+-- the requests of batches
+abbrev sizes : List Batch → ℕ
+sizes [] = 0
+sizes (b ∷ bs) = size_of b + sizes bs
+
+committing_count : (variant : Variant) (flag : Bool) (i : Instance) (d : Digests) (b : Batch) → (committing variant flag i d b).count ≡ d.count + size_of b
+committing_count Basic flag i d b = refl
+committing_count Opt true i d b = refl
+committing_count Opt false i d b = refl
+
+counted_moves : (i : Instance) (moves : List Move) (d : Digests) → (all_made (by_digests i) d moves).count ≡ d.count + sizes (committed_in moves)
+counted_moves i [] d = omega arith
+counted_moves i (Commit b ∷ moves) d = omega (arith, counted_moves i moves (made i d (Commit b)), committing_count i.variant d.flag i d b)
+counted_moves i (Foreign v ∷ moves) d = counted_moves i moves (made i d (Foreign v))
+counted_moves i (Placed b ∷ moves) d = counted_moves i moves (made i d (Placed b))
+counted_moves i (Reset ∷ moves) d = counted_moves i moves (made i d Reset)
+counted_moves i (Close ∷ moves) d = counted_moves i moves (made i d Close)
+counted_moves i (Power ∷ moves) d = counted_moves i moves (made i d Power)
+
+pub count_none : (i : Instance) (moves : List Move) (d : Digests) → committed_in moves ≡ [] → (all_made (by_digests i) d moves).count ≡ d.count
+count_none i moves d e = counted_moves i moves d ∙ ap (λ bs. d.count + sizes bs) e ∙ omega arith
+
+pub count_one : (i : Instance) (moves : List Move) (d : Digests) (b : Batch) → committed_in moves ≡ b ∷ [] → (all_made (by_digests i) d moves).count ≡ d.count + size_of b
+count_one i moves d b e = counted_moves i moves d ∙ ap (λ bs. d.count + sizes bs) e ∙ omega arith
+
+commits_one : (moves : List Move) (b : Batch) → committed_in moves ≡ b ∷ [] → commits moves ≡ true
+commits_one [] b e = cc
+commits_one (Commit c ∷ moves) b e = refl
+commits_one (Foreign v ∷ moves) b e = commits_one moves b e
+commits_one (Placed c ∷ moves) b e = commits_one moves b e
+commits_one (Reset ∷ moves) b e = commits_one moves b e
+commits_one (Close ∷ moves) b e = commits_one moves b e
+commits_one (Power ∷ moves) b e = commits_one moves b e
+
+-- a call commits nothing, or its batch
+pub call_commits : (variant : Variant) (fates : ℕ → Fate) (flag fresh : Bool) (b : Batch) → Commits b fresh (walk fates 1 (ask_steps variant flag fresh b))
+call_commits Basic fates flag fresh b = basic_commits fates flag fresh b
+call_commits Opt fates flag fresh b = rw (asks flag fresh b) (opt_commits fates flag fresh b)
+
+-- how many requests a call commits, by how it ended
+abbrev pub committed_by : Ending → ℕ → ℕ
+committed_by (Answers answer) size = if answer.again then 0 else length answer.outputs
+committed_by (Refuses why) size = 0
+committed_by (Breaks fault kept) size = size_if kept size
+
+kept_none : (committed : Bool) (position size : ℕ) → committed ≡ false → size_if (kept_at committed position) size ≡ 0
+kept_none true position size e = cc
+kept_none false position size e = refl
+
+kept_some : (committed : Bool) (position size : ℕ) → committed ≡ true → size_if (kept_at committed position) size ≡ size
+kept_some true position size e = refl
+kept_some false position size e = cc
+
+told_new : (i : Instance) (state : List ℕ) (b : Batch) (again : Bool) → again ≡ false
+    → (if again then 0 else length (outputs_from i.meaning state (members_of b))) ≡ size_of b
+told_new i state b true e = cc
+told_new i state b false e = length-outputs_from i.meaning state (members_of b)
+
+told_again : (again : Bool) (n : ℕ) → again ≡ true → (if again then 0 else n) ≡ 0
+told_again true n e = refl
+told_again false n e = cc
+
+pub counted_end : (i : Instance) (d seen : Digests) (b : Batch) (found : Result Found Refusal) (walked : Walked) (broken : Option StepFault) → walked.broken ≡ broken
+    → Commits b (is_fresh found) walked
+    → (all_made (by_digests i) d walked.moves).count
+    ≡ d.count + committed_by (ended_by (by_digests i) seen (all_made (by_digests i) d walked.moves) b found walked.moves broken) (size_of b)
+counted_end i d seen b (Err why) walked (Some fault) e (nothing none unless) =
+    let k = kept_none (commits walked.moves) 0 (size_of b) (commits-none walked.moves none) in omega (arith, count_none i walked.moves d none, k)
+counted_end i d seen b (Err why) walked None e (nothing none unless) = omega (arith, count_none i walked.moves d none)
+counted_end i d seen b (Err why) walked broken e (batch one fresh) = cc
+counted_end i d seen b (Ok f) walked (Some fault) e (nothing none unless) =
+    let k = kept_none (commits walked.moves) (position_of (by_digests i) seen (all_made (by_digests i) d walked.moves) b (Ok f)) (size_of b) (commits-none walked.moves none) in omega (arith, count_none i walked.moves d none, k)
+counted_end i d seen b (Ok f) walked (Some fault) e (batch one fresh) =
+    let k = kept_some (commits walked.moves) (position_of (by_digests i) seen (all_made (by_digests i) d walked.moves) b (Ok f)) (size_of b) (commits_one walked.moves b one) in omega (arith, count_one i walked.moves d b one, k)
+counted_end i d seen b (Ok f) walked None e (nothing none unless) =
+    let k = told_again f.again (length (outputs_from i.meaning f.offered.state (members_of b))) (again_of f.again (unless e)) in
+    omega (arith, count_none i walked.moves d none, k)
+counted_end i d seen b (Ok f) walked None e (batch one fresh) =
+    let k = told_new i f.offered.state b f.again (fresh_of f.again fresh) in omega (arith, count_one i walked.moves d b one, k)
+
+-- the register reads what its items show of moves
+
+read_push : (items : List Item) (item : Item) → register_of (values_of (items ++ item ∷ [])) ≡ extended_of (register_of (values_of items)) item.value
+read_push items item =
+    ap register_of (map-append (λ (it : Item). it.value) items (item ∷ [])) ∙ fold-append extended_of zero_bytes (values_of items) (item.value ∷ [])
+
+shown_reads : (variant : Variant) (flag : Bool) (i : Instance) (d : Digests) (m : Move) (items : List Item) → i.variant ≡ variant → d.flag ≡ flag
+    → register_of (values_of items) ≡ d.register → register_of (values_of (shown_by variant flag i m items)) ≡ (made i d m).register
+shown_reads Basic flag i d (Commit b) items v f e = e ∙ rw v refl
+shown_reads Opt true i d (Commit b) items v f e = read_push items (own_item (guard i.barrier b)) ∙ rw (e, v, f) refl
+shown_reads Opt false i d (Commit b) items v f e = e ∙ rw (v, f) refl
+shown_reads variant flag i d (Foreign x) items v f e = read_push items (foreign_item x) ∙ ap (λ r. extended_of r x) e
+shown_reads variant flag i d (Placed b) items v f e = read_push items (own_item (guard i.barrier b)) ∙ ap (λ r. extended_of r (guard i.barrier b)) e
+shown_reads variant flag i d Reset items v f e = refl
+shown_reads variant flag i d Close items v f e = e
+shown_reads variant flag i d Power items v f e = refl
+
+shown_all : (i : Instance) (moves : List Move) (d : Digests) (items : List Item) → register_of (values_of items) ≡ d.register
+    → register_of (values_of (shown i d moves items)) ≡ (all_made (by_digests i) d moves).register
+shown_all i [] d items e = e
+shown_all i (m ∷ moves) d items e =
+    shown_all i moves (made i d m) (shown_by i.variant d.flag i m items) (shown_reads i.variant d.flag i d m items refl refl e)
+
+pub reads_shown : (i : Instance) (moves : List Move) (d : Digests) (items : Option (List Item))
+    → option_map (λ xs. register_of (values_of xs)) items ≡ Some d.register
+    → option_map (λ xs. register_of (values_of xs)) (option_map (shown i d moves) items) ≡ Some (all_made (by_digests i) d moves).register
+reads_shown i moves d None e = cc
+reads_shown i moves d (Some xs) e =
+    let f : register_of (values_of xs) ≡ d.register = cc in ap Some (shown_all i moves d xs f)

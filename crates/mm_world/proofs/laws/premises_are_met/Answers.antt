@@ -1,8 +1,0 @@
-use Rattle.mm_world.proofs.MetPremises.{basic_met, opt_met}
-use Rattle.mm_world.proofs.laws.premises_are_met.Goals as goal
-
-pub returns-clause-basic : goal.returns-clause-basic
-returns-clause-basic c = basic_met
-
-pub returns-clause-opt : goal.returns-clause-opt
-returns-clause-opt c = opt_met

@@ -1,7 +1,0 @@
-use Rattle.mm_world.specs.Levels.{by_lists, by_digests}
-use Rattle.mm_world.proofs.GoingOn.{goes_on, messages-append}
-use Rattle.mm_world.proofs.laws.schedules_go_on.Goals as goal
-
-pub returns : goal.returns
-returns c = λ i es fs y d issued.
-    (goes_on i (by_lists i) es fs y issued, goes_on i (by_digests i) es fs d issued, messages-append i es fs y issued)
