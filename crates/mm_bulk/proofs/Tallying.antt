@@ -223,7 +223,7 @@ events_read (line ∷ lines) are =
     rw (spelled_is_read line are.0.event are.0.spelled) (ap (λ (more : List (Option Event)). Some are.0.event ∷ more) (events_read lines are.1))
 
 pub begins : (number count : ℕ) (header : Header) → count ≤ 20000
-    → Going (schedule_lines number count header) (joined (schedule_lines number count header)) (begun header.module) no_counts []
+    → Going (schedule_lines number count header) (joined (schedule_lines number count header)) (begun header) no_counts []
 begins number count header few =
     let is = is_schedule number count header few in
     let lines : List (List ℕ) = schedule_lines number count header in
@@ -275,7 +275,7 @@ told_at header lines r counts committed issued digest text same one two three ma
 
 -- the beginning, by what stands there
 pub starts : (number count : ℕ) (header : Header) (rest : List ℕ) (r : Running) (counts : Counts) (text : List ℕ) → count ≤ 20000
-    → rest ≡ joined (schedule_lines number count header) → r ≡ begun header.module → counts ≡ no_counts → text ≡ []
+    → rest ≡ joined (schedule_lines number count header) → r ≡ begun header → counts ≡ no_counts → text ≡ []
     → Going (schedule_lines number count header) rest r counts text
 starts number count header rest r counts text few one two three four = rw (one, two, three, four) (begins number count header few)
 
