@@ -42,6 +42,9 @@ pub fn ask_twice<M: Module, P: Platform>(
 {
     match ask(alloc, module, platform, offer, first) {
         Err(refusal) => Err(refusal),
-        Ok(answer) => ask(alloc, module, platform, answer.snapshot.as_slice(), second),
+        Ok(answer) => {
+            let newest = answer.snapshot.as_slice();
+            ask(alloc, module, platform, newest, second)
+        }
     }
 }
