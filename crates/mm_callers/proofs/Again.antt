@@ -44,7 +44,7 @@ one_call meaning key all others asked y old new offer request result c s a =
       asked_then = λ (genuine : IsGenuine i o.state offer). record { clear = a.clear; apart = a.apart; within = k.within; is_asked = a.is_asked; genuine = genuine; offered = a.offered };
     }
 
-answers_by : (i : Instance) (y after : History) (new : Standing) (offer : List ℕ) (b : Batch) (answer : BatchAnswer) → StandsFor i new after → Comes i y offer b after (Ok answer) → AnswersOnce i y new b answer
+pub answers_by : (i : Instance) (y after : History) (new : Standing) (offer : List ℕ) (b : Batch) (answer : BatchAnswer) → StandsFor i new after → Comes i y offer b after (Ok answer) → AnswersOnce i y new b answer
 answers_by i y after new offer b answer s (kept same gives) =
     let g = gives answer refl in
     let again : answer.again ≡ true = ap (λ (a : BatchAnswer). a.again) g.answer_is in

@@ -123,30 +123,30 @@ pub data Comes (i : Instance) (y : History) (offer : List ℕ) (b : Batch) (afte
   grown : (content : Content) → IsRight i offer content → content.position ≡ total_of y.batches → after.batches ≡ y.batches ++ b ∷ [] → ((answer : BatchAnswer) → gives ≡ Ok answer → answer ≡ answer_on i after b false) → Comes i y offer b after gives
 
 -- an answer is given where an offer was accepted and no step failed
-record Answered (i : Instance) (s : History) (b : Batch) (found : Result Found Refusal) (broken : Option StepFault) (answer : BatchAnswer) : Type 0 where
-  it : Found
-  found_is : found ≡ Ok it
-  whole : broken ≡ None
-  answer_is : answer ≡ answer_on i s b it.again
+pub record Answered (i : Instance) (s : History) (b : Batch) (found : Result Found Refusal) (broken : Option StepFault) (answer : BatchAnswer) : Type 0 where
+  pub it : Found
+  pub found_is : found ≡ Ok it
+  pub whole : broken ≡ None
+  pub answer_is : answer ≡ answer_on i s b it.again
 
-answered_only : (broken : Option StepFault) (i : Instance) (seen s : History) (b : Batch) (found : Result Found Refusal) (moves : List Move) (answer : BatchAnswer) → told (ended_by (by_lists i) seen s b found moves broken) ≡ Ok answer → Answered i s b found broken answer
+pub answered_only : (broken : Option StepFault) (i : Instance) (seen s : History) (b : Batch) (found : Result Found Refusal) (moves : List Move) (answer : BatchAnswer) → told (ended_by (by_lists i) seen s b found moves broken) ≡ Ok answer → Answered i s b found broken answer
 answered_only (Some fault) i seen s b found moves answer e = absurd (cc)
 answered_only None i seen s b (Err why) moves answer e = absurd (cc)
 answered_only None i seen s b (Ok it) moves answer e =
     let same : answer_on i s b it.again ≡ answer = cc in
     record { it = it; found_is = refl; whole = refl; answer_is = sym same }
 
-answer_again : (i : Instance) (s : History) (b : Batch) (again flag : Bool) (answer : BatchAnswer) → again ≡ flag → answer ≡ answer_on i s b again → answer ≡ answer_on i s b flag
+pub answer_again : (i : Instance) (s : History) (b : Batch) (again flag : Bool) (answer : BatchAnswer) → again ≡ flag → answer ≡ answer_on i s b again → answer ≡ answer_on i s b flag
 answer_again i s b again flag answer e a = a ∙ ap (λ (f : Bool). answer_on i s b f) e
 
-fresh_found : (found : Result Found Refusal) → is_fresh found ≡ true → (it : Found) × (found ≡ Ok it) × (it.again ≡ false)
+pub fresh_found : (found : Result Found Refusal) → is_fresh found ≡ true → (it : Found) × (found ≡ Ok it) × (it.again ≡ false)
 fresh_found (Err why) e = absurd (cc)
 fresh_found (Ok it) e = (it, refl, fresh_of it.again e)
 
-again_found : (found : Result Found Refusal) (it : Found) → found ≡ Ok it → is_fresh found ≡ false → it.again ≡ true
+pub again_found : (found : Result Found Refusal) (it : Found) → found ≡ Ok it → is_fresh found ≡ false → it.again ≡ true
 again_found found it is e = again_of it.again (subst (λ (f : Result Found Refusal). is_fresh f ≡ false) is e)
 
-fresh_again : (found : Result Found Refusal) (it : Found) → found ≡ Ok it → is_fresh found ≡ true → it.again ≡ false
+pub fresh_again : (found : Result Found Refusal) (it : Found) → found ≡ Ok it → is_fresh found ≡ true → it.again ≡ false
 fresh_again found it is e = fresh_of it.again (subst (λ (f : Result Found Refusal). is_fresh f ≡ true) is e)
 
 comes_by : (meaning : Meaning) (key : List ℕ) (all : List (List ℕ)) (y sees : History) (lacks : Bool) (offer : List ℕ) (b : Batch) (w : Walked) (found : Result Found Refusal) → sees.batches ≡ y.batches → Asking all (basic meaning key) sees offer b

@@ -3,8 +3,10 @@
 #![tactic(auto)]
 
 mod basic;
+mod opt;
 
 pub use basic::{ask_again, ask_twice};
+pub use opt::ask_once;
 
 #[cfg(test)]
 mod tests;

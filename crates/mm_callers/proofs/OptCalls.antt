@@ -1,0 +1,220 @@
+-- What one call of Opt comes to by lists, where what others did is known by the register's items.
+use Rattle.std.proofs.Common.{◌≡◌, ℕ, Bool, true, false, List, [], ◌∷◌, ◌++◌, map, Option, None, Some, Result, Ok, Err, refl, sym, ap, ◌∙◌, subst}
+use Rattle.std.specs.Prelude.{if◌then◌else◌}
+use Rattle.std.specs.Str.{bytes_eq}
+use Rattle.std.specs.List.{AllByRecursion, Contains}
+use Rattle.std.specs.Option.{option_map}
+use Rattle.mm_digest.specs.declared.variant.Variant.TheVariants.{Opt}
+use Rattle.mm_digest.specs.Messages.{extended_message}
+use Rattle.mm_platform.specs.Standing.{Item, Standing, values_of}
+use Rattle.mm_module.specs.Meaning.{Meaning}
+use Rattle.mm_module.specs.Batch.{Batch, One}
+use Rattle.mm_seal.specs.declared.snapshot.PartsFault.{PartsFault}
+use Rattle.mm_seal.specs.declared.snapshot.PartsFault.TheVariants.{Form, Kind}
+use Rattle.mm_seal.specs.Snapshot.{Content, Snapshot, tag_of}
+use Rattle.mm_seal.specs.Parts.{parts_of}
+use Rattle.mm_model.specs.Chains.{trail}
+use Rattle.mm_model.specs.Instance.{Instance, opt}
+use Rattle.mm_model.specs.History.{History, Move, Foreign, moved, total_of, register_value_of}
+use Rattle.mm_model.specs.Judge.{judge}
+use Rattle.mm_model.specs.Life.{life_of, is_lost}
+use Rattle.mm_model.specs.Long.{is_long}
+use Rattle.mm_model.specs.Messages.{Within}
+use Rattle.mm_model.specs.Moves.{MayMove, digests_of}
+use Rattle.mm_model.specs.Places.{Names}
+use Rattle.mm_model.specs.Sound.{IsSound}
+use Rattle.mm_model.specs.Standing.{StandsFor, IsRight, IsGenuine}
+use Rattle.mm_model.specs.Steps.{Step, ask_steps}
+use Rattle.mm_model.proofs.Moves.{sound_moved}
+use Rattle.mm_model.proofs.Named.{opt_names}
+use Rattle.mm_model.specs.declared.answer.Answer.{Answer}
+use Rattle.mm_model.specs.declared.answer.BatchAnswer.{BatchAnswer}
+use Rattle.mm_model.specs.declared.refusal.Refusal.{Refusal}
+use Rattle.mm_model.specs.declared.refusal.Refusal.TheVariants as refusal
+use Rattle.mm_call.specs.Answers.{answer_on}
+use Rattle.mm_call.specs.Order.{examined}
+use Rattle.mm_call.specs.Levels.{by_lists, by_digests, all_made}
+use Rattle.mm_call.specs.Found.{Found, found_at, found_from, found_in, is_fresh}
+use Rattle.mm_call.specs.Courses.{Course, Walked, walk}
+use Rattle.mm_call.specs.Called.{called, ended_by, told}
+use Rattle.mm_call.specs.CallsOn.{CallsOn}
+use Rattle.mm_call.specs.Leaving.{whole, whole_in}
+use Rattle.mm_call.specs.Standing.{shown}
+use Rattle.mm_call.specs.Asked.{counted_part, counted_moves, moves_messages, foreign_in, IsWithin, IsAsked}
+use Rattle.mm_call.specs.Tied.{foreign_of, standing_items, IsTied, Tied, shows, nothing}
+use Rattle.mm_call.proofs.BasicLaw.{unlacked}
+use Rattle.mm_call.proofs.Continuing.{stands_at}
+use Rattle.mm_call.proofs.Finding.{Asking, found_with_tells, weighed_tells}
+use Rattle.mm_call.proofs.Moving.{same_batches, more_batches}
+use Rattle.mm_call.proofs.OptFinding.{placed}
+use Rattle.mm_call.proofs.OptHolding.{foreign_may}
+use Rattle.mm_call.proofs.Reading.{is_right}
+use Rattle.mm_call.proofs.Tied.{opt_tied}
+use Rattle.mm_call.proofs.Walks.{Commits, nothing as none, batch, asks, opt_commits, foreign_first}
+use Rattle.mm_opt.specs.Asks.{Calls}
+use Rattle.mm_callers.specs.Basic.{AreAsked, AnswersOnce}
+use Rattle.mm_callers.specs.Opt.{AreShown, AsksOnce}
+use Rattle.mm_callers.proofs.Calls.{Repeats, Comes, kept, grown, Answered, answered_only, answer_again, fresh_found, again_found, fresh_again}
+use Rattle.mm_callers.proofs.Again.{answers_by}
+
+-- What counts of the moves is what the register shows
+
+same_rest : (front more other : List Item) → front ++ more ≡ front ++ other → more ≡ other
+same_rest [] more other e = e
+same_rest (item ∷ front) more other e = same_rest front more other (cc)
+
+shown_same : (items : Option (List Item)) (f : List Item → List Item) (xs front more other : List Item) → items ≡ Some xs → f xs ≡ front ++ other → option_map f items ≡ Some (front ++ more) → other ≡ more
+shown_same None f xs front more other e g h = cc
+shown_same (Some ys) f xs front more other e g h =
+    let same : ys ≡ xs = cc in
+    let there : f ys ≡ front ++ more = cc in
+    same_rest front other more (sym g ∙ ap f (sym same) ∙ there)
+
+asked_by : (i : Instance) (all others : List (List ℕ)) (asked : List Batch) (y : History) (moves : List Move) (offer : List ℕ) (b : Batch) → AreAsked all others asked i y offer b
+    → Within (moves_messages i (counted_part y) (counted_moves y.is_open moves)) all → AllByRecursion (Contains others) (foreign_in (counted_moves y.is_open moves))
+    → IsAsked all others asked i y moves offer b
+asked_by i all others asked y moves offer b a messages values = record {
+  clear = a.clear;
+  apart = a.apart;
+  within = a.within;
+  is_asked = a.is_asked;
+  genuine = a.genuine;
+  offered = a.offered;
+  messages = messages;
+  values = values;
+}
+
+pub asked_of : (meaning : Meaning) (key barrier : List ℕ) (all others : List (List ℕ)) (asked : List Batch) (y : History) (moves : List Move) (offer : List ℕ) (b : Batch) (old new : Standing) (items more : List Item) → AreAsked all others asked (opt meaning key barrier) y offer b → AreShown all others (opt meaning key barrier) y more → old.items ≡ Some items
+    → new.items ≡ option_map (shown (opt meaning key barrier) (digests_of (opt meaning key barrier) y) moves) old.items → new.items ≡ Some (standing_items y.is_open items ++ more) → Tied (opt meaning key barrier) y (digests_of (opt meaning key barrier) y) moves → IsAsked all others asked (opt meaning key barrier) y moves offer b
+asked_of meaning key barrier all others asked y moves offer b old new items more a s known goes ends (shows other tied shown_is) =
+    let i : Instance = opt meaning key barrier in
+    let same : other ≡ more = shown_same old.items (shown i (digests_of i y) moves) items (standing_items y.is_open items) more other known (shown_is items) (sym goes ∙ ends) in
+    asked_by i all others asked y moves offer b a
+    (subst (λ (ms : List (List ℕ)). Within ms all) (sym (tied.messages ∙ ap (λ (x : List Item). trail extended_message (register_value_of i (counted_part y)) (values_of x)) same)) s.messages)
+    (subst (λ (vs : List (List ℕ)). AllByRecursion (Contains others) vs) (sym (tied.values ∙ ap foreign_of same)) s.values)
+asked_of meaning key barrier all others asked y moves offer b old new items more a s known goes ends (nothing is) =
+    let i : Instance = opt meaning key barrier in
+    asked_by i all others asked y moves offer b a
+    (subst (λ (ms : List Move). Within (moves_messages i (counted_part y) ms) all) (sym is) tt)
+    (subst (λ (ms : List Move). AllByRecursion (Contains others) (foreign_in ms)) (sym is) tt)
+
+-- What a call finds by lists
+
+named_then : (meaning : Meaning) (key barrier : List ℕ) (values : List (List ℕ)) (y : History) (content : Content) → IsSound y → Names (opt meaning key barrier) y content → Names (opt meaning key barrier) (all_made (by_lists (opt meaning key barrier)) y (map Foreign values)) content
+named_then meaning key barrier [] y content sound n = n
+named_then meaning key barrier (v ∷ values) y content sound n =
+    let may : MayMove (opt meaning key barrier) y (Foreign v) = foreign_may (opt meaning key barrier) y y.is_open v in
+    named_then meaning key barrier values (moved (opt meaning key barrier) y (Foreign v)) content
+    (sound_moved meaning key barrier y (Foreign v) sound may) (opt_names meaning key barrier y (Foreign v) content sound may n)
+
+sound_then : (meaning : Meaning) (key barrier : List ℕ) (values : List (List ℕ)) (y : History) → IsSound y → IsSound (all_made (by_lists (opt meaning key barrier)) y (map Foreign values))
+sound_then meaning key barrier [] y sound = sound
+sound_then meaning key barrier (v ∷ values) y sound =
+    sound_then meaning key barrier values (moved (opt meaning key barrier) y (Foreign v))
+    (sound_moved meaning key barrier y (Foreign v) sound (foreign_may (opt meaning key barrier) y y.is_open v))
+
+made_then : (i : Instance) (xs ys : List Move) (y : History) → all_made (by_lists i) y (xs ++ ys) ≡ all_made (by_lists i) (all_made (by_lists i) y xs) ys
+made_then i [] ys y = refl
+made_then i (m ∷ xs) ys y = made_then i xs ys (moved i y m)
+
+sees_names : (meaning : Meaning) (key barrier : List ℕ) (v w : List (List ℕ)) (y : History) (content : Content) → IsSound y → Names (opt meaning key barrier) y content → Names (opt meaning key barrier) (all_made (by_lists (opt meaning key barrier)) y (map Foreign v ++ (map Foreign w ++ []))) content
+sees_names meaning key barrier v w y content sound n =
+    let i : Instance = opt meaning key barrier in
+    let first : History = all_made (by_lists i) y (map Foreign v) in
+    let second : History = all_made (by_lists i) first (map Foreign w) in
+    subst (λ (z : History). Names i z content) (sym (made_then i (map Foreign v) (map Foreign w ++ []) y ∙ made_then i (map Foreign w) [] first))
+    (named_then meaning key barrier w first content (sound_then meaning key barrier v y sound) (named_then meaning key barrier v y content sound n))
+
+right_from : (meaning : Meaning) (key barrier : List ℕ) (y : History) (b : Batch) (offer : List ℕ) (parts : Result Snapshot PartsFault) → parts_of Opt meaning.id offer ≡ parts → (found : Found) → found_from (opt meaning key barrier) (by_lists (opt meaning key barrier)) y b parts ≡ Ok found → IsRight (opt meaning key barrier) offer found.offered
+right_from meaning key barrier y b offer (Err Form) e found is = absurd (cc)
+right_from meaning key barrier y b offer (Err Kind) e found is = absurd (cc)
+right_from meaning key barrier y b offer (Ok snapshot) e found is =
+    let t = found_with_tells snapshot.content (examined meaning key snapshot b (judge Opt y snapshot.content.position b)) found is in
+    let w = weighed_tells (meaning.is_spelled snapshot.content.state) (bytes_eq snapshot.tag (tag_of key snapshot.content)) _ _ found.again t.1 in
+    subst (λ (x : Content). IsRight (opt meaning key barrier) offer x) (sym t.0) (is_right (opt meaning key barrier) offer snapshot e w.0 w.1)
+
+unless_lost : (lost : Bool) (found : Result Found Refusal) (f : Found) → (if lost then Err refusal.Lost else found) ≡ Ok f → found ≡ Ok f
+unless_lost true found f e = absurd (cc)
+unless_lost false found f e = e
+
+right_at : (meaning : Meaning) (key barrier : List ℕ) (y : History) (b : Batch) (offer : List ℕ) (found : Found) → found_at (opt meaning key barrier) (by_lists (opt meaning key barrier)) y b offer ≡ Ok found → IsRight (opt meaning key barrier) offer found.offered
+right_at meaning key barrier y b offer found is =
+    right_from meaning key barrier y b offer (parts_of Opt meaning.id offer) refl found
+    (unless_lost (is_lost (life_of Opt y)) (found_from (opt meaning key barrier) (by_lists (opt meaning key barrier)) y b (parts_of Opt meaning.id offer)) found is)
+
+comes_by : (meaning : Meaning) (key barrier : List ℕ) (all : List (List ℕ)) (y sees : History) (lacks : Bool) (offer : List ℕ) (b : Batch) (w : Walked) (found : Result Found Refusal) → sees.batches ≡ y.batches → Asking all (opt meaning key barrier) sees offer b
+    → found_in (found_at (opt meaning key barrier) (by_lists (opt meaning key barrier)) sees b offer) lacks ≡ found → Commits b (is_fresh found) w
+    → Comes (opt meaning key barrier) y offer b (all_made (by_lists (opt meaning key barrier)) y w.moves) (told (ended_by (by_lists (opt meaning key barrier)) sees (all_made (by_lists (opt meaning key barrier)) y w.moves) b found w.moves w.broken))
+comes_by meaning key barrier all y sees lacks offer b w found same asking is (none empty unless) =
+    let i : Instance = opt meaning key barrier in
+    let end : History = all_made (by_lists i) y w.moves in
+    kept (same_batches i w.moves y empty)
+    (λ (answer : BatchAnswer) (gives : told (ended_by (by_lists i) sees end b found w.moves w.broken) ≡ Ok answer).
+    let a = answered_only w.broken i sees end b found w.moves answer gives in
+    let again : a.it.again ≡ true = again_found found a.it a.found_is (unless a.whole) in
+    let was = unlacked (found_at i (by_lists i) sees b offer) lacks a.it (is ∙ a.found_is) in
+    let p = placed meaning key barrier all sees offer b asking a.it was in
+    record {
+      content = a.it.offered;
+      right = right_at meaning key barrier sees b offer a.it was;
+      ends = record { front = p.named; is = p.repeat again ∙ same };
+      position = p.position;
+      answer_is = answer_again i end b a.it.again true answer again a.answer_is;
+    })
+comes_by meaning key barrier all y sees lacks offer b w found same asking is (batch one fresh) =
+    let i : Instance = opt meaning key barrier in
+    let end : History = all_made (by_lists i) y w.moves in
+    let f = fresh_found found fresh in
+    let was = unlacked (found_at i (by_lists i) sees b offer) lacks f.0 (is ∙ f.1) in
+    let p = placed meaning key barrier all sees offer b asking f.0 was in
+    grown f.0.offered (right_at meaning key barrier sees b offer f.0 was)
+    (p.position ∙ ap total_of (p.fresh f.2 ∙ same)) (more_batches i w.moves y b one)
+    (λ (answer : BatchAnswer) (gives : told (ended_by (by_lists i) sees end b found w.moves w.broken) ≡ Ok answer).
+    let a = answered_only w.broken i sees end b found w.moves answer gives in
+    answer_again i end b a.it.again false answer (fresh_again found a.it a.found_is fresh) a.answer_is)
+
+-- what a call comes to by lists
+pub comes : (meaning : Meaning) (key barrier : List ℕ) (all others : List (List ℕ)) (asked : List Batch) (y : History) (c : Course) (offer : List ℕ) (b : Batch) → AreAsked all others asked (opt meaning key barrier) y offer b
+    → Comes (opt meaning key barrier) y offer b (called (opt meaning key barrier) (by_lists (opt meaning key barrier)) y c offer b).state (told (called (opt meaning key barrier) (by_lists (opt meaning key barrier)) y c offer b).ending)
+comes meaning key barrier all others asked y c offer b a =
+    let i : Instance = opt meaning key barrier in
+    let v : List (List ℕ) = (c.fates 1).brings in
+    let w : List (List ℕ) = (c.fates 2).brings in
+    let sees : History = all_made (by_lists i) y (map Foreign v ++ (map Foreign w ++ [])) in
+    let same : sees.batches ≡ y.batches = same_batches i (map Foreign v ++ (map Foreign w ++ [])) y (foreign_first v (map Foreign w ++ []) ∙ foreign_first w []) in
+    let found : Result Found Refusal = found_in (found_at i (by_lists i) sees b offer) c.lacks in
+    comes_by meaning key barrier all y sees c.lacks offer b (walk c.fates 1 (ask_steps Opt y.is_open (is_fresh found) b)) found same
+    (record { clear = a.clear; listed = a.offered; genuine = λ content right. sees_names meaning key barrier v w y content a.within.sound (a.genuine content right) })
+    refl
+    (subst (λ (st : List Step). Commits b (is_fresh found) (walk c.fates 1 st)) (sym (asks y.is_open (is_fresh found) b)) (opt_commits c.fates y.is_open (is_fresh found) b))
+
+-- an answered call
+pub once_shown : (meaning : Meaning) (key barrier : List ℕ) (all others : List (List ℕ)) (asked : List Batch) (y : History) (old new : Standing) (offer request : List ℕ) (answer : BatchAnswer) (items more : List Item) → CallsOn Opt meaning old new offer (One request) (Ok answer) → StandsFor (opt meaning key barrier) old y → old.items ≡ Some items → new.items ≡ Some (standing_items y.is_open items ++ more)
+    → AreAsked all others asked (opt meaning key barrier) y offer (One request) → AreShown all others (opt meaning key barrier) y more → AnswersOnce (opt meaning key barrier) y new (One request) answer
+once_shown meaning key barrier all others asked y old new offer request answer items more c s known ends a shown_so =
+    let i : Instance = opt meaning key barrier in
+    let o = called i (by_lists i) y c.course offer (One request) in
+    let moves : List Move = (called i (by_digests i) (digests_of i y) c.course offer (One request)).moves in
+    let g = c.goes key barrier (digests_of i y) (stands_at i old y s) in
+    let is_asked : IsAsked all others asked i y moves offer (One request) =
+    asked_of meaning key barrier all others asked y moves offer (One request) old new items more a shown_so known g.items ends
+    (opt_tied meaning key barrier y (digests_of i y) c.course offer (One request) refl) in
+    let k = c.continues key barrier y all others asked s is_asked in
+    answers_by i y o.state new offer (One request) answer k.stands
+    (subst (λ (r : Result BatchAnswer Refusal). Comes i y offer (One request) o.state r) (sym k.gives)
+    (comes meaning key barrier all others asked y c.course offer (One request) a))
+
+-- what is answered wasn't too long
+short_by : (t : Bool) (meaning : Meaning) (old new : Standing) (offer : List ℕ) (b : Batch) (answer : BatchAnswer) → is_long b ≡ t → Calls meaning old new offer b (Ok answer) → is_long b ≡ false
+short_by false meaning old new offer b answer e c = e
+short_by true meaning old new offer b answer e c = let f : Ok answer ≡ Err refusal.Long = (c.long e).1 in absurd (cc)
+
+pub answered_short : (meaning : Meaning) (old new : Standing) (offer : List ℕ) (b : Batch) (answer : BatchAnswer) → Calls meaning old new offer b (Ok answer) → is_long b ≡ false
+answered_short meaning old new offer b answer c = short_by (is_long b) meaning old new offer b answer refl c
+
+-- the caller's clause
+pub asked_once : (meaning : Meaning) (old new : Standing) (offer request : List ℕ) (result : Result Answer Refusal) → Calls meaning old new offer (One request) (whole_in result) → (is_long (One request) ≡ false → CallsOn Opt meaning old new offer (One request) (whole_in result)) → AsksOnce meaning old new offer request result
+asked_once meaning old new offer request (Err why) calls goes = tt
+asked_once meaning old new offer request (Ok answer) calls goes = λ key barrier y all others asked items more s known ends a shown_so.
+    once_shown meaning key barrier all others asked y old new offer request (whole answer) items more
+    (goes (answered_short meaning old new offer (One request) (whole answer) calls)) s known ends a shown_so

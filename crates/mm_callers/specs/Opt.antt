@@ -1,0 +1,33 @@
+-- What callers of Opt get, by lists alone. What is asked of what others do is asked of the register's items at exit.
+use Rattle.std.specs.Prelude.{◌≡◌, ℕ, List, ◌++◌, Some, Result, Ok, Err}
+use Rattle.std.specs.List.{AllByRecursion, Contains}
+use Rattle.mm_digest.specs.Messages.{extended_message}
+use Rattle.mm_platform.specs.Standing.{Item, Standing, values_of}
+use Rattle.mm_module.specs.Meaning.{Meaning}
+use Rattle.mm_module.specs.Batch.{Batch, One}
+use Rattle.mm_model.specs.Chains.{trail}
+use Rattle.mm_model.specs.Instance.{Instance, opt}
+use Rattle.mm_model.specs.History.{History, register_value_of}
+use Rattle.mm_model.specs.Messages.{Within}
+use Rattle.mm_model.specs.Standing.{StandsFor}
+use Rattle.mm_model.specs.declared.answer.Answer.{Answer}
+use Rattle.mm_model.specs.declared.refusal.Refusal.{Refusal}
+use Rattle.mm_call.specs.Asked.{counted_part}
+use Rattle.mm_call.specs.Leaving.{whole}
+use Rattle.mm_call.specs.Tied.{standing_items, foreign_of}
+use Rattle.mm_callers.specs.Basic.{AreAsked, AnswersOnce}
+
+-- What is asked of the items that the register shows at exit, behind those that counted at entry: their messages, one
+-- after another, are in the clear list, and the values that aren't the platform's own are among those of others.
+pub record AreShown (all others : List (List ℕ)) (i : Instance) (y : History) (more : List Item) : Type 0 where
+  pub messages : Within (trail extended_message (register_value_of i (counted_part y)) (values_of more)) all
+  pub values : AllByRecursion (Contains others) (foreign_of more)
+
+-- one call, inside a segment or across an opening
+abbrev pub AsksOnce : Meaning → Standing → Standing → List ℕ → List ℕ → Result Answer Refusal → Type 0
+AsksOnce meaning old new offer request (Err why) = Unit {0}
+AsksOnce meaning old new offer request (Ok answer) =
+    (key barrier : List ℕ) (y : History) (all others : List (List ℕ)) (asked : List Batch) (items more : List Item) →
+    StandsFor (opt meaning key barrier) old y → old.items ≡ Some items → new.items ≡ Some (standing_items y.is_open items ++ more) →
+    AreAsked all others asked (opt meaning key barrier) y offer (One request) → AreShown all others (opt meaning key barrier) y more →
+    AnswersOnce (opt meaning key barrier) y new (One request) (whole answer)
