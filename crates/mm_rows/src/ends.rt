@@ -2,6 +2,7 @@
 
 use crate::run::{ROOM, check, check_all, check_over, lines_of, replay_over, sound};
 use crate::schedules::{LIMITER, QUOTA};
+use crate::segments::KEPT;
 use mm_app::memoir;
 use mm_base::{MemSink, MemSource};
 use std::alloc::Global;
@@ -12,7 +13,7 @@ use std::test::Fail;
 const BAD_LINES: &str = "\
 => stop line 1
 
-memoir 1 opt counter
+memoir 1 opted counter
 => stop line 1
 
 memoir 1 basic clock
@@ -41,6 +42,12 @@ cut 0 ask 0 read
 memoir 1 basic counter
 power\x20
 => stop line 2
+
+memoir 1 opt counter
+ask 0 add 5
+=> ok 1 5
+checkpoint\x20
+=> stop line 3
 
 memoir 1 basic counter
 meddle 2 ffffffffffffffffffffffffffffffffffffffffffffffffffffffffffffffff \
@@ -77,7 +84,7 @@ fn other_words_are_refused(rt: HostRuntime) -> Result<(), Fail> {
 
 #[test]
 fn the_pieces_of_an_input_make_no_difference(rt: HostRuntime) -> Result<(), Fail> {
-    for table in [LIMITER, QUOTA] {
+    for table in [LIMITER, QUOTA, KEPT] {
         let schedule = lines_of(rt.alloc(), table, false)?;
         let replies = lines_of(rt.alloc(), table, true)?;
         for piece in [1, 2, 7, 4096] {
@@ -133,7 +140,7 @@ fn check_cut(rt: &impl Abort, alloc: Global, input: &[u8], replies: &[u8]) -> Re
 fn an_input_that_is_cut_off_is_replayed_to_its_last_whole_line(
     rt: HostRuntime,
 ) -> Result<(), Fail> {
-    for table in [LIMITER, QUOTA] {
+    for table in [LIMITER, QUOTA, KEPT] {
         let schedule = lines_of(rt.alloc(), table, false)?;
         let replies = lines_of(rt.alloc(), table, true)?;
         for length in 0..schedule.as_slice().len() {
@@ -197,7 +204,7 @@ fn fails_to_write(
 fn a_failing_input_or_output_stops_a_replay(rt: HostRuntime) -> Result<(), Fail> {
     let mut reads = 0u64;
     let mut writes = 0u64;
-    for table in [LIMITER, QUOTA] {
+    for table in [LIMITER, QUOTA, KEPT] {
         let schedule = lines_of(rt.alloc(), table, false)?;
         let replies = lines_of(rt.alloc(), table, true)?;
         for call in 1..100 {
@@ -221,8 +228,8 @@ fn a_failing_input_or_output_stops_a_replay(rt: HostRuntime) -> Result<(), Fail>
             }
         }
     }
-    assert!(&rt; reads > 40 && reads < 100);
-    assert!(&rt; writes > 14 && writes < 100);
+    assert!(&rt; reads > 50 && reads < 100);
+    assert!(&rt; writes > 20 && writes < 100);
     Ok(())
 }
 

@@ -7,10 +7,16 @@ use std::test::Fail;
 
 #[test]
 fn a_generated_schedule_is_replayed_to_its_end(rt: HostRuntime) -> Result<(), Fail> {
-    for module in ["counter", "limiter", "quota", "receipt-counter"] {
+    let headers = [
+        ("basic", "counter"),
+        ("basic", "limiter"),
+        ("opt", "quota"),
+        ("opt", "receipt-counter"),
+    ];
+    for (variant, module) in headers {
         let mut nothing = MemSource::new(rt.alloc(), &[], &[])?;
         let mut schedule = MemSink::new(rt.alloc(), ROOM, &[])?;
-        let words = ["gen", "7", "60", "basic", module];
+        let words = ["gen", "7", "100", variant, module];
         let status = memoir(rt.alloc(), words.as_slice(), &mut nothing, &mut schedule);
         assert_eq!(rt; status, Status::Done);
         let mut input = MemSource::new(rt.alloc(), schedule.content(), &[])?;

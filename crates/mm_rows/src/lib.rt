@@ -12,4 +12,8 @@ mod run;
 #[cfg(test)]
 mod schedules;
 #[cfg(test)]
+mod segments;
+#[cfg(test)]
+mod stops;
+#[cfg(test)]
 mod streams;

@@ -47,13 +47,17 @@ fn put_line(schedule: &mut Bytes, words: &[u8], letters: usize) -> Result<(), Fa
     Ok(())
 }
 
+/// The longer one is refused before the first step.
 #[test]
 fn a_request_has_4096_bytes(rt: HostRuntime) -> Result<(), Fail> {
-    let mut schedule = Bytes::copy_of(rt.alloc(), HEADER)?;
-    put_line(&mut schedule, b"ask 0 ", 4096)?;
-    put_line(&mut schedule, b"ask 1 ", 4097)?;
-    let written = b"ok 1 bad\nno long\nend 1 2\n";
-    check(&rt, rt.alloc(), schedule.as_slice(), written, 0)
+    for header in [HEADER, b"memoir 1 opt counter\n".as_slice()] {
+        let mut schedule = Bytes::copy_of(rt.alloc(), header)?;
+        put_line(&mut schedule, b"ask 0 ", 4096)?;
+        put_line(&mut schedule, b"cut 1 ask 1 ", 4097)?;
+        let written = b"ok 1 bad\nno long\nend 1 2\n";
+        check(&rt, rt.alloc(), schedule.as_slice(), written, 0)?;
+    }
+    Ok(())
 }
 
 #[test]

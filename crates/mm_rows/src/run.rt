@@ -110,3 +110,52 @@ pub fn check_all(rt: &impl Abort, alloc: Global, table: &str, code: u8) -> Resul
     }
     Ok(())
 }
+
+// Lines parted by arrows, each with its LF.
+fn lines_between(alloc: Global, text: &str) -> Result<Bytes, Fail> {
+    let mut lines = Bytes::new(alloc);
+    for line in text.split(" => ") {
+        lines.append(line.as_bytes())?;
+        lines.push(b'\n')?;
+    }
+    Ok(lines)
+}
+
+// Replays a schedule to its end with each of these texts, parted by bars, in the place of its star.
+fn check_with(
+    rt: &impl Abort,
+    alloc: Global,
+    schedule: &str,
+    texts: &str,
+    replies: &[u8],
+) -> Result<(), Fail> {
+    let (before, after) = schedule.split_once("*").ok_or("a star")?;
+    for text in texts.split("|") {
+        let mut input = Bytes::copy_of(alloc, before.as_bytes())?;
+        input.append(text.as_bytes())?;
+        input.append(after.as_bytes())?;
+        input.push(b'\n')?;
+        check(rt, alloc, input.as_slice(), replies, 0)?;
+    }
+    Ok(())
+}
+
+// Replays a schedule with each text of such lines, which name behind an arrow what is then written.
+fn check_rows(rt: &impl Abort, alloc: Global, schedule: &str, rows: &str) -> Result<(), Fail> {
+    for row in rows.lines() {
+        let (texts, replies) = row.split_once(" => ").ok_or("replies")?;
+        let replies = lines_between(alloc, replies)?;
+        check_with(rt, alloc, schedule, texts, replies.as_slice())?;
+    }
+    Ok(())
+}
+
+/// Replays each schedule of a table with each text that may stand in the place of its star. Empty lines part the
+/// schedules; the texts stand behind `with`, those with the same replies in one line.
+pub fn check_each(rt: &impl Abort, alloc: Global, table: &str) -> Result<(), Fail> {
+    for part in table.split("\n\n") {
+        let (schedule, rows) = part.split_once("\nwith\n").ok_or("rows")?;
+        check_rows(rt, alloc, schedule, rows)?;
+    }
+    Ok(())
+}

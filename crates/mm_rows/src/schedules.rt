@@ -1,7 +1,6 @@
-//! Schedules that are replayed to their end.
+//! Schedules of Basic that are replayed to their end.
 
 use crate::run::{check, check_all};
-use mm_base::Bytes;
 use mm_digest::zero;
 use mm_seal::{Body, Place, seal};
 use std::test::Fail;
@@ -283,38 +282,6 @@ fn a_batch_is_kept_whole(rt: HostRuntime) -> Result<(), Fail> {
     check_all(&rt, rt.alloc(), BATCHES, 0)
 }
 
-/// A stop before a request that is asked again, what is written for both, and the requests committed at last.
-const STOPPED: &str = "\
-cut 1 => cut lost => ok 1 5
-drop 1 => drop lost => ok 1 5
-fail 1 done => fault lost => ok 1 5
-fail 1 undone => fault lost => ok 1 5
-fail 2 undone => fault lost => ok 1 5
-cut 2 => cut kept 1 => again 1 5
-drop 2 => drop kept 1 => again 1 5
-fail 2 done => fault kept 1 => again 1 5
-cut 3 => ok 1 5 => again 1 5
-meddle 1 ffffffffffffffffffffffffffffffffffffffffffffffffffffffffffffffff drop 2 => drop kept 1 => again 1 5
-";
-
-#[test]
-fn a_stopped_request_is_asked_again(rt: HostRuntime) -> Result<(), Fail> {
-    for line in STOPPED.lines() {
-        let (stop, replies) = line.split_once(" => ").ok_or("a stop")?;
-        let (first, second) = replies.split_once(" => ").ok_or("two replies")?;
-        let mut schedule = Bytes::copy_of(rt.alloc(), b"memoir 1 basic counter\n")?;
-        schedule.append(stop.as_bytes())?;
-        schedule.append(b" ask 0 add 5\nask 0 add 5\n")?;
-        let mut written = Bytes::copy_of(rt.alloc(), first.as_bytes())?;
-        written.push(b'\n')?;
-        written.append(second.as_bytes())?;
-        let issued = if first == "ok 1 5" { b'3' } else { b'2' };
-        written.append(&[b'\n', b'e', b'n', b'd', b' ', b'1', b' ', issued, b'\n'])?;
-        check(&rt, rt.alloc(), schedule.as_slice(), written.as_slice(), 0)?;
-    }
-    Ok(())
-}
-
 /// Sealed under the key of a replay, 00 to 1f, at a place where its platform never stood.
 #[test]
 fn a_sealed_snapshot_of_another_place_is_stale(rt: HostRuntime) -> Result<(), Fail> {
@@ -322,21 +289,29 @@ fn a_sealed_snapshot_of_another_place_is_stale(rt: HostRuntime) -> Result<(), Fa
     for (i, byte) in key.iter_mut().enumerate() {
         *byte = i as u8;
     }
-    let body = Body {
-        module: 1,
-        place: Place::Basic(zero()),
-        position: 0,
-        state: &[0; 8],
+    let there = Place::Opt {
+        anchor: zero(),
+        extension: zero(),
     };
-    let offer = seal(rt.alloc(), &key, &body)?;
-    let mut schedule = Bytes::copy_of(rt.alloc(), b"memoir 1 basic counter\nask raw ")?;
-    schedule.append(hex::encode(rt.alloc(), offer.as_slice())?.as_bytes())?;
-    schedule.append(b" add 5\n")?;
-    check(
-        &rt,
-        rt.alloc(),
-        schedule.as_slice(),
-        b"no stale\nend 0 1\n",
-        0,
-    )
+    for (header, place) in [("basic", Place::Basic(zero())), ("opt", there)] {
+        let body = Body {
+            module: 1,
+            place,
+            position: 0,
+            state: &[0; 8],
+        };
+        let offer = seal(rt.alloc(), &key, &body)?;
+        let offer = hex::encode(rt.alloc(), offer.as_slice())?;
+        let schedule = format!(in rt.alloc();
+            "memoir 1 {header} counter\nask raw {offer} add 5\n"
+        )?;
+        check(
+            &rt,
+            rt.alloc(),
+            schedule.as_bytes(),
+            b"no stale\nend 0 1\n",
+            0,
+        )?;
+    }
+    Ok(())
 }
