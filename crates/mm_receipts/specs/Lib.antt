@@ -2,3 +2,4 @@ pub mod Checking
 pub mod Tallies
 pub mod Counting
 pub mod Reports
+pub mod Honest

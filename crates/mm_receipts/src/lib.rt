@@ -1,6 +1,7 @@
 //! The check of receipts, pair by pair: what the command `receipts KEY` does.
 #![tactic(auto)]
 
+pub mod laws;
 mod pair;
 mod player;
 mod report;

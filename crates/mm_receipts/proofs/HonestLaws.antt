@@ -1,0 +1,261 @@
+-- Receipts that aren't forged never clash: each known pair is one, and two of one position are equal.
+use Rattle.std.proofs.Common.{◌≡◌, ◌∙◌, ◌+◌, ◌≤◌, ◌^◌, ◌==◌, ◌&&◌, ◌++◌, ℕ, Bool, true, false, cond, nat_lt, nat_le, List, [], ◌∷◌, length, drop, take, Option, Some, None, Result, Ok, Err, refl, sym, ap, subst, arith}
+use Rattle.std.specs.Prelude.{if◌then◌else◌}
+use Rattle.std.specs.BTreeMap.{is_at, insert_entry}
+use Rattle.std.specs.List.{AllByRecursion, position}
+use Rattle.std.specs.Map.{lookup}
+use Rattle.std.specs.Ordering.{nat_cmp, match_ordering}
+use Rattle.std.specs.declared.cmp.Ordering.TheVariants.{Less, Equal, Greater}
+use Rattle.std.specs.Str.{bytes_eq}
+use Rattle.std.proofs.lemmas.Bool.Decides.{nat_tests}
+use Rattle.std.proofs.lemmas.Slice.Eq.{bytes_eq-Decides}
+use Rattle.mm_base.specs.Decimals.{number_of}
+use Rattle.mm_base.specs.declared.replay_fault.ReplayFault.{ReplayFault}
+use Rattle.mm_base.specs.declared.replay_fault.ReplayFault.TheVariants.{LineLong}
+use Rattle.mm_module.specs.Meaning.{Meaning}
+use Rattle.mm_module.specs.Words.{is_space}
+use Rattle.mm_play.specs.declared.player.Refused.{Refused}
+use Rattle.mm_play.specs.declared.player.Refused.TheVariants.{Bad, Much}
+use Rattle.mm_play.specs.Play.{Told, told, stopped, line_limit, refusal_at, answered, run}
+use Rattle.mm_play.proofs.Runs.{not_ok}
+use Rattle.mm_receipt.specs.declared.receipt.NotReceipt.{NotReceipt}
+use Rattle.mm_receipt.specs.declared.receipt.NotReceipt.TheVariants.{Form, Tag}
+use Rattle.mm_receipt.specs.Receipts.{verified}
+use Rattle.mm_receipt.specs.Tagged.{IsCounted, IsUnforged}
+use Rattle.mm_receipt.proofs.TaggedLaws.{receipts-true, no-clash}
+use Rattle.mm_receipts.specs.declared.pair.Asked.{Asked}
+use Rattle.mm_receipts.specs.declared.pair.Pair.{Pair}
+use Rattle.mm_receipts.specs.declared.pair.Verdict.{Verdict}
+use Rattle.mm_receipts.specs.declared.pair.Verdict.TheVariants.{NoForm, NoTag, Clash, Good}
+use Rattle.mm_receipts.specs.Checking.{Tally, Checking, asked_at, parted, numbered, is_too_much, known_at, beside, verdict_by, verdict_of, verdict_text, after_pair, first_by, second_answer, waits, settles, receipts_answer, first_tally}
+use Rattle.mm_receipts.specs.Honest.{pairs_of, alone, IsGenuine, IsTrue, IsHonest, ChecksAreHonest}
+
+-- one line of a run that was answered
+record StepOf (it : Checking) (line : List ℕ) (number : ℕ) (lines : List (List ℕ)) (written : List ℕ) (next : Checking) : Type 0 where
+  reply : List ℕ
+  mid : Checking
+  rest : List ℕ
+  answer : receipts_answer it line ≡ Ok (reply, mid)
+  ran : run receipts_answer (number + 1) mid lines ≡ told rest (Ok next)
+  parts : written ≡ reply ++ rest
+
+answered-step : (it : Checking) (line : List ℕ) (number : ℕ) (lines : List (List ℕ)) (written : List ℕ) (next : Checking) (answer : Result (List ℕ × Checking) Refused)
+    → receipts_answer it line ≡ answer → answered (λ mid. run receipts_answer (number + 1) mid lines) number answer ≡ told written (Ok next)
+    → StepOf it line number lines written next
+answered-step it line number lines written next (Err why) is ran = absurd (not_ok (refusal_at number why) next (ap (λ (t : Told Checking). t.outcome) ran))
+answered-step it line number lines written next (Ok reply) is ran =
+    let more = run receipts_answer (number + 1) reply.1 lines in
+    record {
+      reply = reply.0;
+      mid = reply.1;
+      rest = more.written;
+      answer = is;
+      ran = ap (λ (r : Result Checking ReplayFault). told more.written r) (ap (λ (t : Told Checking). t.outcome) ran);
+      parts = sym (ap (λ (t : Told Checking). t.written) ran);
+    }
+
+turn-step : (it : Checking) (line : List ℕ) (number : ℕ) (lines : List (List ℕ)) (written : List ℕ) (next : Checking) (long : Bool)
+    → (let t : Told Checking = if long then stopped (LineLong number) else answered (λ mid. run receipts_answer (number + 1) mid lines) number (receipts_answer it line) in t ≡ told written (Ok next))
+    → StepOf it line number lines written next
+turn-step it line number lines written next true ran = absurd (not_ok (LineLong number) next (ap (λ (t : Told Checking). t.outcome) ran))
+turn-step it line number lines written next false ran = answered-step it line number lines written next (receipts_answer it line) refl ran
+
+-- what a first line keeps
+record IsFormed (asked : Asked) : Type 0 where
+  near : asked.position ≤ 2 ^ 48
+  short : length asked.request ≤ 4096
+
+abbrev MayWait : Option Asked → Type 0
+MayWait None = Unit {0}
+MayWait (Some asked) = IsFormed asked
+
+and-true : (a b : Bool) → (a && b) ≡ true → (a ≡ true) × (b ≡ true)
+and-true true b is = (refl, is)
+and-true false b is = cc
+
+numbered-formed : (request : List ℕ) (number : ℕ) (flag : Bool) → (nat_le 1 number && nat_le number (2 ^ 48) && nat_le (length request) 4096) ≡ flag
+    → MayWait (if flag then Some (record { position = number; request = request }) else None)
+numbered-formed request number true is =
+    let w = and-true (nat_le 1 number && nat_le number (2 ^ 48)) (nat_le (length request) 4096) is in
+    let v = and-true (nat_le 1 number) (nat_le number (2 ^ 48)) w.0 in
+    record { near = grind (arith, nat_tests); short = grind (arith, nat_tests) }
+numbered-formed request number false is = tt
+
+found-formed : (request : List ℕ) (found : Option ℕ) → MayWait (numbered request found)
+found-formed request None = tt
+found-formed request (Some number) = numbered-formed request number _ refl
+
+parted-formed : (line : List ℕ) (found : Option ℕ) → MayWait (parted line found)
+parted-formed line None = tt
+parted-formed line (Some at) = found-formed (drop (at + 1) line) (number_of (take at line))
+
+at-key : (a b : ℕ) → is_at (nat_cmp a) b ≡ true → a ≡ b
+at-key a b is = at-by a b (nat_lt a b) (a == b) refl is
+  where
+    at-by : (a b : ℕ) (below same : Bool) → (a == b) ≡ same → is_at (λ (k : ℕ). cond below Less (cond same Equal Greater)) b ≡ true → a ≡ b
+    at-by a b true same e h = cc
+    at-by a b false true e h = grind (arith, nat_tests)
+    at-by a b false false e h = cc
+
+module _ (inner : Meaning) (requests : List (List ℕ)) (counted : AllByRecursion IsCounted requests) (key : List ℕ) where
+  -- a pair that is known isn't forged
+  abbrev IsSound : ℕ × Pair → Type 0
+  IsSound entry = IsUnforged inner requests key entry.0 entry.1.request entry.1.output
+
+  abbrev AreSound : List (ℕ × Pair) → Type 0
+  AreSound known = AllByRecursion IsSound known
+
+  abbrev SoundAt : ℕ → Option Pair → Type 0
+  SoundAt number None = Unit {0}
+  SoundAt number (Some pair) = IsUnforged inner requests key number pair.request pair.output
+
+  sound-here : (number : ℕ) (entry : ℕ × Pair) (rest : List (ℕ × Pair)) (here : Bool) → is_at (nat_cmp number) entry.0 ≡ here → IsSound entry
+      → SoundAt number (lookup (is_at (nat_cmp number)) rest) → SoundAt number (cond here (Some entry.1) (lookup (is_at (nat_cmp number)) rest))
+  sound-here number entry rest true is sound later =
+      subst (λ n. IsUnforged inner requests key n entry.1.request entry.1.output) (sym (at-key number entry.0 is)) sound
+  sound-here number entry rest false is sound later = later
+
+  sound-at : (number : ℕ) (known : List (ℕ × Pair)) → AreSound known → SoundAt number (known_at number known)
+  sound-at number [] sound = tt
+  sound-at number (entry ∷ known) sound = sound-here number entry known (is_at (nat_cmp number) entry.0) refl sound.0 (sound-at number known sound.1)
+
+  sound-by : (number : ℕ) (pair : Pair) (entry : ℕ × Pair) (known rest : List (ℕ × Pair)) (below same : Bool) → (number == entry.0) ≡ same
+      → IsUnforged inner requests key number pair.request pair.output → IsSound entry → AreSound known → AreSound rest
+      → AreSound (match_ordering (cond below Less (cond same Equal Greater)) ((number, pair) ∷ entry ∷ known) ((entry.0, pair) ∷ known) (entry ∷ rest))
+  sound-by number pair entry known rest true same is new old more later = (new, (old, more))
+  sound-by number pair entry known rest false true is new old more later =
+      let e : number ≡ entry.0 = grind (arith, nat_tests) in
+      (subst (λ n. IsUnforged inner requests key n pair.request pair.output) e new, more)
+  sound-by number pair entry known rest false false is new old more later = (old, later)
+
+  sound-insert : (number : ℕ) (pair : Pair) (known : List (ℕ × Pair)) → IsUnforged inner requests key number pair.request pair.output → AreSound known
+      → AreSound (insert_entry nat_cmp known number pair)
+  sound-insert number pair [] new sound = (new, tt)
+  sound-insert number pair (entry ∷ known) new sound =
+      sound-by number pair entry known (insert_entry nat_cmp known number pair) (nat_lt number entry.0) (number == entry.0) refl new sound.0 sound.1
+      (sound-insert number pair known new sound.1)
+
+  same_bytes : (a b : List ℕ) → a ≡ b → bytes_eq a b ≡ true
+  same_bytes a b is = grind (arith, bytes_eq-Decides)
+
+  beside-good : (asked : Asked) (output : List ℕ) (known : Option Pair) → IsUnforged inner requests key asked.position asked.request output → SoundAt asked.position known
+      → beside known asked.request output ≡ Good
+  beside-good asked output None new sound = refl
+  beside-good asked output (Some pair) new sound =
+      let same = no-clash inner requests counted key asked.position asked.request output pair.request pair.output new sound in
+      rw (same_bytes asked.request pair.request same.0, same_bytes output pair.output same.1) refl
+
+  -- a verdict on a sound tally is the one of the pair alone
+  verdict-alone : (asked : Asked) (output : List ℕ) (known : Option Pair) (answer : Result (Unit {0}) NotReceipt) → (answer ≡ Ok tt → IsUnforged inner requests key asked.position asked.request output)
+      → SoundAt asked.position known → verdict_by answer known asked.request output ≡ verdict_by answer None asked.request output
+  verdict-alone asked output known (Err Form) new sound = refl
+  verdict-alone asked output known (Err Tag) new sound = refl
+  verdict-alone asked output known (Ok done) new sound = beside-good asked output known (new refl) sound
+
+  after-sound : (tally : Tally) (asked : Asked) (output : List ℕ) (answer : Result (Unit {0}) NotReceipt) → (answer ≡ Ok tt → IsUnforged inner requests key asked.position asked.request output)
+      → AreSound tally.known → AreSound (after_pair tally asked output (verdict_by answer None asked.request output)).known
+  after-sound tally asked output (Err Form) new sound = sound
+  after-sound tally asked output (Err Tag) new sound = sound
+  after-sound tally asked output (Ok done) new sound = sound-insert asked.position (record { request = asked.request; output = output }) tally.known (new refl) sound
+
+  after-key : (tally : Tally) (asked : Asked) (output : List ℕ) (verdict : Verdict) → (after_pair tally asked output verdict).key ≡ tally.key
+  after-key tally asked output NoForm = refl
+  after-key tally asked output NoTag = refl
+  after-key tally asked output Clash = refl
+  after-key tally asked output Good = refl
+
+  refuses : (why : Refused) (reply : List ℕ) (next : Checking) → (let r : Result (List ℕ × Checking) Refused = Err why in r ≡ Ok (reply, next)) → ⊥
+  refuses why reply next h = cc
+
+  same_reply : (reply said : List ℕ) (next it : Checking) → (let r : Result (List ℕ × Checking) Refused = Ok (said, it) in r ≡ Ok (reply, next)) → reply ≡ said
+  same_reply reply said next it h = let p : (said, it) ≡ (reply, next) = cc in sym (ap (λ (q : List ℕ × Checking). q.0) p)
+
+  same_mid : (reply said : List ℕ) (next it : Checking) → (let r : Result (List ℕ × Checking) Refused = Ok (said, it) in r ≡ Ok (reply, next)) → next ≡ it
+  same_mid reply said next it h = let p : (said, it) ≡ (reply, next) = cc in sym (ap (λ (q : List ℕ × Checking). q.1) p)
+
+  -- what stands between two lines
+  record Stands (tally : Tally) (asked : Option Asked) : Type 0 where
+    keyed : tally.key ≡ key
+    sound : AreSound tally.known
+    formed : MayWait asked
+
+  -- a first line waits, and is answered nothing
+  record Waiting (tally : Tally) (line : List ℕ) (reply : List ℕ) (mid : Checking) : Type 0 where
+    silent : reply ≡ []
+    asked : mid.asked ≡ asked_at line
+    known : mid.tally.known ≡ tally.known
+    same_key : mid.tally.key ≡ tally.key
+
+  first-waits : (tally : Tally) (line : List ℕ) (found : Option Asked) (much : Bool) (reply : List ℕ) (mid : Checking) → asked_at line ≡ found → is_too_much tally line ≡ much
+      → waits (first_by tally line found) ≡ Ok (reply, mid) → Waiting tally line reply mid
+  first-waits tally line None much reply mid is flag h = absurd (refuses Bad reply mid h)
+  first-waits tally line (Some asked) true reply mid is flag h = absurd (refuses Much reply mid (rw flag at h))
+  first-waits tally line (Some asked) false reply mid is flag h =
+      let e = same_mid reply _ mid _ (rw flag at h) in
+      record {
+        silent = same_reply reply _ mid _ (rw flag at h);
+        asked = ap (λ (c : Checking). c.asked) e ∙ sym is;
+        known = ap (λ (c : Checking). c.tally.known) e;
+        same_key = ap (λ (c : Checking). c.tally.key) e;
+      }
+
+  -- a second line is answered by its verdict
+  record Settling (tally : Tally) (asked : Asked) (line : List ℕ) (reply : List ℕ) (mid : Checking) : Type 0 where
+    told : reply ≡ verdict_text asked.position (verdict_of tally asked line)
+    next : mid ≡ record { tally = after_pair tally asked line (verdict_of tally asked line); asked = None }
+
+  second-settles : (tally : Tally) (asked : Asked) (line : List ℕ) (much : Bool) (reply : List ℕ) (mid : Checking) → is_too_much tally line ≡ much
+      → settles (second_answer tally asked line) ≡ Ok (reply, mid) → Settling tally asked line reply mid
+  second-settles tally asked line true reply mid flag h = absurd (refuses Much reply mid (rw flag at h))
+  second-settles tally asked line false reply mid flag h =
+      record { told = same_reply reply _ mid _ (rw flag at h); next = same_mid reply _ mid _ (rw flag at h) }
+
+  unforged : (asked : Asked) (line : List ℕ) → IsFormed asked → IsGenuine inner requests key (record { asked = asked; output = line })
+      → verified key asked.position asked.request line ≡ Ok tt → IsUnforged inner requests key asked.position asked.request line
+  unforged asked line formed genuine accepted = record { near = formed.near; short = formed.short; accepted = accepted; tagged = genuine accepted }
+
+  true-pair : (asked : Asked) (line : List ℕ) → IsFormed asked → IsGenuine inner requests key (record { asked = asked; output = line })
+      → IsTrue inner requests key (record { asked = asked; output = line })
+  true-pair asked line formed genuine accepted = receipts-true inner requests counted key asked.position asked.request line (unforged asked line formed genuine accepted)
+
+  honest-from : (lines : List (List ℕ)) (number : ℕ) (tally : Tally) (asked : Option Asked) (written : List ℕ) (next : Checking) → Stands tally asked
+      → run receipts_answer number (record { tally = tally; asked = asked }) lines ≡ told written (Ok next)
+      → AllByRecursion (IsGenuine inner requests key) (pairs_of asked lines) → IsHonest inner requests key (pairs_of asked lines) written
+  honest-from [] number tally asked written next s ran genuine = record { plain = sym (ap (λ (t : Told Checking). t.written) ran); right = tt }
+  honest-from (line ∷ lines) number tally None written next s ran genuine =
+      let step = turn-step (record { tally = tally; asked = None }) line number lines written next (nat_lt line_limit (length line)) ran in
+      let w = first-waits tally line (asked_at line) (is_too_much tally line) step.reply step.mid refl refl step.answer in
+      let mid : record { tally = step.mid.tally; asked = asked_at line } ≡ step.mid = ap (λ (a : Option Asked). record { tally = step.mid.tally; asked = a }) (sym w.asked) in
+      let stands : Stands step.mid.tally (asked_at line) = record {
+        keyed = w.same_key ∙ s.keyed;
+        sound = subst AreSound (sym w.known) s.sound;
+        formed = parted-formed line (position is_space line);
+      } in
+      let rest = honest-from lines (number + 1) step.mid.tally (asked_at line) step.rest next stands
+      (ap (λ (c : Checking). run receipts_answer (number + 1) c lines) mid ∙ step.ran) genuine in
+      record { plain = step.parts ∙ ap (λ (l : List ℕ). l ++ step.rest) w.silent ∙ rest.plain; right = rest.right }
+  honest-from (line ∷ lines) number tally (Some asked) written next s ran genuine =
+      let step = turn-step (record { tally = tally; asked = Some asked }) line number lines written next (nat_lt line_limit (length line)) ran in
+      let w = second-settles tally asked line (is_too_much tally line) step.reply step.mid refl step.answer in
+      let answer = verified key asked.position asked.request line in
+      let new : answer ≡ Ok tt → IsUnforged inner requests key asked.position asked.request line = unforged asked line s.formed genuine.0 in
+      let plain : verdict_of tally asked line ≡ verdict_by answer None asked.request line =
+      ap (λ (k : List ℕ). verdict_by (verified k asked.position asked.request line) (known_at asked.position tally.known) asked.request line) s.keyed
+      ∙ verdict-alone asked line (known_at asked.position tally.known) answer new (sound-at asked.position tally.known s.sound) in
+      let after = after_pair tally asked line (verdict_of tally asked line) in
+      let stands : Stands after None = record {
+        keyed = after-key tally asked line (verdict_of tally asked line) ∙ s.keyed;
+        sound = subst (λ (v : Verdict). AreSound (after_pair tally asked line v).known) (sym plain) (after-sound tally asked line answer new s.sound);
+        formed = tt;
+      } in
+      let rest = honest-from lines (number + 1) after None step.rest next stands
+      (ap (λ (c : Checking). run receipts_answer (number + 1) c lines) (sym w.next) ∙ step.ran) genuine.1 in
+      record {
+        plain = step.parts ∙ ap (λ (l : List ℕ). l ++ step.rest) (w.told ∙ ap (λ (v : Verdict). verdict_text asked.position v) plain)
+            ∙ ap (λ (l : List ℕ). alone key (record { asked = asked; output = line }) ++ l) rest.plain;
+        right = (true-pair asked line s.formed genuine.0, rest.right);
+      }
+
+pub honest : ChecksAreHonest
+honest inner requests counted key lines written next ran genuine =
+    honest-from inner requests counted key lines 1 (first_tally key) None written next (record { keyed = refl; sound = tt; formed = tt }) ran genuine

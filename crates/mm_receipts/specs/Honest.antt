@@ -1,0 +1,53 @@
+-- What a check says of receipts that aren't forged.
+use Rattle.std.specs.Prelude.{◌≡◌, ℕ, List, [], ◌∷◌, ◌++◌, drop, Option, None, Some, Ok}
+use Rattle.std.specs.List.{AllByRecursion}
+use Rattle.mm_module.specs.Meaning.{Meaning}
+use Rattle.mm_play.specs.Play.{told, run}
+use Rattle.mm_receipt.specs.Receipts.{receipt_message, verified}
+use Rattle.mm_receipt.specs.Table.{first_kept}
+use Rattle.mm_receipt.specs.Tagged.{IsCounted, IsTagged, WasRun}
+use Rattle.mm_receipts.specs.declared.pair.Asked.{Asked}
+use Rattle.mm_receipts.specs.Checking.{Checking, asked_at, verdict_by, verdict_text, first_checking, receipts_answer}
+
+-- a pair of lines: a request at a position, and the output
+pub record Given : Type 0 where
+  pub asked : Asked
+  pub output : List ℕ
+
+-- the pairs of lines, where the first of one may wait already
+abbrev pub pairs_of : Option Asked → List (List ℕ) → List Given
+pairs_of asked [] = []
+pairs_of None (line ∷ lines) = pairs_of (asked_at line) lines
+pairs_of (Some asked) (line ∷ lines) = record { asked = asked; output = line } ∷ pairs_of None lines
+
+-- what a pair is answered by itself, whatever came before it
+abbrev pub alone : List ℕ → Given → List ℕ
+alone key pair =
+    verdict_text pair.asked.position (verdict_by (verified key pair.asked.position pair.asked.request pair.output) None pair.asked.request pair.output)
+
+abbrev pub each_alone : List ℕ → List Given → List ℕ
+each_alone key [] = []
+each_alone key (pair ∷ pairs) = alone key pair ++ each_alone key pairs
+
+-- where the output is accepted, its message is one that these requests tagged
+abbrev pub IsGenuine : Meaning → List (List ℕ) → List ℕ → Given → Type 0
+IsGenuine inner requests key pair =
+    verified key pair.asked.position pair.asked.request pair.output ≡ Ok tt
+    → IsTagged inner key (first_kept inner) requests (receipt_message pair.asked.position pair.asked.request (drop 65 pair.output))
+
+-- where the output is accepted, it is what was said to the request at its position
+abbrev pub IsTrue : Meaning → List (List ℕ) → List ℕ → Given → Type 0
+IsTrue inner requests key pair =
+    verified key pair.asked.position pair.asked.request pair.output ≡ Ok tt → WasRun inner requests pair.asked.position pair.asked.request pair.output
+
+-- Each pair is answered as if it came alone, so that none is `clash`; and the good pairs are those of the run.
+pub record IsHonest (inner : Meaning) (requests : List (List ℕ)) (key : List ℕ) (pairs : List Given) (written : List ℕ) : Type 0 where
+  pub plain : written ≡ each_alone key pairs
+  pub right : AllByRecursion (IsTrue inner requests key) pairs
+
+abbrev pub ChecksAreHonest : Type 0
+ChecksAreHonest = (inner : Meaning) (requests : List (List ℕ)) → AllByRecursion IsCounted requests
+    → (key : List ℕ) (lines : List (List ℕ)) (written : List ℕ) (next : Checking)
+    → run receipts_answer 1 (first_checking key) lines ≡ told written (Ok next)
+    → AllByRecursion (IsGenuine inner requests key) (pairs_of None lines)
+    → IsHonest inner requests key (pairs_of None lines) written
