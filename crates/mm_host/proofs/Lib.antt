@@ -1,0 +1,5 @@
+mod Askable
+mod Blaming
+mod Slots
+mod Awaited
+mod Recovering

@@ -1,0 +1,241 @@
+-- Every exit of a recovery leaves slots that fit the history.
+use Rattle.std.proofs.Common.{◌≡◌, ℕ, ◌+◌, ◌-◌, ◌%◌, ◌≤◌, Bool, true, false, List, [], ◌∷◌, ◌++◌, Option, None, Some, Result, Ok, Err, refl, sym, ap, ◌∙◌, subst, inl, inr}
+use Rattle.std.specs.Prelude.{◌⊎◌}
+use Rattle.mm_digest.specs.declared.variant.Variant.{Variant}
+use Rattle.mm_digest.specs.declared.variant.Variant.TheVariants.{Basic, Opt}
+use Rattle.mm_platform.specs.Standing.{Standing}
+use Rattle.mm_module.specs.Meaning.{Meaning}
+use Rattle.mm_module.specs.Batch.{Batch, One}
+use Rattle.mm_seal.specs.Snapshot.{Content}
+use Rattle.mm_model.specs.Instance.{Instance, basic}
+use Rattle.mm_model.specs.History.{History, total_of}
+use Rattle.mm_model.specs.Messages.{Within}
+use Rattle.mm_model.specs.Places.{Names}
+use Rattle.mm_model.specs.Standing.{StandsFor, IsRight}
+use Rattle.mm_model.specs.declared.answer.Answer.{Answer}
+use Rattle.mm_model.specs.declared.answer.BatchAnswer.{BatchAnswer}
+use Rattle.mm_model.specs.declared.refusal.Refusal.{Refusal}
+use Rattle.mm_call.specs.Asked.{IsWithin, right_messages}
+use Rattle.mm_call.specs.Found.{right_content}
+use Rattle.mm_call.specs.Leaving.{whole, whole_in}
+use Rattle.mm_callers.specs.Basic.{AreAsked}
+use Rattle.mm_callers.proofs.Again.{one_call}
+use Rattle.mm_callers.proofs.Calls.{one_content, Comes}
+use Rattle.mm_store.specs.declared.fault.StoreFault.{StoreFault}
+use Rattle.mm_store.specs.declared.fault.StoreFault.TheVariants as fault
+use Rattle.mm_store.specs.Calls.{ReadsSlot, WritesSlot, putting}
+use Rattle.mm_store.specs.Kept.{Kept}
+use Rattle.mm_store.specs.Pending.{Pending}
+use Rattle.mm_store.specs.Slots.{Slots, seen_in, with_slot}
+use Rattle.mm_store.proofs.PendingLaws.{one_reading}
+use Rattle.mm_host.specs.declared.fault.HostFault.{HostFault}
+use Rattle.mm_host.specs.declared.resuming.Resumed.{Resumed}
+use Rattle.mm_host.specs.declared.resuming.Resumed.TheVariants.{Start, Answered}
+use Rattle.mm_host.specs.Faults.{store_fault_as, refused_as}
+use Rattle.mm_host.specs.Waiting.{later, IsWaiting, Takes}
+use Rattle.mm_host.specs.Resumes.{AfterThree, AfterTwo, FindsWaiting, started, kept_as, Keeps, AfterAsk, AsksAndKeeps, AfterOffer, AfterFinding, Resumes}
+use Rattle.mm_host.specs.Asking.{IsCall}
+use Rattle.mm_host.specs.Fitting.{offer_slot, Holds, IsAwaited, FitsBy, Fits}
+use Rattle.mm_host.specs.Recovery.{IsAskedFor, CanRecover, IsGrown, AnswersAt, ComesTo, RecoversTo, Recovers}
+use Rattle.mm_host.proofs.Slots.{IsElsewhere, elsewhere_same, elsewhere_put}
+use Rattle.mm_host.proofs.Awaited.{awaited_least, still_awaited, grows, answered_at}
+
+-- one request waits in the slots' bytes
+pub one_waiting : (two three : List ℕ) (v w : Option Pending) → IsWaiting two three v → IsWaiting two three w → v ≡ w
+one_waiting two three v w a b =
+    let in_two : a.in_two ≡ b.in_two = one_reading 2 two a.in_two b.in_two a.reads_two b.reads_two in
+    let in_three : a.in_three ≡ b.in_three = one_reading 3 three a.in_three b.in_three a.reads_three b.reads_three in
+    a.is ∙ ap (λ (x : Option Pending). later x a.in_three) in_two ∙ ap (λ (x : Option Pending). later b.in_two x) in_three ∙ sym b.is
+
+-- what a finding saw, over a store that tells its slots
+record Saw (slots : Slots) (old new : Kept) (result : Result (Option Pending) StoreFault) : Type 0 where
+  told : new.slots ≡ Some slots
+  honest : new.is_honest ≡ old.is_honest
+  waiting : (w : Option Pending) → result ≡ Ok w → IsWaiting (seen_in slots 2) (seen_in slots 3) w
+
+took : (two three : List ℕ) (result : Result (Option Pending) StoreFault) (taken w : Option Pending) → IsWaiting two three taken → (result ≡ Ok taken) ⊎ (result ≡ Err fault.Memory) → result ≡ Ok w → IsWaiting two three w
+took two three result taken w is (inl e) f =
+    let same : taken ≡ w = cc in
+    subst (λ (x : Option Pending). IsWaiting two three x) same is
+took two three result taken w is (inr e) f = absurd (cc)
+
+saw_three : (slots : Slots) (two : List ℕ) (three : Result (List ℕ) StoreFault) (old new : Kept) (result : Result (Option Pending) StoreFault) → old.slots ≡ Some slots → two ≡ seen_in slots 2 → ReadsSlot 3 old new three → AfterThree two three result → Saw slots old new result
+saw_three slots two (Err why) old new result t e r g = record {
+  told = r.slots ∙ t;
+  honest = r.honest;
+  waiting = λ (w : Option Pending) (f : result ≡ Ok w). absurd (cc);
+}
+saw_three slots two (Ok three) old new result t e r g = record {
+  told = r.slots ∙ t;
+  honest = r.honest;
+  waiting = λ (w : Option Pending) (f : result ≡ Ok w).
+      subst (λ (x : List ℕ). IsWaiting x (seen_in slots 3) w) e
+      (subst (λ (x : List ℕ). IsWaiting two x w) (r.gives slots t) (took two three result g.waiting w g.is_waiting g.gives f));
+}
+
+saw_two : (slots : Slots) (two : Result (List ℕ) StoreFault) (old middle new : Kept) (result : Result (Option Pending) StoreFault) → old.slots ≡ Some slots → ReadsSlot 2 old middle two → AfterTwo two middle new result → Saw slots old new result
+saw_two slots (Err why) old middle new result t r g = record {
+  told = ap (λ (k : Kept). k.slots) g.0 ∙ r.slots ∙ t;
+  honest = ap (λ (k : Kept). k.is_honest) g.0 ∙ r.honest;
+  waiting = λ (w : Option Pending) (f : result ≡ Ok w). let e : result ≡ Err why = g.1 in absurd (cc);
+}
+saw_two slots (Ok two) old middle new result t r g =
+    let s = saw_three slots two g.three middle new result (r.slots ∙ t) (r.gives slots t) g.reads g.goes in
+    record { told = s.told; honest = s.honest ∙ r.honest; waiting = s.waiting }
+
+-- an exit where nothing was asked
+grown_none : (y : History) (waiting : Option Pending) → IsGrown y waiting y
+grown_none y None = refl
+grown_none y (Some p) = inl refl
+
+still : (all others : List (List ℕ)) (asked : List Batch) (i : Instance) (y : History) (slots : Slots) (before after : Standing) (old new : Kept) (result : Result Resumed HostFault) (can : CanRecover all others asked i y slots before old) → after ≡ before → new.slots ≡ Some slots → ComesTo i y slots can.fits.waiting y result → RecoversTo all others asked i y slots can.fits.waiting after new result
+still all others asked i y slots before after old new result can s t c = record {
+  after = y;
+  stands = subst (λ (x : Standing). StandsFor i x y) (sym s) can.stands;
+  within = can.within;
+  grown = grown_none y can.fits.waiting;
+  slots_after = slots;
+  told = t;
+  fits = can.fits;
+  same_wait = refl;
+  comes = c;
+}
+
+-- what stands once the request that waits was asked
+record Left (all others : List (List ℕ)) (asked : List Batch) (i : Instance) (y : History) (slots : Slots) (waiting : Option Pending) (p : Pending) (standing : Standing) (gives : Result BatchAnswer Refusal) : Type 0 where
+  after : History
+  stands : StandsFor i standing after
+  within : IsWithin all others asked i after
+  names : (content : Content) → Names i y content → Names i after content
+  comes : Comes i y (seen_in slots (offer_slot p)) (One p.request) after gives
+  is : waiting ≡ Some p
+  is_waiting : IsWaiting (seen_in slots 2) (seen_in slots 3) waiting
+  awaited : IsAwaited y p
+  holds : Holds i y (seen_in slots (offer_slot p)) (p.position - 1)
+
+settle : (all others : List (List ℕ)) (asked : List Batch) (i : Instance) (y : History) (slots other : Slots) (waiting : Option Pending) (p : Pending) (standing : Standing) (gives : Result BatchAnswer Refusal) (kept : Kept) (result : Result Resumed HostFault) (l : Left all others asked i y slots waiting p standing gives) → IsElsewhere slots other p → kept.slots ≡ Some other → ComesTo i y slots waiting l.after result → RecoversTo all others asked i y slots waiting standing kept result
+settle all others asked i y slots other waiting p standing gives kept result l e t c = record {
+  after = l.after;
+  stands = l.stands;
+  within = l.within;
+  grown = subst (λ (w : Option Pending). IsGrown y w l.after) (sym l.is) (grows i y p (seen_in slots (offer_slot p)) l.after gives l.comes);
+  slots_after = other;
+  told = t;
+  fits = record {
+    waiting = waiting;
+    is_waiting = subst (λ (x : List ℕ). IsWaiting x (seen_in other 3) waiting) (sym e.two)
+        (subst (λ (x : List ℕ). IsWaiting (seen_in slots 2) x waiting) (sym e.three) l.is_waiting);
+    fits = subst (λ (w : Option Pending). FitsBy i other l.after w) (sym l.is) (
+      still_awaited i y p (seen_in slots (offer_slot p)) l.after gives l.awaited l.holds l.comes,
+      subst (λ (x : List ℕ). Holds i l.after x (p.position - 1)) (sym e.offer) (record {
+        content = l.holds.content;
+        right = l.holds.right;
+        names = l.names l.holds.content l.holds.names;
+        at = l.holds.at;
+      }),
+    );
+  };
+  same_wait = refl;
+  comes = c;
+}
+
+-- the exits of a write
+keep_exit : (all others : List (List ℕ)) (asked : List Batch) (i : Instance) (y : History) (slots : Slots) (waiting : Option Pending) (p : Pending) (standing : Standing) (answer : Answer) (written : Result Unit StoreFault) (old new : Kept) (l : Left all others asked i y slots waiting p standing (Ok (whole answer))) → old.is_honest ≡ true → old.slots ≡ Some slots → answer.position ≡ p.position → WritesSlot (p.position % 2) answer.snapshot old new written → AnswersAt i y waiting l.after answer → RecoversTo all others asked i y slots waiting standing new (kept_as answer written)
+keep_exit all others asked i y slots waiting p standing answer (Ok it) old new l h t e w a =
+    settle all others asked i y slots (with_slot slots (p.position % 2) answer.snapshot) waiting p standing (Ok (whole answer)) new (Ok (Answered answer)) l
+    (elsewhere_put slots p answer.snapshot (awaited_least y p l.awaited))
+    (w.leaves h ∙ ap (λ (s : Option Slots). putting (p.position % 2) answer.snapshot s) t) a
+keep_exit all others asked i y slots waiting p standing answer (Err fault.Memory) old new l h t e w a =
+    settle all others asked i y slots slots waiting p standing (Ok (whole answer)) new (Err (store_fault_as fault.Memory)) l
+    (elsewhere_same slots p) (w.leaves h ∙ t) tt
+keep_exit all others asked i y slots waiting p standing answer (Err fault.Failed) old new l h t e w a =
+    let left = w.leaves h in
+    settle all others asked i y slots (with_slot slots (p.position % 2) left.0) waiting p standing (Ok (whole answer)) new (Err (store_fault_as fault.Failed)) l
+    (elsewhere_put slots p left.0 (awaited_least y p l.awaited))
+    (left.1 ∙ ap (λ (s : Option Slots). putting (p.position % 2) left.0 s) t) tt
+
+answers : (all others : List (List ℕ)) (asked : List Batch) (i : Instance) (y : History) (slots : Slots) (waiting : Option Pending) (p : Pending) (standing : Standing) (answer : Answer) (l : Left all others asked i y slots waiting p standing (Ok (whole answer))) → (AnswersAt i y waiting l.after answer) × (answer.position ≡ p.position)
+answers all others asked i y slots waiting p standing answer l =
+    let a = answered_at i y p (seen_in slots (offer_slot p)) l.after (whole answer) l.awaited l.holds l.comes in (
+      record { p = p; waits = l.is; position = a.position; answer_is = a.answer_is },
+      ap (λ (b : BatchAnswer). b.position) a.answer_is ∙ sym a.position,
+    )
+
+-- the exits of the call
+ask_exit : (all others : List (List ℕ)) (asked : List Batch) (i : Instance) (y : History) (slots : Slots) (waiting : Option Pending) (p : Pending) (standing : Standing) (call : Result Answer Refusal) (old new : Kept) (result : Result Resumed HostFault) → Left all others asked i y slots waiting p standing (whole_in call) → old.is_honest ≡ true → old.slots ≡ Some slots → AfterAsk call old new result → RecoversTo all others asked i y slots waiting standing new result
+ask_exit all others asked i y slots waiting p standing (Err why) old new result l h t g =
+    subst (λ (r : Result Resumed HostFault). RecoversTo all others asked i y slots waiting standing new r) (sym g.1)
+    (settle all others asked i y slots slots waiting p standing (Err why) new (Err (refused_as why)) l
+    (elsewhere_same slots p) (ap (λ (k : Kept). k.slots) g.0 ∙ t) tt)
+ask_exit all others asked i y slots waiting p standing (Ok answer) old new result l h t g =
+    let a = answers all others asked i y slots waiting p standing answer l in
+    subst (λ (r : Result Resumed HostFault). RecoversTo all others asked i y slots waiting standing new r) (sym g.gives)
+    (keep_exit all others asked i y slots waiting p standing answer g.written old new l h t a.1
+    (subst (λ (n : ℕ). WritesSlot (n % 2) answer.snapshot old new g.written) a.1 g.writes) a.0)
+
+-- what is asked of the call
+asked_of : (meaning : Meaning) (key : List ℕ) (all others : List (List ℕ)) (asked : List Batch) (y : History) (slots : Slots) (before : Standing) (old : Kept) (p : Pending) (can : CanRecover all others asked (basic meaning key) y slots before old) → can.fits.waiting ≡ Some p → Holds (basic meaning key) y (seen_in slots (offer_slot p)) (p.position - 1) → AreAsked all others asked (basic meaning key) y (seen_in slots (offer_slot p)) (One p.request)
+asked_of meaning key all others asked y slots before old p can e holds =
+    let a : IsAskedFor all asked (basic meaning key) slots (Some p) = subst (λ (w : Option Pending). IsAskedFor all asked (basic meaning key) slots w) e can.is_asked in
+    record {
+      clear = can.clear;
+      apart = can.apart;
+      within = can.within;
+      is_asked = a.0;
+      genuine = λ (content : Content) (right : IsRight (basic meaning key) (seen_in slots (offer_slot p)) content).
+          subst (λ (x : Content). Names (basic meaning key) y x) (one_content (basic meaning key) (seen_in slots (offer_slot p)) holds.content content holds.right right) holds.names;
+      offered = a.1;
+    }
+
+left_by : (meaning : Meaning) (key : List ℕ) (all others : List (List ℕ)) (asked : List Batch) (y : History) (slots : Slots) (before after : Standing) (old : Kept) (p : Pending) (call : Result Answer Refusal) (can : CanRecover all others asked (basic meaning key) y slots before old) → can.fits.waiting ≡ Some p → IsCall Basic meaning before after (seen_in slots (offer_slot p)) p.request call → Left all others asked (basic meaning key) y slots can.fits.waiting p after (whole_in call)
+left_by meaning key all others asked y slots before after old p call can e c =
+    let i : Instance = basic meaning key in
+    let f : FitsBy i slots y (Some p) = subst (λ (w : Option Pending). FitsBy i slots y w) e can.fits.fits in
+    let o = one_call meaning key all others asked y before after (seen_in slots (offer_slot p)) p.request (whole_in call) c.goes can.stands
+    (asked_of meaning key all others asked y slots before old p can e f.1) in
+    record {
+      after = o.after;
+      stands = o.stands;
+      within = o.within;
+      names = o.names;
+      comes = o.comes;
+      is = e;
+      is_waiting = can.fits.is_waiting;
+      awaited = f.0;
+      holds = f.1;
+    }
+
+-- the exits of the offer
+offer_exit : (meaning : Meaning) (key : List ℕ) (all others : List (List ℕ)) (asked : List Batch) (y : History) (slots : Slots) (offer : Result (List ℕ) StoreFault) (before after : Standing) (first old middle new : Kept) (p : Pending) (result : Result Resumed HostFault) (can : CanRecover all others asked (basic meaning key) y slots before first) → can.fits.waiting ≡ Some p → old.is_honest ≡ true → old.slots ≡ Some slots → ReadsSlot (offer_slot p) old middle offer → AfterOffer Basic meaning before after offer middle new p result → RecoversTo all others asked (basic meaning key) y slots can.fits.waiting after new result
+offer_exit meaning key all others asked y slots (Err why) before after first old middle new p result can e h t r g =
+    subst (λ (x : Result Resumed HostFault). RecoversTo all others asked (basic meaning key) y slots can.fits.waiting after new x) (sym g.2)
+    (still all others asked (basic meaning key) y slots before after first new (Err (store_fault_as why)) can g.0 (ap (λ (k : Kept). k.slots) g.1 ∙ r.slots ∙ t) tt)
+offer_exit meaning key all others asked y slots (Ok offer) before after first old middle new p result can e h t r g =
+    ask_exit all others asked (basic meaning key) y slots can.fits.waiting p after g.asked middle new result
+    (left_by meaning key all others asked y slots before after first p g.asked can e
+    (subst (λ (x : List ℕ). IsCall Basic meaning before after x p.request g.asked) (r.gives slots t) g.asks))
+    (r.honest ∙ h) (r.slots ∙ t) g.goes
+
+start_exit : (all others : List (List ℕ)) (asked : List Batch) (i : Instance) (y : History) (slots : Slots) (zero : Result (List ℕ) StoreFault) (before after : Standing) (first old new : Kept) (can : CanRecover all others asked i y slots before first) → can.fits.waiting ≡ None → after ≡ before → old.slots ≡ Some slots → ReadsSlot 0 old new zero → RecoversTo all others asked i y slots can.fits.waiting after new (started zero)
+start_exit all others asked i y slots (Ok bytes) before after first old new can e s t r =
+    still all others asked i y slots before after first new (Ok (Start bytes)) can s (r.slots ∙ t) (e, r.gives slots t)
+start_exit all others asked i y slots (Err why) before after first old new can e s t r =
+    still all others asked i y slots before after first new (Err (store_fault_as why)) can s (r.slots ∙ t) tt
+
+found_exit : (meaning : Meaning) (key : List ℕ) (all others : List (List ℕ)) (asked : List Batch) (y : History) (slots : Slots) (waiting : Result (Option Pending) StoreFault) (before after : Standing) (old middle new : Kept) (result : Result Resumed HostFault) (can : CanRecover all others asked (basic meaning key) y slots before old) → Saw slots old middle waiting → AfterFinding Basic meaning before after waiting middle new result → RecoversTo all others asked (basic meaning key) y slots can.fits.waiting after new result
+found_exit meaning key all others asked y slots (Err why) before after old middle new result can s g =
+    subst (λ (x : Result Resumed HostFault). RecoversTo all others asked (basic meaning key) y slots can.fits.waiting after new x) (sym g.2)
+    (still all others asked (basic meaning key) y slots before after old new (Err (store_fault_as why)) can g.0 (ap (λ (k : Kept). k.slots) g.1 ∙ s.told) tt)
+found_exit meaning key all others asked y slots (Ok None) before after old middle new result can s g =
+    let e : can.fits.waiting ≡ None = one_waiting (seen_in slots 2) (seen_in slots 3) can.fits.waiting None can.fits.is_waiting (s.waiting None refl) in
+    subst (λ (x : Result Resumed HostFault). RecoversTo all others asked (basic meaning key) y slots can.fits.waiting after new x) (sym g.1.gives)
+    (start_exit all others asked (basic meaning key) y slots g.1.zero before after old middle new can e g.0 s.told g.1.reads)
+found_exit meaning key all others asked y slots (Ok (Some p)) before after old middle new result can s g =
+    let e : can.fits.waiting ≡ Some p = one_waiting (seen_in slots 2) (seen_in slots 3) can.fits.waiting (Some p) can.fits.is_waiting (s.waiting (Some p) refl) in
+    offer_exit meaning key all others asked y slots g.offer before after old middle g.middle new p result can e (s.honest ∙ can.honest) s.told g.reads g.goes
+
+pub recovers : (variant : Variant) (meaning : Meaning) (before after : Standing) (old new : Kept) (result : Result Resumed HostFault) → Resumes variant meaning before after old new result → Recovers variant meaning before after old new result
+recovers Opt meaning before after old new result r = tt
+recovers Basic meaning before after old new result r = λ key y slots all others asked can.
+    found_exit meaning key all others asked y slots r.waiting before after old r.middle new result can
+    (saw_two slots r.finds.two old r.finds.middle r.middle r.waiting can.told r.finds.reads r.finds.goes) r.goes

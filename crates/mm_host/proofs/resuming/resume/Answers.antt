@@ -1,0 +1,21 @@
+use Rattle.mm_host.proofs.Blaming.{resumes_told}
+use Rattle.mm_host.proofs.Recovering.{recovers}
+use Rattle.mm_host.proofs.resuming.resume.Goals as goal
+
+pub returns-clause-faults : goal.returns-clause-faults
+returns-clause-faults g c =
+    (resumes_told c.args.variant (g.M.Module.meaning c.args.module.now) (g.P.Device.standing c.args.platform.now)
+    (g.P.Device.standing c.resume_by_steps.new.platform) (g.T.Store.kept c.args.store.now)
+    (g.T.Store.kept c.resume_by_steps.new.store) c.resume_by_steps.result c.resume_by_steps.ensures).blamed
+
+pub returns-clause-named : goal.returns-clause-named
+returns-clause-named g c =
+    (resumes_told c.args.variant (g.M.Module.meaning c.args.module.now) (g.P.Device.standing c.args.platform.now)
+    (g.P.Device.standing c.resume_by_steps.new.platform) (g.T.Store.kept c.args.store.now)
+    (g.T.Store.kept c.resume_by_steps.new.store) c.resume_by_steps.result c.resume_by_steps.ensures).named
+
+pub returns-clause-recovers : goal.returns-clause-recovers
+returns-clause-recovers g c =
+    recovers c.args.variant (g.M.Module.meaning c.args.module.now) (g.P.Device.standing c.args.platform.now)
+    (g.P.Device.standing c.resume_by_steps.new.platform) (g.T.Store.kept c.args.store.now)
+    (g.T.Store.kept c.resume_by_steps.new.store) c.resume_by_steps.result c.resume_by_steps.ensures

@@ -1,0 +1,22 @@
+-- One call of either variant.
+use Rattle.std.specs.Prelude.{◌≢◌, ℕ, List, Result, Err, IfOk}
+use Rattle.mm_digest.specs.declared.variant.Variant.{Variant}
+use Rattle.mm_platform.specs.Standing.{Standing}
+use Rattle.mm_module.specs.Meaning.{Meaning}
+use Rattle.mm_module.specs.Batch.{One}
+use Rattle.mm_model.specs.Fit.{IsFit}
+use Rattle.mm_model.specs.declared.answer.Answer.{Answer}
+use Rattle.mm_model.specs.declared.refusal.Refusal.{Refusal}
+use Rattle.mm_model.specs.declared.refusal.Refusal.TheVariants.{Long}
+use Rattle.mm_call.specs.CallsOn.{CallsOn}
+use Rattle.mm_call.specs.Leaving.{LeavesUntouched, Blames, whole, whole_in}
+use Rattle.mm_call.specs.Refusals.{fault_in}
+
+-- One call, for a request that isn't too long: it goes as a call of the variant does, from any history; its count of
+-- faults rose exactly where it tells of a device; and its answer has its sizes.
+pub record IsCall (variant : Variant) (meaning : Meaning) (old new : Standing) (offer request : List ℕ) (result : Result Answer Refusal) : Type 0 where
+  pub goes : CallsOn variant meaning old new offer (One request) (whole_in result)
+  pub untouched : LeavesUntouched (whole_in result) old new
+  pub faults : Blames (fault_in result) old.faults new.faults
+  pub short : result ≢ Err Long
+  pub fits : IfOk result (λ answer. IsFit (One request) (whole answer))

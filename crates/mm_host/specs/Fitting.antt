@@ -1,0 +1,39 @@
+-- Which slots fit a history: from them the host goes on.
+use Rattle.std.specs.Prelude.{◌≡◌, ◌+◌, ◌-◌, ◌%◌, ℕ, List, [], ◌∷◌, ◌++◌, Option, None, Some, ◌⊎◌}
+use Rattle.mm_module.specs.Batch.{One}
+use Rattle.mm_seal.specs.Snapshot.{Content}
+use Rattle.mm_model.specs.Instance.{Instance}
+use Rattle.mm_model.specs.History.{History, total_of}
+use Rattle.mm_model.specs.Places.{Names}
+use Rattle.mm_model.specs.Standing.{IsRight}
+use Rattle.mm_callers.specs.Basic.{EndsWith}
+use Rattle.mm_store.specs.Pending.{Pending}
+use Rattle.mm_store.specs.Slots.{Slots, seen_in}
+use Rattle.mm_host.specs.Waiting.{IsWaiting}
+
+-- the slot of the snapshot before the position of a request that waits
+abbrev pub offer_slot : Pending → ℕ
+offer_slot p = (p.position - 1) % 2
+
+-- These bytes are a right snapshot, and name this position of the history.
+pub record Holds (i : Instance) (y : History) (bytes : List ℕ) (position : ℕ) : Type 0 where
+  pub content : Content
+  pub right : IsRight i bytes content
+  pub names : Names i y content
+  pub at : content.position ≡ position
+
+-- The request is to be committed next, at its position; or it was committed last, alone.
+abbrev pub IsAwaited : History → Pending → Type 0
+IsAwaited y p =
+    (p.position ≡ total_of y.batches + 1) ⊎ ((p.position ≡ total_of y.batches) × EndsWith y.batches (One p.request))
+
+-- Where nothing waits, nothing is committed, and slot 0 holds the first snapshot. Otherwise the request that waits is
+-- awaited, and the snapshot before its position is in its slot.
+abbrev pub FitsBy : Instance → Slots → History → Option Pending → Type 0
+FitsBy i slots y None = (total_of y.batches ≡ 0) × Holds i y (seen_in slots 0) 0
+FitsBy i slots y (Some p) = IsAwaited y p × Holds i y (seen_in slots (offer_slot p)) (p.position - 1)
+
+pub record Fits (i : Instance) (slots : Slots) (y : History) : Type 0 where
+  pub waiting : Option Pending
+  pub is_waiting : IsWaiting (seen_in slots 2) (seen_in slots 3) waiting
+  pub fits : FitsBy i slots y waiting

@@ -1,0 +1,83 @@
+-- What a host program that goes on after a stop comes to, by lists alone.
+use Rattle.std.specs.Prelude.{◌≡◌, ℕ, true, List, [], ◌∷◌, ◌++◌, Option, None, Some, Result, Ok, Err, nat_eq, ◌⊎◌}
+use Rattle.std.specs.List.{Contains}
+use Rattle.mm_digest.specs.declared.variant.Variant.{Variant}
+use Rattle.mm_digest.specs.declared.variant.Variant.TheVariants.{Basic, Opt}
+use Rattle.mm_platform.specs.Standing.{Standing}
+use Rattle.mm_module.specs.Meaning.{Meaning}
+use Rattle.mm_module.specs.Batch.{Batch, One}
+use Rattle.mm_model.specs.Instance.{Instance, basic}
+use Rattle.mm_model.specs.History.{History, total_of}
+use Rattle.mm_model.specs.Messages.{Within, IsClear, AreNoGuards}
+use Rattle.mm_model.specs.Standing.{StandsFor}
+use Rattle.mm_model.specs.declared.answer.Answer.{Answer}
+use Rattle.mm_call.specs.Answers.{answer_on}
+use Rattle.mm_call.specs.Asked.{IsWithin, right_messages}
+use Rattle.mm_call.specs.Found.{right_content}
+use Rattle.mm_call.specs.Leaving.{whole}
+use Rattle.mm_store.specs.Kept.{Kept}
+use Rattle.mm_store.specs.Pending.{Pending}
+use Rattle.mm_store.specs.Slots.{Slots, seen_in}
+use Rattle.mm_host.specs.declared.fault.HostFault.{HostFault}
+use Rattle.mm_host.specs.declared.resuming.Resumed.{Resumed}
+use Rattle.mm_host.specs.declared.resuming.Resumed.TheVariants.{Start, Answered}
+use Rattle.mm_host.specs.Fitting.{offer_slot, Fits}
+
+-- What is asked for the request that waits: it is among those asked, and the messages of its offer are in the list.
+abbrev pub IsAskedFor : List (List ℕ) → List Batch → Instance → Slots → Option Pending → Type 0
+IsAskedFor all asked i slots None = Unit {0}
+IsAskedFor all asked i slots (Some p) =
+    Contains asked (One p.request)
+    × Within (right_messages i (One p.request) (right_content i (seen_in slots (offer_slot p)))) all
+
+-- What is asked for a recovery: the store is honest, and tells its slots; the platform stands for the history, and the
+-- slots fit it; and no two messages share a digest, of the history and of the request that waits.
+pub record CanRecover (all others : List (List ℕ)) (asked : List Batch) (i : Instance) (y : History) (slots : Slots) (standing : Standing) (kept : Kept) : Type 0 where
+  pub honest : kept.is_honest ≡ true
+  pub told : kept.slots ≡ Some slots
+  pub stands : StandsFor i standing y
+  pub fits : Fits i slots y
+  pub clear : IsClear all
+  pub apart : AreNoGuards i.barrier others asked
+  pub within : IsWithin all others asked i y
+  pub is_asked : IsAskedFor all asked i slots fits.waiting
+
+-- the batches of the history, and the request that waits, where that is new
+abbrev pub IsGrown : History → Option Pending → History → Type 0
+IsGrown y None after = after.batches ≡ y.batches
+IsGrown y (Some p) after = (after.batches ≡ y.batches) ⊎ (after.batches ≡ y.batches ++ One p.request ∷ [])
+
+-- The answer is that of one run of the history's batches, of which the request that waits is the last, at its position;
+-- it is a repeat exactly where the position was taken before.
+pub record AnswersAt (i : Instance) (y : History) (waiting : Option Pending) (after : History) (answer : Answer) : Type 0 where
+  pub p : Pending
+  pub waits : waiting ≡ Some p
+  pub position : p.position ≡ total_of after.batches
+  pub answer_is : whole answer ≡ answer_on i after (One p.request) (nat_eq p.position (total_of y.batches))
+
+-- It begins with the first snapshot exactly where nothing waits.
+abbrev pub ComesTo : Instance → History → Slots → Option Pending → History → Result Resumed HostFault → Type 0
+ComesTo i y slots waiting after (Ok (Start first)) = (waiting ≡ None) × (first ≡ seen_in slots 0)
+ComesTo i y slots waiting after (Ok (Answered answer)) = AnswersAt i y waiting after answer
+ComesTo i y slots waiting after (Err fault) = Unit {0}
+
+-- Whatever it gives, the platform stands for a history that grew by the request that waits or by nothing, and the slots
+-- fit that one; so it may be called again. What was asked of the history holds of it too.
+pub record RecoversTo (all others : List (List ℕ)) (asked : List Batch) (i : Instance) (y : History) (slots : Slots) (waiting : Option Pending) (standing : Standing) (kept : Kept) (result : Result Resumed HostFault) : Type 0 where
+  pub after : History
+  pub stands : StandsFor i standing after
+  pub within : IsWithin all others asked i after
+  pub grown : IsGrown y waiting after
+  pub slots_after : Slots
+  pub told : kept.slots ≡ Some slots_after
+  pub fits : Fits i slots_after after
+  pub same_wait : fits.waiting ≡ waiting
+  pub comes : ComesTo i y slots waiting after result
+
+-- over a platform of Basic, from every history under every key
+abbrev pub Recovers : Variant → Meaning → Standing → Standing → Kept → Kept → Result Resumed HostFault → Type 0
+Recovers Opt meaning before after old new result = Unit {0}
+Recovers Basic meaning before after old new result =
+    (key : List ℕ) (y : History) (slots : Slots) (all others : List (List ℕ)) (asked : List Batch)
+    (can : CanRecover all others asked (basic meaning key) y slots before old) →
+    RecoversTo all others asked (basic meaning key) y slots can.fits.waiting after new result

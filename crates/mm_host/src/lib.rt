@@ -1,0 +1,14 @@
+//! The calls of the host program over a platform and a store of four slots: after any stop `resume` goes on with the
+//! request that waits.
+//!
+//! Slots 0 and 1 take turns with the snapshots, by their positions' parity, and slots 2 and 3 with the records of
+//! pending requests. A record is written before its request is asked.
+#![tactic(auto)]
+
+mod asking;
+mod fault;
+mod resuming;
+mod waiting;
+
+pub use fault::HostFault;
+pub use resuming::{Resumed, resume};

@@ -1,0 +1,137 @@
+//! Going on after a stop.
+
+ghost use Rattle.std.specs.Prelude.{◌≡◌, ◌≤◌, false, length};
+ghost use Rattle.mm_module.specs.Batch.{One};
+ghost use Rattle.mm_model.specs.Long.{is_long};
+ghost use Rattle.mm_store.specs.declared.store.TheConstants.{LONGEST_SLOT};
+ghost use Rattle.mm_host.specs.Waiting.{IsAskable};
+ghost use Rattle.mm_host.specs.Blame.{Blamed, IsNamed};
+ghost use Rattle.mm_host.specs.Recovery.{Recovers};
+ghost use Rattle.mm_host.specs.Resumes.{Starts, Repeats, AsksAndKeeps, Keeps, Resumes};
+
+use crate::asking::ask;
+use crate::fault::HostFault;
+use crate::waiting::{Waiting, find_waiting};
+use mm_base::Bytes;
+use mm_digest::Variant;
+use mm_model::Answer;
+use mm_module::Module;
+use mm_platform::Platform;
+use mm_store::Store;
+use std::alloc::Global;
+
+/// How a session begins.
+#[derive(Debug, Drop)]
+pub enum Resumed {
+    /// No request waits: the first snapshot, as slot 0 has it.
+    Start(Bytes),
+    /// The answer to the request that waited.
+    Answered(Answer),
+}
+
+/// Goes on after a stop. Slots 2 and 3 are read. Where no record in them is valid, it gives the bytes of slot 0, and
+/// asks nothing. Otherwise the request of the later record, which is to take position P, is asked with the snapshot in
+/// slot (P - 1) mod 2, and the answer's snapshot is written to the slot of its position's parity.
+pub fn resume<M: Module, P: Platform, T: Store>(
+    alloc: Global,
+    variant: Variant,
+    module: &M,
+    platform: &mut P,
+    store: &mut T,
+) -> Result<Resumed, HostFault>
+    ensures resumes { Resumes variant (M.meaning «module».now) (P.standing platform.old) (P.standing platform.new)
+        (T.kept store.old) (T.kept store.new) result }
+    ensures faults { Blamed result (P.standing platform.old) (P.standing platform.new) (T.kept store.old) (T.kept store.new) }
+    ensures named { IsNamed result }
+    ensures recovers { Recovers variant (M.meaning «module».now) (P.standing platform.old) (P.standing platform.new)
+        (T.kept store.old) (T.kept store.new) result }
+{
+    resume_by_steps(alloc, variant, module, platform, store)
+}
+
+// Finds what waits, and goes on by that.
+fn resume_by_steps<M: Module, P: Platform, T: Store>(
+    alloc: Global,
+    variant: Variant,
+    module: &M,
+    platform: &mut P,
+    store: &mut T,
+) -> Result<Resumed, HostFault>
+    ensures { Resumes variant (M.meaning «module».now) (P.standing platform.old) (P.standing platform.new)
+        (T.kept store.old) (T.kept store.new) result }
+{
+    match find_waiting(alloc, store) {
+        Err(fault) => Err(HostFault::from(fault)),
+        Ok(None) => start(alloc, store),
+        Ok(Some(waiting)) => repeat(alloc, variant, module, platform, store, &waiting),
+    }
+}
+
+// Reads the first snapshot.
+fn start<T: Store>(alloc: Global, store: &mut T) -> Result<Resumed, HostFault>
+    ensures { Starts (T.kept store.old) (T.kept store.new) result }
+{
+    match store.read(alloc, 0) {
+        Err(fault) => Err(HostFault::from(fault)),
+        Ok(snapshot) => Ok(Resumed::Start(snapshot)),
+    }
+}
+
+// Asks for the request that waits, with the snapshot before its position.
+fn repeat<M: Module, P: Platform, T: Store>(
+    alloc: Global,
+    variant: Variant,
+    module: &M,
+    platform: &mut P,
+    store: &mut T,
+    waiting: &Waiting,
+) -> Result<Resumed, HostFault>
+    requires { IsAskable waiting.now }
+    ensures { Repeats variant (M.meaning «module».now) (P.standing platform.old) (P.standing platform.new)
+        (T.kept store.old) (T.kept store.new) waiting.now result }
+{
+    let slot = ((waiting.position - 1) % 2) as u8;
+    match store.read(alloc, slot) {
+        Err(fault) => Err(HostFault::from(fault)),
+        Ok(offer) => ask_and_keep(
+            alloc,
+            variant,
+            module,
+            platform,
+            store,
+            offer.as_slice(),
+            waiting.request.as_slice(),
+        ),
+    }
+}
+
+// Asks for a request, and keeps the answer's snapshot.
+fn ask_and_keep<M: Module, P: Platform, T: Store>(
+    alloc: Global,
+    variant: Variant,
+    module: &M,
+    platform: &mut P,
+    store: &mut T,
+    offer: &[u8],
+    request: &[u8],
+) -> Result<Resumed, HostFault>
+    requires { is_long (One request.now) ≡ false }
+    ensures { AsksAndKeeps variant (M.meaning «module».now) (P.standing platform.old) (P.standing platform.new)
+        (T.kept store.old) (T.kept store.new) offer.now request.now result }
+{
+    match ask(alloc, variant, module, platform, offer, request) {
+        Err(refusal) => Err(HostFault::from(refusal)),
+        Ok(answer) => keep(store, answer),
+    }
+}
+
+// Writes the answer's snapshot to the slot of its position's parity.
+fn keep<T: Store>(store: &mut T, answer: Answer) -> Result<Resumed, HostFault>
+    requires { length answer.snapshot ≤ LONGEST_SLOT }
+    ensures { Keeps answer (T.kept store.old) (T.kept store.new) result }
+{
+    match store.write((answer.position % 2) as u8, answer.snapshot.as_slice()) {
+        Err(fault) => Err(HostFault::from(fault)),
+        Ok(()) => Ok(Resumed::Answered(answer)),
+    }
+}
