@@ -1,5 +1,5 @@
 -- Whose fault it is, by the steps.
-use Rattle.std.proofs.Common.{ℕ, ◌≡◌, ◌≢◌, ◌%◌, Bool, true, false, List, Option, None, Some, Result, Ok, Err, refl, sym, ap, ◌∙◌, subst, inl, inr}
+use Rattle.std.proofs.Common.{ℕ, ◌≡◌, ◌≢◌, List, Option, None, Some, Result, Ok, Err, refl, sym, ap, ◌∙◌, subst, inl, inr}
 use Rattle.std.specs.Prelude.{◌⊎◌}
 use Rattle.mm_base.specs.Faults.{Rose}
 use Rattle.mm_digest.specs.declared.variant.Variant.{Variant}
@@ -20,8 +20,7 @@ use Rattle.mm_host.specs.declared.fault.HostFault.TheVariants as host
 use Rattle.mm_host.specs.declared.resuming.Resumed.{Resumed}
 use Rattle.mm_host.specs.declared.resuming.Resumed.TheVariants.{Start, Answered}
 use Rattle.mm_host.specs.Faults.{store_fault_as, refused_as}
-use Rattle.mm_host.specs.Waiting.{Takes}
-use Rattle.mm_host.specs.Resumes.{AfterThree, AfterTwo, FindsWaiting, started, Starts, kept_as, Keeps, AfterAsk, AsksAndKeeps, AfterOffer, Repeats, AfterFinding, Resumes}
+use Rattle.mm_host.specs.Resumes.{AfterThree, AfterTwo, started, kept_as, AfterAsk, AfterOffer, AfterFinding, Resumes}
 use Rattle.mm_host.specs.Blame.{Blamed, IsNamed}
 
 -- what a store's fault is told as, by its count

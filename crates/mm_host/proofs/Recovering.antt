@@ -1,5 +1,5 @@
 -- Every exit of a recovery leaves slots that fit the history.
-use Rattle.std.proofs.Common.{◌≡◌, ℕ, ◌+◌, ◌-◌, ◌%◌, ◌≤◌, Bool, true, false, List, [], ◌∷◌, ◌++◌, Option, None, Some, Result, Ok, Err, refl, sym, ap, ◌∙◌, subst, inl, inr}
+use Rattle.std.proofs.Common.{◌≡◌, ℕ, ◌-◌, ◌%◌, true, List, Option, None, Some, Result, Ok, Err, refl, sym, ap, ◌∙◌, subst, inl, inr}
 use Rattle.std.specs.Prelude.{◌⊎◌}
 use Rattle.mm_digest.specs.declared.variant.Variant.{Variant}
 use Rattle.mm_digest.specs.declared.variant.Variant.TheVariants.{Basic, Opt}
@@ -8,15 +8,13 @@ use Rattle.mm_module.specs.Meaning.{Meaning}
 use Rattle.mm_module.specs.Batch.{Batch, One}
 use Rattle.mm_seal.specs.Snapshot.{Content}
 use Rattle.mm_model.specs.Instance.{Instance, basic}
-use Rattle.mm_model.specs.History.{History, total_of}
-use Rattle.mm_model.specs.Messages.{Within}
+use Rattle.mm_model.specs.History.{History}
 use Rattle.mm_model.specs.Places.{Names}
 use Rattle.mm_model.specs.Standing.{StandsFor, IsRight}
 use Rattle.mm_model.specs.declared.answer.Answer.{Answer}
 use Rattle.mm_model.specs.declared.answer.BatchAnswer.{BatchAnswer}
 use Rattle.mm_model.specs.declared.refusal.Refusal.{Refusal}
-use Rattle.mm_call.specs.Asked.{IsWithin, right_messages}
-use Rattle.mm_call.specs.Found.{right_content}
+use Rattle.mm_call.specs.Asked.{IsWithin}
 use Rattle.mm_call.specs.Leaving.{whole, whole_in}
 use Rattle.mm_callers.specs.Basic.{AreAsked}
 use Rattle.mm_callers.proofs.Again.{one_call}
@@ -32,10 +30,10 @@ use Rattle.mm_host.specs.declared.fault.HostFault.{HostFault}
 use Rattle.mm_host.specs.declared.resuming.Resumed.{Resumed}
 use Rattle.mm_host.specs.declared.resuming.Resumed.TheVariants.{Start, Answered}
 use Rattle.mm_host.specs.Faults.{store_fault_as, refused_as}
-use Rattle.mm_host.specs.Waiting.{later, IsWaiting, Takes}
-use Rattle.mm_host.specs.Resumes.{AfterThree, AfterTwo, FindsWaiting, started, kept_as, Keeps, AfterAsk, AsksAndKeeps, AfterOffer, AfterFinding, Resumes}
+use Rattle.mm_host.specs.Waiting.{later, IsWaiting}
+use Rattle.mm_host.specs.Resumes.{AfterThree, AfterTwo, started, kept_as, AfterAsk, AfterOffer, AfterFinding, Resumes}
 use Rattle.mm_host.specs.Asking.{IsCall}
-use Rattle.mm_host.specs.Fitting.{offer_slot, Holds, IsAwaited, FitsBy, Fits}
+use Rattle.mm_host.specs.Fitting.{offer_slot, Holds, IsAwaited, FitsBy}
 use Rattle.mm_host.specs.Recovery.{IsAskedFor, CanRecover, IsGrown, AnswersAt, ComesTo, RecoversTo, Recovers}
 use Rattle.mm_host.proofs.Slots.{IsElsewhere, elsewhere_same, elsewhere_put}
 use Rattle.mm_host.proofs.Awaited.{awaited_least, still_awaited, grows, answered_at}

@@ -1,5 +1,5 @@
 -- A write of a snapshot leaves the slots that a recovery reads.
-use Rattle.std.proofs.Common.{◌≡◌, ℕ, ◌+◌, ◌-◌, ◌%◌, ◌≤◌, List, refl, sym, ap, ◌∙◌, subst, arith, inl, inr}
+use Rattle.std.proofs.Common.{◌≡◌, ℕ, ◌-◌, ◌%◌, ◌≤◌, List, refl, sym, subst, arith, inl, inr}
 use Rattle.std.specs.Prelude.{◌⊎◌}
 use Rattle.mm_store.specs.Pending.{Pending}
 use Rattle.mm_store.specs.Slots.{Slots, with_slot, seen_in}

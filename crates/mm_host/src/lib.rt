@@ -12,3 +12,6 @@ mod waiting;
 
 pub use fault::HostFault;
 pub use resuming::{Resumed, resume};
+
+#[cfg(test)]
+mod tests;
