@@ -43,6 +43,14 @@ fn answers(
     }
 }
 
+// Whether a session begins with this snapshot.
+fn begins(resumed: &Result<Resumed, HostFault>, snapshot: &[u8]) -> bool {
+    match resumed {
+        Ok(Resumed::Start(first)) => first.as_slice() == snapshot,
+        _ => false,
+    }
+}
+
 /// The store fails at each of its calls in turn, or the platform at its last step, with and without its effect. Then
 /// the request that waits is answered, and a repeat exactly where it had been committed.
 #[test]
@@ -82,10 +90,8 @@ fn the_later_request_is_asked(rt: HostRuntime) -> Result<(), Fail> {
     let mut platform = MemPlatform::new(alloc, &made.cell);
     let mut store = MemStore::new(alloc);
     store.set_slot(0, made.snapshot.as_slice())?;
-    match resume(alloc, Variant::Opt, &Counter, &mut platform, &mut store) {
-        Ok(Resumed::Start(first)) => assert!(rt; first.as_slice() == made.snapshot.as_slice()),
-        _ => assert!(rt; false),
-    }
+    let start = resume(alloc, Variant::Opt, &Counter, &mut platform, &mut store);
+    assert!(rt; begins(&start, made.snapshot.as_slice()));
     store.set_slot(3, record(&rt, alloc, 1, b"add 5")?.as_slice())?;
     let first = resume(alloc, Variant::Opt, &Counter, &mut platform, &mut store);
     assert!(rt; answers(&first, false, 1, b"5"));
