@@ -1,11 +1,10 @@
 -- What a step of the register does to what is told, where no content is.
-use Rattle.std.proofs.Common.{◌≡◌, ◌≤◌, ℕ, true, false, List, [], refl, arith}
-use Rattle.std.specs.Prelude.{Option, None, Some, Result, Ok, Err, IfErr}
+use Rattle.std.proofs.Common.{◌≡◌, ℕ, true, [], refl, arith}
+use Rattle.std.specs.Prelude.{None, Result, Ok, Err, IfErr}
 use Rattle.std.specs.Result.{result_err}
 use Rattle.mm_base.specs.Faults.{counted, CountsFaults}
 use Rattle.mm_platform.specs.declared.fault.StepFault.{StepFault}
 use Rattle.mm_platform.specs.declared.fault.StepFault.TheVariants as step
-use Rattle.mm_platform.specs.Standing.{Item}
 use Rattle.mm_platform.specs.Steps.{Act, ReadCell, WriteCell, ReadRegister, ResetRegister, ExtendRegister, EndsBy, Goes, beside, cell_after, items_after, writes_after}
 use Rattle.mm_files.specs.Untold.{untold}
 
