@@ -37,11 +37,10 @@ fn done<P: Platform, T: Store, S: Source, E: Source, K: Sink>(
     out: &mut K,
 ) -> Status
     requires { IsAllowed command.now }
-    ensures does {
-        let old = outside (P.standing platform.old) (T.kept store.old) (S.left input.old) (S.faults input.old)
-            (E.left entropy.old) (E.faults entropy.old) (K.received out.old) (K.faults out.old) in
+    ensures does { let old = outside (P.standing platform.old) (T.kept store.old) (S.left input.old) (S.faults input.old)
+        (E.left entropy.old) (E.faults entropy.old) (K.received out.old) (K.faults out.old) in
         let new = outside (P.standing platform.new) (T.kept store.new) (S.left input.new) (S.faults input.new)
-            (E.left entropy.new) (E.faults entropy.new) (K.received out.new) (K.faults out.new) in
+        (E.left entropy.new) (E.faults entropy.new) (K.received out.new) (K.faults out.new) in
         DoesOrLacks command.now old new result }
     ensures complete { command.now ≡ Replay → (bytes : List ℕ) → (next : Stage) → S.left input.old ≡ Some bytes
         → (run_of (schedule_answer header_at) schedule_closing AtHeader bytes).outcome ≡ Ok next → EndsUnrefused result }
@@ -76,11 +75,10 @@ pub fn memoir<P: Platform, T: Store, S: Source, E: Source, K: Sink>(
     entropy: &mut E,
     out: &mut K,
 ) -> Status
-    ensures does {
-        let old = outside (P.standing platform.old) (T.kept store.old) (S.left input.old) (S.faults input.old)
-            (E.left entropy.old) (E.faults entropy.old) (K.received out.old) (K.faults out.old) in
+    ensures does { let old = outside (P.standing platform.old) (T.kept store.old) (S.left input.old) (S.faults input.old)
+        (E.left entropy.old) (E.faults entropy.old) (K.received out.old) (K.faults out.old) in
         let new = outside (P.standing platform.new) (T.kept store.new) (S.left input.new) (S.faults input.new)
-            (E.left entropy.new) (E.faults entropy.new) (K.received out.new) (K.faults out.new) in
+        (E.left entropy.new) (E.faults entropy.new) (K.received out.new) (K.faults out.new) in
         (command : Told) → Spells command (map (λ s. s.now) words.now) → DoesOrLacks command old new result }
 
     // A schedule within the grammar and the limits is not refused.

@@ -36,7 +36,15 @@ pub fn run<S: Source, K: Sink>(
 ) -> Status {
     let mut platform = MemPlatform::new(alloc, &[0; 104]);
     let mut store = MemStore::new(alloc);
-    memoir(alloc, words, &mut platform, &mut store, input, &mut NoBytes, out)
+    memoir(
+        alloc,
+        words,
+        &mut platform,
+        &mut store,
+        input,
+        &mut NoBytes,
+        out,
+    )
 }
 
 /// Replays an input, and answers the exit status.

@@ -10,9 +10,9 @@ use Rattle.mm_app.proofs.command.memoir.Goals as goal
 pub returns-in-Ok-clause-does : goal.returns-in-Ok-clause-does
 returns-in-Ok-clause-does g c command spells =
     let old = outside (g.P.Device.standing c.args.platform.now) (g.T.Store.kept c.args.store.now) (g.S.Source.left c.args.input.now) (g.S.Source.faults c.args.input.now)
-        (g.E.Source.left c.args.entropy.now) (g.E.Source.faults c.args.entropy.now) (g.K.Sink.received c.args.out.now) (g.K.Sink.faults c.args.out.now) in
+    (g.E.Source.left c.args.entropy.now) (g.E.Source.faults c.args.entropy.now) (g.K.Sink.received c.args.out.now) (g.K.Sink.faults c.args.out.now) in
     let new = outside (g.P.Device.standing c.done.new.platform) (g.T.Store.kept c.done.new.store) (g.S.Source.left c.done.new.input) (g.S.Source.faults c.done.new.input)
-        (g.E.Source.left c.done.new.entropy) (g.E.Source.faults c.done.new.entropy) (g.K.Sink.received c.done.new.out) (g.K.Sink.faults c.done.new.out) in
+    (g.E.Source.left c.done.new.entropy) (g.E.Source.faults c.done.new.entropy) (g.K.Sink.received c.done.new.out) (g.K.Sink.faults c.done.new.out) in
     subst (λ (it : Command). DoesOrLacks it old new c.done.result)
     (one_command _ c.in-Ok.command command c.in-Ok.ensures.ok spells) c.done.ensures.does
 
