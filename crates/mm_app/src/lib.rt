@@ -1,10 +1,14 @@
 //! The words of the command line, and the top call.
 #![tactic(auto)]
 
+mod bulk;
 mod command;
+mod replay;
+mod schedule;
 mod status;
 mod stop;
 mod streams;
+mod telling;
 
 pub use command::memoir;
 pub use status::Status;

@@ -1,4 +1,4 @@
-use Rattle.mm_app.proofs.command.replay_and_stop.Goals as goal
+use Rattle.mm_app.proofs.replay.replay_and_stop.Goals as goal
 
 pub returns-clause-replays : goal.returns-clause-replays
 returns-clause-replays g c = record {
