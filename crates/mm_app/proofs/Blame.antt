@@ -1,5 +1,5 @@
 -- Whom the status of each command blames.
-use Rattle.std.proofs.Common.{◌≡◌, ◌∙◌, ℕ, Bool, true, false, List, Option, None, Some, Result, Ok, Err, refl, sym, ap, subst, inl, inr}
+use Rattle.std.proofs.Common.{◌≡◌, ◌∙◌, ℕ, Bool, false, List, Option, None, Some, Result, Ok, Err, refl, sym, ap, subst, inl, inr}
 use Rattle.mm_base.specs.Faults.{CountsFaults, Rose}
 use Rattle.mm_base.specs.declared.fault.WriteFault as write
 use Rattle.mm_base.specs.declared.replay_fault.ReplayFault.{ReplayFault}
@@ -22,14 +22,14 @@ use Rattle.mm_words.specs.declared.command.Command.TheVariants.{Init, Run, Check
 use Rattle.mm_app.specs.Blame.{BlamesOutput, BlamesSource, is_platform_fault, is_read_fault, is_store_fault}
 use Rattle.mm_app.specs.Bulk.{bulk_told}
 use Rattle.mm_app.specs.Checkpoint.{checkpoint_told}
-use Rattle.mm_app.specs.Commands.{Does, DoesOrLacks, Reads, TakesEntropy, UsesPlatform, UsesStore}
+use Rattle.mm_app.specs.Commands.{Does, DoesOrLacks, Reads, UsesPlatform, UsesStore}
 use Rattle.mm_store.specs.Kept.{Kept}
 use Rattle.mm_app.specs.Outside.{Outside, IsStill}
 use Rattle.mm_app.specs.Power.{power_told}
 use Rattle.mm_app.specs.Status.{status_of}
-use Rattle.mm_app.specs.Telling.{EndsAtOnce, GivesText, Stops, StopsAs, Tells, WritesText, status_by}
+use Rattle.mm_app.specs.Telling.{EndsAtOnce, GivesText, Stops, StopsAs, Tells, status_by}
 use Rattle.mm_app.specs.declared.status.Status.{Status}
-use Rattle.mm_app.specs.declared.status.Status.TheVariants.{Done, Usage, Memory, WriteFault, TooMuch, PlatformFault}
+use Rattle.mm_app.specs.declared.status.Status.TheVariants.{Done, Usage, Memory, WriteFault}
 
 -- two statuses blame the same
 pub record BlameAlike (one other : Status) : Type 0 where

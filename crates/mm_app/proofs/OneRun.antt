@@ -1,6 +1,5 @@
 -- The headline drawn from a replay and its stop line.
-use Rattle.std.proofs.Common.{◌≡◌, ◌∙◌, ℕ, ◌==◌, Bool, true, false, cond, List, [], ◌∷◌, ◌++◌, length, map, Option, Some, Result, Ok, Err, refl, sym, ap, subst, append-nil, append_assoc, inl, inr, ◌⊎◌}
-use Rattle.std.specs.Io.KnownBytes.{Appends, Consumes, IsAtEnd}
+use Rattle.std.proofs.Common.{◌≡◌, ◌∙◌, ℕ, ◌==◌, Bool, true, false, cond, List, [], ◌∷◌, ◌++◌, length, Option, Result, Ok, Err, refl, sym, ap, subst, append-nil, append_assoc, inl, inr, ◌⊎◌}
 use Rattle.std.proofs.KnownBytes.{Appends-trans, Consumes-nil}
 use Rattle.mm_base.specs.Input.{lines_of, onto_first}
 use Rattle.mm_base.specs.Streams.{Sends}
@@ -20,9 +19,9 @@ use Rattle.mm_schedule.specs.Headers.{header_at}
 use Rattle.mm_schedule.specs.Replies.{end_line}
 use Rattle.mm_words.specs.declared.command.Command.TheVariants.{Replay}
 use Rattle.mm_app.specs.Commands.{DoesOrLacks}
-use Rattle.mm_app.specs.Headline.{BeginWith, Continues, IsLast, IsOneRun, IsOneRunsText, IsUnbegun}
+use Rattle.mm_app.specs.Headline.{Continues, IsLast, IsOneRun, IsUnbegun}
 use Rattle.mm_app.specs.Outside.{Outside}
-use Rattle.mm_app.specs.Status.{status_at, status_of, stop_line}
+use Rattle.mm_app.specs.Status.{status_of, stop_line}
 use Rattle.mm_app.specs.declared.status.Status.{Status}
 use Rattle.mm_app.specs.declared.status.Status.TheVariants.{Done, WriteFault}
 

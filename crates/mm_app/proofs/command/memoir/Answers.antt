@@ -9,7 +9,7 @@ use Rattle.mm_app.specs.Commands.{DoesOrLacks}
 use Rattle.mm_app.specs.Outside.{outside}
 use Rattle.mm_app.specs.Status.{EndsUnrefused, stop_line}
 use Rattle.mm_app.specs.declared.status.Status.{Status}
-use Rattle.mm_app.proofs.Blame.{Frames, blamed, memory_alike, no_memory, no_usage, output_blamed, output_stopped, stopped_blamed, usage_alike}
+use Rattle.mm_app.proofs.Blame.{Frames, blamed, memory_alike, no_memory, no_usage, output_blamed, output_stopped, stopped_blamed}
 use Rattle.mm_app.proofs.OneRun.{headline_of, lacks_one_run}
 use Rattle.mm_app.proofs.command.memoir.Goals as goal
 
@@ -45,9 +45,9 @@ returns-in-Ok-clause-device g c =
     let new = outside (g.P.Device.standing c.done.new.platform) (g.T.Store.kept c.done.new.store) (g.S.Source.left c.done.new.input) (g.S.Source.faults c.done.new.input)
     (g.E.Source.left c.done.new.entropy) (g.E.Source.faults c.done.new.entropy) (g.K.Sink.received c.done.new.out) (g.K.Sink.faults c.done.new.out) in
     let frames : Frames c.in-Ok.command old new = record {
-      standing = λ no. ap (λ p. g.P.Device.standing p) (c.done.ensures.platform no);
-      kept = λ no. ap (λ t. g.T.Store.kept t) (c.done.ensures.store no);
-      reads = λ no. ap (λ i. g.S.Source.faults i) (c.done.ensures.input no);
+      standing = λ unused. ap (λ p. g.P.Device.standing p) (c.done.ensures.platform unused);
+      kept = λ unused. ap (λ t. g.T.Store.kept t) (c.done.ensures.store unused);
+      reads = λ unused. ap (λ i. g.S.Source.faults i) (c.done.ensures.input unused);
     } in
     (blamed c.in-Ok.command old new c.done.result frames c.done.ensures.does).platform
 
@@ -58,9 +58,9 @@ returns-in-Ok-clause-slots g c =
     let new = outside (g.P.Device.standing c.done.new.platform) (g.T.Store.kept c.done.new.store) (g.S.Source.left c.done.new.input) (g.S.Source.faults c.done.new.input)
     (g.E.Source.left c.done.new.entropy) (g.E.Source.faults c.done.new.entropy) (g.K.Sink.received c.done.new.out) (g.K.Sink.faults c.done.new.out) in
     let frames : Frames c.in-Ok.command old new = record {
-      standing = λ no. ap (λ p. g.P.Device.standing p) (c.done.ensures.platform no);
-      kept = λ no. ap (λ t. g.T.Store.kept t) (c.done.ensures.store no);
-      reads = λ no. ap (λ i. g.S.Source.faults i) (c.done.ensures.input no);
+      standing = λ unused. ap (λ p. g.P.Device.standing p) (c.done.ensures.platform unused);
+      kept = λ unused. ap (λ t. g.T.Store.kept t) (c.done.ensures.store unused);
+      reads = λ unused. ap (λ i. g.S.Source.faults i) (c.done.ensures.input unused);
     } in
     (blamed c.in-Ok.command old new c.done.result frames c.done.ensures.does).store
 
@@ -71,9 +71,9 @@ returns-in-Ok-clause-source g c command spells =
     let new = outside (g.P.Device.standing c.done.new.platform) (g.T.Store.kept c.done.new.store) (g.S.Source.left c.done.new.input) (g.S.Source.faults c.done.new.input)
     (g.E.Source.left c.done.new.entropy) (g.E.Source.faults c.done.new.entropy) (g.K.Sink.received c.done.new.out) (g.K.Sink.faults c.done.new.out) in
     let frames : Frames c.in-Ok.command old new = record {
-      standing = λ no. ap (λ p. g.P.Device.standing p) (c.done.ensures.platform no);
-      kept = λ no. ap (λ t. g.T.Store.kept t) (c.done.ensures.store no);
-      reads = λ no. ap (λ i. g.S.Source.faults i) (c.done.ensures.input no);
+      standing = λ unused. ap (λ p. g.P.Device.standing p) (c.done.ensures.platform unused);
+      kept = λ unused. ap (λ t. g.T.Store.kept t) (c.done.ensures.store unused);
+      reads = λ unused. ap (λ i. g.S.Source.faults i) (c.done.ensures.input unused);
     } in
     subst (λ (it : Command). BlamesSource it old new c.done.result) (one_command _ c.in-Ok.command command c.in-Ok.ensures.ok spells)
     (blamed c.in-Ok.command old new c.done.result frames c.done.ensures.does).source
@@ -141,4 +141,4 @@ pub returns-in-Err-Memory-clause-wrote : goal.returns-in-Err-Memory-clause-wrote
 returns-in-Err-Memory-clause-wrote g c = output_stopped _ c.stopped-in-Err-Memory.result _ _ _ _ no_memory c.stopped-in-Err-Memory.ensures.told
 
 pub returns-in-Ok-clause-none : goal.returns-in-Ok-clause-none
-returns-in-Ok-clause-none g c no = c.done.ensures.unbuilt (λ built. no c.in-Ok.command built c.in-Ok.ensures.ok)
+returns-in-Ok-clause-none g c unspelled = c.done.ensures.unbuilt (λ built. unspelled c.in-Ok.command built c.in-Ok.ensures.ok)
