@@ -1,5 +1,6 @@
 pub mod Answered
 pub mod Counting
+pub mod Limits
 pub mod LineBreaks
 pub mod Summaries
 pub mod Sums
