@@ -1,7 +1,7 @@
 -- What the command `replay` does.
 use Rattle.std.specs.Prelude.{◌≡◌, ℕ, List, Option, Result}
 use Rattle.mm_base.specs.declared.replay_fault.ReplayFault.{ReplayFault}
-use Rattle.mm_play.specs.Plays.{IsBlamed, IsUnrefused, is_read_fault, is_write_fault}
+use Rattle.mm_play.specs.Plays.{IsBlamed, is_read_fault, is_write_fault}
 use Rattle.mm_replay.specs.declared.report.Report.{Report}
 use Rattle.mm_replay.specs.Replays.{Replays}
 use Rattle.mm_app.specs.Status.{status_of}
@@ -23,7 +23,3 @@ pub record ReplaysAndStops (left left' received received' : Option (List ℕ)) (
   pub count : ℕ
   pub replayed : Replayed left left' received middle reads reads' writes count status
   pub stops : Stops middle received' count writes' status
-
--- it ended by an answer that refuses no line
-abbrev pub EndsUnrefused : Status → Type 0
-EndsUnrefused status = (answer : Result Report ReplayFault) × (status ≡ status_of answer) × IsUnrefused answer

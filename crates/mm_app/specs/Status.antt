@@ -1,5 +1,5 @@
 -- How the program ends, and what it writes last.
-use Rattle.std.specs.Prelude.{ℕ, Bool, true, false, List, [], ◌∷◌, ◌++◌, codes, Result, Ok, Err}
+use Rattle.std.specs.Prelude.{ℕ, List, [], ◌∷◌, ◌++◌, codes, Result, Ok, Err}
 use Rattle.std.specs.Fmt.{decimal}
 use Rattle.mm_base.specs.declared.replay_fault.ReplayFault.{ReplayFault}
 use Rattle.mm_base.specs.declared.replay_fault.ReplayFault.TheVariants as fault
@@ -64,17 +64,10 @@ stop_line TooMuch = line_of (codes "stop much")
 stop_line (Short got) = line_of (codes "stop short")
 stop_line Kind = line_of (codes "stop kind")
 
--- the platform is to blame
-abbrev pub is_platform_fault : Status → Bool
-is_platform_fault PlatformFault = true
-is_platform_fault _ = false
-
--- the store is to blame
-abbrev pub is_store_fault : Status → Bool
-is_store_fault StoreFault = true
-is_store_fault _ = false
-
--- the source that the command takes from is to blame
-abbrev pub is_source_fault : Status → Bool
-is_source_fault ReadFault = true
-is_source_fault _ = false
+-- it ended with no line refused: all was done, or memory was wanting, or the input or the output failed
+abbrev pub EndsUnrefused : Status → Type 0
+EndsUnrefused Done = Unit {0}
+EndsUnrefused ReadFault = Unit {0}
+EndsUnrefused WriteFault = Unit {0}
+EndsUnrefused Memory = Unit {0}
+EndsUnrefused _ = ⊥

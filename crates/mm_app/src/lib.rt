@@ -2,7 +2,10 @@
 #![tactic(auto)]
 
 mod bulk;
+mod checkpoint;
 mod command;
+mod power;
+mod receipts;
 mod replay;
 mod schedule;
 mod status;

@@ -4,7 +4,8 @@ ghost use Rattle.std.specs.Prelude.{◌≡◌, ℕ, List, Some, Ok};
 ghost use Rattle.mm_play.specs.Play.{run_of};
 ghost use Rattle.mm_replay.specs.Schedule.{Stage, AtHeader, schedule_answer, schedule_closing};
 ghost use Rattle.mm_schedule.specs.Headers.{header_at};
-ghost use Rattle.mm_app.specs.Replaying.{EndsUnrefused, Replayed, ReplaysAndStops};
+ghost use Rattle.mm_app.specs.Replaying.{Replayed, ReplaysAndStops};
+ghost use Rattle.mm_app.specs.Status.{EndsUnrefused};
 
 use crate::status::Status;
 use crate::stop::write_stop;

@@ -30,6 +30,6 @@ fn help_alone_lists_the_forms(rt: HostRuntime) -> Result<(), Fail> {
     let mut out = MemSink::new(rt.alloc(), ROOM, &[])?;
     let status = run(rt.alloc(), ["--help"].as_slice(), &mut NoBytes, &mut out);
     assert_eq!(rt; status, Status::Done);
-    assert!(rt; out.content().starts_with(b"memoir replay\n"));
+    assert!(rt; out.content().starts_with(b"memoir init VARIANT MODULE\n"));
     Ok(())
 }
