@@ -1,6 +1,5 @@
 -- A session, from what it began with and the lines that it served.
-use Rattle.std.proofs.Common.{◌≡◌, ◌∙◌, ℕ, List, [], ◌++◌, Option, Result, Ok, Err, refl, sym, ap, subst, inl, inr}
-use Rattle.std.specs.Prelude.{◌⊎◌}
+use Rattle.std.proofs.Common.{◌≡◌, ℕ, List, [], ◌++◌, Option, Result, Ok, Err, refl, ap, subst, inl, inr}
 use Rattle.std.proofs.KnownBytes.{Appends-nil, Appends-trans, Consumes-nil}
 use Rattle.mm_digest.specs.declared.variant.Variant.{Variant}
 use Rattle.mm_platform.specs.Standing.{Standing}
@@ -11,11 +10,10 @@ use Rattle.mm_store.specs.Kept.{Kept}
 use Rattle.mm_host.specs.declared.fault.HostFault.{HostFault}
 use Rattle.mm_host.specs.declared.fault.HostFault.TheVariants as host
 use Rattle.mm_host.specs.declared.fault.SessionFault.{SessionFault}
-use Rattle.mm_host.specs.declared.fault.SessionFault.TheVariants.{Memory, WriteFault}
+use Rattle.mm_host.specs.declared.fault.SessionFault.TheVariants.{Memory}
 use Rattle.mm_host.specs.declared.resuming.Resumed.{Resumed}
 use Rattle.mm_host.specs.Resumes.{Resumes}
 use Rattle.mm_host.specs.Saying.{Says, Tells, comes_as, text_of}
-use Rattle.mm_host.specs.Serving.{Place}
 use Rattle.mm_host.specs.Sessions.{Sessions}
 use Rattle.mm_host.specs.Turns.{ServesInput}
 
@@ -56,12 +54,16 @@ stops_at_once variant meaning before after old new left received received' begun
   platform = after;
   store = new;
   resumes = r;
-  goes = inl (refl, refl, record {
-    fault = fault;
-    says = subst (λ (x : Result Resumed SessionFault). Says begun t.sent x) e t.says;
-    stops = refl;
-    nothing = refl;
-  });
+  goes = inl (
+    refl,
+    refl,
+    record {
+      fault = fault;
+      says = subst (λ (x : Result Resumed SessionFault). Says begun t.sent x) e t.says;
+      stops = refl;
+      nothing = refl;
+    },
+  );
 }
 
 -- what was told and goes on

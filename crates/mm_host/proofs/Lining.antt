@@ -7,17 +7,14 @@ use Rattle.mm_base.proofs.Input.{joined-append}
 use Rattle.mm_digest.specs.declared.variant.Variant.{Variant}
 use Rattle.mm_platform.specs.Standing.{Standing}
 use Rattle.mm_module.specs.Meaning.{Meaning}
-use Rattle.mm_model.specs.declared.answer.Answer.{Answer}
 use Rattle.mm_schedule.specs.Replies.{told_line}
 use Rattle.mm_store.specs.Kept.{Kept}
-use Rattle.mm_host.specs.declared.fault.HostFault.{HostFault}
 use Rattle.mm_host.specs.declared.fault.SessionFault.{SessionFault}
 use Rattle.mm_host.specs.declared.resuming.Resumed.{Resumed}
 use Rattle.mm_host.specs.declared.resuming.Resumed.TheVariants.{Answered}
-use Rattle.mm_host.specs.Resumes.{Resumes}
-use Rattle.mm_host.specs.Saying.{Says, Tells, comes_as, text_of}
+use Rattle.mm_host.specs.Saying.{text_of}
 use Rattle.mm_host.specs.Serving.{Place, Served, Serves, ServesFirst, lines_served, replies_to}
-use Rattle.mm_host.specs.Sessions.{Ends, GoesOn, ServesLines, Sessions, StopsAtOnce, most_lines}
+use Rattle.mm_host.specs.Sessions.{Ends, most_lines}
 use Rattle.mm_host.specs.Turns.{ServesInput, ServesLine, Turns, Went}
 
 -- These lines were served, and some bytes are held.
@@ -52,6 +49,7 @@ stands_first variant meaning from left received = record {
 pub Serves-snoc : (variant : Variant) (meaning : Meaning) (from at to : Place) (calls : List Served) (c : Served) → Serves variant meaning from calls at → ServesFirst variant meaning at c (λ next. to ≡ next) → Serves variant meaning from (calls ++ c ∷ []) to
 Serves-snoc variant meaning from at to [] c h s = subst (λ (p : Place). ServesFirst variant meaning p c (λ next. to ≡ next)) h s
 Serves-snoc variant meaning from at to (d ∷ calls) c h s = record {
+  within = h.within;
   platform = h.platform;
   store = h.store;
   asks = h.asks;
@@ -110,6 +108,7 @@ stands_on variant meaning from at number after new next left left' left'' receiv
       counted = counts s.calls c number s.counted;
       few = few_more s.calls c number s.counted w.few;
       serves = Serves-snoc variant meaning from at (record { platform = after; store = new; last = next }) s.calls c s.serves (record {
+        within = w.begins.within;
         platform = after;
         store = new;
         asks = w.asks;

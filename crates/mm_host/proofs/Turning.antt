@@ -1,14 +1,12 @@
 -- A turn of a session, from what the reader read and what came of the line.
-use Rattle.std.proofs.Common.{◌≡◌, ◌∙◌, ◌+◌, ◌<◌, ◌≤◌, ℕ, List, [], ◌∷◌, ◌++◌, Option, None, Some, Result, Ok, Err, refl, sym, ap, subst, append_assoc, arith, inl, inr}
-use Rattle.std.specs.Prelude.{◌⊎◌}
+use Rattle.std.proofs.Common.{◌≡◌, ◌∙◌, ◌+◌, ◌<◌, ◌≤◌, ℕ, List, [], ◌∷◌, ◌++◌, Option, Result, Ok, Err, refl, sym, ap, subst, append_assoc, arith, inl, inr}
 use Rattle.std.specs.Io.KnownBytes.{Appends}
 use Rattle.std.proofs.KnownBytes.{Appends-nil}
 use Rattle.mm_base.specs.Lines.{IsWithin}
 use Rattle.mm_base.specs.Next.{NextLine}
 use Rattle.mm_base.specs.declared.lines.LineFault.{LineFault}
-use Rattle.mm_base.specs.declared.lines.LineFault.TheVariants as line_fault
 use Rattle.mm_base.specs.declared.lines.Read.{Read}
-use Rattle.mm_base.specs.declared.lines.Read.TheVariants.{Line, Tail, End}
+use Rattle.mm_base.specs.declared.lines.Read.TheVariants.{Line}
 use Rattle.mm_digest.specs.declared.variant.Variant.{Variant}
 use Rattle.mm_platform.specs.Standing.{Standing}
 use Rattle.mm_module.specs.Meaning.{Meaning}
@@ -19,15 +17,15 @@ use Rattle.mm_store.specs.Kept.{Kept}
 use Rattle.mm_host.specs.declared.fault.HostFault.{HostFault}
 use Rattle.mm_host.specs.declared.fault.HostFault.TheVariants as host
 use Rattle.mm_host.specs.declared.fault.SessionFault.{SessionFault}
-use Rattle.mm_host.specs.declared.fault.SessionFault.TheVariants.{Memory, Store, Refused, ReadFault, WriteFault, LineLong, BadLine, TooMuch}
+use Rattle.mm_host.specs.declared.fault.SessionFault.TheVariants.{WriteFault}
 use Rattle.mm_host.specs.declared.resuming.Resumed.{Resumed}
-use Rattle.mm_host.specs.declared.resuming.Resumed.TheVariants.{Start, Answered}
-use Rattle.mm_host.specs.Faults.{store_fault_as, told_as}
-use Rattle.mm_host.specs.Resumes.{AfterAsk, AsksAndKeeps, kept_as}
+use Rattle.mm_host.specs.declared.resuming.Resumed.TheVariants.{Answered}
+use Rattle.mm_host.specs.Faults.{told_as}
+use Rattle.mm_host.specs.Resumes.{AfterAsk, kept_as}
 use Rattle.mm_host.specs.Saying.{Says, comes_as, text_of}
-use Rattle.mm_host.specs.Serving.{AfterRecord, AsksLine, Place}
-use Rattle.mm_host.specs.Sessions.{BeginsWith, IsAtRest, Stops, StopsInLine, line_limit, most_lines}
-use Rattle.mm_host.specs.Turns.{AsksAndTells, IsOneTooMany, IsServed, ServesLine, TakesLine, Turns, Went, handed_on}
+use Rattle.mm_host.specs.Serving.{AfterRecord, AsksLine, Place, line_limit}
+use Rattle.mm_host.specs.Sessions.{BeginsWith, Stops, StopsInLine, most_lines}
+use Rattle.mm_host.specs.Turns.{TakesLine, Turns, Went, handed_on}
 
 -- What a line comes to, where no fault is met, is an answer.
 

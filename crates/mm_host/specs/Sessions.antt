@@ -1,26 +1,21 @@
 -- A session: it goes on after a stop, and then answers each line of its input before it reads the next.
-use Rattle.std.specs.Prelude.{◌≡◌, ◌+◌, ◌<◌, ◌≤◌, ℕ, List, [], ◌∷◌, ◌++◌, length, Option, None, Some, Result, Ok, Err, ◌⊎◌}
+use Rattle.std.specs.Prelude.{◌≡◌, ◌+◌, ◌<◌, ◌≤◌, ℕ, List, [], ◌∷◌, ◌++◌, length, Option, Result, Ok, Err, ◌⊎◌}
 use Rattle.std.specs.Io.KnownBytes.{Appends, Consumes, IsAtEnd}
 use Rattle.mm_base.specs.Input.{joined}
 use Rattle.mm_base.specs.Lines.{IsLong, IsWithin}
 use Rattle.mm_digest.specs.declared.variant.Variant.{Variant}
 use Rattle.mm_platform.specs.Standing.{Standing}
 use Rattle.mm_module.specs.Meaning.{Meaning}
-use Rattle.mm_model.specs.declared.answer.Answer.{Answer}
 use Rattle.mm_store.specs.Kept.{Kept}
 use Rattle.mm_host.specs.declared.fault.HostFault.{HostFault}
 use Rattle.mm_host.specs.declared.fault.SessionFault.{SessionFault}
 use Rattle.mm_host.specs.declared.fault.SessionFault.TheVariants.{Memory, Store, Refused, ReadFault, WriteFault, LineLong, BadLine, TooMuch}
 use Rattle.mm_host.specs.declared.resuming.Resumed.{Resumed}
-use Rattle.mm_host.specs.declared.resuming.Resumed.TheVariants.{Answered}
 use Rattle.mm_host.specs.Resumes.{Resumes}
 use Rattle.mm_host.specs.Saying.{text_of, Says}
-use Rattle.mm_host.specs.Serving.{AsksLine, Place, Served, Serves, lines_served, replies_to}
+use Rattle.mm_host.specs.Serving.{AsksLine, Place, Served, Serves, line_limit, lines_served, replies_to}
 
--- the most bytes of a line, its LF apart, and the most lines
-abbrev pub line_limit : ℕ
-line_limit = 4096
-
+-- the most lines
 abbrev pub most_lines : ℕ
 most_lines = 1000000
 

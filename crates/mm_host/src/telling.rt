@@ -67,7 +67,12 @@ fn write_answer<K: Sink>(answer: &Answer, out: &mut K) -> Result<(), WriteFault>
     ensures counted { CountsFaults (K.faults out.old) (K.faults out.new) result }
 {
     let mut line = [0; LINE_ROOM];
-    let length = print_answer(answer.again, answer.position, answer.output.as_slice(), &mut line);
+    let length = print_answer(
+        answer.again,
+        answer.position,
+        answer.output.as_slice(),
+        &mut line,
+    );
     let (front, _) = line.split_at(length);
     write_all(out, front)
 }

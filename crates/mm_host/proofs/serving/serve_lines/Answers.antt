@@ -1,8 +1,5 @@
-use Rattle.std.proofs.Common.{◌∙◌, ap, subst, Ok, Some, IfSome}
-use Rattle.std.specs.Prelude.{Option, Result}
+use Rattle.std.proofs.Common.{◌∙◌, ap, Ok}
 use Rattle.std.proofs.lemmas.Result.{err_from_is_err_and}
-use Rattle.mm_host.specs.declared.resuming.Resumed.{Resumed}
-use Rattle.mm_host.specs.Saying.{IsSized}
 use Rattle.mm_host.proofs.Lining.{stands_on, serves_ended, serves_stopped}
 use Rattle.mm_host.proofs.serving.serve_lines.Goals as goal
 

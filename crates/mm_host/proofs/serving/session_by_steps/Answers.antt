@@ -1,4 +1,3 @@
-use Rattle.std.proofs.Common.{sym}
 use Rattle.std.proofs.lemmas.Result.{err_from_is_err_and}
 use Rattle.mm_host.proofs.Beginning.{goes_on, lacks_memory, stops_at_once}
 use Rattle.mm_host.proofs.serving.session_by_steps.Goals as goal
