@@ -17,3 +17,5 @@ mod segments;
 mod stops;
 #[cfg(test)]
 mod streams;
+#[cfg(test)]
+mod texts;
