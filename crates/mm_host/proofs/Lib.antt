@@ -3,3 +3,5 @@ mod Blaming
 mod Slots
 mod Awaited
 mod Recovering
+pub mod Taking
+pub mod First

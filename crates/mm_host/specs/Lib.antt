@@ -5,3 +5,6 @@ pub mod Resumes
 pub mod Fitting
 pub mod Recovery
 pub mod Blame
+pub mod InitFaults
+pub mod Init
+pub mod Begins

@@ -7,11 +7,15 @@
 
 mod asking;
 mod fault;
+mod init_fault;
 mod resuming;
+mod setup;
 mod waiting;
 
 pub use fault::HostFault;
+pub use init_fault::InitFault;
 pub use resuming::{Resumed, resume};
+pub use setup::init;
 
 #[cfg(test)]
 mod tests;
