@@ -30,7 +30,7 @@ use Rattle.mm_host.specs.Waiting.{IsWaiting}
 use Rattle.mm_host.specs.Fitting.{Holds}
 use Rattle.mm_host.specs.Begins.{first_on, first_slots, IsFirst}
 
-anchor-nil : (id : ℕ) → anchor_of id [] ≡ start_of Opt id
+pub anchor-nil : (id : ℕ) → anchor_of id [] ≡ start_of Opt id
 unfolding anchor_of
 anchor-nil id = refl
 

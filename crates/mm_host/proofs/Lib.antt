@@ -3,5 +3,6 @@ mod Blaming
 mod Slots
 mod Awaited
 mod Recovering
-pub mod Taking
-pub mod First
+mod Taking
+mod First
+mod Beginning

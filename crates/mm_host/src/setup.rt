@@ -7,6 +7,7 @@ ghost use Rattle.mm_seal.specs.Cell.{cell_spelling};
 ghost use Rattle.mm_model.specs.History.{first_history};
 ghost use Rattle.mm_model.specs.Standing.{cell_of, issued_bytes};
 ghost use Rattle.mm_store.specs.declared.store.TheConstants.{LONGEST_SLOT};
+ghost use Rattle.mm_host.specs.Begins.{Leaves, TellsUse, BlamesDevice};
 ghost use Rattle.mm_host.specs.Init.{Devices, LooksAtCell, TakesBytes, taken_into, instance_from, PutsAll, first_puts, SetsUp, SetsUpBoth, TakesAndSetsUp, Inits};
 
 use crate::init_fault::InitFault;
@@ -31,10 +32,31 @@ pub fn init<M: Module, P: Platform, T: Store, E: Source>(
     store: &mut T,
     entropy: &mut E,
 ) -> Result<(), InitFault>
+    ensures steps { Inits variant (M.meaning «module».now)
+        (record { platform = P.standing platform.old; store = T.kept store.old; left = E.left entropy.old; source_faults = E.faults entropy.old })
+        (record { platform = P.standing platform.new; store = T.kept store.new; left = E.left entropy.new; source_faults = E.faults entropy.new }) result }
+    ensures leaves { Leaves variant (M.meaning «module».now)
+        (record { platform = P.standing platform.old; store = T.kept store.old; left = E.left entropy.old; source_faults = E.faults entropy.old })
+        (record { platform = P.standing platform.new; store = T.kept store.new; left = E.left entropy.new; source_faults = E.faults entropy.new }) result }
+    ensures tells { TellsUse (record { platform = P.standing platform.old; store = T.kept store.old; left = E.left entropy.old; source_faults = E.faults entropy.old }) result }
+    ensures faults { BlamesDevice (record { platform = P.standing platform.old; store = T.kept store.old; left = E.left entropy.old; source_faults = E.faults entropy.old })
+        (record { platform = P.standing platform.new; store = T.kept store.new; left = E.left entropy.new; source_faults = E.faults entropy.new }) result }
+{
+    init_by_steps(alloc, variant, module, platform, store, entropy)
+}
+
+// Reads the cell, and goes on where it is blank.
+fn init_by_steps<M: Module, P: Platform, T: Store, E: Source>(
+    alloc: Global,
+    variant: Variant,
+    module: &M,
+    platform: &mut P,
+    store: &mut T,
+    entropy: &mut E,
+) -> Result<(), InitFault>
     ensures { Inits variant (M.meaning «module».now)
         (record { platform = P.standing platform.old; store = T.kept store.old; left = E.left entropy.old; source_faults = E.faults entropy.old })
-        (record { platform = P.standing platform.new; store = T.kept store.new; left = E.left entropy.new; source_faults = E.faults entropy.new })
-        result }
+        (record { platform = P.standing platform.new; store = T.kept store.new; left = E.left entropy.new; source_faults = E.faults entropy.new }) result }
 {
     match is_blank(platform) {
         Err(fault) => Err(InitFault::from(fault)),
