@@ -1,6 +1,5 @@
 -- What each exit of a first start leaves, tells and counts.
-use Rattle.std.proofs.Common.{◌≡◌, ◌≢◌, ℕ, Bool, true, false, List, [], ◌∷◌, length, map, take, drop, Option, None, Some, Result, Ok, Err, refl, sym, ap, ◌∙◌, subst, inl, inr, arith, length-take, length-drop}
-use Rattle.std.specs.Prelude.{◌⊎◌}
+use Rattle.std.proofs.Common.{◌≡◌, ℕ, Bool, true, false, List, [], ◌∷◌, length, map, take, drop, Option, None, Some, Result, Ok, Err, refl, sym, ap, ◌∙◌, subst, inl, inr, arith, length-take, length-drop}
 use Rattle.std.specs.Option.{option_map}
 use Rattle.std.specs.Result.{result_err}
 use Rattle.std.specs.Io.KnownBytes.{Consumes}
@@ -8,18 +7,16 @@ use Rattle.mm_base.specs.declared.fault.Failed.{Failed}
 use Rattle.mm_base.specs.Faults.{Rose}
 use Rattle.mm_digest.specs.declared.variant.Variant.{Variant}
 use Rattle.mm_digest.specs.declared.variant.Variant.TheVariants.{Basic, Opt}
-use Rattle.mm_digest.specs.Messages.{start_of}
 use Rattle.mm_digest.proofs.Lengths.{length-zero_bytes, length-start_of}
 use Rattle.mm_module.specs.Meaning.{Meaning, IsLawful}
-use Rattle.mm_seal.specs.Cell.{IsCell, blank_cell, cell_spelling}
+use Rattle.mm_seal.specs.Cell.{blank_cell, cell_spelling}
 use Rattle.mm_platform.specs.declared.fault.StepFault.{StepFault}
 use Rattle.mm_platform.specs.declared.fault.StepFault.TheVariants as step
 use Rattle.mm_platform.specs.Standing.{Item, Standing, values_of, register_of as folded_of}
-use Rattle.mm_platform.specs.Steps.{ReadCell, WriteCell, Goes, EndsBy, cell_after}
+use Rattle.mm_platform.specs.Steps.{WriteCell, EndsBy, cell_after}
 use Rattle.mm_model.specs.Chains.{register_of}
-use Rattle.mm_model.specs.History.{History, Value, Entry, first_history, values_of as entry_values}
-use Rattle.mm_model.specs.Instance.{Instance}
-use Rattle.mm_model.specs.Standing.{StandsFor, cell_of, issued_bytes, register_reads}
+use Rattle.mm_model.specs.History.{Value, first_history, values_of as entry_values}
+use Rattle.mm_model.specs.Standing.{StandsFor, cell_of, issued_bytes}
 use Rattle.mm_model.proofs.Digests.{register_folds}
 use Rattle.mm_call.specs.Standing.{instance_by}
 use Rattle.mm_call.proofs.Moving.{summary-nil}
@@ -29,10 +26,10 @@ use Rattle.mm_store.specs.Kept.{Kept}
 use Rattle.mm_store.specs.Slots.{Slots, with_slot}
 use Rattle.mm_store.specs.Calls.{CountsFailures, WritesSlot, putting}
 use Rattle.mm_host.specs.declared.init_fault.InitFault.{InitFault}
-use Rattle.mm_host.specs.declared.init_fault.InitFault.TheVariants.{Memory, Platform, Already, ReadFault, Short, Store}
+use Rattle.mm_host.specs.declared.init_fault.InitFault.TheVariants.{Memory, Platform, Already, ReadFault, Short}
 use Rattle.mm_host.specs.InitFaults.{store_failed_as}
-use Rattle.mm_host.specs.Init.{Devices, LooksAtCell, TakesBytes, instance_from, Put, first_puts, AfterPut, PutsAll, written_as, WritesCell, AfterPuts, SetsUpBoth, SetsUp, AfterTaking, TakesAndSetsUp, AfterLooking, Inits}
-use Rattle.mm_host.specs.Begins.{first_on, ShowsValues, first_slots, IsFirst, Begins, Leaves, TellsUse, BlamesDevice}
+use Rattle.mm_host.specs.Init.{Devices, LooksAtCell, TakesBytes, instance_from, Put, first_puts, AfterPut, PutsAll, written_as, AfterPuts, SetsUp, AfterTaking, AfterLooking, Inits}
+use Rattle.mm_host.specs.Begins.{first_on, ShowsValues, Begins, Leaves, TellsUse, BlamesDevice}
 use Rattle.mm_host.proofs.First.{anchor-nil, is_first}
 
 -- All of an exit.

@@ -1,5 +1,5 @@
 -- What stands at the first history, whatever values others put into the register.
-use Rattle.std.proofs.Common.{◌≡◌, ℕ, ◌≤◌, ◌<◌, List, [], length, take, drop, None, refl, sym, ap, ◌∙◌, subst, arith, inl, inr}
+use Rattle.std.proofs.Common.{◌≡◌, ℕ, ◌≤◌, List, [], length, take, None, refl, sym, ap, ◌∙◌, subst, arith, inl}
 use Rattle.std.proofs.Math.Seq.{take-nil}
 use Rattle.std.proofs.lemmas.List.{take_all}
 use Rattle.std.specs.List.{Contains}
@@ -11,14 +11,14 @@ use Rattle.mm_module.specs.Batch.{Batch}
 use Rattle.mm_module.specs.Meaning.{Meaning, IsLawful}
 use Rattle.mm_seal.specs.Snapshot.{IsContent}
 use Rattle.mm_model.specs.Chains.{anchor_of}
-use Rattle.mm_model.specs.History.{History, first_history}
-use Rattle.mm_model.specs.Instance.{Instance, basic, opt}
+use Rattle.mm_model.specs.History.{first_history}
+use Rattle.mm_model.specs.Instance.{Instance}
 use Rattle.mm_model.specs.Places.{Names, issued}
 use Rattle.mm_model.specs.Sound.{IsSound}
 use Rattle.mm_model.specs.Standing.{IsRight, issued_bytes}
 use Rattle.mm_model.proofs.Fitting.{sealed_of-most}
 use Rattle.mm_model.proofs.Named.{basic_issued, opt_issued}
-use Rattle.mm_call.specs.Asked.{IsLedTo, IsWithin}
+use Rattle.mm_call.specs.Asked.{IsWithin}
 use Rattle.mm_call.specs.Standing.{instance_by}
 use Rattle.mm_call.proofs.Moving.{summary-nil}
 use Rattle.mm_digest.specs.Messages.{start_of}

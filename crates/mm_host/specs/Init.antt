@@ -1,5 +1,5 @@
 -- The steps by which a platform with a blank cell, and a store, are set up. Nothing is asked for them.
-use Rattle.std.specs.Prelude.{◌≡◌, ◌≢◌, ◌≤◌, ◌<◌, ◌↔◌, ℕ, Bool, true, false, IsTrue, List, [], ◌∷◌, length, take, drop, Option, None, Some, Result, Ok, Err, IfOk, MatchResult, ◌⊎◌}
+use Rattle.std.specs.Prelude.{◌≡◌, ◌≤◌, ◌<◌, ◌↔◌, ℕ, Bool, true, false, IsTrue, List, [], ◌∷◌, length, take, drop, Option, Some, Result, Ok, Err, IfOk, MatchResult, ◌⊎◌}
 use Rattle.std.specs.Result.{result_err}
 use Rattle.std.specs.Io.KnownBytes.{Consumes, IsAtEnd}
 use Rattle.mm_base.specs.declared.fault.Failed.{Failed}

@@ -18,4 +18,6 @@ pub use resuming::{Resumed, resume};
 pub use setup::init;
 
 #[cfg(test)]
+mod setup_tests;
+#[cfg(test)]
 mod tests;

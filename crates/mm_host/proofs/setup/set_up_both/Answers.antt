@@ -1,5 +1,4 @@
-use Rattle.std.proofs.Common.{Err, List, ℕ, Result, refl, ap, subst}
-use Rattle.mm_store.specs.declared.fault.StoreFault.{StoreFault}
+use Rattle.std.proofs.Common.{Err, List, ℕ, refl, ap, subst}
 use Rattle.mm_host.specs.Init.{PutsAll, first_puts}
 use Rattle.mm_host.specs.declared.init_fault.InitFault.{InitFault}
 use Rattle.mm_host.proofs.setup.set_up_both.Goals as goal

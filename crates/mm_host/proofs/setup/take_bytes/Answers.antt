@@ -1,4 +1,4 @@
-use Rattle.std.proofs.Common.{◌≡◌, ◌<◌, ◌+◌, length, arith, rules, ◌∙◌}
+use Rattle.std.proofs.Common.{◌<◌, arith, rules, ◌∙◌}
 use Rattle.mm_host.proofs.Taking.{consumes_more, takes}
 use Rattle.mm_host.proofs.setup.take_bytes.Goals as goal
 
