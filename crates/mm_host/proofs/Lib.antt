@@ -5,4 +5,4 @@ mod Awaited
 mod Recovering
 mod Taking
 mod First
-mod Beginning
+mod SettingUp

@@ -1,4 +1,4 @@
-use Rattle.mm_host.proofs.Beginning.{inits_come}
+use Rattle.mm_host.proofs.SettingUp.{inits_come}
 use Rattle.mm_host.proofs.setup.init.Goals as goal
 
 pub returns-clause-leaves : goal.returns-clause-leaves
