@@ -89,6 +89,7 @@ fn a_first_start_may_be_made_again(rt: HostRuntime) -> Result<(), Fail> {
             first
         );
         store.stop_at(0, &[])?;
+        platform.plan(Stop::Quiet, &[])?;
         assert_eq!(rt;
             start(alloc, variant, &mut platform, &mut store, 80, 0)?,
             second
