@@ -3,3 +3,11 @@ mod Blaming
 mod Slots
 mod Awaited
 mod Recovering
+mod Recording
+mod Turning
+mod Lining
+mod Beginning
+mod SessionBlaming
+mod Taking
+mod First
+mod SettingUp
