@@ -3,3 +3,7 @@ pub mod Again
 pub mod Twice
 pub mod Asking
 pub mod OptCalls
+pub mod OptAlike
+pub mod OptShown
+pub mod OptLeaves
+pub mod OptAsking

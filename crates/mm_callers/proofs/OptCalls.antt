@@ -59,7 +59,7 @@ use Rattle.mm_callers.proofs.Again.{answers_by}
 
 -- What counts of the moves is what the register shows
 
-same_rest : (front more other : List Item) → front ++ more ≡ front ++ other → more ≡ other
+pub same_rest : (front more other : List Item) → front ++ more ≡ front ++ other → more ≡ other
 same_rest [] more other e = e
 same_rest (item ∷ front) more other e = same_rest front more other (cc)
 
@@ -70,7 +70,7 @@ shown_same (Some ys) f xs front more other e g h =
     let there : f ys ≡ front ++ more = cc in
     same_rest front other more (sym g ∙ ap f (sym same) ∙ there)
 
-asked_by : (i : Instance) (all others : List (List ℕ)) (asked : List Batch) (y : History) (moves : List Move) (offer : List ℕ) (b : Batch) → AreAsked all others asked i y offer b
+pub asked_by : (i : Instance) (all others : List (List ℕ)) (asked : List Batch) (y : History) (moves : List Move) (offer : List ℕ) (b : Batch) → AreAsked all others asked i y offer b
     → Within (moves_messages i (counted_part y) (counted_moves y.is_open moves)) all → AllByRecursion (Contains others) (foreign_in (counted_moves y.is_open moves))
     → IsAsked all others asked i y moves offer b
 asked_by i all others asked y moves offer b a messages values = record {
@@ -173,6 +173,15 @@ comes_by meaning key barrier all y sees lacks offer b w found same asking is (ba
     let a = answered_only w.broken i sees end b found w.moves answer gives in
     answer_again i end b a.it.again false answer (fresh_again found a.it a.found_is fresh) a.answer_is)
 
+-- what is asked of the offer, at the history that a call sees
+pub seen_asking : (meaning : Meaning) (key barrier : List ℕ) (all others : List (List ℕ)) (asked : List Batch) (y : History) (v w : List (List ℕ)) (offer : List ℕ) (b : Batch) → AreAsked all others asked (opt meaning key barrier) y offer b
+    → Asking all (opt meaning key barrier) (all_made (by_lists (opt meaning key barrier)) y (map Foreign v ++ (map Foreign w ++ []))) offer b
+seen_asking meaning key barrier all others asked y v w offer b a = record {
+  clear = a.clear;
+  listed = a.offered;
+  genuine = λ content right. sees_names meaning key barrier v w y content a.within.sound (a.genuine content right);
+}
+
 -- what a call comes to by lists
 pub comes : (meaning : Meaning) (key barrier : List ℕ) (all others : List (List ℕ)) (asked : List Batch) (y : History) (c : Course) (offer : List ℕ) (b : Batch) → AreAsked all others asked (opt meaning key barrier) y offer b
     → Comes (opt meaning key barrier) y offer b (called (opt meaning key barrier) (by_lists (opt meaning key barrier)) y c offer b).state (told (called (opt meaning key barrier) (by_lists (opt meaning key barrier)) y c offer b).ending)
@@ -184,7 +193,7 @@ comes meaning key barrier all others asked y c offer b a =
     let same : sees.batches ≡ y.batches = same_batches i (map Foreign v ++ (map Foreign w ++ [])) y (foreign_first v (map Foreign w ++ []) ∙ foreign_first w []) in
     let found : Result Found Refusal = found_in (found_at i (by_lists i) sees b offer) c.lacks in
     comes_by meaning key barrier all y sees c.lacks offer b (walk c.fates 1 (ask_steps Opt y.is_open (is_fresh found) b)) found same
-    (record { clear = a.clear; listed = a.offered; genuine = λ content right. sees_names meaning key barrier v w y content a.within.sound (a.genuine content right) })
+    (seen_asking meaning key barrier all others asked y v w offer b a)
     refl
     (subst (λ (st : List Step). Commits b (is_fresh found) (walk c.fates 1 st)) (sym (asks y.is_open (is_fresh found) b)) (opt_commits c.fates y.is_open (is_fresh found) b))
 

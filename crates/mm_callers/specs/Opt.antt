@@ -7,15 +7,16 @@ use Rattle.mm_module.specs.Meaning.{Meaning}
 use Rattle.mm_module.specs.Batch.{Batch, One}
 use Rattle.mm_model.specs.Chains.{trail}
 use Rattle.mm_model.specs.Instance.{Instance, opt}
-use Rattle.mm_model.specs.History.{History, register_value_of}
-use Rattle.mm_model.specs.Messages.{Within}
+use Rattle.mm_model.specs.History.{History, Commit, moved, register_value_of}
+use Rattle.mm_model.specs.Messages.{Within, offer_messages}
+use Rattle.mm_model.specs.Places.{issued}
 use Rattle.mm_model.specs.Standing.{StandsFor}
 use Rattle.mm_model.specs.declared.answer.Answer.{Answer}
 use Rattle.mm_model.specs.declared.refusal.Refusal.{Refusal}
 use Rattle.mm_call.specs.Asked.{counted_part}
 use Rattle.mm_call.specs.Leaving.{whole}
 use Rattle.mm_call.specs.Tied.{standing_items, foreign_of}
-use Rattle.mm_callers.specs.Basic.{AreAsked, AnswersOnce}
+use Rattle.mm_callers.specs.Basic.{AreAsked, AnswersOnce, AnswersNext}
 
 -- What is asked of the items that the register shows at exit, behind those that counted at entry: their messages, one
 -- after another, are in the clear list, and the values that aren't the platform's own are among those of others.
@@ -23,7 +24,7 @@ pub record AreShown (all others : List (List ℕ)) (i : Instance) (y : History) 
   pub messages : Within (trail extended_message (register_value_of i (counted_part y)) (values_of more)) all
   pub values : AllByRecursion (Contains others) (foreign_of more)
 
--- one call, inside a segment or across an opening
+-- One call, or one that is made again after a device's fault; inside a segment or across an opening.
 abbrev pub AsksOnce : Meaning → Standing → Standing → List ℕ → List ℕ → Result Answer Refusal → Type 0
 AsksOnce meaning old new offer request (Err why) = Unit {0}
 AsksOnce meaning old new offer request (Ok answer) =
@@ -31,3 +32,20 @@ AsksOnce meaning old new offer request (Ok answer) =
     StandsFor (opt meaning key barrier) old y → old.items ≡ Some items → new.items ≡ Some (standing_items y.is_open items ++ more) →
     AreAsked all others asked (opt meaning key barrier) y offer (One request) → AreShown all others (opt meaning key barrier) y more →
     AnswersOnce (opt meaning key barrier) y new (One request) (whole answer)
+
+-- What is asked besides for a second batch, on the snapshot of the first answer: the messages at the place that this
+-- snapshot says, where the first batch is a repeat and where it is new.
+pub record AreAskedNext (all : List (List ℕ)) (asked : List Batch) (i : Instance) (y : History) (first second : Batch) : Type 0 where
+  pub is_asked : Contains asked second
+  pub after_repeat : Within (offer_messages i (issued i y).place second) all
+  pub after_new : Within (offer_messages i (issued i (moved i y (Commit first))).place second) all
+
+-- two calls, the second on the snapshot of the first answer; inside a segment or across an opening
+abbrev pub AsksTwice : Meaning → Standing → Standing → List ℕ → List ℕ → List ℕ → Result Answer Refusal → Type 0
+AsksTwice meaning old new offer first second (Err why) = Unit {0}
+AsksTwice meaning old new offer first second (Ok answer) =
+    (key barrier : List ℕ) (y : History) (all others : List (List ℕ)) (asked : List Batch) (items more : List Item) →
+    StandsFor (opt meaning key barrier) old y → old.items ≡ Some items → new.items ≡ Some (standing_items y.is_open items ++ more) →
+    AreAsked all others asked (opt meaning key barrier) y offer (One first) →
+    AreAskedNext all asked (opt meaning key barrier) y (One first) (One second) → AreShown all others (opt meaning key barrier) y more →
+    AnswersNext (opt meaning key barrier) y new (One first) (One second) (whole answer)

@@ -2,11 +2,8 @@
 //! history, its requests and the answers that it gets, and no plan, no course and no digest.
 #![tactic(auto)]
 
-mod basic;
-mod opt;
-
-pub use basic::{ask_again, ask_twice};
-pub use opt::ask_once;
+pub mod basic;
+pub mod opt;
 
 #[cfg(test)]
 mod tests;

@@ -1,6 +1,7 @@
 //! The callers over the counter and a platform in memory.
 
-use super::*;
+use crate::basic::{ask_again, ask_twice};
+use crate::opt::ask_once;
 use mm_basic::provision;
 use mm_model::{Answer, Refusal};
 use mm_module::Counter;
