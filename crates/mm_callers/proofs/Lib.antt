@@ -7,3 +7,4 @@ pub mod OptAlike
 pub mod OptShown
 pub mod OptLeaves
 pub mod OptAsking
+pub mod Completing

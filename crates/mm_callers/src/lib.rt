@@ -3,7 +3,10 @@
 #![tactic(auto)]
 
 pub mod basic;
+mod laws;
 pub mod opt;
+
+pub use laws::calls_are_complete;
 
 #[cfg(test)]
 mod tests;
