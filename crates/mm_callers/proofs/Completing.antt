@@ -1,37 +1,32 @@
 -- A welcome offer is found, and a call that finds it and isn't broken off answers.
-use Rattle.std.proofs.Common.{◌≡◌, ℕ, ◌+◌, ◌≤◌, ◌^◌, ◌&&◌, Bool, true, false, List, [], ◌∷◌, ◌++◌, map, Option, None, Some, Result, Ok, Err, refl, sym, ap, ◌∙◌, subst, arith, le-leb}
+use Rattle.std.proofs.Common.{◌≡◌, ℕ, ◌+◌, ◌^◌, ◌&&◌, Bool, true, false, List, [], ◌∷◌, ◌++◌, None, Result, Ok, Err, refl, sym, ap, ◌∙◌, subst, le-leb}
 use Rattle.std.specs.Prelude.{if◌then◌else◌, nat_eq, nat_le}
 use Rattle.std.specs.Str.{bytes_eq}
 use Rattle.std.proofs.lemmas.Bool.{eq-eqb}
 use Rattle.std.proofs.lemmas.Slice.Eq.{bytes_eq-Decides}
 use Rattle.mm_digest.specs.declared.variant.Variant.{Variant}
-use Rattle.mm_digest.specs.declared.variant.Variant.TheVariants.{Basic, Opt}
-use Rattle.mm_module.specs.Meaning.{Meaning}
 use Rattle.mm_module.specs.Batch.{Batch, size_of}
-use Rattle.mm_seal.specs.declared.snapshot.PartsFault.{PartsFault}
 use Rattle.mm_seal.specs.Parts.{parts_of}
-use Rattle.mm_seal.specs.Snapshot.{Content, Snapshot, tag_of, offered_of}
+use Rattle.mm_seal.specs.Snapshot.{Content, tag_of, offered_of}
 use Rattle.mm_seal.proofs.SealLaws.{sealed_parts}
 use Rattle.mm_model.specs.Instance.{Instance, basic, opt}
-use Rattle.mm_model.specs.History.{History, Foreign, total_of}
+use Rattle.mm_model.specs.History.{History, total_of}
 use Rattle.mm_model.specs.Judge.{judge, judged, is_last}
 use Rattle.mm_model.specs.Life.{Life, Live, life_of, is_lost}
-use Rattle.mm_model.specs.Steps.{Step, Reads, Changes, Writes, ask_steps}
+use Rattle.mm_model.specs.Steps.{Step, ask_steps}
 use Rattle.mm_model.proofs.Batches.{at_the_end, before_the_last}
 use Rattle.mm_model.specs.declared.refusal.Refusal.{Refusal}
 use Rattle.mm_model.specs.declared.refusal.Refusal.TheVariants as refusal
 use Rattle.mm_model.specs.declared.verdict.Verdict.{Verdict}
 use Rattle.mm_model.specs.declared.verdict.Verdict.TheVariants.{Fresh, Again}
-use Rattle.mm_call.specs.Answers.{answer_on}
-use Rattle.mm_call.specs.Order.{admitted, weighed, examined}
+use Rattle.mm_call.specs.Order.{admitted, weighed}
 use Rattle.mm_call.specs.Levels.{by_lists, all_made}
-use Rattle.mm_call.specs.Found.{Found, found_with, found_from, found_at, found_in, is_fresh}
+use Rattle.mm_call.specs.Found.{Found, found_with, found_from, found_at, found_in}
 use Rattle.mm_call.specs.Courses.{End, Done, Fails, Fate, Course, Walked, after_step, walk}
-use Rattle.mm_call.specs.Called.{Answers, called_with, seen_at, ended_by}
+use Rattle.mm_call.specs.Called.{called_with, seen_at, ended_by}
 use Rattle.mm_call.proofs.Endings.{again_of, fresh_of}
 use Rattle.mm_call.proofs.Moving.{same_batches, more_batches}
 use Rattle.mm_call.proofs.Walks.{Commits, nothing, batch, basic_commits, opt_commits, asks}
-use Rattle.mm_callers.specs.Basic.{EndsWith}
 use Rattle.mm_callers.specs.Complete.{IsSmooth, IsOfferedAt, IsWelcome, batches_then, IsAnswer, BasicCallsAreComplete, OptCallsAreComplete}
 use Rattle.mm_callers.proofs.Twice.{not_again}
 

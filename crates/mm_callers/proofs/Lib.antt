@@ -8,3 +8,4 @@ pub mod OptShown
 pub mod OptLeaves
 pub mod OptAsking
 pub mod Completing
+pub mod OptComplete

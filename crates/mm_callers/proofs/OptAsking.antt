@@ -1,6 +1,5 @@
 -- The clauses of callers of Opt, from those of their calls.
-use Rattle.std.proofs.Common.{◌≡◌, ℕ, ◌≤◌, ◌^◌, Bool, true, false, List, [], ◌∷◌, ◌++◌, length, Option, None, Some, Result, Ok, Err, refl, sym, ap, ◌∙◌, subst}
-use Rattle.std.specs.List.{Contains}
+use Rattle.std.proofs.Common.{◌≡◌, ℕ, ◌≤◌, ◌^◌, Bool, true, false, List, ◌++◌, length, Some, Result, Ok, Err, refl, sym, ap, ◌∙◌, subst}
 use Rattle.mm_digest.specs.declared.variant.Variant.TheVariants.{Opt}
 use Rattle.mm_digest.specs.Messages.{zero_bytes, start_of, extended_message}
 use Rattle.mm_digest.proofs.Lengths.{length-zero_bytes, length-start_of}
@@ -30,7 +29,7 @@ use Rattle.mm_call.specs.Found.{right_content}
 use Rattle.mm_call.specs.Leaving.{whole, whole_in}
 use Rattle.mm_call.specs.Tied.{standing_items}
 use Rattle.mm_opt.specs.Asks.{Calls}
-use Rattle.mm_callers.specs.Basic.{AreAsked, IsOnce, AnswersOnce, AnswersNext}
+use Rattle.mm_callers.specs.Basic.{AreAsked, IsOnce, AnswersNext}
 use Rattle.mm_callers.specs.Opt.{AreShown, AsksOnce, AreAskedNext, AsksTwice}
 use Rattle.mm_callers.proofs.Calls.{Comes, kept, grown}
 use Rattle.mm_callers.proofs.Again.{twice_by}

@@ -23,7 +23,7 @@ use Rattle.mm_model.specs.Messages.{Within}
 use Rattle.mm_model.specs.Moves.{MayMove, digests_of}
 use Rattle.mm_model.specs.Places.{Names}
 use Rattle.mm_model.specs.Sound.{IsSound}
-use Rattle.mm_model.specs.Standing.{StandsFor, IsRight, IsGenuine}
+use Rattle.mm_model.specs.Standing.{StandsFor, IsRight}
 use Rattle.mm_model.specs.Steps.{Step, ask_steps}
 use Rattle.mm_model.proofs.Moves.{sound_moved}
 use Rattle.mm_model.proofs.Named.{opt_names}
@@ -31,7 +31,6 @@ use Rattle.mm_model.specs.declared.answer.Answer.{Answer}
 use Rattle.mm_model.specs.declared.answer.BatchAnswer.{BatchAnswer}
 use Rattle.mm_model.specs.declared.refusal.Refusal.{Refusal}
 use Rattle.mm_model.specs.declared.refusal.Refusal.TheVariants as refusal
-use Rattle.mm_call.specs.Answers.{answer_on}
 use Rattle.mm_call.specs.Order.{examined}
 use Rattle.mm_call.specs.Levels.{by_lists, by_digests, all_made}
 use Rattle.mm_call.specs.Found.{Found, found_at, found_from, found_in, is_fresh}
@@ -40,8 +39,8 @@ use Rattle.mm_call.specs.Called.{called, ended_by, told}
 use Rattle.mm_call.specs.CallsOn.{CallsOn}
 use Rattle.mm_call.specs.Leaving.{whole, whole_in}
 use Rattle.mm_call.specs.Standing.{shown}
-use Rattle.mm_call.specs.Asked.{counted_part, counted_moves, moves_messages, foreign_in, IsWithin, IsAsked}
-use Rattle.mm_call.specs.Tied.{foreign_of, standing_items, IsTied, Tied, shows, nothing}
+use Rattle.mm_call.specs.Asked.{counted_part, counted_moves, moves_messages, foreign_in, IsAsked}
+use Rattle.mm_call.specs.Tied.{foreign_of, standing_items, Tied, shows, nothing}
 use Rattle.mm_call.proofs.BasicLaw.{unlacked}
 use Rattle.mm_call.proofs.Continuing.{stands_at}
 use Rattle.mm_call.proofs.Finding.{Asking, found_with_tells, weighed_tells}
@@ -54,7 +53,7 @@ use Rattle.mm_call.proofs.Walks.{Commits, nothing as none, batch, asks, opt_comm
 use Rattle.mm_opt.specs.Asks.{Calls}
 use Rattle.mm_callers.specs.Basic.{AreAsked, AnswersOnce}
 use Rattle.mm_callers.specs.Opt.{AreShown, AsksOnce}
-use Rattle.mm_callers.proofs.Calls.{Repeats, Comes, kept, grown, Answered, answered_only, answer_again, fresh_found, again_found, fresh_again}
+use Rattle.mm_callers.proofs.Calls.{Comes, kept, grown, answered_only, answer_again, fresh_found, again_found, fresh_again}
 use Rattle.mm_callers.proofs.Again.{answers_by}
 
 -- What counts of the moves is what the register shows

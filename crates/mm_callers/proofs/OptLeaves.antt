@@ -1,22 +1,18 @@
 -- Opt: what one call leaves by lists, and what it hands on to the next.
-use Rattle.std.proofs.Common.{◌≡◌, ℕ, Bool, true, false, List, [], ◌∷◌, ◌++◌, map, Option, None, Some, Result, Ok, Err, refl, sym, ap, ◌∙◌, subst, append_assoc}
+use Rattle.std.proofs.Common.{◌≡◌, ℕ, Bool, true, false, List, [], ◌∷◌, ◌++◌, map, Option, None, Some, Result, Ok, refl, sym, ap, ◌∙◌, subst, append_assoc}
 use Rattle.std.specs.List.{AllByRecursion, Contains}
 use Rattle.std.specs.Option.{option_map}
 use Rattle.mm_digest.specs.declared.variant.Variant.TheVariants.{Opt}
-use Rattle.mm_digest.specs.Messages.{extended_message}
 use Rattle.mm_platform.specs.declared.fault.StepFault.{StepFault}
 use Rattle.mm_platform.specs.Standing.{Item, Standing, values_of}
 use Rattle.mm_module.specs.Meaning.{Meaning}
 use Rattle.mm_module.specs.Batch.{Batch, One}
-use Rattle.mm_seal.specs.Snapshot.{Content}
-use Rattle.mm_model.specs.Chains.{trail}
 use Rattle.mm_model.specs.Instance.{Instance, opt}
-use Rattle.mm_model.specs.History.{Entry, History, Move, Commit, Foreign, moved, joined, register_value_of}
+use Rattle.mm_model.specs.History.{Entry, History, Move, Foreign, joined}
 use Rattle.mm_model.specs.Life.{has_value}
 use Rattle.mm_model.specs.Messages.{Within}
 use Rattle.mm_model.specs.Moves.{Digests, digests_of}
-use Rattle.mm_model.specs.Places.{Names}
-use Rattle.mm_model.specs.Standing.{StandsFor, IsGenuine}
+use Rattle.mm_model.specs.Standing.{StandsFor}
 use Rattle.mm_model.specs.Steps.{Step, Reads, ask_steps}
 use Rattle.mm_model.specs.declared.answer.BatchAnswer.{BatchAnswer}
 use Rattle.mm_model.specs.declared.refusal.Refusal.{Refusal}
@@ -27,7 +23,7 @@ use Rattle.mm_call.specs.Called.{called, seen_at, ended_by, told}
 use Rattle.mm_call.specs.CallsOn.{CallsOn}
 use Rattle.mm_call.specs.Standing.{StandsAt, shown}
 use Rattle.mm_call.specs.Asked.{counted_part, counted_moves, moves_messages, foreign_in, IsWithin, IsAsked}
-use Rattle.mm_call.specs.Tied.{foreign_of, standing_items}
+use Rattle.mm_call.specs.Tied.{standing_items}
 use Rattle.mm_call.proofs.BasicLaw.{unlacked}
 use Rattle.mm_call.proofs.Continuing.{stands_at}
 use Rattle.mm_call.proofs.Moving.{committed_in}
@@ -43,7 +39,7 @@ use Rattle.mm_callers.specs.Opt.{AreShown}
 use Rattle.mm_callers.proofs.Calls.{Comes, kept, answered_only}
 use Rattle.mm_callers.proofs.OptCalls.{asked_by, asked_of, same_rest, seen_asking, comes}
 use Rattle.mm_callers.proofs.OptAlike.{opt_closes, foreign_closes, alike_still, alike_one, digests_still, closes_foreign, Alike, still, grown_by, same_closed, names_after}
-use Rattle.mm_callers.proofs.OptShown.{Way, only_reads, breaks_off, commits_it, way, Pushes, pushed_open, Counts, counts_open, counts_opening, none_counted, flag_kept, flag_set, shown_front, shown_back, shown_shut, register_then, stands_with}
+use Rattle.mm_callers.proofs.OptShown.{Way, only_reads, breaks_off, commits_it, way, pushed_open, Counts, counts_open, counts_opening, none_counted, flag_kept, flag_set, shown_front, shown_back, shown_shut, register_then, stands_with}
 
 -- what one call leaves: the history after it, and what is asked of that
 pub record OptAfter (all others : List (List ℕ)) (asked : List Batch) (meaning : Meaning) (key barrier : List ℕ) (y : History) (new : Standing) (offer : List ℕ) (b : Batch) (result : Result BatchAnswer Refusal) : Type 0 where
@@ -267,15 +263,17 @@ module _ (meaning : Meaning) (key barrier : List ℕ) (all others : List (List �
       let moves : List Move = DigestMoves old middle offer request result c y in
       let g = c.goes key barrier d (stands_at i old y s) in
       let xs : List Item = shown i d moves items in
-      let after : History = taking (bare y) (values_of xs) in
-      (record {
-        after = after;
-        stands = stands_with meaning key barrier y (all_made (by_digests i) d moves) middle xs g.stands (digests_still meaning key barrier moves d none quiet) (g.items ∙ ap (option_map (shown i d moves)) known);
-        within = within_items meaning key barrier all others asked y after.items e a.within;
-        comes = kept refl (λ answer gives. absurd (unless answer gives));
-        alike = still refl;
-        clean = λ answer gives. absurd (unless answer gives);
-      }, e)
+      let after : History = taking (bare y) (values_of xs) in (
+        record {
+          after = after;
+          stands = stands_with meaning key barrier y (all_made (by_digests i) d moves) middle xs g.stands (digests_still meaning key barrier moves d none quiet) (g.items ∙ ap (option_map (shown i d moves)) known);
+          within = within_items meaning key barrier all others asked y after.items e a.within;
+          comes = kept refl (λ answer gives. absurd (unless answer gives));
+          alike = still refl;
+          clean = λ answer gives. absurd (unless answer gives);
+        },
+        e,
+      )
 
   hands_by : (flag fresh : Bool) (y : History) (old middle new : Standing) (offer request : List ℕ) (result : Result BatchAnswer Refusal) (items more : List Item) (c : CallsOn Opt meaning old middle offer (One request) result) → GoesOn middle new
       → StandsFor (opt meaning key barrier) old y → old.items ≡ Some items → new.items ≡ Some (standing_items y.is_open items ++ more)

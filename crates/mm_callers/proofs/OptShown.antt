@@ -1,5 +1,5 @@
 -- Opt: what the register shows of a call, and what is asked of it.
-use Rattle.std.proofs.Common.{◌≡◌, ℕ, Bool, true, false, List, [], ◌∷◌, ◌++◌, map, Option, None, Some, refl, sym, ap, ◌∙◌, subst, append_assoc}
+use Rattle.std.proofs.Common.{◌≡◌, ℕ, Bool, true, false, List, [], ◌∷◌, ◌++◌, map, Option, None, Some, refl, sym, ap, ◌∙◌, subst}
 use Rattle.std.specs.Prelude.{if◌then◌else◌}
 use Rattle.std.specs.List.{AllByRecursion, Contains}
 use Rattle.std.specs.Option.{option_map}
@@ -12,10 +12,10 @@ use Rattle.mm_module.specs.Meaning.{Meaning}
 use Rattle.mm_module.specs.Batch.{Batch}
 use Rattle.mm_model.specs.Chains.{after, trail, register_of}
 use Rattle.mm_model.specs.Instance.{Instance, opt}
-use Rattle.mm_model.specs.History.{Entry, Value, History, Move, Commit, Foreign, Placed, Reset, Close, Power, first_history, register_value_of, values_of as entry_values}
+use Rattle.mm_model.specs.History.{Value, History, Move, Commit, Foreign, Placed, Reset, Close, Power, first_history, register_value_of, values_of as entry_values}
 use Rattle.mm_model.specs.Messages.{Within}
 use Rattle.mm_model.specs.Moves.{Digests, made, committing, digests_of}
-use Rattle.mm_model.specs.Standing.{StandsFor, register_reads}
+use Rattle.mm_model.specs.Standing.{StandsFor}
 use Rattle.mm_model.proofs.Chains.{after-append, trail-append}
 use Rattle.mm_model.proofs.Digests.{register_folds}
 use Rattle.mm_model.proofs.Forms.{reads_zero}
@@ -31,7 +31,7 @@ use Rattle.mm_call.proofs.Moving.{committed_in}
 use Rattle.mm_call.proofs.OptShapes.{Shape, still, reset}
 use Rattle.mm_call.proofs.OptShut.{bare, bare_digests, counted_open, counted_shut}
 use Rattle.mm_call.proofs.Tied.{opt_tied}
-use Rattle.mm_call.proofs.Walks.{Commits, nothing as none, batch, finished, changing, opt_commits, taking, committed-foreign, from_reset-foreign}
+use Rattle.mm_call.proofs.Walks.{nothing as none, batch, finished, changing, opt_commits, taking, committed-foreign, from_reset-foreign}
 use Rattle.mm_model.specs.Steps.{Reads}
 use Rattle.mm_callers.specs.Opt.{AreShown}
 

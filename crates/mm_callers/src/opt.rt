@@ -1,11 +1,11 @@
 //! Callers of Opt.
 
-ghost use Rattle.mm_callers.specs.Opt.{AsksOnce, AsksTwice};
+ghost use Rattle.mm_callers.specs.Opt.{AsksOnce, AsksByQuietPlan, AsksInMemory, AsksTwice};
 
 use mm_model::{Answer, Refusal};
 use mm_module::Module;
 use mm_opt::ask;
-use mm_platform::Platform;
+use mm_platform::{MemPlatform, Platform};
 use std::alloc::Global;
 
 /// Asks for a request, offering a snapshot, inside a segment or across an opening.
@@ -16,10 +16,27 @@ pub fn ask_once<M: Module, P: Platform>(
     offer: &[u8],
     request: &[u8],
 ) -> Result<Answer, Refusal>
-    ensures { AsksOnce (M.meaning «module».now) (P.standing platform.old) (P.standing platform.new)
+    ensures once { AsksOnce (M.meaning «module».now) (P.standing platform.old) (P.standing platform.new)
+        offer.now request.now result }
+    ensures complete { AsksByQuietPlan (M.meaning «module».now) (P.standing platform.old) (P.standing platform.new)
         offer.now request.now result }
 {
     ask(alloc, module, platform, offer, request)
+}
+
+/// Asks for a request, offering a snapshot, over a platform in memory whose plan is ended: nothing fails, and nobody
+/// else extends the register.
+pub fn ask_in_memory<M: Module>(
+    alloc: Global,
+    module: &M,
+    platform: &mut MemPlatform,
+    offer: &[u8],
+    request: &[u8],
+) -> Result<Answer, Refusal>
+    ensures { AsksInMemory (M.meaning «module».now) platform.old platform.new offer.now request.now result }
+{
+    platform.end_plan();
+    ask_once(alloc, module, platform, offer, request)
 }
 
 /// Asks for a request, offering a snapshot; and once more, offering the same one, where a device's step failed, at
