@@ -9,3 +9,6 @@ pub mod OptLeaves
 pub mod OptAsking
 pub mod Completing
 pub mod OptComplete
+pub mod OptClosing
+pub mod OptRepeating
+pub mod OptRepeatAsking

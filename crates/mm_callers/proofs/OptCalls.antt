@@ -99,14 +99,14 @@ asked_of meaning key barrier all others asked y moves offer b old new items more
 
 -- What a call finds by lists
 
-named_then : (meaning : Meaning) (key barrier : List ℕ) (values : List (List ℕ)) (y : History) (content : Content) → IsSound y → Names (opt meaning key barrier) y content → Names (opt meaning key barrier) (all_made (by_lists (opt meaning key barrier)) y (map Foreign values)) content
+pub named_then : (meaning : Meaning) (key barrier : List ℕ) (values : List (List ℕ)) (y : History) (content : Content) → IsSound y → Names (opt meaning key barrier) y content → Names (opt meaning key barrier) (all_made (by_lists (opt meaning key barrier)) y (map Foreign values)) content
 named_then meaning key barrier [] y content sound n = n
 named_then meaning key barrier (v ∷ values) y content sound n =
     let may : MayMove (opt meaning key barrier) y (Foreign v) = foreign_may (opt meaning key barrier) y y.is_open v in
     named_then meaning key barrier values (moved (opt meaning key barrier) y (Foreign v)) content
     (sound_moved meaning key barrier y (Foreign v) sound may) (opt_names meaning key barrier y (Foreign v) content sound may n)
 
-sound_then : (meaning : Meaning) (key barrier : List ℕ) (values : List (List ℕ)) (y : History) → IsSound y → IsSound (all_made (by_lists (opt meaning key barrier)) y (map Foreign values))
+pub sound_then : (meaning : Meaning) (key barrier : List ℕ) (values : List (List ℕ)) (y : History) → IsSound y → IsSound (all_made (by_lists (opt meaning key barrier)) y (map Foreign values))
 sound_then meaning key barrier [] y sound = sound
 sound_then meaning key barrier (v ∷ values) y sound =
     sound_then meaning key barrier values (moved (opt meaning key barrier) y (Foreign v))
@@ -136,7 +136,7 @@ unless_lost : (lost : Bool) (found : Result Found Refusal) (f : Found) → (if l
 unless_lost true found f e = absurd (cc)
 unless_lost false found f e = e
 
-right_at : (meaning : Meaning) (key barrier : List ℕ) (y : History) (b : Batch) (offer : List ℕ) (found : Found) → found_at (opt meaning key barrier) (by_lists (opt meaning key barrier)) y b offer ≡ Ok found → IsRight (opt meaning key barrier) offer found.offered
+pub right_at : (meaning : Meaning) (key barrier : List ℕ) (y : History) (b : Batch) (offer : List ℕ) (found : Found) → found_at (opt meaning key barrier) (by_lists (opt meaning key barrier)) y b offer ≡ Ok found → IsRight (opt meaning key barrier) offer found.offered
 right_at meaning key barrier y b offer found is =
     right_from meaning key barrier y b offer (parts_of Opt meaning.id offer) refl found
     (unless_lost (is_lost (life_of Opt y)) (found_from (opt meaning key barrier) (by_lists (opt meaning key barrier)) y b (parts_of Opt meaning.id offer)) found is)

@@ -4,11 +4,13 @@ use Rattle.std.specs.List.{AllByRecursion, Contains}
 use Rattle.std.specs.Option.{option_map}
 use Rattle.mm_digest.specs.declared.variant.Variant.TheVariants.{Opt}
 use Rattle.mm_platform.specs.declared.fault.StepFault.{StepFault}
+use Rattle.mm_digest.specs.Messages.{extended_message}
 use Rattle.mm_platform.specs.Standing.{Item, Standing, values_of}
 use Rattle.mm_module.specs.Meaning.{Meaning}
 use Rattle.mm_module.specs.Batch.{Batch, One}
+use Rattle.mm_model.specs.Chains as chains
 use Rattle.mm_model.specs.Instance.{Instance, opt}
-use Rattle.mm_model.specs.History.{Entry, History, Move, Foreign, joined}
+use Rattle.mm_model.specs.History.{Entry, History, Move, Foreign, joined, register_value_of}
 use Rattle.mm_model.specs.Life.{has_value}
 use Rattle.mm_model.specs.Messages.{Within}
 use Rattle.mm_model.specs.Moves.{Digests, digests_of}
@@ -71,11 +73,11 @@ seen_closes : (v w : List (List ℕ)) → closes (map Foreign v ++ (map Foreign 
 seen_closes v w = foreign_closes v (map Foreign w ++ []) (foreign_closes w [] refl)
 
 module _ (meaning : Meaning) (key barrier : List ℕ) (all others : List (List ℕ)) (asked : List Batch) where
-  abbrev Left : History → Standing → List ℕ → List ℕ → Result BatchAnswer Refusal → Type 0
+  abbrev pub Left : History → Standing → List ℕ → List ℕ → Result BatchAnswer Refusal → Type 0
   Left y new offer request result = OptAfter all others asked meaning key barrier y new offer (One request) result
 
   -- the call by digests that a platform made
-  abbrev DigestMoves : (old new : Standing) (offer request : List ℕ) (result : Result BatchAnswer Refusal) → CallsOn Opt meaning old new offer (One request) result → History → List Move
+  abbrev pub DigestMoves : (old new : Standing) (offer request : List ℕ) (result : Result BatchAnswer Refusal) → CallsOn Opt meaning old new offer (One request) result → History → List Move
   DigestMoves old new offer request result c y =
       (called (opt meaning key barrier) (by_digests (opt meaning key barrier)) (digests_of (opt meaning key barrier) y) c.course offer (One request)).moves
 
@@ -162,15 +164,22 @@ module _ (meaning : Meaning) (key barrier : List ℕ) (all others : List (List �
       let p = pushed_open meaning key barrier d c.course offer (One request) f in
       (p.more, g.items ∙ ap (option_map (shown i d moves)) known ∙ ap (λ (xs : List Item). Some xs) (p.are items))
 
+  -- the items that a call pushed behind those that counted, where a segment is open after it
+  pub record Pushed (y after : History) (more later : List Item) : Type 0 where
+    pub front : List Item
+    pub whole : front ++ later ≡ more
+    pub register : register_value_of (opt meaning key barrier) (counted_part after) ≡ chains.after extended_message (register_value_of (opt meaning key barrier) (counted_part y)) (values_of front)
+
   -- What a call hands on: what it leaves; and that behind the items that count then, the register shows at the very end
   -- what is asked.
-  pub record Hands (y : History) (middle new : Standing) (offer request : List ℕ) (result : Result BatchAnswer Refusal) : Type 0 where
+  pub record Hands (y : History) (middle new : Standing) (offer request : List ℕ) (result : Result BatchAnswer Refusal) (whole : List Item) : Type 0 where
     pub left : Left y middle offer request result
     pub items : List Item
     pub known : middle.items ≡ Some items
     pub more : List Item
     pub ends : new.items ≡ Some (standing_items left.after.is_open items ++ more)
     pub shown_are : AreShown all others (opt meaning key barrier) left.after more
+    pub pushed : left.after.is_open ≡ true → Pushed y left.after whole more
 
   -- what is asked of a call, by what is asked of the items
   asked_counts : (y : History) (moves : List Move) (offer request : List ℕ) → AreAsked all others asked (opt meaning key barrier) y offer (One request) → (k : Counts (opt meaning key barrier) y (digests_of (opt meaning key barrier) y) moves)
@@ -186,7 +195,7 @@ module _ (meaning : Meaning) (key barrier : List ℕ) (all others : List (List �
       → AreAsked all others asked (opt meaning key barrier) y offer (One request) → AreShown all others (opt meaning key barrier) y more
       → Counts (opt meaning key barrier) y (digests_of (opt meaning key barrier) y) (DigestMoves old middle offer request result c y)
       → (all_made (by_digests (opt meaning key barrier)) (digests_of (opt meaning key barrier) y) (DigestMoves old middle offer request result c y)).flag ≡ true
-      → Hands y middle new offer request result
+      → Hands y middle new offer request result more
   hands_open y old middle new offer request result items more c goes_on s known ends a shown_so k f =
       let i : Instance = opt meaning key barrier in
       let d : Digests = digests_of i y in
@@ -203,22 +212,22 @@ module _ (meaning : Meaning) (key barrier : List ℕ) (all others : List (List �
       let whole : AreShown all others i y (k.more ++ rest.0) = subst (λ (v : List Item). AreShown all others i y v) (sym same) shown_so in
       let law = by_law y old middle offer request result c s a (asked_counts y moves offer request a k (shown_front all others i y k.more rest.0 whole)) in
       let is_open : law.left.after.is_open ≡ true = sym law.flag ∙ f in
+      let register = register_then meaning key barrier y law.left.after old middle items k.more s known law.left.stands (known_then ∙ ap (λ (v : List Item). Some v) (k.are items)) is_open in
       record {
         left = law.left;
         items = xs;
         known = known_then;
         more = rest.0;
         ends = rest.1 ∙ ap (λ (flag : Bool). Some (standing_items flag xs ++ rest.0)) (sym is_open);
-        shown_are = shown_back all others i y law.left.after k.more rest.0
-            (register_then meaning key barrier y law.left.after old middle items k.more s known law.left.stands
-            (known_then ∙ ap (λ (v : List Item). Some v) (k.are items)) is_open) whole;
+        shown_are = shown_back all others i y law.left.after k.more rest.0 register whole;
+        pushed = λ _. record { front = k.more; whole = same; register = register };
       }
 
   -- a call before which no segment was open, and none is after it
   hands_shut : (y : History) (old middle new : Standing) (offer request : List ℕ) (result : Result BatchAnswer Refusal) (items more : List Item) (c : CallsOn Opt meaning old middle offer (One request) result)
       → StandsFor (opt meaning key barrier) old y → old.items ≡ Some items → new.items ≡ Some (standing_items y.is_open items ++ more)
       → AreShown all others (opt meaning key barrier) y more → y.is_open ≡ false
-      → (left : Left y middle offer request result) → left.after.is_open ≡ false → Hands y middle new offer request result
+      → (left : Left y middle offer request result) → left.after.is_open ≡ false → Hands y middle new offer request result more
   hands_shut y old middle new offer request result items more c s known ends shown_so e left f =
       let i : Instance = opt meaning key barrier in
       let d : Digests = digests_of i y in
@@ -232,10 +241,11 @@ module _ (meaning : Meaning) (key barrier : List ℕ) (all others : List (List �
         more = more;
         ends = ends ∙ ap (λ (flag : Bool). Some (standing_items flag items ++ more)) e ∙ ap (λ (flag : Bool). Some (standing_items flag xs ++ more)) (sym f);
         shown_are = shown_shut all others i y left.after more e f shown_so;
+        pushed = λ is. let clash : true ≡ false = sym is ∙ f in absurd (cc);
       }
 
   -- with no segment open: the reading steps alone
-  left_reading : (y : History) (old middle : Standing) (offer request : List ℕ) (result : Result BatchAnswer Refusal) (c : CallsOn Opt meaning old middle offer (One request) result) (values : List (List ℕ))
+  pub left_reading : (y : History) (old middle : Standing) (offer request : List ℕ) (result : Result BatchAnswer Refusal) (c : CallsOn Opt meaning old middle offer (One request) result) (values : List (List ℕ))
       → StandsFor (opt meaning key barrier) old y → AreAsked all others asked (opt meaning key barrier) y offer (One request) → y.is_open ≡ false
       → DigestMoves old middle offer request result c y ≡ map Foreign values
       → (left : Left y middle offer request result) × (left.after.is_open ≡ false)
@@ -280,7 +290,7 @@ module _ (meaning : Meaning) (key barrier : List ℕ) (all others : List (List �
       → AreAsked all others asked (opt meaning key barrier) y offer (One request) → AreShown all others (opt meaning key barrier) y more
       → y.is_open ≡ flag → (w : Walked) → w ≡ walk c.course.fates 1 (Reads ∷ Reads ∷ changing flag fresh (One request))
       → w.moves ≡ DigestMoves old middle offer request result c y → ((answer : BatchAnswer) → result ≡ Ok answer → w.broken ≡ None)
-      → Hands y middle new offer request result
+      → Hands y middle new offer request result more
   hands_by true fresh y old middle new offer request result items more c goes_on s known ends a shown_so e w is moves answered =
       let i : Instance = opt meaning key barrier in
       let d : Digests = digests_of i y in
@@ -314,7 +324,7 @@ module _ (meaning : Meaning) (key barrier : List ℕ) (all others : List (List �
   pub hands : (y : History) (old middle new : Standing) (offer request : List ℕ) (result : Result BatchAnswer Refusal) (items more : List Item) (c : CallsOn Opt meaning old middle offer (One request) result) → GoesOn middle new
       → StandsFor (opt meaning key barrier) old y → old.items ≡ Some items → new.items ≡ Some (standing_items y.is_open items ++ more)
       → AreAsked all others asked (opt meaning key barrier) y offer (One request) → AreShown all others (opt meaning key barrier) y more
-      → Hands y middle new offer request result
+      → Hands y middle new offer request result more
   hands y old middle new offer request result items more c goes_on s known ends a shown_so =
       let i : Instance = opt meaning key barrier in
       let d : Digests = digests_of i y in

@@ -3,6 +3,7 @@
 #![tactic(auto)]
 
 pub mod basic;
+pub mod closing;
 mod laws;
 pub mod opt;
 

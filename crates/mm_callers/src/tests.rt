@@ -1,6 +1,7 @@
 //! The callers over the counter and a platform in memory.
 
 use crate::basic::{ask_again, ask_twice};
+use crate::closing::{Halted, Replies, ask_close_repeat};
 use crate::opt::{ask_after_fault, ask_in_memory, ask_twice as ask_next};
 use mm_basic::provision;
 use mm_model::{Answer, Refusal};
@@ -29,8 +30,16 @@ fn in_memory(alloc: Global, platform: &mut MemPlatform, offer: &[u8]) -> Result<
     ask_in_memory(alloc, &Counter, platform, offer, b"add 3")
 }
 
+fn close_repeat(
+    alloc: Global,
+    platform: &mut MemPlatform,
+    offer: &[u8],
+) -> Result<Replies, Halted> {
+    ask_close_repeat(alloc, &Counter, platform, offer, b"add 4")
+}
+
 /// The write that opens a segment fails, with its effect made and not, and then a request goes on inside the segment; then
-/// two requests go on from the first snapshot.
+/// two requests go on from the first snapshot, and a third is asked for once more behind a checkpoint.
 #[test]
 fn requests_open_a_segment(rt: HostRuntime) -> Result<(), Fail> {
     let alloc = rt.alloc();
@@ -49,6 +58,10 @@ fn requests_open_a_segment(rt: HostRuntime) -> Result<(), Fail> {
     let answer = next(alloc, &mut platform, made.snapshot.as_slice())?;
     assert_eq!(rt; answer.position, 2);
     assert_eq!(rt; answer.output.as_slice(), b"7".as_slice());
+    let replies = close_repeat(alloc, &mut platform, answer.snapshot.as_slice())?;
+    assert_eq!(rt; replies.second.again, true);
+    assert_eq!(rt; replies.second.position, 3);
+    assert_eq!(rt; replies.second.output.as_slice(), b"11".as_slice());
     Ok(())
 }
 
