@@ -6,3 +6,5 @@ mod Recovering
 mod Taking
 mod First
 mod SettingUp
+mod OptMoves
+mod BothRecovering
