@@ -2,6 +2,7 @@ mod Askable
 mod Blaming
 mod Slots
 mod Awaited
+mod Refusing
 mod Recovering
 mod Taking
 mod First

@@ -11,7 +11,9 @@ use Rattle.mm_model.specs.Places.{Names}
 use Rattle.mm_model.specs.Standing.{StandsFor, IsRight}
 use Rattle.mm_model.specs.declared.answer.Answer.{Answer}
 use Rattle.mm_model.specs.declared.answer.BatchAnswer.{BatchAnswer}
+use Rattle.mm_model.specs.Life.{life_of}
 use Rattle.mm_model.specs.declared.refusal.Refusal.{Refusal}
+use Rattle.mm_model.specs.declared.refusal.Refusal.TheVariants as refusal
 use Rattle.mm_call.specs.Asked.{IsWithin}
 use Rattle.mm_call.specs.Leaving.{whole, whole_in}
 use Rattle.mm_callers.specs.Basic.{AreAsked}
@@ -33,6 +35,7 @@ use Rattle.mm_host.specs.Asking.{IsCall}
 use Rattle.mm_host.specs.Fitting.{offer_slot, Holds, IsAwaited, FitsBy}
 use Rattle.mm_host.specs.Recovery.{IsAskedFor, CanRecover, IsGrown, AnswersAt, ComesTo, RecoversTo}
 use Rattle.mm_host.proofs.Slots.{IsElsewhere, elsewhere_same, elsewhere_put}
+use Rattle.mm_host.proofs.Refusing.{MayRefuse}
 use Rattle.mm_host.proofs.Awaited.{awaited_least, still_awaited, grows, answered_at}
 
 -- one request waits in the slots' bytes
@@ -96,6 +99,35 @@ still all others asked i y slots before after old new result can s t c = record 
   comes = c;
 }
 
+-- a store's fault comes to nothing more, nor does want of memory in the call
+store_comes : (i : Instance) (y : History) (slots : Slots) (waiting : Option Pending) (after : History) (why : StoreFault) → ComesTo i y slots waiting after (Err (store_fault_as why))
+store_comes i y slots waiting after fault.Memory = tt
+store_comes i y slots waiting after fault.Failed = tt
+
+refused_comes : (i : Instance) (y : History) (slots : Slots) (waiting : Option Pending) (after : History) (why : Refusal) → MayRefuse why (life_of i.variant after) → ComesTo i y slots waiting after (Err (refused_as why))
+refused_comes i y slots waiting after refusal.Memory h = tt
+refused_comes i y slots waiting after refusal.Long (inl e) = absurd (cc)
+refused_comes i y slots waiting after refusal.Long (inr h) = h
+refused_comes i y slots waiting after (refusal.Device broken) h = tt
+refused_comes i y slots waiting after refusal.Blank (inl e) = absurd (cc)
+refused_comes i y slots waiting after refusal.Blank (inr h) = h
+refused_comes i y slots waiting after refusal.Cell (inl e) = absurd (cc)
+refused_comes i y slots waiting after refusal.Cell (inr h) = h
+refused_comes i y slots waiting after refusal.Lost (inl e) = absurd (cc)
+refused_comes i y slots waiting after refusal.Lost (inr h) = h
+refused_comes i y slots waiting after refusal.Form (inl e) = absurd (cc)
+refused_comes i y slots waiting after refusal.Form (inr h) = h
+refused_comes i y slots waiting after refusal.Kind (inl e) = absurd (cc)
+refused_comes i y slots waiting after refusal.Kind (inr h) = h
+refused_comes i y slots waiting after refusal.State (inl e) = absurd (cc)
+refused_comes i y slots waiting after refusal.State (inr h) = h
+refused_comes i y slots waiting after refusal.Tag (inl e) = absurd (cc)
+refused_comes i y slots waiting after refusal.Tag (inr h) = h
+refused_comes i y slots waiting after refusal.Stale (inl e) = absurd (cc)
+refused_comes i y slots waiting after refusal.Stale (inr h) = h
+refused_comes i y slots waiting after refusal.Full (inl e) = absurd (cc)
+refused_comes i y slots waiting after refusal.Full (inr h) = h
+
 -- what stands once the request that waits was asked
 pub record Left (all others : List (List ℕ)) (asked : List Batch) (i : Instance) (y : History) (slots : Slots) (waiting : Option Pending) (p : Pending) (standing : Standing) (gives : Result BatchAnswer Refusal) : Type 0 where
   pub after : History
@@ -103,6 +135,7 @@ pub record Left (all others : List (List ℕ)) (asked : List Batch) (i : Instanc
   pub within : IsWithin all others asked i after
   pub names : (content : Content) → Names i y content → Names i after content
   pub comes : Comes i y (seen_in slots (offer_slot p)) (One p.request) after gives
+  pub refuses : (why : Refusal) → gives ≡ Err why → MayRefuse why (life_of i.variant after)
   pub is : waiting ≡ Some p
   pub is_waiting : IsWaiting (seen_in slots 2) (seen_in slots 3) waiting
   pub awaited : IsAwaited y p
@@ -161,7 +194,7 @@ ask_exit : (all others : List (List ℕ)) (asked : List Batch) (i : Instance) (y
 ask_exit all others asked i y slots waiting p standing (Err why) old new result l h t g =
     subst (λ (r : Result Resumed HostFault). RecoversTo all others asked i y slots waiting standing new r) (sym g.1)
     (settle all others asked i y slots slots waiting p standing (Err why) new (Err (refused_as why)) l
-    (elsewhere_same slots p) (ap (λ (k : Kept). k.slots) g.0 ∙ t) tt)
+    (elsewhere_same slots p) (ap (λ (k : Kept). k.slots) g.0 ∙ t) (refused_comes i y slots waiting l.after why (l.refuses why refl)))
 ask_exit all others asked i y slots waiting p standing (Ok answer) old new result l h t g =
     let a = answers all others asked i y slots waiting p standing answer l in
     subst (λ (r : Result Resumed HostFault). RecoversTo all others asked i y slots waiting standing new r) (sym g.gives)
@@ -192,7 +225,7 @@ LeadsOn all others asked variant i y slots waiting before after =
 offer_exit : (variant : Variant) (all others : List (List ℕ)) (asked : List Batch) (i : Instance) (y : History) (slots : Slots) (offer : Result (List ℕ) StoreFault) (before after : Standing) (first old middle new : Kept) (p : Pending) (result : Result Resumed HostFault) (can : CanRecover all others asked i y slots before first) → LeadsOn all others asked variant i y slots can.fits.waiting before after → can.fits.waiting ≡ Some p → old.is_honest ≡ true → old.slots ≡ Some slots → ReadsSlot (offer_slot p) old middle offer → AfterOffer variant i.meaning before after offer middle new p result → RecoversTo all others asked i y slots can.fits.waiting after new result
 offer_exit variant all others asked i y slots (Err why) before after first old middle new p result can leads e h t r g =
     subst (λ (x : Result Resumed HostFault). RecoversTo all others asked i y slots can.fits.waiting after new x) (sym g.2)
-    (still all others asked i y slots before after first new (Err (store_fault_as why)) can g.0 (ap (λ (k : Kept). k.slots) g.1 ∙ r.slots ∙ t) tt)
+    (still all others asked i y slots before after first new (Err (store_fault_as why)) can g.0 (ap (λ (k : Kept). k.slots) g.1 ∙ r.slots ∙ t) (store_comes i y slots can.fits.waiting y why))
 offer_exit variant all others asked i y slots (Ok offer) before after first old middle new p result can leads e h t r g =
     ask_exit all others asked i y slots can.fits.waiting p after g.asked middle new result
     (leads p g.asked e (subst (λ (x : List ℕ). IsCall variant i.meaning before after x p.request g.asked) (r.gives slots t) g.asks))
@@ -202,12 +235,12 @@ start_exit : (all others : List (List ℕ)) (asked : List Batch) (i : Instance) 
 start_exit all others asked i y slots (Ok bytes) before after first old new can e s t r =
     still all others asked i y slots before after first new (Ok (Start bytes)) can s (r.slots ∙ t) (e, r.gives slots t)
 start_exit all others asked i y slots (Err why) before after first old new can e s t r =
-    still all others asked i y slots before after first new (Err (store_fault_as why)) can s (r.slots ∙ t) tt
+    still all others asked i y slots before after first new (Err (store_fault_as why)) can s (r.slots ∙ t) (store_comes i y slots can.fits.waiting y why)
 
 found_exit : (variant : Variant) (all others : List (List ℕ)) (asked : List Batch) (i : Instance) (y : History) (slots : Slots) (waiting : Result (Option Pending) StoreFault) (before after : Standing) (old middle new : Kept) (result : Result Resumed HostFault) (can : CanRecover all others asked i y slots before old) → LeadsOn all others asked variant i y slots can.fits.waiting before after → Saw slots old middle waiting → AfterFinding variant i.meaning before after waiting middle new result → RecoversTo all others asked i y slots can.fits.waiting after new result
 found_exit variant all others asked i y slots (Err why) before after old middle new result can leads s g =
     subst (λ (x : Result Resumed HostFault). RecoversTo all others asked i y slots can.fits.waiting after new x) (sym g.2)
-    (still all others asked i y slots before after old new (Err (store_fault_as why)) can g.0 (ap (λ (k : Kept). k.slots) g.1 ∙ s.told) tt)
+    (still all others asked i y slots before after old new (Err (store_fault_as why)) can g.0 (ap (λ (k : Kept). k.slots) g.1 ∙ s.told) (store_comes i y slots can.fits.waiting y why))
 found_exit variant all others asked i y slots (Ok None) before after old middle new result can leads s g =
     let e : can.fits.waiting ≡ None = one_waiting (seen_in slots 2) (seen_in slots 3) can.fits.waiting None can.fits.is_waiting (s.waiting None refl) in
     subst (λ (x : Result Resumed HostFault). RecoversTo all others asked i y slots can.fits.waiting after new x) (sym g.1.gives)
