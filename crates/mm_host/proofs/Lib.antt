@@ -9,3 +9,8 @@ mod First
 mod SettingUp
 mod OptMoves
 mod BothRecovering
+mod Recording
+mod Turning
+mod Lining
+mod Beginning
+mod SessionBlaming

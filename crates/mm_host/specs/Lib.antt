@@ -8,3 +8,8 @@ pub mod Blame
 pub mod InitFaults
 pub mod Init
 pub mod Begins
+pub mod Saying
+pub mod Serving
+pub mod Sessions
+pub mod Turns
+pub mod SessionBlame
