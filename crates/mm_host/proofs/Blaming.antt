@@ -71,7 +71,7 @@ pub record Told (result : Result Resumed HostFault) (before after : Standing) (o
   pub blamed : Blamed result before after old new
   pub named : IsNamed result
 
-told_as : (result other : Result Resumed HostFault) (before after : Standing) (old new : Kept) → result ≡ other → Told other before after old new → Told result before after old new
+pub told_as : (result other : Result Resumed HostFault) (before after : Standing) (old new : Kept) → result ≡ other → Told other before after old new → Told result before after old new
 told_as result other before after old new e t = subst (λ (r : Result Resumed HostFault). Told r before after old new) (sym e) t
 
 later_blamed : (result : Result Resumed HostFault) (before after : Standing) (old middle new : Kept) → middle.faults ≡ old.faults → Blamed result before after middle new → Blamed result before after old new
@@ -80,10 +80,10 @@ later_blamed (Err host.Memory) before after old middle new e b = (b.0, b.1 ∙ e
 later_blamed (Err host.Store) before after old middle new e b = (b.0, subst (λ (n : ℕ). Rose n new.faults) e b.1)
 later_blamed (Err (host.Refused why)) before after old middle new e b = (b.0, b.1 ∙ e)
 
-told_later : (result : Result Resumed HostFault) (before after : Standing) (old middle new : Kept) → middle.faults ≡ old.faults → Told result before after middle new → Told result before after old new
+pub told_later : (result : Result Resumed HostFault) (before after : Standing) (old middle new : Kept) → middle.faults ≡ old.faults → Told result before after middle new → Told result before after old new
 told_later result before after old middle new e t = record { blamed = later_blamed result before after old middle new e t.blamed; named = t.named }
 
-store_told : (why : StoreFault) (before after : Standing) (old new : Kept) → after ≡ before → CountsFailures {T = Unit {0}} old.faults new.faults (Err why) → Told (Err (store_fault_as why)) before after old new
+pub store_told : (why : StoreFault) (before after : Standing) (old new : Kept) → after ≡ before → CountsFailures {T = Unit {0}} old.faults new.faults (Err why) → Told (Err (store_fault_as why)) before after old new
 store_told why before after old new s c = record { blamed = store_blamed why before after old new s c; named = store_named why }
 
 -- where it goes on: neither count rose
@@ -105,7 +105,7 @@ kept_told : (answer : Answer) (written : Result Unit StoreFault) (before after :
 kept_told answer (Ok it) before after old new s c = ok_told (Answered answer) before after old new s c
 kept_told answer (Err why) before after old new s c = store_told_at why before after old new s (err_counted Unit (Unit {0}) why old.faults new.faults c)
 
-asked_told : (asked : Result Answer Refusal) (before after : Standing) (old new : Kept) (result : Result Resumed HostFault) → Blames (fault_in asked) before.faults after.faults → asked ≢ Err Long → AfterAsk asked old new result → Told result before after old new
+pub asked_told : (asked : Result Answer Refusal) (before after : Standing) (old new : Kept) (result : Result Resumed HostFault) → Blames (fault_in asked) before.faults after.faults → asked ≢ Err Long → AfterAsk asked old new result → Told result before after old new
 asked_told (Err why) before after old new result b short g =
     told_as result (Err (refused_as why)) before after old new g.1 (record {
       blamed = refused_blamed why before after old new b (ap (λ (k : Kept). k.faults) g.0);

@@ -3,3 +3,8 @@ mod Blaming
 mod Slots
 mod Awaited
 mod Recovering
+mod Recording
+mod Turning
+mod Lining
+mod Beginning
+mod SessionBlaming

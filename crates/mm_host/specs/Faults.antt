@@ -5,6 +5,8 @@ use Rattle.mm_store.specs.declared.fault.StoreFault.{StoreFault}
 use Rattle.mm_store.specs.declared.fault.StoreFault.TheVariants as fault
 use Rattle.mm_host.specs.declared.fault.HostFault.{HostFault}
 use Rattle.mm_host.specs.declared.fault.HostFault.TheVariants.{Memory, Store, Refused}
+use Rattle.mm_host.specs.declared.fault.SessionFault.{SessionFault}
+use Rattle.mm_host.specs.declared.fault.SessionFault.TheVariants as session
 
 abbrev pub store_fault_as : StoreFault → HostFault
 store_fault_as fault.Memory = Memory
@@ -24,3 +26,9 @@ refused_as refusal.State = Refused refusal.State
 refused_as refusal.Tag = Refused refusal.Tag
 refused_as refusal.Stale = Refused refusal.Stale
 refused_as refusal.Full = Refused refusal.Full
+
+-- a session tells the faults of its calls as they are
+abbrev pub told_as : HostFault → SessionFault
+told_as Memory = session.Memory
+told_as Store = session.Store
+told_as (Refused why) = session.Refused why

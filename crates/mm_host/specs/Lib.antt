@@ -5,3 +5,8 @@ pub mod Resumes
 pub mod Fitting
 pub mod Recovery
 pub mod Blame
+pub mod Saying
+pub mod Serving
+pub mod Sessions
+pub mod Turns
+pub mod SessionBlame

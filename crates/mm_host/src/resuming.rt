@@ -1,6 +1,6 @@
 //! Going on after a stop.
 
-ghost use Rattle.std.specs.Prelude.{◌≡◌, ◌≤◌, false, length};
+ghost use Rattle.std.specs.Prelude.{◌≡◌, ◌≤◌, IfOk, false, length};
 ghost use Rattle.mm_module.specs.Batch.{One};
 ghost use Rattle.mm_model.specs.Long.{is_long};
 ghost use Rattle.mm_store.specs.declared.store.TheConstants.{LONGEST_SLOT};
@@ -8,6 +8,7 @@ ghost use Rattle.mm_host.specs.Waiting.{IsAskable};
 ghost use Rattle.mm_host.specs.Blame.{Blamed, IsNamed};
 ghost use Rattle.mm_host.specs.Recovery.{Recovers};
 ghost use Rattle.mm_host.specs.Resumes.{Starts, Repeats, AsksAndKeeps, Keeps, Resumes};
+ghost use Rattle.mm_host.specs.Saying.{IsSized};
 
 use crate::asking::ask;
 use crate::fault::HostFault;
@@ -20,13 +21,37 @@ use mm_platform::Platform;
 use mm_store::Store;
 use std::alloc::Global;
 
-/// How a session begins.
+/// Where a session stands: how it begins, or what it came to last.
 #[derive(Debug, Drop)]
 pub enum Resumed {
     /// No request waits: the first snapshot, as slot 0 has it.
     Start(Bytes),
-    /// The answer to the request that waited.
+    /// The answer to the last request, which is at first the one that waited.
     Answered(Answer),
+}
+
+impl Resumed {
+    ghost use Rattle.mm_host.specs.Saying.{position_at, snapshot_at};
+
+    /// The position of the last answer, and 0 at the start.
+    pub fn position(&self) -> u64
+        ensures { result ≡ position_at self.now }
+    {
+        match self {
+            Resumed::Start(_) => 0,
+            Resumed::Answered(answer) => answer.position,
+        }
+    }
+
+    /// The newest snapshot.
+    pub fn snapshot(&self) -> &[u8]
+        ensures { result.now ≡ snapshot_at self.now }
+    {
+        match self {
+            Resumed::Start(first) => first.as_slice(),
+            Resumed::Answered(answer) => answer.snapshot.as_slice(),
+        }
+    }
 }
 
 /// Goes on after a stop. Slots 2 and 3 are read. Where no record in them is valid, it gives the bytes of slot 0, and
@@ -43,6 +68,7 @@ pub fn resume<M: Module, P: Platform, T: Store>(
         (T.kept store.old) (T.kept store.new) result }
     ensures faults { Blamed result (P.standing platform.old) (P.standing platform.new) (T.kept store.old) (T.kept store.new) }
     ensures named { IsNamed result }
+    ensures sized { IfOk result IsSized }
     ensures recovers { Recovers variant (M.meaning «module».now) (P.standing platform.old) (P.standing platform.new)
         (T.kept store.old) (T.kept store.new) result }
 {
@@ -105,8 +131,8 @@ fn repeat<M: Module, P: Platform, T: Store>(
     }
 }
 
-// Asks for a request, and keeps the answer's snapshot.
-fn ask_and_keep<M: Module, P: Platform, T: Store>(
+/// Asks for a request, and keeps the answer's snapshot.
+pub fn ask_and_keep<M: Module, P: Platform, T: Store>(
     alloc: Global,
     variant: Variant,
     module: &M,
@@ -116,7 +142,7 @@ fn ask_and_keep<M: Module, P: Platform, T: Store>(
     request: &[u8],
 ) -> Result<Resumed, HostFault>
     requires { is_long (One request.now) ≡ false }
-    ensures { AsksAndKeeps variant (M.meaning «module».now) (P.standing platform.old) (P.standing platform.new)
+    ensures asks { AsksAndKeeps variant (M.meaning «module».now) (P.standing platform.old) (P.standing platform.new)
         (T.kept store.old) (T.kept store.new) offer.now request.now result }
 {
     match ask(alloc, variant, module, platform, offer, request) {

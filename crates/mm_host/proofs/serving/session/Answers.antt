@@ -1,0 +1,11 @@
+use Rattle.mm_host.proofs.SessionBlaming.{session_told}
+use Rattle.mm_host.proofs.serving.session.Goals as goal
+
+pub returns-clause-platform : goal.returns-clause-platform
+returns-clause-platform g c = (session_told _ _ _ _ _ _ _ _ _ _ _ c.session_by_steps.ensures.sessions).platform
+
+pub returns-clause-store : goal.returns-clause-store
+returns-clause-store g c = (session_told _ _ _ _ _ _ _ _ _ _ _ c.session_by_steps.ensures.sessions).store
+
+pub returns-clause-named : goal.returns-clause-named
+returns-clause-named g c = (session_told _ _ _ _ _ _ _ _ _ _ _ c.session_by_steps.ensures.sessions).named

@@ -1,0 +1,77 @@
+-- What a session writes.
+use Rattle.std.specs.Prelude.{◌≡◌, ◌≢◌, ◌≤◌, ◌^◌, ℕ, List, [], ◌∷◌, ◌++◌, codes, length, Option, None, Some, Result, Ok, Err, ◌⊎◌}
+use Rattle.std.specs.Io.KnownBytes.{Appends}
+use Rattle.mm_play.specs.Takes.{IsFrontOf}
+use Rattle.mm_model.specs.declared.refusal.Refusal.{Refusal}
+use Rattle.mm_model.specs.declared.refusal.Refusal.TheVariants as refusal
+use Rattle.mm_schedule.specs.Replies.{cause_text, told_line}
+use Rattle.mm_schedule.specs.declared.reply.Cause.{Cause}
+use Rattle.mm_schedule.specs.declared.reply.Cause.TheVariants as cause
+use Rattle.mm_host.specs.declared.fault.HostFault.{HostFault}
+use Rattle.mm_host.specs.declared.fault.HostFault.TheVariants.{Memory, Store, Refused}
+use Rattle.mm_host.specs.declared.fault.SessionFault.{SessionFault}
+use Rattle.mm_host.specs.declared.fault.SessionFault.TheVariants.{WriteFault}
+use Rattle.mm_host.specs.declared.resuming.Resumed.{Resumed}
+use Rattle.mm_host.specs.declared.resuming.Resumed.TheVariants.{Start, Answered}
+use Rattle.mm_host.specs.Faults.{told_as}
+
+-- the position and the snapshot that a session stands at, and the output told last
+abbrev pub position_at : Resumed → ℕ
+position_at (Start first) = 0
+position_at (Answered answer) = answer.position
+
+abbrev pub snapshot_at : Resumed → List ℕ
+snapshot_at (Start first) = first
+snapshot_at (Answered answer) = answer.snapshot
+
+abbrev pub output_at : Resumed → List ℕ
+output_at (Start first) = []
+output_at (Answered answer) = answer.output
+
+-- its sizes
+pub record IsSized (last : Resumed) : Type 0 where
+  pub most : position_at last ≤ 2 ^ 48
+  pub output : length (output_at last) ≤ 4096
+
+-- the word of a refusal that is told
+abbrev pub cause_of : Refusal → Option Cause
+cause_of refusal.Form = Some cause.Form
+cause_of refusal.Kind = Some cause.Kind
+cause_of refusal.State = Some cause.State
+cause_of refusal.Tag = Some cause.Tag
+cause_of refusal.Stale = Some cause.Stale
+cause_of refusal.Full = Some cause.Full
+cause_of refusal.Memory = None
+cause_of refusal.Long = None
+cause_of (refusal.Device fault) = None
+cause_of refusal.Blank = None
+cause_of refusal.Cell = None
+cause_of refusal.Lost = None
+
+-- the line `no CAUSE`
+abbrev pub refusal_text : Option Cause → List ℕ
+refusal_text None = []
+refusal_text (Some why) = codes "no " ++ cause_text why ++ 10 ∷ []
+
+-- what is written for what a recovery or a line came to: the line of its answer, or of its refusal
+abbrev pub text_of : Result Resumed HostFault → List ℕ
+text_of (Ok (Start first)) = []
+text_of (Ok (Answered answer)) = told_line answer.again answer.position answer.output
+text_of (Err Memory) = []
+text_of (Err Store) = []
+text_of (Err (Refused why)) = refusal_text (cause_of why)
+
+abbrev pub comes_as : Result Resumed HostFault → Result Resumed SessionFault
+comes_as (Ok resumed) = Ok resumed
+comes_as (Err fault) = Err (told_as fault)
+
+-- All of the text went out, and what came is handed on; or the output failed, and a front of it went out.
+abbrev pub Says : Result Resumed HostFault → List ℕ → Result Resumed SessionFault → Type 0
+Says came sent result =
+    ((sent ≡ text_of came) × (result ≡ comes_as came))
+    ⊎ ((result ≡ Err WriteFault) × (text_of came ≢ []) × IsFrontOf sent (text_of came))
+
+pub record Tells (came : Result Resumed HostFault) (received received' : Option (List ℕ)) (result : Result Resumed SessionFault) : Type 0 where
+  pub sent : List ℕ
+  pub appended : Appends received received' sent
+  pub says : Says came sent result

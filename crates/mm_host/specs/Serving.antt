@@ -1,0 +1,72 @@
+-- A line that is asked: its record is written before, and the answer's snapshot after. Nothing is asked for these steps.
+use Rattle.std.specs.Prelude.{◌≡◌, ◌+◌, ◌%◌, ℕ, List, [], ◌∷◌, ◌++◌, Result, Ok, Err}
+use Rattle.mm_base.specs.Lines.{IsWithin}
+use Rattle.mm_digest.specs.declared.variant.Variant.{Variant}
+use Rattle.mm_platform.specs.Standing.{Standing}
+use Rattle.mm_module.specs.Meaning.{Meaning}
+use Rattle.mm_model.specs.declared.answer.Answer.{Answer}
+use Rattle.mm_schedule.specs.Replies.{told_line}
+use Rattle.mm_store.specs.declared.fault.StoreFault.{StoreFault}
+use Rattle.mm_store.specs.Kept.{Kept}
+use Rattle.mm_store.specs.Calls.{WritesSlot}
+use Rattle.mm_store.specs.Pending.{Pending, pending_spelling}
+use Rattle.mm_host.specs.declared.fault.HostFault.{HostFault}
+use Rattle.mm_host.specs.declared.resuming.Resumed.{Resumed}
+use Rattle.mm_host.specs.declared.resuming.Resumed.TheVariants.{Answered}
+use Rattle.mm_host.specs.Faults.{store_fault_as}
+use Rattle.mm_host.specs.Resumes.{AsksAndKeeps}
+use Rattle.mm_host.specs.Saying.{position_at, snapshot_at}
+
+-- the record of a line, which is to take the position after the last one
+abbrev pub record_for : Resumed → List ℕ → Pending
+record_for last line = record { position = position_at last + 1; request = line }
+
+-- The request is asked with the last snapshot, and the answer's snapshot is kept.
+abbrev pub AfterRecord : Variant → Meaning → Standing → Standing → Result Unit StoreFault → Kept → Kept → Resumed → List ℕ → Result Resumed HostFault → Type 0
+AfterRecord variant meaning before after (Err why) old new last line result =
+    (after ≡ before) × (new ≡ old) × (result ≡ Err (store_fault_as why))
+AfterRecord variant meaning before after (Ok _) old new last line result =
+    AsksAndKeeps variant meaning before after old new (snapshot_at last) line result
+
+pub record AsksLine (variant : Variant) (meaning : Meaning) (before after : Standing) (old new : Kept) (last : Resumed) (line : List ℕ) (result : Result Resumed HostFault) : Type 0 where
+  pub middle : Kept
+  pub recorded : Result Unit StoreFault
+  pub records : WritesSlot (2 + (position_at last + 1) % 2) (pending_spelling (record_for last line)) old middle recorded
+  pub goes : AfterRecord variant meaning before after recorded middle new last line result
+
+-- where a session stands: its platform, its store, and what it came to last
+pub record Place : Type 0 where
+  pub platform : Standing
+  pub store : Kept
+  pub last : Resumed
+
+-- a line, and the answer to it
+pub record Served : Type 0 where
+  pub line : List ℕ
+  pub answer : Answer
+
+-- the most bytes of a line, its LF apart
+abbrev pub line_limit : ℕ
+line_limit = 4096
+
+-- The line is asked and answered, and the session goes on.
+pub record ServesFirst (variant : Variant) (meaning : Meaning) (from : Place) (c : Served) (goes : Place → Type 0) : Type 0 where
+  pub within : IsWithin line_limit c.line
+  pub platform : Standing
+  pub store : Kept
+  pub asks : AsksLine variant meaning from.platform platform from.store store from.last c.line (Ok (Answered c.answer))
+  pub rest : goes (record { platform = platform; store = store; last = Answered c.answer })
+
+-- These lines are asked one after another, each with the snapshot of the answer before, and answered so.
+abbrev pub Serves : Variant → Meaning → Place → List Served → Place → Type 0
+Serves variant meaning from [] to = to ≡ from
+Serves variant meaning from (c ∷ calls) to = ServesFirst variant meaning from c (λ next. Serves variant meaning next calls to)
+
+-- the lines that were served, and what was written for them
+abbrev pub lines_served : List Served → List (List ℕ)
+lines_served [] = []
+lines_served (c ∷ calls) = c.line ∷ lines_served calls
+
+abbrev pub replies_to : List Served → List ℕ
+replies_to [] = []
+replies_to (c ∷ calls) = told_line c.answer.again c.answer.position c.answer.output ++ replies_to calls

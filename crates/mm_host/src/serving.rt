@@ -1,0 +1,255 @@
+//! A session: the lines of an input, each asked and told before the next is read.
+
+ghost use Rattle.std.specs.Prelude.{◌≡◌, ◌+◌, ◌≤◌, ◌%◌, ◌^◌, [], IfOk, IfSome, Ok, length};
+ghost use Rattle.mm_base.specs.Lines.{IsWithin};
+ghost use Rattle.mm_play.specs.Plays.{IsBlamed};
+ghost use Rattle.mm_store.specs.Calls.{WritesSlot};
+ghost use Rattle.mm_store.specs.Pending.{pending_spelling};
+ghost use Rattle.mm_host.specs.Saying.{IsSized, Tells, position_at, snapshot_at};
+ghost use Rattle.mm_host.specs.Serving.{AsksLine};
+ghost use Rattle.mm_host.specs.SessionBlame.{IsRefusalNamed, is_platform_fault, is_read_fault, is_store_fault, is_write_fault};
+ghost use Rattle.mm_host.specs.Sessions.{ServesLines, Sessions};
+ghost use Rattle.mm_host.specs.Turns.{AsksAndTells, ServesInput, TakesLine, Turns};
+
+use crate::fault::{HostFault, SessionFault};
+use crate::resuming::{Resumed, ask_and_keep, resume};
+use crate::telling::tell;
+use mm_base::{LineFault, LineReader, Read, Sink, Source};
+use mm_digest::Variant;
+use mm_module::Module;
+use mm_platform::Platform;
+use mm_store::{Store, StoreFault, pending_bytes};
+use std::alloc::Global;
+
+/// The most bytes of a line, its LF apart.
+const LINE_LIMIT: usize = 4096;
+
+/// The most lines of a session.
+const MOST_LINES: u32 = 1_000_000;
+
+/// Goes on after a stop, and answers each line of the input before it reads the next.
+///
+/// Each line is a request of at most 4,096 bytes. Where the last answer has position p (0 at the start), the record of
+/// position p + 1 is written to slot 2 + (p + 1) mod 2; the line is asked with the last snapshot; the answer's snapshot
+/// is written to the slot of its position's parity; and the answer's line is written. A refusal ends the session; the
+/// line `no CAUSE` is written first where it is Form, Kind, State, Tag, Stale or Full.
+pub fn session<M: Module, P: Platform, T: Store, S: Source, K: Sink>(
+    alloc: Global,
+    variant: Variant,
+    module: &M,
+    platform: &mut P,
+    store: &mut T,
+    input: &mut S,
+    out: &mut K,
+) -> Result<(), SessionFault>
+    ensures sessions { Sessions variant (M.meaning «module».now) (P.standing platform.old) (P.standing platform.new)
+        (T.kept store.old) (T.kept store.new) (S.left input.old) (S.left input.new)
+        (K.received out.old) (K.received out.new) result }
+    ensures platform { IsBlamed (is_platform_fault result) (P.standing platform.old).faults (P.standing platform.new).faults }
+    ensures store { IsBlamed (is_store_fault result) (T.kept store.old).faults (T.kept store.new).faults }
+    ensures read { IsBlamed (is_read_fault result) (S.faults input.old) (S.faults input.new) }
+    ensures wrote { IsBlamed (is_write_fault result) (K.faults out.old) (K.faults out.new) }
+    ensures named { IsRefusalNamed result }
+{
+    session_by_steps(alloc, variant, module, platform, store, input, out)
+}
+
+// Recovers, and serves the lines.
+fn session_by_steps<M: Module, P: Platform, T: Store, S: Source, K: Sink>(
+    alloc: Global,
+    variant: Variant,
+    module: &M,
+    platform: &mut P,
+    store: &mut T,
+    input: &mut S,
+    out: &mut K,
+) -> Result<(), SessionFault>
+    ensures sessions { Sessions variant (M.meaning «module».now) (P.standing platform.old) (P.standing platform.new)
+        (T.kept store.old) (T.kept store.new) (S.left input.old) (S.left input.new)
+        (K.received out.old) (K.received out.new) result }
+    ensures read { IsBlamed (is_read_fault result) (S.faults input.old) (S.faults input.new) }
+    ensures wrote { IsBlamed (is_write_fault result) (K.faults out.old) (K.faults out.new) }
+{
+    let reader = LineReader::new(alloc)?;
+    let begun = resume(alloc, variant, module, platform, store);
+    match tell(begun, out) {
+        Err(fault) => Err(fault),
+        Ok(first) => serve_lines(
+            alloc, variant, module, platform, store, input, out, reader, first,
+        ),
+    }
+}
+
+// Serves each line of the input.
+fn serve_lines<M: Module, P: Platform, T: Store, S: Source, K: Sink>(
+    alloc: Global,
+    variant: Variant,
+    module: &M,
+    platform: &mut P,
+    store: &mut T,
+    input: &mut S,
+    out: &mut K,
+    mut reader: LineReader,
+    first: Resumed,
+) -> Result<(), SessionFault>
+    requires nothing { reader ≡ [] }
+    requires sized { IsSized first }
+    ensures serves { ServesInput variant (M.meaning «module».now)
+        (record { platform = P.standing platform.old; store = T.kept store.old; last = first })
+        (P.standing platform.new) (T.kept store.new) (S.left input.old) (S.left input.new)
+        (K.received out.old) (K.received out.new) result }
+    ensures read { IsBlamed (is_read_fault result) (S.faults input.old) (S.faults input.new) }
+    ensures wrote { IsBlamed (is_write_fault result) (K.faults out.old) (K.faults out.new) }
+{
+    let mut last = first;
+    let mut number: u32 = 1;
+    'lines: while let Some(next) = turn(
+        alloc,
+        variant,
+        module,
+        platform,
+        store,
+        input,
+        out,
+        &mut reader,
+        number,
+        &last,
+    )? {
+        last = next;
+        number += 1;
+    }
+    Ok(())
+}
+
+// Reads the line of this number and serves it. None where the input ends before it.
+fn turn<M: Module, P: Platform, T: Store, S: Source, K: Sink>(
+    alloc: Global,
+    variant: Variant,
+    module: &M,
+    platform: &mut P,
+    store: &mut T,
+    input: &mut S,
+    out: &mut K,
+    reader: &mut LineReader,
+    number: u32,
+    last: &Resumed,
+) -> Result<Option<Resumed>, SessionFault>
+    requires number { number ≤ 1000001 }
+    requires sized { IsSized last.now }
+    ensures turns { Turns variant (M.meaning «module».now) number
+        (record { platform = P.standing platform.old; store = T.kept store.old; last = last.now })
+        (P.standing platform.new) (T.kept store.new) (S.left input.old) (S.left input.new) reader.old reader.new
+        (K.received out.old) (K.received out.new) result }
+    ensures sized { IfOk result (λ next. IfSome next IsSized) }
+    ensures read { IsBlamed (is_read_fault result) (S.faults input.old) (S.faults input.new) }
+    ensures wrote { IsBlamed (is_write_fault result) (K.faults out.old) (K.faults out.new) }
+{
+    match reader.next(input, LINE_LIMIT) {
+        Ok(Read::Line(line)) => take_line(
+            alloc, variant, module, platform, store, out, number, last, line,
+        ),
+        Ok(Read::Tail) => Err(SessionFault::BadLine { line: number }),
+        Ok(Read::End) => Ok(None),
+        Err(LineFault::ReadFault) => Err(SessionFault::ReadFault),
+        Err(LineFault::LineLong) => Err(SessionFault::LineLong { line: number }),
+    }
+}
+
+// Serves the line of this number, unless it is one too many.
+fn take_line<M: Module, P: Platform, T: Store, K: Sink>(
+    alloc: Global,
+    variant: Variant,
+    module: &M,
+    platform: &mut P,
+    store: &mut T,
+    out: &mut K,
+    number: u32,
+    last: &Resumed,
+    line: &[u8],
+) -> Result<Option<Resumed>, SessionFault>
+    requires sized { IsSized last.now }
+    requires line { IsWithin 4096 line.now }
+    ensures takes { TakesLine variant (M.meaning «module».now) number
+        (record { platform = P.standing platform.old; store = T.kept store.old; last = last.now })
+        (P.standing platform.new) (T.kept store.new) (K.received out.old) (K.received out.new) line.now result }
+    ensures sized { IfOk result (λ next. IfSome next IsSized) }
+    ensures wrote { IsBlamed (is_write_fault result) (K.faults out.old) (K.faults out.new) }
+{
+    if number > MOST_LINES {
+        return Err(SessionFault::TooMuch);
+    }
+    match serve(alloc, variant, module, platform, store, out, last, line) {
+        Ok(next) => Ok(Some(next)),
+        Err(fault) => Err(fault),
+    }
+}
+
+// Asks a line, and tells what came.
+fn serve<M: Module, P: Platform, T: Store, K: Sink>(
+    alloc: Global,
+    variant: Variant,
+    module: &M,
+    platform: &mut P,
+    store: &mut T,
+    out: &mut K,
+    last: &Resumed,
+    line: &[u8],
+) -> Result<Resumed, SessionFault>
+    requires sized { IsSized last.now }
+    requires line { IsWithin 4096 line.now }
+    ensures asks { AsksAndTells variant (M.meaning «module».now)
+        (record { platform = P.standing platform.old; store = T.kept store.old; last = last.now })
+        (P.standing platform.new) (T.kept store.new) (K.received out.old) (K.received out.new) line.now result }
+    ensures sized { IfOk result IsSized }
+    ensures wrote { IsBlamed (is_write_fault result) (K.faults out.old) (K.faults out.new) }
+{
+    let came = ask_line(alloc, variant, module, platform, store, last, line);
+    tell(came, out)
+}
+
+// Writes the record of a line, asks for it, and keeps the answer's snapshot.
+fn ask_line<M: Module, P: Platform, T: Store>(
+    alloc: Global,
+    variant: Variant,
+    module: &M,
+    platform: &mut P,
+    store: &mut T,
+    last: &Resumed,
+    line: &[u8],
+) -> Result<Resumed, HostFault>
+    requires sized { IsSized last.now }
+    requires line { IsWithin 4096 line.now }
+    ensures asks { AsksLine variant (M.meaning «module».now) (P.standing platform.old) (P.standing platform.new)
+        (T.kept store.old) (T.kept store.new) last.now line.now result }
+    ensures sized { IfOk result IsSized }
+{
+    match write_record(alloc, store, last.position() + 1, line) {
+        Err(fault) => Err(HostFault::from(fault)),
+        Ok(()) => ask_and_keep(
+            alloc,
+            variant,
+            module,
+            platform,
+            store,
+            last.snapshot(),
+            line,
+        ),
+    }
+}
+
+// Writes the record of a request that is to take this position.
+fn write_record<T: Store>(
+    alloc: Global,
+    store: &mut T,
+    position: u64,
+    request: &[u8],
+) -> Result<(), StoreFault>
+    requires least { 1 ≤ position }
+    requires most { position ≤ 2 ^ 48 + 1 }
+    requires line { IsWithin 4096 request.now }
+    ensures { WritesSlot (2 + position % 2) (pending_spelling (record { position = position; request = request.now }))
+        (T.kept store.old) (T.kept store.new) result }
+{
+    let bytes = pending_bytes(alloc, position, request)?;
+    store.write((2 + position % 2) as u8, bytes.as_slice())
+}
