@@ -8,3 +8,6 @@ mod Turning
 mod Lining
 mod Beginning
 mod SessionBlaming
+mod Taking
+mod First
+mod SettingUp

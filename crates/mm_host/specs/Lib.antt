@@ -10,3 +10,6 @@ pub mod Serving
 pub mod Sessions
 pub mod Turns
 pub mod SessionBlame
+pub mod InitFaults
+pub mod Init
+pub mod Begins

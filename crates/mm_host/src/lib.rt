@@ -7,14 +7,20 @@
 
 mod asking;
 mod fault;
+mod init_fault;
 mod resuming;
 mod serving;
+mod setup;
 mod telling;
 mod waiting;
 
 pub use fault::{HostFault, SessionFault};
+pub use init_fault::InitFault;
 pub use resuming::{Resumed, resume};
 pub use serving::session;
+pub use setup::init;
 
+#[cfg(test)]
+mod setup_tests;
 #[cfg(test)]
 mod tests;
