@@ -2,22 +2,21 @@
 use Rattle.std.proofs.Common.{◌≡◌, ℕ, ◌-◌, ◌%◌, true, List, Option, None, Some, Result, Ok, Err, refl, sym, ap, ◌∙◌, subst, inl, inr}
 use Rattle.std.specs.Prelude.{◌⊎◌}
 use Rattle.mm_digest.specs.declared.variant.Variant.{Variant}
-use Rattle.mm_digest.specs.declared.variant.Variant.TheVariants.{Basic, Opt}
 use Rattle.mm_platform.specs.Standing.{Standing}
-use Rattle.mm_module.specs.Meaning.{Meaning}
 use Rattle.mm_module.specs.Batch.{Batch, One}
 use Rattle.mm_seal.specs.Snapshot.{Content}
-use Rattle.mm_model.specs.Instance.{Instance, basic}
+use Rattle.mm_model.specs.Instance.{Instance}
 use Rattle.mm_model.specs.History.{History}
 use Rattle.mm_model.specs.Places.{Names}
 use Rattle.mm_model.specs.Standing.{StandsFor, IsRight}
 use Rattle.mm_model.specs.declared.answer.Answer.{Answer}
 use Rattle.mm_model.specs.declared.answer.BatchAnswer.{BatchAnswer}
+use Rattle.mm_model.specs.Life.{life_of}
 use Rattle.mm_model.specs.declared.refusal.Refusal.{Refusal}
+use Rattle.mm_model.specs.declared.refusal.Refusal.TheVariants as refusal
 use Rattle.mm_call.specs.Asked.{IsWithin}
 use Rattle.mm_call.specs.Leaving.{whole, whole_in}
 use Rattle.mm_callers.specs.Basic.{AreAsked}
-use Rattle.mm_callers.proofs.Again.{one_call}
 use Rattle.mm_callers.proofs.Calls.{one_content, Comes}
 use Rattle.mm_store.specs.declared.fault.StoreFault.{StoreFault}
 use Rattle.mm_store.specs.declared.fault.StoreFault.TheVariants as fault
@@ -34,8 +33,9 @@ use Rattle.mm_host.specs.Waiting.{later, IsWaiting}
 use Rattle.mm_host.specs.Resumes.{AfterThree, AfterTwo, started, kept_as, AfterAsk, AfterOffer, AfterFinding, Resumes}
 use Rattle.mm_host.specs.Asking.{IsCall}
 use Rattle.mm_host.specs.Fitting.{offer_slot, Holds, IsAwaited, FitsBy}
-use Rattle.mm_host.specs.Recovery.{IsAskedFor, CanRecover, IsGrown, AnswersAt, ComesTo, RecoversTo, Recovers}
+use Rattle.mm_host.specs.Recovery.{IsAskedFor, CanRecover, IsGrown, AnswersAt, ComesTo, RecoversTo}
 use Rattle.mm_host.proofs.Slots.{IsElsewhere, elsewhere_same, elsewhere_put}
+use Rattle.mm_host.proofs.Refusing.{MayRefuse}
 use Rattle.mm_host.proofs.Awaited.{awaited_least, still_awaited, grows, answered_at}
 
 -- one request waits in the slots' bytes
@@ -99,17 +99,47 @@ still all others asked i y slots before after old new result can s t c = record 
   comes = c;
 }
 
+-- a store's fault comes to nothing more, nor does want of memory in the call
+store_comes : (i : Instance) (y : History) (slots : Slots) (waiting : Option Pending) (after : History) (why : StoreFault) → ComesTo i y slots waiting after (Err (store_fault_as why))
+store_comes i y slots waiting after fault.Memory = tt
+store_comes i y slots waiting after fault.Failed = tt
+
+refused_comes : (i : Instance) (y : History) (slots : Slots) (waiting : Option Pending) (after : History) (why : Refusal) → MayRefuse why (life_of i.variant after) → ComesTo i y slots waiting after (Err (refused_as why))
+refused_comes i y slots waiting after refusal.Memory h = tt
+refused_comes i y slots waiting after refusal.Long (inl e) = absurd (cc)
+refused_comes i y slots waiting after refusal.Long (inr h) = h
+refused_comes i y slots waiting after (refusal.Device broken) h = tt
+refused_comes i y slots waiting after refusal.Blank (inl e) = absurd (cc)
+refused_comes i y slots waiting after refusal.Blank (inr h) = h
+refused_comes i y slots waiting after refusal.Cell (inl e) = absurd (cc)
+refused_comes i y slots waiting after refusal.Cell (inr h) = h
+refused_comes i y slots waiting after refusal.Lost (inl e) = absurd (cc)
+refused_comes i y slots waiting after refusal.Lost (inr h) = h
+refused_comes i y slots waiting after refusal.Form (inl e) = absurd (cc)
+refused_comes i y slots waiting after refusal.Form (inr h) = h
+refused_comes i y slots waiting after refusal.Kind (inl e) = absurd (cc)
+refused_comes i y slots waiting after refusal.Kind (inr h) = h
+refused_comes i y slots waiting after refusal.State (inl e) = absurd (cc)
+refused_comes i y slots waiting after refusal.State (inr h) = h
+refused_comes i y slots waiting after refusal.Tag (inl e) = absurd (cc)
+refused_comes i y slots waiting after refusal.Tag (inr h) = h
+refused_comes i y slots waiting after refusal.Stale (inl e) = absurd (cc)
+refused_comes i y slots waiting after refusal.Stale (inr h) = h
+refused_comes i y slots waiting after refusal.Full (inl e) = absurd (cc)
+refused_comes i y slots waiting after refusal.Full (inr h) = h
+
 -- what stands once the request that waits was asked
-record Left (all others : List (List ℕ)) (asked : List Batch) (i : Instance) (y : History) (slots : Slots) (waiting : Option Pending) (p : Pending) (standing : Standing) (gives : Result BatchAnswer Refusal) : Type 0 where
-  after : History
-  stands : StandsFor i standing after
-  within : IsWithin all others asked i after
-  names : (content : Content) → Names i y content → Names i after content
-  comes : Comes i y (seen_in slots (offer_slot p)) (One p.request) after gives
-  is : waiting ≡ Some p
-  is_waiting : IsWaiting (seen_in slots 2) (seen_in slots 3) waiting
-  awaited : IsAwaited y p
-  holds : Holds i y (seen_in slots (offer_slot p)) (p.position - 1)
+pub record Left (all others : List (List ℕ)) (asked : List Batch) (i : Instance) (y : History) (slots : Slots) (waiting : Option Pending) (p : Pending) (standing : Standing) (gives : Result BatchAnswer Refusal) : Type 0 where
+  pub after : History
+  pub stands : StandsFor i standing after
+  pub within : IsWithin all others asked i after
+  pub names : (content : Content) → Names i y content → Names i after content
+  pub comes : Comes i y (seen_in slots (offer_slot p)) (One p.request) after gives
+  pub refuses : (why : Refusal) → gives ≡ Err why → MayRefuse why (life_of i.variant after)
+  pub is : waiting ≡ Some p
+  pub is_waiting : IsWaiting (seen_in slots 2) (seen_in slots 3) waiting
+  pub awaited : IsAwaited y p
+  pub holds : Holds i y (seen_in slots (offer_slot p)) (p.position - 1)
 
 settle : (all others : List (List ℕ)) (asked : List Batch) (i : Instance) (y : History) (slots other : Slots) (waiting : Option Pending) (p : Pending) (standing : Standing) (gives : Result BatchAnswer Refusal) (kept : Kept) (result : Result Resumed HostFault) (l : Left all others asked i y slots waiting p standing gives) → IsElsewhere slots other p → kept.slots ≡ Some other → ComesTo i y slots waiting l.after result → RecoversTo all others asked i y slots waiting standing kept result
 settle all others asked i y slots other waiting p standing gives kept result l e t c = record {
@@ -164,76 +194,63 @@ ask_exit : (all others : List (List ℕ)) (asked : List Batch) (i : Instance) (y
 ask_exit all others asked i y slots waiting p standing (Err why) old new result l h t g =
     subst (λ (r : Result Resumed HostFault). RecoversTo all others asked i y slots waiting standing new r) (sym g.1)
     (settle all others asked i y slots slots waiting p standing (Err why) new (Err (refused_as why)) l
-    (elsewhere_same slots p) (ap (λ (k : Kept). k.slots) g.0 ∙ t) tt)
+    (elsewhere_same slots p) (ap (λ (k : Kept). k.slots) g.0 ∙ t) (refused_comes i y slots waiting l.after why (l.refuses why refl)))
 ask_exit all others asked i y slots waiting p standing (Ok answer) old new result l h t g =
     let a = answers all others asked i y slots waiting p standing answer l in
     subst (λ (r : Result Resumed HostFault). RecoversTo all others asked i y slots waiting standing new r) (sym g.gives)
     (keep_exit all others asked i y slots waiting p standing answer g.written old new l h t a.1
     (subst (λ (n : ℕ). WritesSlot (n % 2) answer.snapshot old new g.written) a.1 g.writes) a.0)
 
--- what is asked of the call
-asked_of : (meaning : Meaning) (key : List ℕ) (all others : List (List ℕ)) (asked : List Batch) (y : History) (slots : Slots) (before : Standing) (old : Kept) (p : Pending) (can : CanRecover all others asked (basic meaning key) y slots before old) → can.fits.waiting ≡ Some p → Holds (basic meaning key) y (seen_in slots (offer_slot p)) (p.position - 1) → AreAsked all others asked (basic meaning key) y (seen_in slots (offer_slot p)) (One p.request)
-asked_of meaning key all others asked y slots before old p can e holds =
-    let a : IsAskedFor all asked (basic meaning key) slots (Some p) = subst (λ (w : Option Pending). IsAskedFor all asked (basic meaning key) slots w) e can.is_asked in
+-- what an honest store's slots ask of the call for what waits
+pub asked_of : (all others : List (List ℕ)) (asked : List Batch) (i : Instance) (y : History) (slots : Slots) (before : Standing) (old : Kept) (p : Pending) (can : CanRecover all others asked i y slots before old) → can.fits.waiting ≡ Some p → Holds i y (seen_in slots (offer_slot p)) (p.position - 1) → AreAsked all others asked i y (seen_in slots (offer_slot p)) (One p.request)
+asked_of all others asked i y slots before old p can e holds =
+    let a : IsAskedFor all asked i slots (Some p) = subst (λ (w : Option Pending). IsAskedFor all asked i slots w) e can.is_asked in
     record {
       clear = can.clear;
       apart = can.apart;
       within = can.within;
       is_asked = a.0;
-      genuine = λ (content : Content) (right : IsRight (basic meaning key) (seen_in slots (offer_slot p)) content).
-          subst (λ (x : Content). Names (basic meaning key) y x) (one_content (basic meaning key) (seen_in slots (offer_slot p)) holds.content content holds.right right) holds.names;
+      genuine = λ (content : Content) (right : IsRight i (seen_in slots (offer_slot p)) content).
+          subst (λ (x : Content). Names i y x) (one_content i (seen_in slots (offer_slot p)) holds.content content holds.right right) holds.names;
       offered = a.1;
     }
 
-left_by : (meaning : Meaning) (key : List ℕ) (all others : List (List ℕ)) (asked : List Batch) (y : History) (slots : Slots) (before after : Standing) (old : Kept) (p : Pending) (call : Result Answer Refusal) (can : CanRecover all others asked (basic meaning key) y slots before old) → can.fits.waiting ≡ Some p → IsCall Basic meaning before after (seen_in slots (offer_slot p)) p.request call → Left all others asked (basic meaning key) y slots can.fits.waiting p after (whole_in call)
-left_by meaning key all others asked y slots before after old p call can e c =
-    let i : Instance = basic meaning key in
-    let f : FitsBy i slots y (Some p) = subst (λ (w : Option Pending). FitsBy i slots y w) e can.fits.fits in
-    let o = one_call meaning key all others asked y before after (seen_in slots (offer_slot p)) p.request (whole_in call) c.goes can.stands
-    (asked_of meaning key all others asked y slots before old p can e f.1) in
-    record {
-      after = o.after;
-      stands = o.stands;
-      within = o.within;
-      names = o.names;
-      comes = o.comes;
-      is = e;
-      is_waiting = can.fits.is_waiting;
-      awaited = f.0;
-      holds = f.1;
-    }
+-- A call for the request that waits leads on, whatever it gives.
+abbrev pub LeadsOn : (all others : List (List ℕ)) (asked : List Batch) (variant : Variant) (i : Instance) (y : History) (slots : Slots) (waiting : Option Pending) (before after : Standing) → Type 0
+LeadsOn all others asked variant i y slots waiting before after =
+    (p : Pending) (call : Result Answer Refusal) → waiting ≡ Some p → IsCall variant i.meaning before after (seen_in slots (offer_slot p)) p.request call
+    → Left all others asked i y slots waiting p after (whole_in call)
 
 -- the exits of the offer
-offer_exit : (meaning : Meaning) (key : List ℕ) (all others : List (List ℕ)) (asked : List Batch) (y : History) (slots : Slots) (offer : Result (List ℕ) StoreFault) (before after : Standing) (first old middle new : Kept) (p : Pending) (result : Result Resumed HostFault) (can : CanRecover all others asked (basic meaning key) y slots before first) → can.fits.waiting ≡ Some p → old.is_honest ≡ true → old.slots ≡ Some slots → ReadsSlot (offer_slot p) old middle offer → AfterOffer Basic meaning before after offer middle new p result → RecoversTo all others asked (basic meaning key) y slots can.fits.waiting after new result
-offer_exit meaning key all others asked y slots (Err why) before after first old middle new p result can e h t r g =
-    subst (λ (x : Result Resumed HostFault). RecoversTo all others asked (basic meaning key) y slots can.fits.waiting after new x) (sym g.2)
-    (still all others asked (basic meaning key) y slots before after first new (Err (store_fault_as why)) can g.0 (ap (λ (k : Kept). k.slots) g.1 ∙ r.slots ∙ t) tt)
-offer_exit meaning key all others asked y slots (Ok offer) before after first old middle new p result can e h t r g =
-    ask_exit all others asked (basic meaning key) y slots can.fits.waiting p after g.asked middle new result
-    (left_by meaning key all others asked y slots before after first p g.asked can e
-    (subst (λ (x : List ℕ). IsCall Basic meaning before after x p.request g.asked) (r.gives slots t) g.asks))
+offer_exit : (variant : Variant) (all others : List (List ℕ)) (asked : List Batch) (i : Instance) (y : History) (slots : Slots) (offer : Result (List ℕ) StoreFault) (before after : Standing) (first old middle new : Kept) (p : Pending) (result : Result Resumed HostFault) (can : CanRecover all others asked i y slots before first) → LeadsOn all others asked variant i y slots can.fits.waiting before after → can.fits.waiting ≡ Some p → old.is_honest ≡ true → old.slots ≡ Some slots → ReadsSlot (offer_slot p) old middle offer → AfterOffer variant i.meaning before after offer middle new p result → RecoversTo all others asked i y slots can.fits.waiting after new result
+offer_exit variant all others asked i y slots (Err why) before after first old middle new p result can leads e h t r g =
+    subst (λ (x : Result Resumed HostFault). RecoversTo all others asked i y slots can.fits.waiting after new x) (sym g.2)
+    (still all others asked i y slots before after first new (Err (store_fault_as why)) can g.0 (ap (λ (k : Kept). k.slots) g.1 ∙ r.slots ∙ t) (store_comes i y slots can.fits.waiting y why))
+offer_exit variant all others asked i y slots (Ok offer) before after first old middle new p result can leads e h t r g =
+    ask_exit all others asked i y slots can.fits.waiting p after g.asked middle new result
+    (leads p g.asked e (subst (λ (x : List ℕ). IsCall variant i.meaning before after x p.request g.asked) (r.gives slots t) g.asks))
     (r.honest ∙ h) (r.slots ∙ t) g.goes
 
 start_exit : (all others : List (List ℕ)) (asked : List Batch) (i : Instance) (y : History) (slots : Slots) (zero : Result (List ℕ) StoreFault) (before after : Standing) (first old new : Kept) (can : CanRecover all others asked i y slots before first) → can.fits.waiting ≡ None → after ≡ before → old.slots ≡ Some slots → ReadsSlot 0 old new zero → RecoversTo all others asked i y slots can.fits.waiting after new (started zero)
 start_exit all others asked i y slots (Ok bytes) before after first old new can e s t r =
     still all others asked i y slots before after first new (Ok (Start bytes)) can s (r.slots ∙ t) (e, r.gives slots t)
 start_exit all others asked i y slots (Err why) before after first old new can e s t r =
-    still all others asked i y slots before after first new (Err (store_fault_as why)) can s (r.slots ∙ t) tt
+    still all others asked i y slots before after first new (Err (store_fault_as why)) can s (r.slots ∙ t) (store_comes i y slots can.fits.waiting y why)
 
-found_exit : (meaning : Meaning) (key : List ℕ) (all others : List (List ℕ)) (asked : List Batch) (y : History) (slots : Slots) (waiting : Result (Option Pending) StoreFault) (before after : Standing) (old middle new : Kept) (result : Result Resumed HostFault) (can : CanRecover all others asked (basic meaning key) y slots before old) → Saw slots old middle waiting → AfterFinding Basic meaning before after waiting middle new result → RecoversTo all others asked (basic meaning key) y slots can.fits.waiting after new result
-found_exit meaning key all others asked y slots (Err why) before after old middle new result can s g =
-    subst (λ (x : Result Resumed HostFault). RecoversTo all others asked (basic meaning key) y slots can.fits.waiting after new x) (sym g.2)
-    (still all others asked (basic meaning key) y slots before after old new (Err (store_fault_as why)) can g.0 (ap (λ (k : Kept). k.slots) g.1 ∙ s.told) tt)
-found_exit meaning key all others asked y slots (Ok None) before after old middle new result can s g =
+found_exit : (variant : Variant) (all others : List (List ℕ)) (asked : List Batch) (i : Instance) (y : History) (slots : Slots) (waiting : Result (Option Pending) StoreFault) (before after : Standing) (old middle new : Kept) (result : Result Resumed HostFault) (can : CanRecover all others asked i y slots before old) → LeadsOn all others asked variant i y slots can.fits.waiting before after → Saw slots old middle waiting → AfterFinding variant i.meaning before after waiting middle new result → RecoversTo all others asked i y slots can.fits.waiting after new result
+found_exit variant all others asked i y slots (Err why) before after old middle new result can leads s g =
+    subst (λ (x : Result Resumed HostFault). RecoversTo all others asked i y slots can.fits.waiting after new x) (sym g.2)
+    (still all others asked i y slots before after old new (Err (store_fault_as why)) can g.0 (ap (λ (k : Kept). k.slots) g.1 ∙ s.told) (store_comes i y slots can.fits.waiting y why))
+found_exit variant all others asked i y slots (Ok None) before after old middle new result can leads s g =
     let e : can.fits.waiting ≡ None = one_waiting (seen_in slots 2) (seen_in slots 3) can.fits.waiting None can.fits.is_waiting (s.waiting None refl) in
-    subst (λ (x : Result Resumed HostFault). RecoversTo all others asked (basic meaning key) y slots can.fits.waiting after new x) (sym g.1.gives)
-    (start_exit all others asked (basic meaning key) y slots g.1.zero before after old middle new can e g.0 s.told g.1.reads)
-found_exit meaning key all others asked y slots (Ok (Some p)) before after old middle new result can s g =
+    subst (λ (x : Result Resumed HostFault). RecoversTo all others asked i y slots can.fits.waiting after new x) (sym g.1.gives)
+    (start_exit all others asked i y slots g.1.zero before after old middle new can e g.0 s.told g.1.reads)
+found_exit variant all others asked i y slots (Ok (Some p)) before after old middle new result can leads s g =
     let e : can.fits.waiting ≡ Some p = one_waiting (seen_in slots 2) (seen_in slots 3) can.fits.waiting (Some p) can.fits.is_waiting (s.waiting (Some p) refl) in
-    offer_exit meaning key all others asked y slots g.offer before after old middle g.middle new p result can e (s.honest ∙ can.honest) s.told g.reads g.goes
+    offer_exit variant all others asked i y slots g.offer before after old middle g.middle new p result can leads e (s.honest ∙ can.honest) s.told g.reads g.goes
 
-pub recovers : (variant : Variant) (meaning : Meaning) (before after : Standing) (old new : Kept) (result : Result Resumed HostFault) → Resumes variant meaning before after old new result → Recovers variant meaning before after old new result
-recovers Opt meaning before after old new result r = tt
-recovers Basic meaning before after old new result r = λ key y slots all others asked can.
-    found_exit meaning key all others asked y slots r.waiting before after old r.middle new result can
+-- the whole call, in either variant
+pub recovers_by : (variant : Variant) (all others : List (List ℕ)) (asked : List Batch) (i : Instance) (y : History) (slots : Slots) (before after : Standing) (old new : Kept) (result : Result Resumed HostFault) (can : CanRecover all others asked i y slots before old) → LeadsOn all others asked variant i y slots can.fits.waiting before after → Resumes variant i.meaning before after old new result → RecoversTo all others asked i y slots can.fits.waiting after new result
+recovers_by variant all others asked i y slots before after old new result can leads r =
+    found_exit variant all others asked i y slots r.waiting before after old r.middle new result can leads
     (saw_two slots r.finds.two old r.finds.middle r.middle r.waiting can.told r.finds.reads r.finds.goes) r.goes

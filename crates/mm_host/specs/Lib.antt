@@ -5,11 +5,11 @@ pub mod Resumes
 pub mod Fitting
 pub mod Recovery
 pub mod Blame
+pub mod InitFaults
+pub mod Init
+pub mod Begins
 pub mod Saying
 pub mod Serving
 pub mod Sessions
 pub mod Turns
 pub mod SessionBlame
-pub mod InitFaults
-pub mod Init
-pub mod Begins
