@@ -66,13 +66,13 @@ no_line = refl
 no_pair : (p : List ℕ × List ℕ) → (let none : Option (List ℕ × List ℕ) = None in none ≡ Some p) → ⊥
 no_pair p is = cc
 
-no_events : (one : Option Event) (more : List (Option Event)) → (let none : List (Option Event) = [] in one ∷ more ≡ none) → ⊥
+pub no_events : (one : Option Event) (more : List (Option Event)) → (let none : List (Option Event) = [] in one ∷ more ≡ none) → ⊥
 no_events one more is = cc
 
 -- ---- what is left
 
 -- what follows of these events
-abbrev left_of : Running → List Event → Followed Digests
+abbrev pub left_of : Running → List Event → Followed Digests
 left_of r events = followed (world_of r.header) (by_digests (world_of r.header)) r.digests r.issued events
 
 -- the whole is what was counted and written, and then what is left
@@ -116,7 +116,7 @@ total-counted counts Power = omega arith
 total-counted counts Extended = omega arith
 
 -- the first of the options, and the others
-heads : (one other : Option Event) (more others : List (Option Event)) → one ∷ more ≡ other ∷ others → (one ≡ other) × (more ≡ others)
+pub heads : (one other : Option Event) (more others : List (Option Event)) → one ∷ more ≡ other ∷ others → (one ≡ other) × (more ≡ others)
 heads one other more others is = (ap (first_or one) is, ap rest_of is)
   where
     first_or : Option Event → List (Option Event) → Option Event
@@ -128,12 +128,12 @@ heads one other more others is = (ap (first_or one) is, ap rest_of is)
     rest_of (x ∷ xs) = xs
 
 -- a line that passes no limit: those behind it decide
-over_behind : (r : Running) (line : List ℕ) (more : List (List ℕ)) (event : Event) → event_at line ≡ Some event → is_too_much r line ≡ false
+pub over_behind : (r : Running) (line : List ℕ) (more : List (List ℕ)) (event : Event) → event_at line ≡ Some event → is_too_much r line ≡ false
     → is_over (after_event r line event) more ≡ is_over r (line ∷ more)
 over_behind r line more event is room = rw (is, room) refl
 
 -- a line that passes a limit
-over_at : (r : Running) (line : List ℕ) (more : List (List ℕ)) → is_too_much r line ≡ true → is_over r (line ∷ more) ≡ true
+pub over_at : (r : Running) (line : List ℕ) (more : List (List ℕ)) → is_too_much r line ≡ true → is_over r (line ∷ more) ≡ true
 over_at r line more much = rw much refl
 
 answered_on : (lines more : List (List ℕ)) (line : List ℕ) (r : Running) (counts : Counts) (text : List ℕ) (event : Event) (events all : List Event)

@@ -10,6 +10,7 @@ ghost use Rattle.mm_replay.specs.Schedule.{begun, is_too_much};
 ghost use Rattle.mm_bulk.specs.Answered.{Answered};
 ghost use Rattle.mm_bulk.specs.Limits.{IsLimited, is_over};
 ghost use Rattle.mm_bulk.specs.LineBreaks.{line_at};
+ghost use Rattle.mm_bulk.specs.Replayed.{IsReplayed, replay_of};
 ghost use Rattle.mm_bulk.specs.Sums.{SumsUp};
 
 use crate::counts::Counts;
@@ -28,9 +29,24 @@ use std::alloc::Global;
 /// Makes the schedule of a number, with `count` events, and runs it as a replay does: its replies are counted by their
 /// kinds, and digested with the last line.
 ///
-/// `TooMuch` comes exactly where an event line, with those before it and the snapshots issued till then, has more than
-/// 268,435,456 bytes: that event isn't run.
+/// `TooMuch` comes exactly where a replay of the schedule's text answers so: where an event line, with those before it
+/// and the snapshots issued till then, has more than 268,435,456 bytes. That event isn't run.
 pub fn bulk(alloc: Global, number: u64, count: u32, header: &Header) -> Result<Summary, BulkFault>
+    requires count { count ≤ 20000 }
+    ensures sums { IfOk result (SumsUp header.now (schedule_lines number count header.now)) }
+    ensures limit { IsLimited (is_over (begun header.now) (schedule_lines number count header.now)) result }
+    ensures replayed { IsReplayed (replay_of number count header.now) result }
+{
+    run_schedule(alloc, number, count, header)
+}
+
+// Makes the schedule, and runs it line by line.
+fn run_schedule(
+    alloc: Global,
+    number: u64,
+    count: u32,
+    header: &Header,
+) -> Result<Summary, BulkFault>
     requires count { count ≤ 20000 }
     ensures sums { IfOk result (SumsUp header.now (schedule_lines number count header.now)) }
     ensures limit { IsLimited (is_over (begun header.now) (schedule_lines number count header.now)) result }

@@ -19,3 +19,5 @@ mod segments;
 mod stops;
 #[cfg(test)]
 mod streams;
+#[cfg(test)]
+mod texts;

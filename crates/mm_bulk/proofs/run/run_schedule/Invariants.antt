@@ -2,7 +2,7 @@ use Rattle.std.proofs.Common.{◌≡◌, length}
 use Rattle.mm_gen.specs.Schedules.{schedule_lines}
 use Rattle.mm_replay.specs.Progress.{running}
 use Rattle.mm_bulk.proofs.Tallying.{Going}
-use Rattle.mm_bulk.proofs.run.bulk.Given as goal
+use Rattle.mm_bulk.proofs.run.run_schedule.Given as goal
 
 abbrev pub invariant-lines : goal.invariant-lines
 invariant-lines l = record {
