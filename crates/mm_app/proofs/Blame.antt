@@ -1,5 +1,5 @@
 -- Whom the status of each command blames.
-use Rattle.std.proofs.Common.{◌≡◌, ◌∙◌, ℕ, Bool, false, List, Option, None, Some, Result, Ok, Err, refl, sym, ap, subst, inl, inr}
+use Rattle.std.proofs.Common.{◌≡◌, ◌∙◌, ℕ, Bool, false, List, Option, None, Some, Result, Ok, Err, refl, sym, ap, subst, inl, inr, is_some, ◌⊎◌}
 use Rattle.mm_base.specs.Faults.{CountsFaults, Rose}
 use Rattle.mm_base.specs.declared.fault.WriteFault as write
 use Rattle.mm_base.specs.declared.replay_fault.ReplayFault.{ReplayFault}
@@ -8,15 +8,33 @@ use Rattle.mm_bulk.specs.declared.fault.BulkFault.{BulkFault}
 use Rattle.mm_bulk.specs.declared.fault.BulkFault.TheVariants as much
 use Rattle.mm_bulk.specs.declared.summary.Summary.{Summary}
 use Rattle.mm_call.specs.Leaving.{Blames}
+use Rattle.mm_call.specs.Refusals.{fault_of}
+use Rattle.mm_host.specs.Begins.{BlamesDevice}
+use Rattle.mm_host.specs.Init.{Devices}
+use Rattle.mm_host.specs.SessionBlame as session_blame
+use Rattle.mm_host.specs.declared.init_fault.InitFault.{InitFault}
+use Rattle.mm_host.specs.declared.init_fault.InitFault.TheVariants as init
+use Rattle.mm_host.specs.declared.fault.SessionFault.{SessionFault}
+use Rattle.mm_host.specs.declared.fault.SessionFault.TheVariants as session
+use Rattle.mm_model.specs.declared.refusal.Refusal.{Refusal}
+use Rattle.mm_model.specs.declared.refusal.Refusal.TheVariants as refused
+use Rattle.mm_modules.specs.Modules.{module_with}
+use Rattle.mm_modules.specs.declared.any.AnyModule.{AnyModule}
+use Rattle.mm_digest.specs.declared.variant.Variant.{Variant}
 use Rattle.mm_opt.specs.declared.segment.Checkpointed.{Checkpointed}
 use Rattle.mm_opt.specs.declared.segment.Checkpointed.TheVariants as said
 use Rattle.mm_opt.specs.declared.segment.CheckpointRefusal.{CheckpointRefusal}
 use Rattle.mm_opt.specs.declared.segment.CheckpointRefusal.TheVariants as refusal
 use Rattle.mm_opt.specs.Checkpoints.{closing_fault_in}
 use Rattle.mm_platform.specs.declared.fault.StepFault.{StepFault}
+use Rattle.mm_platform.specs.declared.fault.StepFault.TheVariants.{Failed, Off}
 use Rattle.mm_platform.specs.Standing.{Standing}
-use Rattle.mm_platform.specs.Steps.{EndsCycle}
+use Rattle.mm_platform.specs.Steps.{EndsBy, EndsCycle}
 use Rattle.mm_play.specs.Plays as plays
+use Rattle.mm_schedule.specs.declared.header.Header.{Header}
+use Rattle.mm_seal.specs.declared.cell.Cell.{Cell as Held}
+use Rattle.mm_seal.specs.declared.cell.CellFault.{CellFault}
+use Rattle.mm_seal.specs.declared.cell.CellFault.TheVariants as unheld
 use Rattle.mm_words.specs.declared.command.Command.{Command}
 use Rattle.mm_words.specs.declared.command.Command.TheVariants.{Init, Run, Checkpoint, Power, Replay, Check, Gen, Bulk, Receipts, Help}
 use Rattle.mm_app.specs.Blame.{BlamesOutput, BlamesSource, is_platform_fault, is_read_fault, is_store_fault}
@@ -26,10 +44,12 @@ use Rattle.mm_app.specs.Commands.{Does, DoesOrLacks, Reads, UsesPlatform, UsesSt
 use Rattle.mm_store.specs.Kept.{Kept}
 use Rattle.mm_app.specs.Outside.{Outside, IsStill}
 use Rattle.mm_app.specs.Power.{power_told}
+use Rattle.mm_app.specs.Running.{AfterLooking, FindsInstance, SeesInstance, headed, instance_of, refused_at, session_status}
+use Rattle.mm_app.specs.Starting.{init_told}
 use Rattle.mm_app.specs.Status.{status_of}
 use Rattle.mm_app.specs.Telling.{EndsAtOnce, GivesText, Stops, StopsAs, Tells, status_by}
 use Rattle.mm_app.specs.declared.status.Status.{Status}
-use Rattle.mm_app.specs.declared.status.Status.TheVariants.{Done, Usage, Memory, WriteFault}
+use Rattle.mm_app.specs.declared.status.Status.TheVariants.{Done, Usage, Memory, WriteFault, PlatformFault, Blank, Cell}
 
 -- two statuses blame the same
 pub record BlameAlike (one other : Status) : Type 0 where
@@ -130,6 +150,134 @@ checkpoint_spares (Err refusal.Cell) = (refl, refl)
 checkpoint_spares (Err refusal.Kind) = (refl, refl)
 checkpoint_spares (Err refusal.Lost) = (refl, refl)
 
+-- a first start
+
+record StartBlames (before after : Devices) (end : Status) : Type 0 where
+  platform : plays.IsBlamed (is_platform_fault end) before.platform.faults after.platform.faults
+  store : plays.IsBlamed (is_store_fault end) before.store.faults after.store.faults
+  source : plays.IsBlamed (is_read_fault end) before.source_faults after.source_faults
+  other : end ≡ WriteFault → ⊥
+
+start_blames : (answer : Result (Unit {0}) InitFault) (before after : Devices) → BlamesDevice before after answer → StartBlames before after (end_of (init_told answer))
+start_blames (Ok it) before after b = record { platform = b.platform; store = b.store; source = b.source; other = λ h. cc }
+start_blames (Err init.Memory) before after b = record { platform = b.platform; store = b.store; source = b.source; other = λ h. cc }
+start_blames (Err (init.Platform fault)) before after b = record { platform = b.platform; store = b.store; source = b.source; other = λ h. cc }
+start_blames (Err init.Already) before after b = record { platform = b.platform; store = b.store; source = b.source; other = λ h. cc }
+start_blames (Err init.ReadFault) before after b = record { platform = b.platform; store = b.store; source = b.source; other = λ h. cc }
+start_blames (Err (init.Short got)) before after b = record { platform = b.platform; store = b.store; source = b.source; other = λ h. cc }
+start_blames (Err init.Store) before after b = record { platform = b.platform; store = b.store; source = b.source; other = λ h. cc }
+
+-- a session
+
+record RefusedAs (why : Refusal) : Type 0 where
+  platform : is_platform_fault (refused_at why) ≡ is_some (fault_of why)
+  store : is_store_fault (refused_at why) ≡ false
+  source : is_read_fault (refused_at why) ≡ false
+  other : refused_at why ≡ WriteFault → ⊥
+  undone : refused_at why ≡ Done → ⊥
+
+refused_as : (why : Refusal) → RefusedAs why
+refused_as refused.Memory = record { platform = refl; store = refl; source = refl; other = λ h. cc; undone = λ h. cc }
+refused_as refused.Long = record { platform = refl; store = refl; source = refl; other = λ h. cc; undone = λ h. cc }
+refused_as (refused.Device fault) = record { platform = refl; store = refl; source = refl; other = λ h. cc; undone = λ h. cc }
+refused_as refused.Blank = record { platform = refl; store = refl; source = refl; other = λ h. cc; undone = λ h. cc }
+refused_as refused.Cell = record { platform = refl; store = refl; source = refl; other = λ h. cc; undone = λ h. cc }
+refused_as refused.Lost = record { platform = refl; store = refl; source = refl; other = λ h. cc; undone = λ h. cc }
+refused_as refused.Form = record { platform = refl; store = refl; source = refl; other = λ h. cc; undone = λ h. cc }
+refused_as refused.Kind = record { platform = refl; store = refl; source = refl; other = λ h. cc; undone = λ h. cc }
+refused_as refused.State = record { platform = refl; store = refl; source = refl; other = λ h. cc; undone = λ h. cc }
+refused_as refused.Tag = record { platform = refl; store = refl; source = refl; other = λ h. cc; undone = λ h. cc }
+refused_as refused.Stale = record { platform = refl; store = refl; source = refl; other = λ h. cc; undone = λ h. cc }
+refused_as refused.Full = record { platform = refl; store = refl; source = refl; other = λ h. cc; undone = λ h. cc }
+
+record ServedAs (answer : Result (Unit {0}) SessionFault) : Type 0 where
+  platform : is_platform_fault (session_status answer) ≡ session_blame.is_platform_fault answer
+  store : is_store_fault (session_status answer) ≡ session_blame.is_store_fault answer
+  source : is_read_fault (session_status answer) ≡ session_blame.is_read_fault answer
+
+served_as : (answer : Result (Unit {0}) SessionFault) → ServedAs answer
+served_as (Ok it) = record { platform = refl; store = refl; source = refl }
+served_as (Err session.Memory) = record { platform = refl; store = refl; source = refl }
+served_as (Err session.Store) = record { platform = refl; store = refl; source = refl }
+served_as (Err (session.Refused why)) =
+    let as_told = refused_as why in
+    record { platform = as_told.platform; store = as_told.store; source = as_told.source }
+served_as (Err session.ReadFault) = record { platform = refl; store = refl; source = refl }
+served_as (Err session.WriteFault) = record { platform = refl; store = refl; source = refl }
+served_as (Err (session.LineLong line)) = record { platform = refl; store = refl; source = refl }
+served_as (Err (session.BadLine line)) = record { platform = refl; store = refl; source = refl }
+served_as (Err session.TooMuch) = record { platform = refl; store = refl; source = refl }
+
+-- what a cell holds that no session is served over
+record UnheldAs (end : Status) : Type 0 where
+  alike : BlameAlike end Done
+  other : end ≡ WriteFault → ⊥
+
+unheld_as : (end : Status) → (end ≡ Blank) ⊎ (end ≡ Cell) → UnheldAs end
+unheld_as end (inl e) = record {
+  alike = record { platform = ap is_platform_fault e; store = ap is_store_fault e; source = ap is_read_fault e };
+  other = λ h. cc;
+}
+unheld_as end (inr e) = record {
+  alike = record { platform = ap is_platform_fault e; store = ap is_store_fault e; source = ap is_read_fault e };
+  other = λ h. cc;
+}
+
+headed_end : (variant : Variant) (found : Option AnyModule) (end : Status) → Err end ≡ headed variant found → end ≡ Cell
+headed_end variant None end e = cc
+headed_end variant (Some it) end e = cc
+
+unheld_end : (read : Result Held CellFault) (end : Status) → Err end ≡ instance_of read → (end ≡ Blank) ⊎ (end ≡ Cell)
+unheld_end (Err unheld.Blank) end e = inl cc
+unheld_end (Err unheld.Cell) end e = inr cc
+unheld_end (Ok held) end e = inr (headed_end held.variant (module_with held.module) end e)
+
+-- what no session is served over, by the first step's fault
+platform_end : (end : Status) → (let r : Result Header Status = Err end in r ≡ Err PlatformFault) → end ≡ PlatformFault
+platform_end end e = cc
+
+record RunBlames (before after : Standing) (old new : Kept) (reads reads' : ℕ) (status : Status) : Type 0 where
+  platform : plays.IsBlamed (is_platform_fault status) before.faults after.faults
+  store : plays.IsBlamed (is_store_fault status) old.faults new.faults
+  source : plays.IsBlamed (is_read_fault status) reads reads'
+
+-- a device that failed is blamed
+failed_rose : (fault : StepFault) (before after : Standing) (made : Bool) → EndsBy (Some fault) before after made → Rose before.faults after.faults
+failed_rose Failed before after made e = e.faults
+failed_rose Off before after made e = e.faults
+
+run_blames : (fault : Option StepFault) (found : Result Header Status) (before middle after : Standing) (made : Bool) (old new : Kept)
+    (left left' received received' : Option (List ℕ)) (reads reads' writes writes' : ℕ) (status : Status)
+    → EndsBy fault before middle made → FindsInstance fault before found
+    → AfterLooking found middle after old new left left' received received' reads reads' writes writes' status
+    → RunBlames before after old new reads reads' status
+run_blames None (Ok header) before middle after made old new left left' received received' reads reads' writes writes' status e f a =
+    let served = a.served in
+    let as_told = served_as served.answer in
+    record {
+      platform = subst (λ (n : ℕ). plays.IsBlamed (is_platform_fault status) n after.faults) e.faults
+          (blamed_as _ _ _ _ (ap is_platform_fault served.ends ∙ as_told.platform) served.platform);
+      store = blamed_as _ _ _ _ (ap is_store_fault served.ends ∙ as_told.store) served.store;
+      source = blamed_as _ _ _ _ (ap is_read_fault served.ends ∙ as_told.source) served.read;
+    }
+run_blames None (Err end) before middle after made old new left left' received received' reads reads' writes writes' status e f a =
+    let sees = f.2 in
+    let none = (unheld_as end (unheld_end sees.read end sees.found_is)).alike in
+    record {
+      platform = unblamed _ _ _ (ap is_platform_fault a.stops.ends ∙ none.platform) (ap (λ (s : Standing). s.faults) a.standing ∙ e.faults);
+      store = unblamed _ _ _ (ap is_store_fault a.stops.ends ∙ none.store) (ap (λ (k : Kept). k.faults) a.kept);
+      source = unblamed _ _ _ (ap is_read_fault a.stops.ends ∙ none.source) a.unfailed;
+    }
+run_blames (Some fault) (Ok header) before middle after made old new left left' received received' reads reads' writes writes' status e f a = absurd (cc)
+run_blames (Some fault) (Err end) before middle after made old new left left' received received' reads reads' writes writes' status e f a =
+    let is = a.stops.ends ∙ platform_end end f in
+    record {
+      platform = blamed_as _ _ _ _ (ap is_platform_fault is)
+          (subst (λ (s : Standing). Rose before.faults s.faults) (sym a.standing) (failed_rose fault before middle made e));
+      store = unblamed _ _ _ (ap is_store_fault is) (ap (λ (k : Kept). k.faults) a.kept);
+      source = unblamed _ _ _ (ap is_read_fault is) a.unfailed;
+    }
+
 -- the output
 
 output_by : (r : Result (Unit {0}) write.WriteFault) (status : Status) (writes writes' : ℕ) → CountsFaults writes writes' r → status ≡ status_by r
@@ -165,6 +313,39 @@ output_told : (told : Result (List ℕ) Status) (received received' : Option (Li
     → (end_of told ≡ WriteFault → ⊥) → Tells told received received' writes writes' status → BlamesOutput status writes writes'
 output_told (Ok text) received received' writes writes' status other t = output_by t.result status writes writes' t.counts t.ends
 output_told (Err end) received received' writes writes' status other t = output_stopped end status received received' writes writes' other t
+
+output_served : (answer : Result (Unit {0}) SessionFault) (status : Status) (middle received' : Option (List ℕ)) (writes count writes' : ℕ)
+    → plays.IsBlamed (session_blame.is_write_fault answer) writes count → status ≡ session_status answer → Stops middle received' count writes' status
+    → BlamesOutput status writes writes'
+output_served (Ok it) status middle received' writes count writes' b e s = record { failed = λ h. absurd (cc); done = λ h. s.done h ∙ b }
+output_served (Err session.WriteFault) status middle received' writes count writes' b e s = record {
+  failed = λ h. subst (λ (n : ℕ). Rose writes n) (sym (s.failed h)) b;
+  done = λ h. absurd (cc);
+}
+output_served (Err (session.Refused why)) status middle received' writes count writes' b e s =
+    let as_told = refused_as why in
+    record { failed = λ h. absurd (as_told.other (sym e ∙ h)); done = λ h. absurd (as_told.undone (sym e ∙ h)) }
+output_served (Err session.Memory) status middle received' writes count writes' b e s = record { failed = λ h. absurd (cc); done = λ h. absurd (cc) }
+output_served (Err session.Store) status middle received' writes count writes' b e s = record { failed = λ h. absurd (cc); done = λ h. absurd (cc) }
+output_served (Err session.ReadFault) status middle received' writes count writes' b e s = record { failed = λ h. absurd (cc); done = λ h. absurd (cc) }
+output_served (Err (session.LineLong line)) status middle received' writes count writes' b e s = record { failed = λ h. absurd (cc); done = λ h. absurd (cc) }
+output_served (Err (session.BadLine line)) status middle received' writes count writes' b e s = record { failed = λ h. absurd (cc); done = λ h. absurd (cc) }
+output_served (Err session.TooMuch) status middle received' writes count writes' b e s = record { failed = λ h. absurd (cc); done = λ h. absurd (cc) }
+
+-- what no session is served over is no fault of the output
+unserved : (fault : Option StepFault) (before : Standing) (end : Status) → FindsInstance fault before (Err end) → end ≡ WriteFault → ⊥
+unserved None before end f = (unheld_as end (unheld_end f.2.read end f.2.found_is)).other
+unserved (Some fault) before end f = let is = platform_end end f in λ h. cc
+
+output_run : (fault : Option StepFault) (found : Result Header Status) (before middle after : Standing) (old new : Kept)
+    (left left' received received' : Option (List ℕ)) (reads reads' writes writes' : ℕ) (status : Status)
+    → FindsInstance fault before found
+    → AfterLooking found middle after old new left left' received received' reads reads' writes writes' status
+    → BlamesOutput status writes writes'
+output_run fault (Ok header) before middle after old new left left' received received' reads reads' writes writes' status f a =
+    output_served a.served.answer status a.between received' writes a.count writes' a.served.wrote a.served.ends a.stops
+output_run fault (Err end) before middle after old new left left' received received' reads reads' writes writes' status f a =
+    output_stopped end status received received' writes writes' (unserved fault before end f) a.stops
 
 bulk_no_write : (count : ℕ) (answer : Result Summary BulkFault) → end_of (bulk_told count answer) ≡ WriteFault → ⊥
 bulk_no_write count (Ok summary) h = cc
@@ -249,8 +430,18 @@ source_played : {T : Type 0} (answer : Result T ReplayFault) (status : Status) (
 source_played answer status reads reads' e b = blamed_as _ _ _ _ (ap is_read_fault e ∙ played_source answer) b
 
 pub done_blamed : (command : Command) (old new : Outside) (status : Status) → Frames command old new → Does command old new status → Blamed command old new status
-done_blamed (Init header) old new status f d = ended_blamed (Init header) old new Usage status usage_alike d
-done_blamed Run old new status f d = ended_blamed Run old new Usage status usage_alike d
+done_blamed (Init header) old new status f d =
+    let a = told_alike (init_told d.answer) _ _ _ _ status d.tells in
+    let b = start_blames d.answer _ _ d.faults in
+    record {
+      platform = blamed_as _ _ _ _ a.platform b.platform;
+      store = blamed_as _ _ _ _ a.store b.store;
+      source = blamed_as _ _ _ _ a.source b.source;
+    }
+done_blamed Run old new status f d =
+    let b = run_blames d.looks.fault d.found old.standing d.middle new.standing d.looks.goes.is_made old.kept new.kept old.left new.left
+    old.received new.received old.reads new.reads old.writes new.writes status d.looks.goes.ends d.looks.finds d.goes in
+    record { platform = b.platform; store = b.store; source = b.source }
 done_blamed Check old new status f d = ended_blamed Check old new Usage status usage_alike d
 done_blamed (Gen it) old new status f d = given_blamed (Gen it) old new _ status d
 done_blamed Help old new status f d = given_blamed Help old new _ status d
@@ -302,8 +493,11 @@ output_given : (old new : Outside) (text : List ℕ) (status : Status) → Gives
 output_given old new text status g = output_by g.given.result status _ _ g.given.counts g.given.ends
 
 output_done : (command : Command) (old new : Outside) (status : Status) → Does command old new status → BlamesOutput status old.writes new.writes
-output_done (Init header) old new status d = output_ended old new Usage status no_usage d
-output_done Run old new status d = output_ended old new Usage status no_usage d
+output_done (Init header) old new status d =
+    output_told (init_told d.answer) _ _ _ _ status (start_blames d.answer _ _ d.faults).other d.tells
+output_done Run old new status d =
+    output_run d.looks.fault d.found old.standing d.middle new.standing old.kept new.kept old.left new.left
+    old.received new.received old.reads new.reads old.writes new.writes status d.looks.finds d.goes
 output_done Check old new status d = output_ended old new Usage status no_usage d
 output_done (Gen it) old new status d = output_given old new _ status d
 output_done Help old new status d = output_given old new _ status d

@@ -10,12 +10,19 @@ use Rattle.mm_app.specs.Outside.{Outside, IsStill}
 use Rattle.mm_app.specs.Power.{LosesPower}
 use Rattle.mm_app.specs.Receipts.{ChecksReceiptsAndStops}
 use Rattle.mm_app.specs.Replaying.{ReplaysAndStops}
+use Rattle.mm_app.specs.Running.{RunsInstance}
+use Rattle.mm_app.specs.Starting.{StartsInstance, devices}
 use Rattle.mm_app.specs.Telling.{EndsAtOnce, GivesText}
 use Rattle.mm_app.specs.declared.status.Status.{Status}
 use Rattle.mm_app.specs.declared.status.Status.TheVariants.{Memory, Usage}
 
 -- What a command does, by what the objects that it is handed tell before and after.
 abbrev pub Does : Command → (old new : Outside) → Status → Type 0
+Does (Init header) old new status =
+    StartsInstance header (devices old.standing old.kept old.entropy old.takes) (devices new.standing new.kept new.entropy new.takes)
+    old.received new.received old.writes new.writes status
+Does Run old new status =
+    RunsInstance old.standing new.standing old.kept new.kept old.left new.left old.received new.received old.reads new.reads old.writes new.writes status
 Does Checkpoint old new status =
     Checkpoints old.standing new.standing old.received new.received old.writes new.writes status
 Does Power old new status =
@@ -28,8 +35,6 @@ Does (Receipts key) old new status =
     ChecksReceiptsAndStops key old.left new.left old.received new.received old.reads new.reads old.writes new.writes status
 Does Help old new status = GivesText help_text old new status
 -- not built yet
-Does (Init header) old new status = EndsAtOnce old new Usage status
-Does Run old new status = EndsAtOnce old new Usage status
 Does Check old new status = EndsAtOnce old new Usage status
 
 -- The command was done, or memory was wanting before it.
@@ -38,8 +43,6 @@ DoesOrLacks command old new status = Does command old new status ⊎ EndsAtOnce 
 
 -- the command is built
 abbrev pub IsBuilt : Command → Type 0
-IsBuilt (Init header) = ⊥
-IsBuilt Run = ⊥
 IsBuilt Check = ⊥
 IsBuilt _ = Unit {0}
 
@@ -49,20 +52,26 @@ SpellNo Is words = (command : Command) → Is command → Spells command words �
 
 -- the commands that use the platform
 abbrev pub UsesPlatform : Command → Type 0
+UsesPlatform (Init header) = Unit {0}
+UsesPlatform Run = Unit {0}
 UsesPlatform Checkpoint = Unit {0}
 UsesPlatform Power = Unit {0}
 UsesPlatform _ = ⊥
 
 -- the commands that use the store
 abbrev pub UsesStore : Command → Type 0
+UsesStore (Init header) = Unit {0}
+UsesStore Run = Unit {0}
 UsesStore _ = ⊥
 
 -- the commands that read the input
 abbrev pub Reads : Command → Type 0
+Reads Run = Unit {0}
 Reads Replay = Unit {0}
 Reads (Receipts key) = Unit {0}
 Reads _ = ⊥
 
 -- the commands that take from the entropy
 abbrev pub TakesEntropy : Command → Type 0
+TakesEntropy (Init header) = Unit {0}
 TakesEntropy _ = ⊥

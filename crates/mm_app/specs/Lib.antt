@@ -7,5 +7,7 @@ pub mod Outside
 pub mod Power
 pub mod Receipts
 pub mod Replaying
+pub mod Running
+pub mod Starting
 pub mod Status
 pub mod Telling

@@ -22,7 +22,9 @@ use crate::checkpoint::close_segment;
 use crate::power::lose_power;
 use crate::receipts::check_receipts;
 use crate::replay::replay_and_stop;
+use crate::run::run_instance;
 use crate::schedule::write_schedule;
+use crate::start::start_instance;
 use crate::status::Status;
 use crate::telling::{stopped, written};
 use mm_base::{Sink, Source};
@@ -66,7 +68,9 @@ fn done<P: Platform, T: Store, S: Source, E: Source, K: Sink>(
         Command::Checkpoint => close_segment(platform, out),
         Command::Power => lose_power(platform, out),
         Command::Help => written(help_text(), out),
-        Command::Init(_) | Command::Run | Command::Check => stopped(Status::Usage, out),
+        Command::Init(header) => start_instance(alloc, header, platform, store, entropy, out),
+        Command::Run => run_instance(alloc, platform, store, input, out),
+        Command::Check => stopped(Status::Usage, out),
     }
 }
 
@@ -74,6 +78,7 @@ fn done<P: Platform, T: Store, S: Source, E: Source, K: Sink>(
 /// `WriteFault`, and answers the status. `replay` replays the schedule that the input gives, `gen NUMBER COUNT VARIANT
 /// MODULE` writes a schedule made from a number, `bulk` with the same words runs it and tells what came of it in five
 /// lines, `receipts KEY` checks the receipts that the input gives, `checkpoint` closes the platform's open segment,
+/// `init VARIANT MODULE` starts an instance on a blank platform, `run` serves the lines of the input by the instance,
 /// `power` lets the platform lose its power and get it back, and `--help` alone lists the forms of words.
 ///
 /// Where the stop line can't be written the status stays that of the first cause.

@@ -1,6 +1,7 @@
 //! How the program ends.
 
 use mm_base::ReplayFault;
+use mm_host::SessionFault;
 use mm_model::Refusal;
 
 /// How the program ends. Lines are numbered from 1.
@@ -44,6 +45,7 @@ pub enum Status {
 
 impl Status {
     ghost use Rattle.std.specs.Prelude.{◌≡◌};
+    ghost use Rattle.mm_app.specs.Running.{refused_at, session_at, session_status};
     ghost use Rattle.mm_app.specs.Status.{code_of, status_at};
 
     /// The program's exit status.
@@ -82,6 +84,46 @@ impl Status {
             ReplayFault::BadLine { line } => Status::BadLine { line },
             ReplayFault::LineLong { line } => Status::LineLong { line },
             ReplayFault::TooMuch => Status::TooMuch,
+        }
+    }
+
+    /// How the program ends by a session's answer.
+    pub fn of_session(answer: Result<(), SessionFault>) -> Status
+        ensures { result ≡ session_status answer }
+    {
+        match answer {
+            Ok(()) => Status::Done,
+            Err(fault) => Status::at_session(fault),
+        }
+    }
+
+    // How the program ends where a session stopped so.
+    fn at_session(fault: SessionFault) -> Status
+        ensures { result ≡ session_at fault }
+    {
+        match fault {
+            SessionFault::Memory => Status::Memory,
+            SessionFault::Store => Status::StoreFault,
+            SessionFault::Refused(why) => Status::at_refusal(why),
+            SessionFault::ReadFault => Status::ReadFault,
+            SessionFault::WriteFault => Status::WriteFault,
+            SessionFault::LineLong { line } => Status::LineLong { line },
+            SessionFault::BadLine { line } => Status::BadLine { line },
+            SessionFault::TooMuch => Status::TooMuch,
+        }
+    }
+
+    // How the program ends where a call was refused so.
+    fn at_refusal(why: Refusal) -> Status
+        ensures { result ≡ refused_at why }
+    {
+        match why {
+            Refusal::Memory => Status::Memory,
+            Refusal::Device(_) => Status::PlatformFault,
+            Refusal::Blank => Status::Blank,
+            Refusal::Cell => Status::Cell,
+            Refusal::Lost => Status::Lost,
+            _ => Status::Refused(why),
         }
     }
 }

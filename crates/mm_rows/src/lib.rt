@@ -8,6 +8,8 @@ mod ends;
 #[cfg(test)]
 mod generated;
 #[cfg(test)]
+mod host;
+#[cfg(test)]
 mod limits;
 #[cfg(test)]
 mod run;

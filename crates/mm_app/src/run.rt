@@ -1,0 +1,104 @@
+//! The command `run`: the lines of the input are served by the instance that the platform's cell holds.
+
+ghost use Rattle.mm_app.specs.Running.{LooksAtInstance, RunsInstance, SeesInstance, Served, ServesAndStops};
+
+use crate::status::Status;
+use crate::stop::write_stop;
+use crate::telling::stopped;
+use mm_base::{Sink, Source};
+use mm_host::session;
+use mm_modules::by_id;
+use mm_platform::Platform;
+use mm_schedule::Header;
+use mm_seal::{CellFault, read_cell};
+use mm_store::Store;
+use std::alloc::Global;
+
+/// Serves the lines of the input by the instance that the platform's cell holds.
+pub fn run_instance<P: Platform, T: Store, S: Source, K: Sink>(
+    alloc: Global,
+    platform: &mut P,
+    store: &mut T,
+    input: &mut S,
+    out: &mut K,
+) -> Status
+    ensures { RunsInstance (P.standing platform.old) (P.standing platform.new) (T.kept store.old) (T.kept store.new)
+        (S.left input.old) (S.left input.new) (K.received out.old) (K.received out.new)
+        (S.faults input.old) (S.faults input.new) (K.faults out.old) (K.faults out.new) result }
+{
+    match look(platform) {
+        Err(status) => stopped(status, out),
+        Ok(header) => serve_and_stop(alloc, &header, platform, store, input, out),
+    }
+}
+
+// Reads the cell, and finds what it holds.
+fn look<P: Platform>(platform: &mut P) -> Result<Header, Status>
+    ensures { LooksAtInstance (P.standing platform.old) (P.standing platform.new) result }
+{
+    let mut bytes = [0; 104];
+    match platform.nv_read(&mut bytes) {
+        Err(_) => Err(Status::PlatformFault),
+        Ok(()) => instance_in(&bytes),
+    }
+}
+
+// What these bytes of a cell hold: a variant and a module.
+fn instance_in(bytes: &[u8; 104]) -> Result<Header, Status>
+    ensures { SeesInstance bytes.now result }
+{
+    match read_cell(bytes) {
+        Err(CellFault::Blank) => Err(Status::Blank),
+        Err(CellFault::Cell) => Err(Status::Cell),
+        Ok(cell) => match by_id(cell.module) {
+            None => Err(Status::Cell),
+            Some(module) => Ok(Header {
+                variant: cell.variant,
+                module,
+            }),
+        },
+    }
+}
+
+// Serves the lines, and writes the stop line.
+fn serve_and_stop<P: Platform, T: Store, S: Source, K: Sink>(
+    alloc: Global,
+    header: &Header,
+    platform: &mut P,
+    store: &mut T,
+    input: &mut S,
+    out: &mut K,
+) -> Status
+    ensures { ServesAndStops header.now (P.standing platform.old) (P.standing platform.new) (T.kept store.old) (T.kept store.new)
+        (S.left input.old) (S.left input.new) (K.received out.old) (K.received out.new)
+        (S.faults input.old) (S.faults input.new) (K.faults out.old) (K.faults out.new) result }
+{
+    let status = serve(alloc, header, platform, store, input, out);
+    let _ = write_stop(status, out);
+    status
+}
+
+// Serves the lines, and says how that ended.
+fn serve<P: Platform, T: Store, S: Source, K: Sink>(
+    alloc: Global,
+    header: &Header,
+    platform: &mut P,
+    store: &mut T,
+    input: &mut S,
+    out: &mut K,
+) -> Status
+    ensures { Served header.now (P.standing platform.old) (P.standing platform.new) (T.kept store.old) (T.kept store.new)
+        (S.left input.old) (S.left input.new) (K.received out.old) (K.received out.new)
+        (S.faults input.old) (S.faults input.new) (K.faults out.old) (K.faults out.new) result }
+{
+    let answer = session(
+        alloc,
+        header.variant,
+        &header.module,
+        platform,
+        store,
+        input,
+        out,
+    );
+    Status::of_session(answer)
+}
