@@ -8,3 +8,7 @@ mod Turning
 mod Lining
 mod Beginning
 mod SessionBlaming
+mod Putting
+mod Machining
+mod LineStep
+mod SessionRuns
