@@ -23,7 +23,6 @@ use Rattle.mm_model.specs.Places.{IsPlaceOf, Names}
 use Rattle.mm_model.specs.Standing.{StandsFor, IsRight}
 use Rattle.mm_model.specs.declared.answer.Answer.{Answer}
 use Rattle.mm_model.specs.declared.answer.BatchAnswer.{BatchAnswer}
-use Rattle.mm_model.specs.declared.refusal.Refusal.{Refusal}
 use Rattle.mm_model.proofs.Batches.{total-append, total-nil}
 use Rattle.mm_call.specs.Answers.{answer_on}
 use Rattle.mm_call.specs.Asked.{IsWithin as IsWithinAll, right_messages}
@@ -45,9 +44,8 @@ use Rattle.mm_host.specs.declared.resuming.Resumed.{Resumed}
 use Rattle.mm_host.specs.declared.resuming.Resumed.TheVariants.{Start, Answered}
 use Rattle.mm_host.specs.Asking.{IsCall}
 use Rattle.mm_host.specs.Continuing.{IsNotBeyond, position_of, reply_of}
-use Rattle.mm_host.specs.Faults.{store_fault_as}
 use Rattle.mm_host.specs.Fitting.{Fits, FitsBy, Holds, offer_slot}
-use Rattle.mm_host.specs.Recovery.{AnswersAt, CanRecover, IsAskedFor, IsGrown, MayCommit, RecoversTo}
+use Rattle.mm_host.specs.Recovery.{AnswersAt, CanRecover, MayCommit, RecoversTo}
 use Rattle.mm_host.specs.Saying.{position_at, snapshot_at}
 use Rattle.mm_host.specs.Waiting.{IsWaiting}
 use Rattle.mm_host.specs.Serving.{AfterRecord, AsksLine, Place, record_for}

@@ -4,7 +4,7 @@ use Rattle.mm_digest.specs.declared.variant.Variant.TheVariants.{Basic}
 use Rattle.mm_digest.specs.Messages.{start_of}
 use Rattle.mm_digest.proofs.Lengths.{length-start_of}
 use Rattle.mm_module.specs.Meaning.{Meaning, IsLawful, state_after}
-use Rattle.mm_module.specs.Batch.{Batch, One, members_of}
+use Rattle.mm_module.specs.Batch.{Batch, One}
 use Rattle.mm_module.proofs.RunLaws.{state_after-is_spelled}
 use Rattle.mm_seal.specs.Snapshot.{IsContent}
 use Rattle.mm_model.specs.Chains.{link_message, summary_of}
@@ -21,7 +21,6 @@ use Rattle.mm_call.specs.Answers.{answer_on}
 use Rattle.mm_call.specs.Leaving.{whole}
 use Rattle.mm_call.proofs.Calling.{requests-push, said_last}
 use Rattle.mm_schedule.specs.Machine.{StepsOn}
-use Rattle.mm_schedule.specs.declared.reply.Reply.{Reply}
 use Rattle.mm_schedule.specs.declared.reply.Reply.TheVariants.{Told}
 use Rattle.mm_host.specs.Continuing.{RunsOver, reply_of}
 use Rattle.mm_host.specs.Fitting.{Holds}

@@ -1,7 +1,7 @@
 -- A session of Basic by lists: from what waited, over the lines, to each of its ends.
-use Rattle.std.proofs.Common.{◌≡◌, ◌≢◌, ◌∙◌, ◌+◌, ◌-◌, ◌<◌, ◌≤◌, ◌^◌, ℕ, Bool, true, false, List, [], ◌∷◌, ◌++◌, length, Option, None, Some, Result, Ok, Err, refl, sym, ap, subst, inl, inr, arith, append_assoc}
+use Rattle.std.proofs.Common.{◌≡◌, ◌∙◌, ◌+◌, ◌≤◌, ◌^◌, ℕ, Bool, true, false, List, [], ◌∷◌, ◌++◌, length, Option, None, Some, Result, Ok, Err, refl, sym, ap, subst, inl, inr, arith, append_assoc}
 use Rattle.std.specs.Prelude.{◌⊎◌, if◌then◌else◌, nat_eq}
-use Rattle.std.specs.Io.KnownBytes.{Consumes, IsAtEnd}
+use Rattle.std.specs.Io.KnownBytes.{Consumes}
 use Rattle.std.specs.List.{AllByRecursion}
 use Rattle.std.proofs.lemmas.Bool.Decides.{nat_tests}
 use Rattle.mm_base.specs.Input.{IsUnbroken, joined, lines_of}
@@ -17,12 +17,11 @@ use Rattle.mm_model.specs.Messages.{IsClear, AreNoGuards}
 use Rattle.mm_model.specs.Standing.{StandsFor}
 use Rattle.mm_model.specs.declared.answer.Answer.{Answer}
 use Rattle.mm_model.specs.declared.answer.BatchAnswer.{BatchAnswer}
-use Rattle.mm_model.specs.declared.refusal.Refusal.{Refusal}
 use Rattle.mm_call.specs.Answers.{answer_on}
 use Rattle.mm_call.specs.Leaving.{whole}
 use Rattle.mm_call.proofs.Calling.{requests-push}
 use Rattle.mm_store.specs.Kept.{Kept}
-use Rattle.mm_store.specs.Pending.{Pending, IsPending, ReadsPending}
+use Rattle.mm_store.specs.Pending.{Pending, ReadsPending}
 use Rattle.mm_store.specs.Slots.{Slots, seen_in}
 use Rattle.mm_host.specs.declared.fault.HostFault.{HostFault}
 use Rattle.mm_host.specs.declared.fault.HostFault.TheVariants as host
@@ -32,15 +31,15 @@ use Rattle.mm_host.specs.declared.resuming.Resumed.{Resumed}
 use Rattle.mm_host.specs.declared.resuming.Resumed.TheVariants.{Start, Answered}
 use Rattle.mm_host.specs.Continuing.{AreToFollow, CanServe, Continues, ContinuesTo, HasUntold, IsInHand, MayBeUntold, RunsOver, batches_then, position_of, told_first, told_in}
 use Rattle.mm_host.specs.Faults.{told_as}
-use Rattle.mm_host.specs.Fitting.{Fits, FitsBy, Holds, IsAwaited, offer_slot}
-use Rattle.mm_host.specs.Recovery.{AnswersAt, CanRecover, IsGrown, MayCommit, RecoversTo}
-use Rattle.mm_host.specs.Saying.{Says, comes_as, position_at, snapshot_at, text_of}
+use Rattle.mm_host.specs.Fitting.{Fits, FitsBy, Holds, IsAwaited}
+use Rattle.mm_host.specs.Recovery.{CanRecover, IsGrown, MayCommit, RecoversTo}
+use Rattle.mm_host.specs.Saying.{Says, comes_as, text_of}
 use Rattle.mm_host.specs.Serving.{Place, Served, Serves, lines_served}
-use Rattle.mm_host.specs.Sessions.{AfterResume, BeginsWith, Ends, GoesOn, IsAtRest, Sessions, Stops, StopsAtOnce, StopsInLine}
+use Rattle.mm_host.specs.Sessions.{AfterResume, BeginsWith, Ends, GoesOn, IsAtRest, Stops, StopsAtOnce, StopsInLine}
 use Rattle.mm_host.specs.Waiting.{IsWaiting, later}
 use Rattle.mm_host.proofs.Awaited.{one_more}
 use Rattle.mm_host.proofs.Machining.{RunsOver-append, holds_issued, steps_again, steps_fresh}
-use Rattle.mm_host.proofs.LineStep.{IsSettledAt, LineComes, MayFollow, Settled, line_comes}
+use Rattle.mm_host.proofs.LineStep.{IsSettledAt, line_comes}
 use Rattle.mm_host.proofs.Recovering.{recovers}
 
 -- over lines that were answered
