@@ -2,6 +2,8 @@
 #![tactic(auto)]
 
 use mm_app::{Status, StdSink, StdSource, memoir};
+use mm_platform::MemPlatform;
+use mm_store::MemStore;
 use std::io::ErrorKind;
 use std::process::ExitCode;
 use std::{env, io};
@@ -25,9 +27,20 @@ fn run(rt: &HostRuntime) -> io::Result<Status> {
     for text in texts.iter() {
         words.push(text.as_str())?;
     }
+    let mut platform = MemPlatform::new(rt.alloc(), &[0; 104]);
+    let mut store = MemStore::new(rt.alloc());
     let mut input = StdSource::new(rt.reader());
+    let mut entropy = StdSource::new(io::empty());
     let mut out = StdSink::new(io::writer(rt));
-    Ok(memoir(rt.alloc(), &words, &mut input, &mut out))
+    Ok(memoir(
+        rt.alloc(),
+        &words,
+        &mut platform,
+        &mut store,
+        &mut input,
+        &mut entropy,
+        &mut out,
+    ))
 }
 
 fn main(rt: HostRuntime) -> ExitCode {

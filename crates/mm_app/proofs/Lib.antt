@@ -1,2 +1,4 @@
-pub mod OneCommand
+pub mod Blame
+pub mod Ending
+pub mod OneRun
 pub mod Sending

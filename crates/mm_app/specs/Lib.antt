@@ -1,2 +1,11 @@
-pub mod Status
+pub mod Blame
+pub mod Bulk
+pub mod Checkpoint
 pub mod Commands
+pub mod Headline
+pub mod Outside
+pub mod Power
+pub mod Receipts
+pub mod Replaying
+pub mod Status
+pub mod Telling

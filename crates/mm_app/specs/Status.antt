@@ -1,10 +1,10 @@
 -- How the program ends, and what it writes last.
-use Rattle.std.specs.Prelude.{ℕ, List, [], ◌∷◌, ◌++◌, codes}
+use Rattle.std.specs.Prelude.{ℕ, List, [], ◌∷◌, ◌++◌, codes, Result, Ok, Err}
 use Rattle.std.specs.Fmt.{decimal}
 use Rattle.mm_base.specs.declared.replay_fault.ReplayFault.{ReplayFault}
 use Rattle.mm_base.specs.declared.replay_fault.ReplayFault.TheVariants as fault
 use Rattle.mm_app.specs.declared.status.Status.{Status}
-use Rattle.mm_app.specs.declared.status.Status.TheVariants.{Done, Usage, ReadFault, WriteFault, Memory, BadLine, LineLong, TooMuch}
+use Rattle.mm_app.specs.declared.status.Status.TheVariants.{Done, Usage, ReadFault, WriteFault, Memory, PlatformFault, StoreFault, Blank, Already, Cell, Lost, Refused, BadLine, LineLong, TooMuch, Short, Kind}
 
 -- the exit status
 abbrev pub code_of : Status → ℕ
@@ -13,9 +13,18 @@ code_of Usage = 2
 code_of ReadFault = 3
 code_of WriteFault = 4
 code_of Memory = 5
+code_of PlatformFault = 6
+code_of StoreFault = 7
+code_of Blank = 8
+code_of Already = 9
+code_of Cell = 10
+code_of Lost = 11
+code_of (Refused why) = 12
 code_of (BadLine line) = 13
 code_of (LineLong line) = 14
 code_of TooMuch = 15
+code_of (Short got) = 16
+code_of Kind = 17
 
 -- how the program ends where a command stopped so
 abbrev pub status_at : ReplayFault → Status
@@ -25,6 +34,11 @@ status_at fault.WriteFault = WriteFault
 status_at (fault.BadLine line) = BadLine line
 status_at (fault.LineLong line) = LineLong line
 status_at fault.TooMuch = TooMuch
+
+-- how the program ends by the answer of a command that plays lines
+abbrev pub status_of : {T : Type 0} → Result T ReplayFault → Status
+status_of (Ok report) = Done
+status_of (Err fault) = status_at fault
 
 -- these words, and the end of a line
 abbrev pub line_of : List ℕ → List ℕ
@@ -37,6 +51,23 @@ stop_line WriteFault = []
 stop_line Usage = line_of (codes "stop usage")
 stop_line ReadFault = line_of (codes "stop read")
 stop_line Memory = line_of (codes "stop memory")
+stop_line PlatformFault = line_of (codes "stop platform")
+stop_line StoreFault = line_of (codes "stop store")
+stop_line Blank = line_of (codes "stop blank")
+stop_line Already = line_of (codes "stop already")
+stop_line Cell = line_of (codes "stop cell")
+stop_line Lost = line_of (codes "stop lost")
+stop_line (Refused why) = line_of (codes "stop refused")
 stop_line (BadLine line) = codes "stop line " ++ line_of (decimal line)
 stop_line (LineLong line) = codes "stop long " ++ line_of (decimal line)
 stop_line TooMuch = line_of (codes "stop much")
+stop_line (Short got) = line_of (codes "stop short")
+stop_line Kind = line_of (codes "stop kind")
+
+-- it ended with no line refused: all was done, or memory was wanting, or the input or the output failed
+abbrev pub EndsUnrefused : Status → Type 0
+EndsUnrefused Done = Unit {0}
+EndsUnrefused ReadFault = Unit {0}
+EndsUnrefused WriteFault = Unit {0}
+EndsUnrefused Memory = Unit {0}
+EndsUnrefused _ = ⊥

@@ -1,130 +1,132 @@
 //! What the words of the command line do.
 
-ghost use Rattle.std.specs.Prelude.{◌≡◌, ◌≤◌, ◌⊎◌, ℕ, List, Some, Ok, map};
-ghost use Rattle.mm_gen.specs.Schedules.{schedule_text};
+ghost use Rattle.std.specs.Prelude.{◌≡◌, ℕ, List, Some, Ok, map};
 ghost use Rattle.mm_play.specs.Play.{run_of};
+ghost use Rattle.mm_play.specs.Plays.{IsBlamed};
+ghost use Rattle.mm_receipts.specs.Checking.{Checking, first_checking, receipts_answer, receipts_closing};
 ghost use Rattle.mm_replay.specs.Schedule.{Stage, AtHeader, schedule_answer, schedule_closing};
 ghost use Rattle.mm_schedule.specs.Headers.{header_at};
 ghost use Rattle.mm_words.specs.Commands.{IsAllowed, Spells};
 ghost use Rattle.mm_words.specs.declared.command.Command.{Command as Told};
-ghost use Rattle.mm_words.specs.declared.command.Command.TheVariants.{Replay};
-ghost use Rattle.mm_app.specs.Commands.{DoesOrLacks, EndsUnrefused, IsBuilt, IsRefused, Replayed, ReplaysAndStops, Stops, WritesText};
-ghost use Rattle.mm_app.specs.declared.status.Status.TheVariants.{Memory, Usage};
+ghost use Rattle.mm_words.specs.declared.command.Command.TheVariants.{Receipts, Replay};
+ghost use Rattle.mm_app.specs.Blame.{BlamesOutput, BlamesSource, is_platform_fault, is_store_fault};
+ghost use Rattle.mm_app.specs.Commands.{DoesOrLacks, IsBuilt, Reads, SpellNo, TakesEntropy, UsesPlatform, UsesStore};
+ghost use Rattle.mm_app.specs.Headline.{IsOneRun};
+ghost use Rattle.mm_app.specs.Outside.{outside};
+ghost use Rattle.mm_app.specs.Status.{EndsUnrefused};
+ghost use Rattle.mm_app.specs.Telling.{IsRefused};
+ghost use Rattle.mm_app.specs.declared.status.Status.TheVariants.{Usage};
 
+use crate::bulk::run_in_bulk;
+use crate::checkpoint::close_segment;
+use crate::power::lose_power;
+use crate::receipts::check_receipts;
+use crate::replay::replay_and_stop;
+use crate::schedule::write_schedule;
 use crate::status::Status;
-use crate::stop::write_stop;
-use mm_base::{Sink, Source, write_all};
-use mm_gen::generate;
-use mm_replay::replay;
-use mm_words::{Command, Generated, WordsFault, help_text, read_words};
+use crate::telling::{stopped, written};
+use mm_base::{Sink, Source};
+use mm_platform::Platform;
+use mm_store::Store;
+use mm_words::{Command, WordsFault, help_text, read_words};
 use std::alloc::Global;
 
-// Replays the input, and says how it ended.
-fn replayed<S: Source, K: Sink>(alloc: Global, input: &mut S, out: &mut K) -> Status
-    ensures replayed { Replayed (S.left input.old) (S.left input.new) (K.received out.old) (K.received out.new)
-        (S.faults input.old) (S.faults input.new) (K.faults out.old) (K.faults out.new) result }
-    ensures complete { (bytes : List ℕ) → (next : Stage) → S.left input.old ≡ Some bytes
-        → (run_of (schedule_answer header_at) schedule_closing AtHeader bytes).outcome ≡ Ok next → EndsUnrefused result }
-{
-    match replay(alloc, input, out) {
-        Ok(_) => Status::Done,
-        Err(fault) => Status::of(fault),
-    }
-}
-
-// Replays the input, and writes the stop line.
-fn replay_and_stop<S: Source, K: Sink>(alloc: Global, input: &mut S, out: &mut K) -> Status
-    ensures replays { ReplaysAndStops (S.left input.old) (S.left input.new) (K.received out.old) (K.received out.new)
-        (S.faults input.old) (S.faults input.new) (K.faults out.old) (K.faults out.new) result }
-    ensures complete { (bytes : List ℕ) → (next : Stage) → S.left input.old ≡ Some bytes
-        → (run_of (schedule_answer header_at) schedule_closing AtHeader bytes).outcome ≡ Ok next → EndsUnrefused result }
-{
-    let status = replayed(alloc, input, out);
-    let _ = write_stop(status, out);
-    status
-}
-
-// Writes the stop line of a status.
-fn stopped<K: Sink>(status: Status, out: &mut K) -> Status
-    ensures status { result ≡ status }
-    ensures told { Stops (K.received out.old) (K.received out.new) (K.faults out.old) (K.faults out.new) status }
-{
-    let _ = write_stop(status, out);
-    status
-}
-
-// Writes a text.
-fn written<K: Sink>(text: &[u8], out: &mut K) -> Status
-    ensures { WritesText text.now (K.received out.old) (K.received out.new) (K.faults out.old) (K.faults out.new) result }
-{
-    match write_all(out, text) {
-        Ok(()) => Status::Done,
-        Err(_) => Status::WriteFault,
-    }
-}
-
-// Writes the schedule of a number.
-fn generated<K: Sink>(alloc: Global, it: &Generated, out: &mut K) -> Status
-    requires { it.now.count ≤ 20000 }
-    ensures gives { WritesText (schedule_text it.now.number it.now.count it.now.header)
-        (K.received out.old) (K.received out.new) (K.faults out.old) (K.faults out.new) result
-        ⊎ ((result ≡ Memory) × Stops (K.received out.old) (K.received out.new) (K.faults out.old) (K.faults out.new) Memory) }
-    ensures usage { result ≡ Usage → ⊥ }
-{
-    match generate(alloc, it.number, it.count, &it.header) {
-        Ok(text) => written(text.as_slice(), out),
-        Err(_) => stopped(Status::Memory, out),
-    }
-}
-
 // Does what a command says.
-fn done<S: Source, K: Sink>(alloc: Global, command: &Command, input: &mut S, out: &mut K) -> Status
+fn done<P: Platform, T: Store, S: Source, E: Source, K: Sink>(
+    alloc: Global,
+    command: &Command,
+    platform: &mut P,
+    store: &mut T,
+    input: &mut S,
+    entropy: &mut E,
+    out: &mut K,
+) -> Status
     requires { IsAllowed command.now }
-    ensures does { DoesOrLacks command.now (S.left input.old) (S.left input.new) (K.received out.old) (K.received out.new)
-        (S.faults input.old) (S.faults input.new) (K.faults out.old) (K.faults out.new) result }
+    ensures does { let old = outside (P.standing platform.old) (T.kept store.old) (S.left input.old) (S.faults input.old)
+        (E.left entropy.old) (E.faults entropy.old) (K.received out.old) (K.faults out.old) in
+        let new = outside (P.standing platform.new) (T.kept store.new) (S.left input.new) (S.faults input.new)
+        (E.left entropy.new) (E.faults entropy.new) (K.received out.new) (K.faults out.new) in
+        DoesOrLacks command.now old new result }
     ensures complete { command.now ≡ Replay → (bytes : List ℕ) → (next : Stage) → S.left input.old ≡ Some bytes
         → (run_of (schedule_answer header_at) schedule_closing AtHeader bytes).outcome ≡ Ok next → EndsUnrefused result }
+    ensures receipts { (key : List ℕ) → command.now ≡ Receipts key → (bytes : List ℕ) → (next : Checking) → S.left input.old ≡ Some bytes
+        → (run_of receipts_answer receipts_closing (first_checking key) bytes).outcome ≡ Ok next → EndsUnrefused result }
     ensures usage { result ≡ Usage → IsBuilt command.now → ⊥ }
     ensures unbuilt { (IsBuilt command.now → ⊥) → IsRefused (K.received out.old) (K.received out.new) (K.faults out.old) (K.faults out.new) result }
-    ensures unread { (command.now ≡ Replay → ⊥) → input.new ≡ input.old }
+    ensures platform { (UsesPlatform command.now → ⊥) → platform.new ≡ platform.old }
+    ensures store { (UsesStore command.now → ⊥) → store.new ≡ store.old }
+    ensures input { (Reads command.now → ⊥) → input.new ≡ input.old }
+    ensures entropy { (TakesEntropy command.now → ⊥) → entropy.new ≡ entropy.old }
 {
     match command {
         Command::Replay => replay_and_stop(alloc, input, out),
-        Command::Gen(it) => generated(alloc, it, out),
+        Command::Gen(it) => write_schedule(alloc, it, out),
+        Command::Bulk(it) => run_in_bulk(alloc, it, out),
+        Command::Receipts { key } => check_receipts(alloc, key, input, out),
+        Command::Checkpoint => close_segment(platform, out),
+        Command::Power => lose_power(platform, out),
         Command::Help => written(help_text(), out),
-        Command::Check | Command::Bulk(_) => stopped(Status::Usage, out),
+        Command::Init(_) | Command::Run | Command::Check => stopped(Status::Usage, out),
     }
 }
 
 /// Does what the words after the program's name say, writes the stop line of any other status than `Done` and
 /// `WriteFault`, and answers the status. `replay` replays the schedule that the input gives, `gen NUMBER COUNT VARIANT
-/// MODULE` writes a schedule made from a number, and `--help` alone lists the forms of words.
+/// MODULE` writes a schedule made from a number, `bulk` with the same words runs it and tells what came of it in five
+/// lines, `receipts KEY` checks the receipts that the input gives, `checkpoint` closes the platform's open segment,
+/// `power` lets the platform lose its power and get it back, and `--help` alone lists the forms of words.
 ///
 /// Where the stop line can't be written the status stays that of the first cause.
-pub fn memoir<S: Source, K: Sink>(
+pub fn memoir<P: Platform, T: Store, S: Source, E: Source, K: Sink>(
     alloc: Global,
     words: &[&str],
+    platform: &mut P,
+    store: &mut T,
     input: &mut S,
+    entropy: &mut E,
     out: &mut K,
 ) -> Status
-    ensures does { (command : Told) → Spells command (map (λ s. s.now) words.now)
-        → DoesOrLacks command (S.left input.old) (S.left input.new) (K.received out.old) (K.received out.new)
-        (S.faults input.old) (S.faults input.new) (K.faults out.old) (K.faults out.new) result }
+    ensures does { let old = outside (P.standing platform.old) (T.kept store.old) (S.left input.old) (S.faults input.old)
+        (E.left entropy.old) (E.faults entropy.old) (K.received out.old) (K.faults out.old) in
+        let new = outside (P.standing platform.new) (T.kept store.new) (S.left input.new) (S.faults input.new)
+        (E.left entropy.new) (E.faults entropy.new) (K.received out.new) (K.faults out.new) in
+        (command : Told) → Spells command (map (λ s. s.now) words.now) → DoesOrLacks command old new result }
 
     // A schedule within the grammar and the limits is not refused.
     ensures complete { Spells Replay (map (λ s. s.now) words.now) → (bytes : List ℕ) → (next : Stage) → S.left input.old ≡ Some bytes
         → (run_of (schedule_answer header_at) schedule_closing AtHeader bytes).outcome ≡ Ok next → EndsUnrefused result }
 
+    // Lines that are pairs within the limits are not refused.
+    ensures receipts { (key : List ℕ) → Spells (Receipts key) (map (λ s. s.now) words.now) → (bytes : List ℕ) → (next : Checking) → S.left input.old ≡ Some bytes
+        → (run_of receipts_answer receipts_closing (first_checking key) bytes).outcome ≡ Ok next → EndsUnrefused result }
+
+    // The headline: what is written for a schedule is one run of the module on one list of requests.
+    ensures headline { Spells Replay (map (λ s. s.now) words.now)
+        → IsOneRun (S.left input.old) (S.left input.new) (K.received out.old) (K.received out.new) result }
+
     // Usage comes exactly where the words spell no command that is built, but for want of memory.
-    ensures usage { result ≡ Usage → (command : Told) → IsBuilt command → Spells command (map (λ s. s.now) words.now) → ⊥ }
-    ensures none { ((command : Told) → IsBuilt command → Spells command (map (λ s. s.now) words.now) → ⊥)
+    ensures usage { result ≡ Usage → SpellNo IsBuilt (map (λ s. s.now) words.now) }
+    ensures none { SpellNo IsBuilt (map (λ s. s.now) words.now)
         → IsRefused (K.received out.old) (K.received out.new) (K.faults out.old) (K.faults out.new) result }
 
-    // Only a replay reads.
-    ensures unread { (Spells Replay (map (λ s. s.now) words.now) → ⊥) → input.new ≡ input.old }
+    // A command leaves the objects that it doesn't use as they were.
+    ensures platform { SpellNo UsesPlatform (map (λ s. s.now) words.now) → platform.new ≡ platform.old }
+    ensures store { SpellNo UsesStore (map (λ s. s.now) words.now) → store.new ≡ store.old }
+    ensures input { SpellNo Reads (map (λ s. s.now) words.now) → input.new ≡ input.old }
+    ensures entropy { SpellNo TakesEntropy (map (λ s. s.now) words.now) → entropy.new ≡ entropy.old }
+
+    // A count of faults rose exactly where the status blames it; the output's too where its stop line was cut short.
+    ensures device { IsBlamed (is_platform_fault result) (P.standing platform.old).faults (P.standing platform.new).faults }
+    ensures slots { IsBlamed (is_store_fault result) (T.kept store.old).faults (T.kept store.new).faults }
+    ensures source { let old = outside (P.standing platform.old) (T.kept store.old) (S.left input.old) (S.faults input.old)
+        (E.left entropy.old) (E.faults entropy.old) (K.received out.old) (K.faults out.old) in
+        let new = outside (P.standing platform.new) (T.kept store.new) (S.left input.new) (S.faults input.new)
+        (E.left entropy.new) (E.faults entropy.new) (K.received out.new) (K.faults out.new) in
+        (command : Told) → Spells command (map (λ s. s.now) words.now) → BlamesSource command old new result }
+    ensures wrote { BlamesOutput result (K.faults out.old) (K.faults out.new) }
 {
     match read_words(alloc, words) {
-        Ok(command) => done(alloc, &command, input, out),
+        Ok(command) => done(alloc, &command, platform, store, input, entropy, out),
         Err(WordsFault::Usage) => stopped(Status::Usage, out),
         Err(WordsFault::Memory) => stopped(Status::Memory, out),
     }

@@ -1,10 +1,17 @@
 //! The words of the command line, and the top call.
 #![tactic(auto)]
 
+mod bulk;
+mod checkpoint;
 mod command;
+mod power;
+mod receipts;
+mod replay;
+mod schedule;
 mod status;
 mod stop;
 mod streams;
+mod telling;
 
 pub use command::memoir;
 pub use status::Status;

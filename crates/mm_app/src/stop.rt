@@ -25,9 +25,18 @@ pub fn write_stop<K: Sink>(status: Status, out: &mut K) -> Result<(), WriteFault
         Status::Usage => write_all(out, b"stop usage\n"),
         Status::ReadFault => write_all(out, b"stop read\n"),
         Status::Memory => write_all(out, b"stop memory\n"),
+        Status::PlatformFault => write_all(out, b"stop platform\n"),
+        Status::StoreFault => write_all(out, b"stop store\n"),
+        Status::Blank => write_all(out, b"stop blank\n"),
+        Status::Already => write_all(out, b"stop already\n"),
+        Status::Cell => write_all(out, b"stop cell\n"),
+        Status::Lost => write_all(out, b"stop lost\n"),
+        Status::Refused(_) => write_all(out, b"stop refused\n"),
         Status::BadLine { line } => write_numbered(b"stop line ", line, out),
         Status::LineLong { line } => write_numbered(b"stop long ", line, out),
         Status::TooMuch => write_all(out, b"stop much\n"),
+        Status::Short { .. } => write_all(out, b"stop short\n"),
+        Status::Kind => write_all(out, b"stop kind\n"),
     }
 }
 

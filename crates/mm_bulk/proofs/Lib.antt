@@ -1,2 +1,3 @@
 pub mod FiveLines
 pub mod Tallying
+pub mod Replaying

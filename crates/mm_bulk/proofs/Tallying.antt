@@ -1,6 +1,6 @@
 -- A schedule among its events: the lines left, and what stands of its summary.
 use Rattle.std.proofs.Common.{◌≡◌, ◌≢◌, ◌<◌, ◌≤◌, ◌∙◌, ℕ, ◌+◌, suc, true, false, List, [], ◌∷◌, ◌++◌, length, map, refl, sym, ap, subst, arith, append_assoc, append-nil}
-use Rattle.std.specs.Prelude.{Option, Some, None, is_some, nat_lt, Result, Ok}
+use Rattle.std.specs.Prelude.{Option, Some, None, is_some, nat_lt, Result, Ok, Err}
 use Rattle.std.specs.List.{AllByRecursion, fold, position, position_or_len}
 use Rattle.std.specs.Option.{option_map_or}
 use Rattle.std.proofs.Math.Seq.{take-append_seam, drop-append-add}
@@ -13,7 +13,6 @@ use Rattle.mm_base.specs.Input.{IsUnbroken, joined}
 use Rattle.mm_base.specs.Streams.{Sends}
 use Rattle.mm_base.specs.declared.fault.WriteFault.{WriteFault}
 use Rattle.mm_digest.specs.declared.digest.Digest.{Digest}
-use Rattle.mm_schedule.specs.declared.header.Header.{Header}
 use Rattle.mm_schedule.specs.declared.header.Header.{Header}
 use Rattle.mm_schedule.specs.declared.reply.Reply.{Reply}
 use Rattle.mm_schedule.specs.declared.reply.Reply.TheVariants.{Told, No, Kept, Nothing, Closed, Checkpointed, Power, Extended}
@@ -29,12 +28,15 @@ use Rattle.mm_run.specs.Folds.{Followed, followed, replies_by_digests}
 use Rattle.mm_run.specs.Held.{world_of}
 use Rattle.mm_model.specs.Moves.{Digests}
 use Rattle.mm_call.specs.Levels.{by_digests}
-use Rattle.mm_replay.specs.Schedule.{Running, after_event, begun, outcome_in}
+use Rattle.mm_replay.specs.Schedule.{Running, after_event, begun, is_too_much, outcome_in}
 use Rattle.mm_replay.specs.Text.{text_of, texts_of}
 use Rattle.mm_bulk.specs.Answered.{Answered}
 use Rattle.mm_bulk.specs.Counting.{counted, counts_of, no_counts, total}
+use Rattle.mm_bulk.specs.Limits.{IsLimited, is_over}
 use Rattle.mm_bulk.specs.LineBreaks.{is_break, line_at}
 use Rattle.mm_bulk.specs.Sums.{SumsUp}
+use Rattle.mm_bulk.specs.declared.fault.BulkFault.{BulkFault}
+use Rattle.mm_bulk.specs.declared.fault.BulkFault.TheVariants.{Memory, TooMuch}
 use Rattle.mm_bulk.specs.declared.counts.Counts.{Counts}
 use Rattle.mm_bulk.specs.declared.summary.Summary.{Summary}
 
@@ -64,13 +66,13 @@ no_line = refl
 no_pair : (p : List ℕ × List ℕ) → (let none : Option (List ℕ × List ℕ) = None in none ≡ Some p) → ⊥
 no_pair p is = cc
 
-no_events : (one : Option Event) (more : List (Option Event)) → (let none : List (Option Event) = [] in one ∷ more ≡ none) → ⊥
+pub no_events : (one : Option Event) (more : List (Option Event)) → (let none : List (Option Event) = [] in one ∷ more ≡ none) → ⊥
 no_events one more is = cc
 
 -- ---- what is left
 
 -- what follows of these events
-abbrev left_of : Running → List Event → Followed Digests
+abbrev pub left_of : Running → List Event → Followed Digests
 left_of r events = followed (world_of r.header) (by_digests (world_of r.header)) r.digests r.issued events
 
 -- the whole is what was counted and written, and then what is left
@@ -89,6 +91,7 @@ pub record Going (lines : List (List ℕ)) (rest : List ℕ) (r : Running) (coun
   read : map event_at left ≡ map Some events
   whole : map event_at lines ≡ map Some all
   few : total counts + length left ≤ 20000
+  over : is_over r left ≡ is_over (begun r.header) lines
   rests : Rests r counts text (left_of r events) (replies_by_digests (world_of r.header) all)
 
 -- an event line that is answered next
@@ -98,6 +101,7 @@ pub record Next (lines : List (List ℕ)) (rest : List ℕ) (r : Running) (count
   pub short : length line ≤ 8400
   pub known : is_some (event_at line) ≡ true
   pub room : total counts < 20000
+  pub over : is_too_much r line ≡ true → is_over (begun r.header) lines ≡ true
   pub on : (reply : Reply) (new : Running) → Answered r new line reply → Going lines behind new (counted counts reply) (text ++ text_of reply)
 
 total-counted : (counts : Counts) (reply : Reply) → total (counted counts reply) ≡ total counts + 1
@@ -112,7 +116,7 @@ total-counted counts Power = omega arith
 total-counted counts Extended = omega arith
 
 -- the first of the options, and the others
-heads : (one other : Option Event) (more others : List (Option Event)) → one ∷ more ≡ other ∷ others → (one ≡ other) × (more ≡ others)
+pub heads : (one other : Option Event) (more others : List (Option Event)) → one ∷ more ≡ other ∷ others → (one ≡ other) × (more ≡ others)
 heads one other more others is = (ap (first_or one) is, ap rest_of is)
   where
     first_or : Option Event → List (Option Event) → Option Event
@@ -123,12 +127,21 @@ heads one other more others is = (ap (first_or one) is, ap rest_of is)
     rest_of [] = []
     rest_of (x ∷ xs) = xs
 
+-- a line that passes no limit: those behind it decide
+pub over_behind : (r : Running) (line : List ℕ) (more : List (List ℕ)) (event : Event) → event_at line ≡ Some event → is_too_much r line ≡ false
+    → is_over (after_event r line event) more ≡ is_over r (line ∷ more)
+over_behind r line more event is room = rw (is, room) refl
+
+-- a line that passes a limit
+pub over_at : (r : Running) (line : List ℕ) (more : List (List ℕ)) → is_too_much r line ≡ true → is_over r (line ∷ more) ≡ true
+over_at r line more much = rw much refl
+
 answered_on : (lines more : List (List ℕ)) (line : List ℕ) (r : Running) (counts : Counts) (text : List ℕ) (event : Event) (events all : List Event)
     → AllByRecursion IsEventLine more → map event_at more ≡ map Some events → map event_at lines ≡ map Some all
-    → total counts + length (line ∷ more) ≤ 20000
+    → total counts + length (line ∷ more) ≤ 20000 → is_over (after_event r line event) more ≡ is_over (begun r.header) lines
     → Rests r counts text (left_of r (event ∷ events)) (replies_by_digests (world_of r.header) all)
     → Going lines (joined more) (after_event r line event) (counted counts (outcome_in r event).reply) (text ++ text_of (outcome_in r event).reply)
-answered_on lines more line r counts text event events all are read whole few rests =
+answered_on lines more line r counts text event events all are read whole few over rests =
     let said : Reply = (outcome_in r event).reply in
     let behind : Followed Digests = left_of (after_event r line event) events in
     record {
@@ -140,6 +153,7 @@ answered_on lines more line r counts text event events all are read whole few re
       read = read;
       whole = whole;
       few = omega (arith, total-counted counts said, few);
+      over = over;
       rests = record {
         replies = append_assoc text (text_of said) (texts_of behind.replies) ∙ rests.replies;
         counted = rests.counted;
@@ -150,32 +164,35 @@ answered_on lines more line r counts text event events all are read whole few re
 
 next_line : (lines left : List (List ℕ)) (rest : List ℕ) (r : Running) (counts : Counts) (text : List ℕ) (events all : List Event) (line behind : List ℕ)
     → rest ≡ joined left → AllByRecursion IsEventLine left → map event_at left ≡ map Some events → map event_at lines ≡ map Some all
-    → total counts + length left ≤ 20000 → Rests r counts text (left_of r events) (replies_by_digests (world_of r.header) all)
+    → total counts + length left ≤ 20000 → is_over r left ≡ is_over (begun r.header) lines
+    → Rests r counts text (left_of r events) (replies_by_digests (world_of r.header) all)
     → line_at rest ≡ Some (line, behind) → Next lines rest r counts text line behind
-next_line lines [] rest r counts text events all line behind bytes are read whole few rests found =
+next_line lines [] rest r counts text events all line behind bytes are read whole few over rests found =
     absurd (no_pair (line, behind) (sym no_line ∙ ap line_at (sym bytes) ∙ found))
-next_line lines (l ∷ more) rest r counts text [] all line behind bytes are read whole few rests found =
+next_line lines (l ∷ more) rest r counts text [] all line behind bytes are read whole few over rests found =
     absurd (no_events (event_at l) (map event_at more) read)
-next_line lines (l ∷ more) rest r counts text (event ∷ events) all line behind bytes are read whole few rests found =
+next_line lines (l ∷ more) rest r counts text (event ∷ events) all line behind bytes are read whole few over rests found =
     let both = heads (event_at l) (Some event) (map event_at more) (map Some events) read in
     let first : Some (l, joined more) ≡ Some (line, behind) = sym (line_again l (joined more) are.0.unbroken) ∙ ap line_at (sym bytes) ∙ found in
     let same : (l, joined more) ≡ (line, behind) = ap (λ (o : Option (List ℕ × List ℕ)). option_map_or (λ (p : List ℕ × List ℕ). p) o (line, behind)) first in
     let made : Next lines rest r counts text l (joined more) = record {
       less = omega (arith, length-append l (10 ∷ joined more), ap (λ (b : List ℕ). length b) bytes);
-      header = λ reply new answered. ap (λ (x : Running). x.header) (answered event both.0).1;
+      header = λ reply new answered. ap (λ (x : Running). x.header) (answered.1 event both.0).1;
       short = are.0.short;
       known = rw both.0 refl;
       room = omega (arith, few);
+      over = λ much. sym over ∙ over_at r l more much;
       on = λ reply new answered.
-          let is = answered event both.0 in
-          rw (is.0, is.1) (answered_on lines more l r counts text event events all are.1 both.1 whole few rests);
+          let is = answered.1 event both.0 in
+          rw (is.0, is.1) (answered_on lines more l r counts text event events all are.1 both.1 whole few
+          (over_behind r l more event both.0 answered.0 ∙ over) rests);
     } in
     subst (λ (p : List ℕ × List ℕ). Next lines rest r counts text p.0 p.1) same made
 
 pub next : (lines : List (List ℕ)) (rest : List ℕ) (r : Running) (counts : Counts) (text line behind : List ℕ) → Going lines rest r counts text
     → line_at rest ≡ Some (line, behind) → Next lines rest r counts text line behind
 next lines rest r counts text line behind going found =
-    next_line lines going.left rest r counts text going.events going.all line behind going.bytes going.are going.read going.whole going.few going.rests found
+    next_line lines going.left rest r counts text going.events going.all line behind going.bytes going.are going.read going.whole going.few going.over going.rests found
 
 -- ---- the end
 
@@ -199,6 +216,27 @@ ended_at lines [] rest r counts text (event ∷ events) all bytes are read whole
 ended_at lines (l ∷ more) rest r counts text events all bytes are read whole rests none =
     let some : line_at rest ≡ Some (l, joined more) = ap line_at bytes ∙ line_again l (joined more) are.0.unbroken in
     absurd (no_pair (l, joined more) (sym none ∙ some))
+
+over_end : (lines left : List (List ℕ)) (rest : List ℕ) (r : Running) → rest ≡ joined left → AllByRecursion IsEventLine left
+    → is_over r left ≡ is_over (begun r.header) lines → line_at rest ≡ None → is_over (begun r.header) lines ≡ false
+over_end lines [] rest r bytes are over none = sym over
+over_end lines (l ∷ more) rest r bytes are over none =
+    let some : line_at rest ≡ Some (l, joined more) = ap line_at bytes ∙ line_again l (joined more) are.0.unbroken in
+    absurd (no_pair (l, joined more) (sym none ∙ some))
+
+-- no line was one too many
+pub within : (lines : List (List ℕ)) (rest : List ℕ) (r : Running) (counts : Counts) (text : List ℕ) (header : Header) → Going lines rest r counts text
+    → r.header ≡ header → line_at rest ≡ None → is_over (begun header) lines ≡ false
+within lines rest r counts text header going same none =
+    subst (λ (h : Header). is_over (begun h) lines ≡ false) same (over_end lines going.left rest r going.bytes going.are going.over none)
+
+-- a line was one too many, or memory was wanting
+pub stops : (lines : List (List ℕ)) (rest : List ℕ) (r : Running) (counts : Counts) (text line behind : List ℕ) (header : Header) (fault : BulkFault)
+    → Next lines rest r counts text line behind → r.header ≡ header → (fault ≡ TooMuch → is_too_much r line ≡ true)
+    → IsLimited (is_over (begun header) lines) (Err fault)
+stops lines rest r counts text line behind header TooMuch step same limit =
+    subst (λ (h : Header). is_over (begun h) lines ≡ true) same (step.over (limit refl))
+stops lines rest r counts text line behind header Memory step same limit = tt
 
 pub ended : (lines : List (List ℕ)) (rest : List ℕ) (r : Running) (counts : Counts) (text : List ℕ) → Going lines rest r counts text → line_at rest ≡ None
     → SumsUp r.header lines (record {
@@ -238,6 +276,7 @@ begins number count header few =
       read = read;
       whole = read;
       few = omega (arith, is.counted, few);
+      over = refl;
       rests = record { replies = refl; counted = refl; state = refl; issued = refl };
     }
 

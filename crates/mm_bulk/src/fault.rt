@@ -1,5 +1,8 @@
 //! Why a schedule was not run to its end.
 
+ghost use Rattle.std.specs.Prelude.{◌≡◌};
+ghost use Rattle.mm_bulk.specs.declared.fault.BulkFault.TheVariants.{Memory as memory};
+
 use mm_base::{Memory, WriteFault};
 use thiserror::Error;
 
@@ -15,6 +18,8 @@ pub enum BulkFault {
 }
 
 impl From<Memory> for BulkFault {
+    ghost from_gives = { λ _ fault. fault ≡ memory };
+
     fn from(_fault: Memory) -> BulkFault {
         BulkFault::Memory
     }
@@ -22,6 +27,8 @@ impl From<Memory> for BulkFault {
 
 /// Replies go to memory, so a write fails where that is wanting.
 impl From<WriteFault> for BulkFault {
+    ghost from_gives = { λ _ fault. fault ≡ memory };
+
     fn from(_fault: WriteFault) -> BulkFault {
         BulkFault::Memory
     }

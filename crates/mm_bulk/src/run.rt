@@ -1,13 +1,16 @@
 //! A generated schedule, run from its first line to its last.
 
-ghost use Rattle.std.specs.Prelude.{◌≡◌, ◌≤◌, ℕ, List, length, true, is_some, Some, IfOk};
+ghost use Rattle.std.specs.Prelude.{◌≡◌, ◌≤◌, ℕ, List, length, true, is_some, Some, Err, IfOk};
 ghost use Rattle.sha2.specs.Sha256.{sha256};
 ghost use Rattle.mm_schedule.specs.Grammar.{event_at};
 ghost use Rattle.mm_schedule.specs.Replies.{IsPrintable};
 ghost use Rattle.mm_gen.specs.Schedules.{schedule_lines};
 ghost use Rattle.mm_replay.specs.Progress.{running};
+ghost use Rattle.mm_replay.specs.Schedule.{begun, is_too_much};
 ghost use Rattle.mm_bulk.specs.Answered.{Answered};
+ghost use Rattle.mm_bulk.specs.Limits.{IsLimited, is_over};
 ghost use Rattle.mm_bulk.specs.LineBreaks.{line_at};
+ghost use Rattle.mm_bulk.specs.Replayed.{IsReplayed, replay_of};
 ghost use Rattle.mm_bulk.specs.Sums.{SumsUp};
 
 use crate::counts::Counts;
@@ -25,9 +28,28 @@ use std::alloc::Global;
 
 /// Makes the schedule of a number, with `count` events, and runs it as a replay does: its replies are counted by their
 /// kinds, and digested with the last line.
+///
+/// `TooMuch` comes exactly where a replay of the schedule's text answers so: where an event line, with those before it
+/// and the snapshots issued till then, has more than 268,435,456 bytes. That event isn't run.
 pub fn bulk(alloc: Global, number: u64, count: u32, header: &Header) -> Result<Summary, BulkFault>
     requires count { count ≤ 20000 }
-    ensures { IfOk result (SumsUp header.now (schedule_lines number count header.now)) }
+    ensures sums { IfOk result (SumsUp header.now (schedule_lines number count header.now)) }
+    ensures limit { IsLimited (is_over (begun header.now) (schedule_lines number count header.now)) result }
+    ensures replayed { IsReplayed (replay_of number count header.now) result }
+{
+    run_schedule(alloc, number, count, header)
+}
+
+// Makes the schedule, and runs it line by line.
+fn run_schedule(
+    alloc: Global,
+    number: u64,
+    count: u32,
+    header: &Header,
+) -> Result<Summary, BulkFault>
+    requires count { count ≤ 20000 }
+    ensures sums { IfOk result (SumsUp header.now (schedule_lines number count header.now)) }
+    ensures limit { IsLimited (is_over (begun header.now) (schedule_lines number count header.now)) result }
 {
     let schedule = generate(alloc, number, count, header)?;
     let mut rest = behind_header(schedule.as_slice());
@@ -66,6 +88,7 @@ fn answered(alloc: Global, line: &[u8], progress: &mut Progress) -> Result<Reply
     requires known { is_some (event_at line.now) ≡ true }
     ensures reply { IfOk result (Answered (running progress.old) (running progress.new) line.now) }
     ensures printable { IfOk result IsPrintable }
+    ensures limit { result ≡ Err BulkFault.TooMuch → is_too_much (running progress.old) line.now ≡ true }
 {
     let event = match read_event(alloc, line) {
         Ok(event) => event,

@@ -2,7 +2,13 @@ mod Askable
 mod Blaming
 mod Slots
 mod Awaited
+mod Refusing
 mod Recovering
+mod Taking
+mod First
+mod SettingUp
+mod OptMoves
+mod BothRecovering
 mod Recording
 mod Turning
 mod Lining

@@ -1,28 +1,22 @@
 -- Every exit of a recovery leaves slots that fit the history.
-use Rattle.std.proofs.Common.{◌≡◌, ◌≤◌, ℕ, ◌-◌, ◌%◌, true, List, length, take, Option, None, Some, Result, Ok, Err, IfOk, refl, sym, ap, ◌∙◌, subst, inl, inr, arith}
-use Rattle.std.proofs.lemmas.List.{take_all}
+use Rattle.std.proofs.Common.{◌≡◌, ℕ, ◌-◌, ◌%◌, true, List, Option, None, Some, Result, Ok, Err, refl, sym, ap, ◌∙◌, subst, inl, inr, ◌≤◌, length, take, IfOk, arith}
 use Rattle.std.specs.Prelude.{◌⊎◌}
 use Rattle.mm_digest.specs.declared.variant.Variant.{Variant}
-use Rattle.mm_digest.specs.declared.variant.Variant.TheVariants.{Basic, Opt}
 use Rattle.mm_platform.specs.Standing.{Standing}
-use Rattle.mm_module.specs.Meaning.{Meaning}
 use Rattle.mm_module.specs.Batch.{Batch, One}
 use Rattle.mm_seal.specs.Snapshot.{Content}
-use Rattle.mm_model.specs.Instance.{Instance, basic}
+use Rattle.mm_model.specs.Instance.{Instance}
 use Rattle.mm_model.specs.History.{History}
 use Rattle.mm_model.specs.Places.{Names}
 use Rattle.mm_model.specs.Standing.{StandsFor, IsRight}
 use Rattle.mm_model.specs.declared.answer.Answer.{Answer}
 use Rattle.mm_model.specs.declared.answer.BatchAnswer.{BatchAnswer}
+use Rattle.mm_model.specs.Life.{life_of}
 use Rattle.mm_model.specs.declared.refusal.Refusal.{Refusal}
-use Rattle.mm_call.specs.Asked.{IsWithin}
-use Rattle.mm_call.specs.Leaving.{IsUntouched, LeavesUntouched, whole, whole_in}
-use Rattle.mm_call.specs.Refusals.{fault_of}
-use Rattle.mm_platform.specs.declared.fault.StepFault.{StepFault}
-use Rattle.mm_model.specs.declared.refusal.Refusal.TheVariants.{Long, Device, Blank, Cell, Lost, Form, Kind, State, Tag, Stale, Full}
 use Rattle.mm_model.specs.declared.refusal.Refusal.TheVariants as refusal
+use Rattle.mm_call.specs.Asked.{IsWithin}
+use Rattle.mm_call.specs.Leaving.{whole, whole_in}
 use Rattle.mm_callers.specs.Basic.{AreAsked}
-use Rattle.mm_callers.proofs.Again.{one_call}
 use Rattle.mm_callers.proofs.Calls.{one_content, Comes}
 use Rattle.mm_store.specs.declared.fault.StoreFault.{StoreFault}
 use Rattle.mm_store.specs.declared.fault.StoreFault.TheVariants as fault
@@ -31,18 +25,21 @@ use Rattle.mm_store.specs.Kept.{Kept}
 use Rattle.mm_store.specs.Pending.{Pending}
 use Rattle.mm_store.specs.Slots.{Slots, longest_slot, seen_in, with_slot}
 use Rattle.mm_store.proofs.SlotLaws.{longest_slot-is, slot_in-with_slot}
+use Rattle.std.proofs.lemmas.List.{take_all}
+use Rattle.mm_model.specs.Fit.{IsFit}
+use Rattle.mm_host.specs.Saying.{position_at, snapshot_at}
 use Rattle.mm_store.proofs.PendingLaws.{one_reading}
 use Rattle.mm_host.specs.declared.fault.HostFault.{HostFault}
 use Rattle.mm_host.specs.declared.resuming.Resumed.{Resumed}
 use Rattle.mm_host.specs.declared.resuming.Resumed.TheVariants.{Start, Answered}
 use Rattle.mm_host.specs.Faults.{store_fault_as, refused_as}
 use Rattle.mm_host.specs.Waiting.{later, IsWaiting}
-use Rattle.mm_host.specs.Resumes.{AfterThree, AfterTwo, started, kept_as, AfterAsk, Keeps, AfterOffer, AfterFinding, Resumes}
+use Rattle.mm_host.specs.Resumes.{AfterThree, AfterTwo, started, kept_as, AfterAsk, AfterOffer, AfterFinding, Resumes}
 use Rattle.mm_host.specs.Asking.{IsCall}
-use Rattle.mm_host.specs.Saying.{position_at, snapshot_at}
 use Rattle.mm_host.specs.Fitting.{offer_slot, Holds, IsAwaited, FitsBy}
-use Rattle.mm_host.specs.Recovery.{IsAskedFor, CanRecover, IsGrown, AnswersAt, ComesTo, MayCommit, RecoversTo, Recovers}
+use Rattle.mm_host.specs.Recovery.{IsAskedFor, CanRecover, IsGrown, AnswersAt, ComesTo, RecoversTo}
 use Rattle.mm_host.proofs.Slots.{IsElsewhere, elsewhere_same, elsewhere_put}
+use Rattle.mm_host.proofs.Refusing.{MayRefuse}
 use Rattle.mm_host.proofs.Awaited.{awaited_least, still_awaited, grows, answered_at}
 
 -- one request waits in the slots' bytes
@@ -93,10 +90,10 @@ grown_none : (y : History) (waiting : Option Pending) → IsGrown y waiting y
 grown_none y None = refl
 grown_none y (Some p) = inl refl
 
-still : (all others : List (List ℕ)) (asked : List Batch) (i : Instance) (y : History) (slots : Slots) (before after : Standing) (old new : Kept) (result : Result Resumed HostFault) (can : CanRecover all others asked i y slots before old) → StandsFor i after y → new.slots ≡ Some slots → new.is_honest ≡ true → IfOk result (λ resumed. seen_in slots (position_at resumed % 2) ≡ snapshot_at resumed) → ComesTo i y slots can.fits.waiting y result → RecoversTo all others asked i y slots can.fits.waiting after new result
+still : (all others : List (List ℕ)) (asked : List Batch) (i : Instance) (y : History) (slots : Slots) (before after : Standing) (old new : Kept) (result : Result Resumed HostFault) (can : CanRecover all others asked i y slots before old) → after ≡ before → new.slots ≡ Some slots → new.is_honest ≡ true → IfOk result (λ resumed. seen_in slots (position_at resumed % 2) ≡ snapshot_at resumed) → ComesTo i y slots can.fits.waiting y result → RecoversTo all others asked i y slots can.fits.waiting after new result
 still all others asked i y slots before after old new result can s t h n c = record {
   after = y;
-  stands = s;
+  stands = subst (λ (x : Standing). StandsFor i x y) (sym s) can.stands;
   within = can.within;
   grown = grown_none y can.fits.waiting;
   slots_after = slots;
@@ -105,36 +102,62 @@ still all others asked i y slots before after old new result can s t h n c = rec
   same_wait = refl;
   honest = h;
   newest = n;
-  only = inl refl;
   comes = c;
 }
 
-stands_same : (i : Instance) (before after : Standing) (y : History) → StandsFor i before y → after ≡ before → StandsFor i after y
-stands_same i before after y s e = subst (λ (x : Standing). StandsFor i x y) (sym e) s
+-- a store's fault comes to nothing more, nor does want of memory in the call
+store_comes : (i : Instance) (y : History) (slots : Slots) (waiting : Option Pending) (after : History) (why : StoreFault) → ComesTo i y slots waiting after (Err (store_fault_as why))
+store_comes i y slots waiting after fault.Memory = tt
+store_comes i y slots waiting after fault.Failed = tt
+
+refused_comes : (i : Instance) (y : History) (slots : Slots) (waiting : Option Pending) (after : History) (why : Refusal) → MayRefuse why (life_of i.variant after) → ComesTo i y slots waiting after (Err (refused_as why))
+refused_comes i y slots waiting after refusal.Memory h = tt
+refused_comes i y slots waiting after refusal.Long (inl e) = absurd (cc)
+refused_comes i y slots waiting after refusal.Long (inr h) = h
+refused_comes i y slots waiting after (refusal.Device broken) h = tt
+refused_comes i y slots waiting after refusal.Blank (inl e) = absurd (cc)
+refused_comes i y slots waiting after refusal.Blank (inr h) = h
+refused_comes i y slots waiting after refusal.Cell (inl e) = absurd (cc)
+refused_comes i y slots waiting after refusal.Cell (inr h) = h
+refused_comes i y slots waiting after refusal.Lost (inl e) = absurd (cc)
+refused_comes i y slots waiting after refusal.Lost (inr h) = h
+refused_comes i y slots waiting after refusal.Form (inl e) = absurd (cc)
+refused_comes i y slots waiting after refusal.Form (inr h) = h
+refused_comes i y slots waiting after refusal.Kind (inl e) = absurd (cc)
+refused_comes i y slots waiting after refusal.Kind (inr h) = h
+refused_comes i y slots waiting after refusal.State (inl e) = absurd (cc)
+refused_comes i y slots waiting after refusal.State (inr h) = h
+refused_comes i y slots waiting after refusal.Tag (inl e) = absurd (cc)
+refused_comes i y slots waiting after refusal.Tag (inr h) = h
+refused_comes i y slots waiting after refusal.Stale (inl e) = absurd (cc)
+refused_comes i y slots waiting after refusal.Stale (inr h) = h
+refused_comes i y slots waiting after refusal.Full (inl e) = absurd (cc)
+refused_comes i y slots waiting after refusal.Full (inr h) = h
 
 -- a slot shows the bytes that were put there, where they are no more than the longest
 
 take_whole : (bytes : List ℕ) (n : ℕ) → length bytes ≤ 1048690 → n ≡ 1100000 → take n bytes ≡ bytes
 take_whole bytes n h e = take_all n bytes (omega (arith, h, e))
 
-pub seen_put : (slots : Slots) (n : ℕ) (bytes : List ℕ) → length bytes ≤ 1048690 → seen_in (with_slot slots n bytes) n ≡ bytes
+seen_put : (slots : Slots) (n : ℕ) (bytes : List ℕ) → length bytes ≤ 1048690 → seen_in (with_slot slots n bytes) n ≡ bytes
 seen_put slots n bytes h =
     ap (λ (x : List ℕ). take longest_slot x) (slot_in-with_slot slots n bytes) ∙ take_whole bytes longest_slot h longest_slot-is
 
 -- what stands once the request that waits was asked
 pub record Left (all others : List (List ℕ)) (asked : List Batch) (i : Instance) (y : History) (slots : Slots) (waiting : Option Pending) (p : Pending) (standing : Standing) (gives : Result BatchAnswer Refusal) : Type 0 where
-  after : History
-  stands : StandsFor i standing after
-  within : IsWithin all others asked i after
-  names : (content : Content) → Names i y content → Names i after content
-  comes : Comes i y (seen_in slots (offer_slot p)) (One p.request) after gives
-  is : waiting ≡ Some p
-  is_waiting : IsWaiting (seen_in slots 2) (seen_in slots 3) waiting
-  awaited : IsAwaited y p
-  holds : Holds i y (seen_in slots (offer_slot p)) (p.position - 1)
+  pub after : History
+  pub stands : StandsFor i standing after
+  pub within : IsWithin all others asked i after
+  pub names : (content : Content) → Names i y content → Names i after content
+  pub comes : Comes i y (seen_in slots (offer_slot p)) (One p.request) after gives
+  pub refuses : (why : Refusal) → gives ≡ Err why → MayRefuse why (life_of i.variant after)
+  pub is : waiting ≡ Some p
+  pub is_waiting : IsWaiting (seen_in slots 2) (seen_in slots 3) waiting
+  pub awaited : IsAwaited y p
+  pub holds : Holds i y (seen_in slots (offer_slot p)) (p.position - 1)
 
-settle : (all others : List (List ℕ)) (asked : List Batch) (i : Instance) (y : History) (slots other : Slots) (waiting : Option Pending) (p : Pending) (standing : Standing) (gives : Result BatchAnswer Refusal) (kept : Kept) (result : Result Resumed HostFault) (l : Left all others asked i y slots waiting p standing gives) → IsElsewhere slots other p → kept.slots ≡ Some other → kept.is_honest ≡ true → IfOk result (λ resumed. seen_in other (position_at resumed % 2) ≡ snapshot_at resumed) → MayCommit result → ComesTo i y slots waiting l.after result → RecoversTo all others asked i y slots waiting standing kept result
-settle all others asked i y slots other waiting p standing gives kept result l e t h n o c = record {
+settle : (all others : List (List ℕ)) (asked : List Batch) (i : Instance) (y : History) (slots other : Slots) (waiting : Option Pending) (p : Pending) (standing : Standing) (gives : Result BatchAnswer Refusal) (kept : Kept) (result : Result Resumed HostFault) (l : Left all others asked i y slots waiting p standing gives) → IsElsewhere slots other p → kept.slots ≡ Some other → kept.is_honest ≡ true → IfOk result (λ resumed. seen_in other (position_at resumed % 2) ≡ snapshot_at resumed) → ComesTo i y slots waiting l.after result → RecoversTo all others asked i y slots waiting standing kept result
+settle all others asked i y slots other waiting p standing gives kept result l e t h n c = record {
   after = l.after;
   stands = l.stands;
   within = l.within;
@@ -158,7 +181,6 @@ settle all others asked i y slots other waiting p standing gives kept result l e
   same_wait = refl;
   honest = h;
   newest = n;
-  only = inr o;
   comes = c;
 }
 
@@ -168,15 +190,15 @@ keep_exit all others asked i y slots waiting p standing answer (Ok it) old new l
     settle all others asked i y slots (with_slot slots (p.position % 2) answer.snapshot) waiting p standing (Ok (whole answer)) new (Ok (Answered answer)) l
     (elsewhere_put slots p answer.snapshot (awaited_least y p l.awaited))
     (w.leaves h ∙ ap (λ (s : Option Slots). putting (p.position % 2) answer.snapshot s) t) (w.honest ∙ h)
-    (subst (λ (n : ℕ). seen_in (with_slot slots (p.position % 2) answer.snapshot) (n % 2) ≡ answer.snapshot) (sym e) (seen_put slots (p.position % 2) answer.snapshot size)) tt a
+    (subst (λ (n : ℕ). seen_in (with_slot slots (p.position % 2) answer.snapshot) (n % 2) ≡ answer.snapshot) (sym e) (seen_put slots (p.position % 2) answer.snapshot size)) a
 keep_exit all others asked i y slots waiting p standing answer (Err fault.Memory) old new l h t e size w a =
     settle all others asked i y slots slots waiting p standing (Ok (whole answer)) new (Err (store_fault_as fault.Memory)) l
-    (elsewhere_same slots p) (w.leaves h ∙ t) (w.honest ∙ h) tt tt tt
+    (elsewhere_same slots p) (w.leaves h ∙ t) (w.honest ∙ h) tt tt
 keep_exit all others asked i y slots waiting p standing answer (Err fault.Failed) old new l h t e size w a =
     let left = w.leaves h in
     settle all others asked i y slots (with_slot slots (p.position % 2) left.0) waiting p standing (Ok (whole answer)) new (Err (store_fault_as fault.Failed)) l
     (elsewhere_put slots p left.0 (awaited_least y p l.awaited))
-    (left.1 ∙ ap (λ (s : Option Slots). putting (p.position % 2) left.0 s) t) (w.honest ∙ h) tt tt tt
+    (left.1 ∙ ap (λ (s : Option Slots). putting (p.position % 2) left.0 s) t) (w.honest ∙ h) tt tt
 
 answers : (all others : List (List ℕ)) (asked : List Batch) (i : Instance) (y : History) (slots : Slots) (waiting : Option Pending) (p : Pending) (standing : Standing) (answer : Answer) (l : Left all others asked i y slots waiting p standing (Ok (whole answer))) → (AnswersAt i y waiting l.after answer) × (answer.position ≡ p.position)
 answers all others asked i y slots waiting p standing answer l =
@@ -185,112 +207,68 @@ answers all others asked i y slots waiting p standing answer l =
       ap (λ (b : BatchAnswer). b.position) a.answer_is ∙ sym a.position,
     )
 
--- an answer is kept
-answer_exit : (all others : List (List ℕ)) (asked : List Batch) (i : Instance) (y : History) (slots : Slots) (waiting : Option Pending) (p : Pending) (standing : Standing) (answer : Answer) (old new : Kept) (result : Result Resumed HostFault) → Left all others asked i y slots waiting p standing (Ok (whole answer)) → length answer.snapshot ≤ 1048690 → old.is_honest ≡ true → old.slots ≡ Some slots → Keeps answer old new result → RecoversTo all others asked i y slots waiting standing new result
-answer_exit all others asked i y slots waiting p standing answer old new result l size h t g =
+-- the exits of the call
+pub ask_exit : (all others : List (List ℕ)) (asked : List Batch) (i : Instance) (y : History) (slots : Slots) (waiting : Option Pending) (p : Pending) (standing : Standing) (call : Result Answer Refusal) (old new : Kept) (result : Result Resumed HostFault) → Left all others asked i y slots waiting p standing (whole_in call) → IfOk call (λ answer. IsFit (One p.request) (whole answer)) → old.is_honest ≡ true → old.slots ≡ Some slots → AfterAsk call old new result → RecoversTo all others asked i y slots waiting standing new result
+ask_exit all others asked i y slots waiting p standing (Err why) old new result l fit h t g =
+    subst (λ (r : Result Resumed HostFault). RecoversTo all others asked i y slots waiting standing new r) (sym g.1)
+    (settle all others asked i y slots slots waiting p standing (Err why) new (Err (refused_as why)) l
+    (elsewhere_same slots p) (ap (λ (k : Kept). k.slots) g.0 ∙ t) (ap (λ (k : Kept). k.is_honest) g.0 ∙ h) tt (refused_comes i y slots waiting l.after why (l.refuses why refl)))
+ask_exit all others asked i y slots waiting p standing (Ok answer) old new result l fit h t g =
     let a = answers all others asked i y slots waiting p standing answer l in
     subst (λ (r : Result Resumed HostFault). RecoversTo all others asked i y slots waiting standing new r) (sym g.gives)
-    (keep_exit all others asked i y slots waiting p standing answer g.written old new l h t a.1 size
+    (keep_exit all others asked i y slots waiting p standing answer g.written old new l h t a.1 fit.snapshot
     (subst (λ (n : ℕ). WritesSlot (n % 2) answer.snapshot old new g.written) a.1 g.writes) a.0)
 
--- what is asked of the call
-asked_of : (meaning : Meaning) (key : List ℕ) (all others : List (List ℕ)) (asked : List Batch) (y : History) (slots : Slots) (before : Standing) (old : Kept) (p : Pending) (can : CanRecover all others asked (basic meaning key) y slots before old) → can.fits.waiting ≡ Some p → Holds (basic meaning key) y (seen_in slots (offer_slot p)) (p.position - 1) → AreAsked all others asked (basic meaning key) y (seen_in slots (offer_slot p)) (One p.request)
-asked_of meaning key all others asked y slots before old p can e holds =
-    let a : IsAskedFor all asked (basic meaning key) slots (Some p) = subst (λ (w : Option Pending). IsAskedFor all asked (basic meaning key) slots w) e can.is_asked in
+-- what an honest store's slots ask of the call for what waits
+pub asked_of : (all others : List (List ℕ)) (asked : List Batch) (i : Instance) (y : History) (slots : Slots) (before : Standing) (old : Kept) (p : Pending) (can : CanRecover all others asked i y slots before old) → can.fits.waiting ≡ Some p → Holds i y (seen_in slots (offer_slot p)) (p.position - 1) → AreAsked all others asked i y (seen_in slots (offer_slot p)) (One p.request)
+asked_of all others asked i y slots before old p can e holds =
+    let a : IsAskedFor all asked i slots (Some p) = subst (λ (w : Option Pending). IsAskedFor all asked i slots w) e can.is_asked in
     record {
       clear = can.clear;
       apart = can.apart;
       within = can.within;
       is_asked = a.0;
-      genuine = λ (content : Content) (right : IsRight (basic meaning key) (seen_in slots (offer_slot p)) content).
-          subst (λ (x : Content). Names (basic meaning key) y x) (one_content (basic meaning key) (seen_in slots (offer_slot p)) holds.content content holds.right right) holds.names;
+      genuine = λ (content : Content) (right : IsRight i (seen_in slots (offer_slot p)) content).
+          subst (λ (x : Content). Names i y x) (one_content i (seen_in slots (offer_slot p)) holds.content content holds.right right) holds.names;
       offered = a.1;
     }
 
-left_by : (meaning : Meaning) (key : List ℕ) (all others : List (List ℕ)) (asked : List Batch) (y : History) (slots : Slots) (before after : Standing) (old : Kept) (p : Pending) (call : Result Answer Refusal) (can : CanRecover all others asked (basic meaning key) y slots before old) → can.fits.waiting ≡ Some p → IsCall Basic meaning before after (seen_in slots (offer_slot p)) p.request call → Left all others asked (basic meaning key) y slots can.fits.waiting p after (whole_in call)
-left_by meaning key all others asked y slots before after old p call can e c =
-    let i : Instance = basic meaning key in
-    let f : FitsBy i slots y (Some p) = subst (λ (w : Option Pending). FitsBy i slots y w) e can.fits.fits in
-    let o = one_call meaning key all others asked y before after (seen_in slots (offer_slot p)) p.request (whole_in call) c.goes can.stands
-    (asked_of meaning key all others asked y slots before old p can e f.1) in
-    record {
-      after = o.after;
-      stands = o.stands;
-      within = o.within;
-      names = o.names;
-      comes = o.comes;
-      is = e;
-      is_waiting = can.fits.is_waiting;
-      awaited = f.0;
-      holds = f.1;
-    }
-
--- a refusal that hands on no device's fault committed nothing
-
-untouched : (meaning : Meaning) (key : List ℕ) (before after : Standing) (y : History) → StandsFor (basic meaning key) before y → IsUntouched before after → StandsFor (basic meaning key) after y
-untouched meaning key before after y s u = record { spells = s.spells; cell = u.cell ∙ s.cell; register = tt }
-
-may_commit : (why : Refusal) (broken : StepFault) → fault_of why ≡ Some broken → MayCommit {T = Resumed} (Err (refused_as why))
-may_commit (Device fault) broken e = refl
-may_commit refusal.Memory broken e = absurd (cc)
-may_commit Long broken e = absurd (cc)
-may_commit Blank broken e = absurd (cc)
-may_commit Cell broken e = absurd (cc)
-may_commit Lost broken e = absurd (cc)
-may_commit Form broken e = absurd (cc)
-may_commit Kind broken e = absurd (cc)
-may_commit State broken e = absurd (cc)
-may_commit Tag broken e = absurd (cc)
-may_commit Stale broken e = absurd (cc)
-may_commit Full broken e = absurd (cc)
-
-refuse_exit : (meaning : Meaning) (key : List ℕ) (all others : List (List ℕ)) (asked : List Batch) (y : History) (slots : Slots) (before after : Standing) (first new : Kept) (p : Pending) (why : Refusal) (broken : Option StepFault) (can : CanRecover all others asked (basic meaning key) y slots before first) → fault_of why ≡ broken → LeavesUntouched (Err why) before after → Left all others asked (basic meaning key) y slots can.fits.waiting p after (Err why) → new.slots ≡ Some slots → new.is_honest ≡ true → RecoversTo all others asked (basic meaning key) y slots can.fits.waiting after new (Err (refused_as why))
-refuse_exit meaning key all others asked y slots before after first new p why None can e u l t h =
-    still all others asked (basic meaning key) y slots before after first new (Err (refused_as why)) can (untouched meaning key before after y can.stands (u e)) t h tt tt
-refuse_exit meaning key all others asked y slots before after first new p why (Some broken) can e u l t h =
-    settle all others asked (basic meaning key) y slots slots can.fits.waiting p after (Err why) new (Err (refused_as why)) l
-    (elsewhere_same slots p) t h tt (may_commit why broken e) tt
-
--- the exits of the call
-pub asked_exit : (meaning : Meaning) (key : List ℕ) (all others : List (List ℕ)) (asked : List Batch) (y : History) (slots : Slots) (before after : Standing) (first old new : Kept) (p : Pending) (call : Result Answer Refusal) (result : Result Resumed HostFault) (can : CanRecover all others asked (basic meaning key) y slots before first) → can.fits.waiting ≡ Some p → old.is_honest ≡ true → old.slots ≡ Some slots → IsCall Basic meaning before after (seen_in slots (offer_slot p)) p.request call → AfterAsk call old new result → RecoversTo all others asked (basic meaning key) y slots can.fits.waiting after new result
-asked_exit meaning key all others asked y slots before after first old new p (Ok answer) result can e h t c g =
-    answer_exit all others asked (basic meaning key) y slots can.fits.waiting p after answer old new result
-    (left_by meaning key all others asked y slots before after first p (Ok answer) can e c) c.fits.snapshot h t g
-asked_exit meaning key all others asked y slots before after first old new p (Err why) result can e h t c g =
-    subst (λ (r : Result Resumed HostFault). RecoversTo all others asked (basic meaning key) y slots can.fits.waiting after new r) (sym g.1)
-    (refuse_exit meaning key all others asked y slots before after first new p why (fault_of why) can refl c.untouched
-    (left_by meaning key all others asked y slots before after first p (Err why) can e c)
-    (ap (λ (k : Kept). k.slots) g.0 ∙ t) (ap (λ (k : Kept). k.is_honest) g.0 ∙ h))
+-- A call for the request that waits leads on, whatever it gives.
+abbrev pub LeadsOn : (all others : List (List ℕ)) (asked : List Batch) (variant : Variant) (i : Instance) (y : History) (slots : Slots) (waiting : Option Pending) (before after : Standing) → Type 0
+LeadsOn all others asked variant i y slots waiting before after =
+    (p : Pending) (call : Result Answer Refusal) → waiting ≡ Some p → IsCall variant i.meaning before after (seen_in slots (offer_slot p)) p.request call
+    → Left all others asked i y slots waiting p after (whole_in call)
 
 -- the exits of the offer
-offer_exit : (meaning : Meaning) (key : List ℕ) (all others : List (List ℕ)) (asked : List Batch) (y : History) (slots : Slots) (offer : Result (List ℕ) StoreFault) (before after : Standing) (first old middle new : Kept) (p : Pending) (result : Result Resumed HostFault) (can : CanRecover all others asked (basic meaning key) y slots before first) → can.fits.waiting ≡ Some p → old.is_honest ≡ true → old.slots ≡ Some slots → ReadsSlot (offer_slot p) old middle offer → AfterOffer Basic meaning before after offer middle new p result → RecoversTo all others asked (basic meaning key) y slots can.fits.waiting after new result
-offer_exit meaning key all others asked y slots (Err why) before after first old middle new p result can e h t r g =
-    subst (λ (x : Result Resumed HostFault). RecoversTo all others asked (basic meaning key) y slots can.fits.waiting after new x) (sym g.2)
-    (still all others asked (basic meaning key) y slots before after first new (Err (store_fault_as why)) can (stands_same (basic meaning key) before after y can.stands g.0) (ap (λ (k : Kept). k.slots) g.1 ∙ r.slots ∙ t) (ap (λ (k : Kept). k.is_honest) g.1 ∙ r.honest ∙ h) tt tt)
-offer_exit meaning key all others asked y slots (Ok offer) before after first old middle new p result can e h t r g =
-    asked_exit meaning key all others asked y slots before after first middle new p g.asked result can e (r.honest ∙ h) (r.slots ∙ t)
-    (subst (λ (x : List ℕ). IsCall Basic meaning before after x p.request g.asked) (r.gives slots t) g.asks) g.goes
+offer_exit : (variant : Variant) (all others : List (List ℕ)) (asked : List Batch) (i : Instance) (y : History) (slots : Slots) (offer : Result (List ℕ) StoreFault) (before after : Standing) (first old middle new : Kept) (p : Pending) (result : Result Resumed HostFault) (can : CanRecover all others asked i y slots before first) → LeadsOn all others asked variant i y slots can.fits.waiting before after → can.fits.waiting ≡ Some p → old.is_honest ≡ true → old.slots ≡ Some slots → ReadsSlot (offer_slot p) old middle offer → AfterOffer variant i.meaning before after offer middle new p result → RecoversTo all others asked i y slots can.fits.waiting after new result
+offer_exit variant all others asked i y slots (Err why) before after first old middle new p result can leads e h t r g =
+    subst (λ (x : Result Resumed HostFault). RecoversTo all others asked i y slots can.fits.waiting after new x) (sym g.2)
+    (still all others asked i y slots before after first new (Err (store_fault_as why)) can g.0 (ap (λ (k : Kept). k.slots) g.1 ∙ r.slots ∙ t) (ap (λ (k : Kept). k.is_honest) g.1 ∙ r.honest ∙ h) tt (store_comes i y slots can.fits.waiting y why))
+offer_exit variant all others asked i y slots (Ok offer) before after first old middle new p result can leads e h t r g =
+    ask_exit all others asked i y slots can.fits.waiting p after g.asked middle new result
+    (leads p g.asked e (subst (λ (x : List ℕ). IsCall variant i.meaning before after x p.request g.asked) (r.gives slots t) g.asks)) g.asks.fits
+    (r.honest ∙ h) (r.slots ∙ t) g.goes
 
 start_exit : (all others : List (List ℕ)) (asked : List Batch) (i : Instance) (y : History) (slots : Slots) (zero : Result (List ℕ) StoreFault) (before after : Standing) (first old new : Kept) (can : CanRecover all others asked i y slots before first) → can.fits.waiting ≡ None → after ≡ before → old.slots ≡ Some slots → old.is_honest ≡ true → ReadsSlot 0 old new zero → RecoversTo all others asked i y slots can.fits.waiting after new (started zero)
 start_exit all others asked i y slots (Ok bytes) before after first old new can e s t h r =
-    still all others asked i y slots before after first new (Ok (Start bytes)) can (stands_same i before after y can.stands s) (r.slots ∙ t) (r.honest ∙ h) (sym (r.gives slots t)) (e, r.gives slots t)
+    still all others asked i y slots before after first new (Ok (Start bytes)) can s (r.slots ∙ t) (r.honest ∙ h) (sym (r.gives slots t)) (e, r.gives slots t)
 start_exit all others asked i y slots (Err why) before after first old new can e s t h r =
-    still all others asked i y slots before after first new (Err (store_fault_as why)) can (stands_same i before after y can.stands s) (r.slots ∙ t) (r.honest ∙ h) tt tt
+    still all others asked i y slots before after first new (Err (store_fault_as why)) can s (r.slots ∙ t) (r.honest ∙ h) tt (store_comes i y slots can.fits.waiting y why)
 
-found_exit : (meaning : Meaning) (key : List ℕ) (all others : List (List ℕ)) (asked : List Batch) (y : History) (slots : Slots) (waiting : Result (Option Pending) StoreFault) (before after : Standing) (old middle new : Kept) (result : Result Resumed HostFault) (can : CanRecover all others asked (basic meaning key) y slots before old) → Saw slots old middle waiting → AfterFinding Basic meaning before after waiting middle new result → RecoversTo all others asked (basic meaning key) y slots can.fits.waiting after new result
-found_exit meaning key all others asked y slots (Err why) before after old middle new result can s g =
-    subst (λ (x : Result Resumed HostFault). RecoversTo all others asked (basic meaning key) y slots can.fits.waiting after new x) (sym g.2)
-    (still all others asked (basic meaning key) y slots before after old new (Err (store_fault_as why)) can (stands_same (basic meaning key) before after y can.stands g.0) (ap (λ (k : Kept). k.slots) g.1 ∙ s.told) (ap (λ (k : Kept). k.is_honest) g.1 ∙ s.honest ∙ can.honest) tt tt)
-found_exit meaning key all others asked y slots (Ok None) before after old middle new result can s g =
+found_exit : (variant : Variant) (all others : List (List ℕ)) (asked : List Batch) (i : Instance) (y : History) (slots : Slots) (waiting : Result (Option Pending) StoreFault) (before after : Standing) (old middle new : Kept) (result : Result Resumed HostFault) (can : CanRecover all others asked i y slots before old) → LeadsOn all others asked variant i y slots can.fits.waiting before after → Saw slots old middle waiting → AfterFinding variant i.meaning before after waiting middle new result → RecoversTo all others asked i y slots can.fits.waiting after new result
+found_exit variant all others asked i y slots (Err why) before after old middle new result can leads s g =
+    subst (λ (x : Result Resumed HostFault). RecoversTo all others asked i y slots can.fits.waiting after new x) (sym g.2)
+    (still all others asked i y slots before after old new (Err (store_fault_as why)) can g.0 (ap (λ (k : Kept). k.slots) g.1 ∙ s.told) (ap (λ (k : Kept). k.is_honest) g.1 ∙ s.honest ∙ can.honest) tt (store_comes i y slots can.fits.waiting y why))
+found_exit variant all others asked i y slots (Ok None) before after old middle new result can leads s g =
     let e : can.fits.waiting ≡ None = one_waiting (seen_in slots 2) (seen_in slots 3) can.fits.waiting None can.fits.is_waiting (s.waiting None refl) in
-    subst (λ (x : Result Resumed HostFault). RecoversTo all others asked (basic meaning key) y slots can.fits.waiting after new x) (sym g.1.gives)
-    (start_exit all others asked (basic meaning key) y slots g.1.zero before after old middle new can e g.0 s.told (s.honest ∙ can.honest) g.1.reads)
-found_exit meaning key all others asked y slots (Ok (Some p)) before after old middle new result can s g =
+    subst (λ (x : Result Resumed HostFault). RecoversTo all others asked i y slots can.fits.waiting after new x) (sym g.1.gives)
+    (start_exit all others asked i y slots g.1.zero before after old middle new can e g.0 s.told (s.honest ∙ can.honest) g.1.reads)
+found_exit variant all others asked i y slots (Ok (Some p)) before after old middle new result can leads s g =
     let e : can.fits.waiting ≡ Some p = one_waiting (seen_in slots 2) (seen_in slots 3) can.fits.waiting (Some p) can.fits.is_waiting (s.waiting (Some p) refl) in
-    offer_exit meaning key all others asked y slots g.offer before after old middle g.middle new p result can e (s.honest ∙ can.honest) s.told g.reads g.goes
+    offer_exit variant all others asked i y slots g.offer before after old middle g.middle new p result can leads e (s.honest ∙ can.honest) s.told g.reads g.goes
 
-pub recovers : (variant : Variant) (meaning : Meaning) (before after : Standing) (old new : Kept) (result : Result Resumed HostFault) → Resumes variant meaning before after old new result → Recovers variant meaning before after old new result
-recovers Opt meaning before after old new result r = tt
-recovers Basic meaning before after old new result r = λ key y slots all others asked can.
-    found_exit meaning key all others asked y slots r.waiting before after old r.middle new result can
+-- the whole call, in either variant
+pub recovers_by : (variant : Variant) (all others : List (List ℕ)) (asked : List Batch) (i : Instance) (y : History) (slots : Slots) (before after : Standing) (old new : Kept) (result : Result Resumed HostFault) (can : CanRecover all others asked i y slots before old) → LeadsOn all others asked variant i y slots can.fits.waiting before after → Resumes variant i.meaning before after old new result → RecoversTo all others asked i y slots can.fits.waiting after new result
+recovers_by variant all others asked i y slots before after old new result can leads r =
+    found_exit variant all others asked i y slots r.waiting before after old r.middle new result can leads
     (saw_two slots r.finds.two old r.finds.middle r.middle r.waiting can.told r.finds.reads r.finds.goes) r.goes

@@ -5,6 +5,9 @@ pub mod Resumes
 pub mod Fitting
 pub mod Recovery
 pub mod Blame
+pub mod InitFaults
+pub mod Init
+pub mod Begins
 pub mod Saying
 pub mod Serving
 pub mod Sessions

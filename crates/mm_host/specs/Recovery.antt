@@ -1,21 +1,25 @@
 -- What a host program that goes on after a stop comes to, by lists alone.
-use Rattle.std.specs.Prelude.{◌≡◌, ℕ, true, List, [], ◌∷◌, ◌++◌, Option, None, Some, Result, Ok, Err, nat_eq, ◌%◌, IfOk, IsSome, ◌⊎◌}
+use Rattle.std.specs.Prelude.{◌≡◌, ℕ, true, List, [], ◌∷◌, ◌++◌, Option, None, Some, Result, Ok, Err, nat_eq, ◌⊎◌, ◌%◌, IfOk}
 use Rattle.std.specs.List.{Contains}
 use Rattle.mm_digest.specs.declared.variant.Variant.{Variant}
 use Rattle.mm_digest.specs.declared.variant.Variant.TheVariants.{Basic, Opt}
-use Rattle.mm_platform.specs.Standing.{Standing}
+use Rattle.mm_platform.specs.Standing.{Item, Standing}
 use Rattle.mm_module.specs.Meaning.{Meaning}
 use Rattle.mm_module.specs.Batch.{Batch, One}
-use Rattle.mm_model.specs.Instance.{Instance, basic}
+use Rattle.mm_model.specs.Instance.{Instance, basic, opt}
 use Rattle.mm_model.specs.History.{History, total_of}
+use Rattle.mm_model.specs.Life.{Life, Spoiled, Lost as LostLife, life_of}
 use Rattle.mm_model.specs.Messages.{Within, IsClear, AreNoGuards}
 use Rattle.mm_model.specs.Standing.{StandsFor}
 use Rattle.mm_model.specs.declared.answer.Answer.{Answer}
+use Rattle.mm_model.specs.declared.refusal.Refusal.{Refusal}
+use Rattle.mm_model.specs.declared.refusal.Refusal.TheVariants.{Device, Lost, Stale}
 use Rattle.mm_call.specs.Answers.{answer_on}
 use Rattle.mm_call.specs.Asked.{IsWithin, right_messages}
 use Rattle.mm_call.specs.Found.{right_content}
 use Rattle.mm_call.specs.Leaving.{whole}
-use Rattle.mm_call.specs.Refusals.{fault_of}
+use Rattle.mm_call.specs.Tied.{standing_items}
+use Rattle.mm_callers.specs.Opt.{AreShown}
 use Rattle.mm_store.specs.Kept.{Kept}
 use Rattle.mm_store.specs.Pending.{Pending}
 use Rattle.mm_store.specs.Slots.{Slots, seen_in}
@@ -58,18 +62,20 @@ pub record AnswersAt (i : Instance) (y : History) (waiting : Option Pending) (af
   pub position : p.position ≡ total_of after.batches
   pub answer_is : whole answer ≡ answer_on i after (One p.request) (nat_eq p.position (total_of y.batches))
 
+-- From slots that fit, a refusal is a device's fault; or in Opt it tells how the history has ended.
+abbrev pub IsRefusedAs : Refusal → Life → Type 0
+IsRefusedAs (Device fault) life = Unit {0}
+IsRefusedAs Lost life = life ≡ LostLife
+IsRefusedAs Stale life = life ≡ Spoiled
+IsRefusedAs why life = ⊥
+
 -- It begins with the first snapshot exactly where nothing waits.
 abbrev pub ComesTo : Instance → History → Slots → Option Pending → History → Result Resumed HostFault → Type 0
 ComesTo i y slots waiting after (Ok (Start first)) = (waiting ≡ None) × (first ≡ seen_in slots 0)
 ComesTo i y slots waiting after (Ok (Answered answer)) = AnswersAt i y waiting after answer
-ComesTo i y slots waiting after (Err fault) = Unit {0}
-
--- A request may have been committed where it is answered, and where memory, the store or a device failed.
-abbrev pub MayCommit : {T : Type 0} → Result T HostFault → Type 0
-MayCommit (Ok it) = Unit {0}
-MayCommit (Err Memory) = Unit {0}
-MayCommit (Err Store) = Unit {0}
-MayCommit (Err (Refused why)) = IsSome (fault_of why)
+ComesTo i y slots waiting after (Err Memory) = Unit {0}
+ComesTo i y slots waiting after (Err Store) = Unit {0}
+ComesTo i y slots waiting after (Err (Refused why)) = IsRefusedAs why (life_of i.variant after)
 
 -- Whatever it gives, the platform stands for a history that grew by the request that waits or by nothing, and the slots
 -- fit that one; so it may be called again. What was asked of the history holds of it too, and the newest snapshot is in the
@@ -79,7 +85,6 @@ pub record RecoversTo (all others : List (List ℕ)) (asked : List Batch) (i : I
   pub stands : StandsFor i standing after
   pub within : IsWithin all others asked i after
   pub grown : IsGrown y waiting after
-  pub only : (after.batches ≡ y.batches) ⊎ MayCommit result
   pub slots_after : Slots
   pub told : kept.slots ≡ Some slots_after
   pub fits : Fits i slots_after after
@@ -88,10 +93,16 @@ pub record RecoversTo (all others : List (List ℕ)) (asked : List Batch) (i : I
   pub newest : IfOk result (λ resumed. seen_in slots_after (position_at resumed % 2) ≡ snapshot_at resumed)
   pub comes : ComesTo i y slots waiting after result
 
--- over a platform of Basic, from every history under every key
+-- Over a platform of Basic it recovers from every history, under every key; over one of Opt under every key and barrier,
+-- where what others did is known by the items that the register shows at exit behind those that counted at entry.
 abbrev pub Recovers : Variant → Meaning → Standing → Standing → Kept → Kept → Result Resumed HostFault → Type 0
-Recovers Opt meaning before after old new result = Unit {0}
 Recovers Basic meaning before after old new result =
     (key : List ℕ) (y : History) (slots : Slots) (all others : List (List ℕ)) (asked : List Batch)
     (can : CanRecover all others asked (basic meaning key) y slots before old) →
     RecoversTo all others asked (basic meaning key) y slots can.fits.waiting after new result
+Recovers Opt meaning before after old new result =
+    (key barrier : List ℕ) (y : History) (slots : Slots) (all others : List (List ℕ)) (asked : List Batch) (items more : List Item)
+    (can : CanRecover all others asked (opt meaning key barrier) y slots before old) →
+    before.items ≡ Some items → after.items ≡ Some (standing_items y.is_open items ++ more) →
+    AreShown all others (opt meaning key barrier) y more →
+    RecoversTo all others asked (opt meaning key barrier) y slots can.fits.waiting after new result

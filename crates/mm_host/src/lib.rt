@@ -1,5 +1,5 @@
-//! The calls of the host program over a platform and a store of four slots: after any stop `resume` goes on with the
-//! request that waits, and `session` then answers the lines of an input.
+//! The calls of the host program over a platform and a store of four slots: `init` sets both up; after any stop `resume`
+//! goes on with the request that waits, and `session` then answers the lines of an input.
 //!
 //! Slots 0 and 1 take turns with the snapshots, by their positions' parity, and slots 2 and 3 with the records of
 //! pending requests. A record is written before its request is asked.
@@ -7,14 +7,20 @@
 
 mod asking;
 mod fault;
+mod init_fault;
 mod resuming;
 mod serving;
+mod setup;
 mod telling;
 mod waiting;
 
 pub use fault::{HostFault, SessionFault};
+pub use init_fault::InitFault;
 pub use resuming::{Resumed, resume};
 pub use serving::session;
+pub use setup::init;
 
+#[cfg(test)]
+mod setup_tests;
 #[cfg(test)]
 mod tests;

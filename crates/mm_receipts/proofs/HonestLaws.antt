@@ -28,7 +28,14 @@ use Rattle.mm_receipts.specs.declared.pair.Pair.{Pair}
 use Rattle.mm_receipts.specs.declared.pair.Verdict.{Verdict}
 use Rattle.mm_receipts.specs.declared.pair.Verdict.TheVariants.{NoForm, NoTag, Clash, Good}
 use Rattle.mm_receipts.specs.Checking.{Tally, Checking, asked_at, parted, numbered, is_too_much, known_at, beside, verdict_by, verdict_of, verdict_text, after_pair, first_by, second_answer, waits, settles, receipts_answer, first_tally}
-use Rattle.mm_receipts.specs.Honest.{pairs_of, alone, IsGenuine, IsTrue, IsHonest, ChecksAreHonest}
+use Rattle.mm_receipts.specs.Honest.{pairs_of, text_alone, alone, IsGenuine, IsTrue, IsHonest, ChecksAreHonest}
+
+-- a pair that nothing stands beside is answered by its output alone
+alone-text : (position : ℕ) (request output : List ℕ) (answer : Result (Unit {0}) NotReceipt)
+    → verdict_text position (verdict_by answer None request output) ≡ text_alone position answer
+alone-text position request output (Err Form) = refl
+alone-text position request output (Err Tag) = refl
+alone-text position request output (Ok done) = refl
 
 -- one line of a run that was answered
 record StepOf (it : Checking) (line : List ℕ) (number : ℕ) (lines : List (List ℕ)) (written : List ℕ) (next : Checking) : Type 0 where
@@ -251,11 +258,11 @@ module _ (inner : Meaning) (requests : List (List ℕ)) (counted : AllByRecursio
       let rest = honest-from lines (number + 1) after None step.rest next stands
       (ap (λ (c : Checking). run receipts_answer (number + 1) c lines) (sym w.next) ∙ step.ran) genuine.1 in
       record {
-        plain = step.parts ∙ ap (λ (l : List ℕ). l ++ step.rest) (w.told ∙ ap (λ (v : Verdict). verdict_text asked.position v) plain)
+        plain = step.parts ∙ ap (λ (l : List ℕ). l ++ step.rest) (w.told ∙ ap (λ (v : Verdict). verdict_text asked.position v) plain ∙ alone-text asked.position asked.request line answer)
             ∙ ap (λ (l : List ℕ). alone key (record { asked = asked; output = line }) ++ l) rest.plain;
         right = (true-pair asked line s.formed genuine.0, rest.right);
       }
 
 pub honest : ChecksAreHonest
-honest inner requests counted key lines written next ran genuine =
+honest key lines written next ran inner requests counted genuine =
     honest-from inner requests counted key lines 1 (first_tally key) None written next (record { keyed = refl; sound = tt; formed = tt }) ran genuine

@@ -1,5 +1,5 @@
 -- What a check does with a line, with the end of an input, and with a whole input.
-use Rattle.std.proofs.Common.{◌≡◌, ◌∙◌, false, ℕ, List, Option, Some, None, Result, Ok, Err, refl, sym, ap, subst}
+use Rattle.std.proofs.Common.{◌≡◌, ◌∙◌, false, ℕ, List, ◌++◌, Option, Some, None, Result, Ok, Err, refl, sym, ap, subst}
 use Rattle.std.specs.Io.KnownBytes.{Appends}
 use Rattle.mm_base.specs.Streams.{Sends}
 use Rattle.mm_base.specs.declared.fault.WriteFault as write
@@ -10,12 +10,15 @@ use Rattle.mm_play.specs.declared.player.TakeFault.TheVariants as fault
 use Rattle.mm_play.specs.Play.{Told, run, run_of}
 use Rattle.mm_play.specs.Plays.{IsUnrefused, Settles, Plays}
 use Rattle.mm_play.specs.Takes.{Takes, IsFrontOf}
+use Rattle.mm_play.specs.Tells.{Answered, Finished, RefusesMuch}
 use Rattle.mm_play.proofs.Completing.{completed, settles_err}
+use Rattle.mm_play.proofs.Telling.{tells_by, tells_more}
 use Rattle.mm_receipts.specs.declared.pair.Asked.{Asked}
 use Rattle.mm_receipts.specs.declared.pair.Verdict.{Verdict}
 use Rattle.mm_receipts.specs.declared.report.ReceiptReport.{ReceiptReport}
-use Rattle.mm_receipts.specs.Checking.{Tally, Checking, is_too_much, verdict_of, verdict_text, after_pair, second_answer, settles, receipts_answer, receipts_closing, last_line, first_checking}
-use Rattle.mm_receipts.specs.Reports.{Checks, Counts}
+use Rattle.mm_receipts.specs.Checking.{Tally, Checking, is_too_much, verdict_of, verdict_text, after_pair, second_answer, settles, receipts_answer, receipts_closing, closing_at, last_line, first_checking}
+use Rattle.mm_receipts.specs.Reports.{AnswersHonestly, Checks, ChecksHonestly, Counts, EndsHonestly}
+use Rattle.mm_receipts.proofs.HonestLaws.{honest}
 
 settled-answer : (it : Checking) (old : Tally) (asked : Asked) (line : List ℕ) (answer : Result (List ℕ × Tally) Refused)
     → it ≡ record { tally = old; asked = Some asked } → second_answer old asked line ≡ answer → receipts_answer it line ≡ settles answer
@@ -97,3 +100,41 @@ pub unrefused : (key : List ℕ) (left left' received received' : Option (List �
     → (bytes : List ℕ) (end : Checking) → left ≡ Some bytes → (run_of receipts_answer receipts_closing (first_checking key) bytes).outcome ≡ Ok end → IsUnrefused result
 unrefused key left left' received received' result r bytes end is ran =
     completed (lines_run key) (whole_run key) r.next left left' r.taken r.sent result r.consumed r.settled bytes end is ran
+
+-- ---- what is said, where no receipt is forged
+
+answers-honestly : (key : List ℕ) (lines : List (List ℕ)) (written : List ℕ) → Answered receipts_answer (first_checking key) lines written → AnswersHonestly key lines written
+answers-honestly key lines written a = record { answered = a; honest = honest key lines written a.0 a.1 }
+
+-- the last line has the counts of what was found
+closes-with : (tally : Tally) (asked : Option Asked) (last : List ℕ) → closing_at tally asked ≡ Some last → last ≡ last_line tally.good tally.pairs
+closes-with tally None last is = some_same (last_line tally.good tally.pairs) last is
+  where
+    some_same : (a b : List ℕ) → Some a ≡ Some b → b ≡ a
+    some_same a b h = cc
+closes-with tally (Some asked) last is = absurd (none_some last is)
+  where
+    none_some : (last : List ℕ) → (let o : Option (List ℕ) = None in o ≡ Some last) → ⊥
+    none_some last h = cc
+
+ends-honestly : (key : List ℕ) (lines : List (List ℕ)) (written : List ℕ) → Finished receipts_answer receipts_closing (first_checking key) lines written → EndsHonestly key lines written
+unfolding answers-honestly
+ends-honestly key lines written f = record {
+  said = f.said;
+  answers = answers-honestly key lines f.said (f.next, f.ran);
+  whole = f.whole ∙ ap (λ (l : List ℕ). f.said ++ l) (closes-with f.next.tally f.next.asked f.last f.closed);
+}
+
+pub honestly : (key : List ℕ) (left left' received received' : Option (List ℕ)) (result : Result ReceiptReport ReplayFault) → Checks key left left' received received' result
+    → ChecksHonestly key left left' received received' result
+honestly key left left' received received' result r = record {
+  taken = r.taken;
+  sent = r.sent;
+  consumed = r.consumed;
+  appended = r.appended;
+  tells = tells_more (Answered receipts_answer (first_checking key)) (AnswersHonestly key)
+      (Finished receipts_answer receipts_closing (first_checking key)) (EndsHonestly key)
+      (RefusesMuch receipts_answer (first_checking key)) (RefusesMuch receipts_answer (first_checking key)) left' r.taken r.sent result
+      (answers-honestly key) (ends-honestly key) (λ done rest much. much)
+      (tells_by receipts_answer receipts_closing (first_checking key) r.next left' r.taken r.sent result r.settled);
+}

@@ -6,7 +6,7 @@ ghost use Rattle.mm_play.specs.Plays.{IsBlamed, IsUnrefused, is_read_fault, is_w
 ghost use Rattle.mm_receipts.specs.Checking.{Checking, first_checking, receipts_answer, receipts_closing, lines_left_at};
 ghost use Rattle.mm_receipts.specs.Counting.{receipts_count_down, receipts_are_few};
 ghost use Rattle.mm_receipts.specs.Tallies.{tallied, IsShortAsked};
-ghost use Rattle.mm_receipts.specs.Reports.{Checks, Counts};
+ghost use Rattle.mm_receipts.specs.Reports.{Checks, ChecksHonestly, Counts};
 
 use crate::pair::Asked;
 use crate::report::ReceiptReport;
@@ -76,6 +76,27 @@ impl ReceiptPlayer {
     }
 }
 
+/// Checks the pairs of an input.
+fn checked<S: Source, K: Sink>(
+    alloc: Global,
+    key: &[u8; 32],
+    input: &mut S,
+    out: &mut K,
+) -> Result<ReceiptReport, ReplayFault>
+    ensures checks { Checks key.now (S.left input.old) (S.left input.new) (K.received out.old) (K.received out.new) result }
+    ensures read { IsBlamed (is_read_fault result) (S.faults input.old) (S.faults input.new) }
+    ensures wrote { IsBlamed (is_write_fault result) (K.faults out.old) (K.faults out.new) }
+{
+    let mut player = ReceiptPlayer {
+        tally: Tally::new(alloc, key),
+        asked: None,
+    };
+    match play(alloc, &mut player, input, out) {
+        Ok(()) => Ok(player.report()),
+        Err(fault) => Err(fault),
+    }
+}
+
 /// Checks receipts under a key of 32 bytes: pairs of lines, `P REQUEST` with P a decimal from 1 to 281474976710656 and
 /// a request of at most 4,096 bytes, and then the output. Each pair is answered `no form`, `no tag`, `clash P` or
 /// `good P` before the next line is read, and at the end of the input stands the line `end G N`: G of N pairs were good.
@@ -97,13 +118,10 @@ pub fn receipts<S: Source, K: Sink>(
     // Lines of that form within the limits are not refused.
     ensures complete { (bytes : List ℕ) → (next : Checking) → S.left input.old ≡ Some bytes
         → (run_of receipts_answer receipts_closing (first_checking key.now) bytes).outcome ≡ Ok next → IsUnrefused result }
+
+    // Where a run of short requests tagged the message of each output that is accepted: no line is `clash P`, and each
+    // good pair is the request at its position with what was said to it.
+    ensures honest { ChecksHonestly key.now (S.left input.old) (S.left input.new) (K.received out.old) (K.received out.new) result }
 {
-    let mut player = ReceiptPlayer {
-        tally: Tally::new(alloc, key),
-        asked: None,
-    };
-    match play(alloc, &mut player, input, out) {
-        Ok(()) => Ok(player.report()),
-        Err(fault) => Err(fault),
-    }
+    checked(alloc, key, input, out)
 }

@@ -1,9 +1,8 @@
 //! Replays that stop early.
 
-use crate::run::{ROOM, check, check_all, check_over, lines_of, replay_over, sound};
+use crate::run::{ROOM, check, check_all, check_over, lines_of, replay_over, run, sound};
 use crate::schedules::{LIMITER, QUOTA};
 use crate::segments::KEPT;
-use mm_app::memoir;
 use mm_base::{MemSink, MemSource};
 use std::alloc::Global;
 use std::process::Abort;
@@ -75,7 +74,7 @@ fn other_words_are_refused(rt: HostRuntime) -> Result<(), Fail> {
     for words in lists {
         let mut input = MemSource::new(rt.alloc(), b"memoir 1 basic counter\n", &[])?;
         let mut out = MemSink::new(rt.alloc(), ROOM, &[])?;
-        let status = memoir(rt.alloc(), words, &mut input, &mut out);
+        let status = run(rt.alloc(), words, &mut input, &mut out);
         assert!(&rt; out.content() == b"stop usage\n".as_slice());
         assert!(&rt; status.code() == 2);
     }

@@ -1,7 +1,7 @@
 //! Schedules that the program makes itself.
 
-use crate::run::{ROOM, replay};
-use mm_app::{Status, memoir};
+use crate::run::{NoBytes, ROOM, replay, run};
+use mm_app::Status;
 use mm_base::{MemSink, MemSource};
 use std::test::Fail;
 
@@ -14,10 +14,9 @@ fn a_generated_schedule_is_replayed_to_its_end(rt: HostRuntime) -> Result<(), Fa
         ("opt", "receipt-counter"),
     ];
     for (variant, module) in headers {
-        let mut nothing = MemSource::new(rt.alloc(), &[], &[])?;
         let mut schedule = MemSink::new(rt.alloc(), ROOM, &[])?;
         let words = ["gen", "7", "100", variant, module];
-        let status = memoir(rt.alloc(), words.as_slice(), &mut nothing, &mut schedule);
+        let status = run(rt.alloc(), words.as_slice(), &mut NoBytes, &mut schedule);
         assert_eq!(rt; status, Status::Done);
         let mut input = MemSource::new(rt.alloc(), schedule.content(), &[])?;
         let mut out = MemSink::new(rt.alloc(), ROOM, &[])?;
@@ -28,10 +27,9 @@ fn a_generated_schedule_is_replayed_to_its_end(rt: HostRuntime) -> Result<(), Fa
 
 #[test]
 fn help_alone_lists_the_forms(rt: HostRuntime) -> Result<(), Fail> {
-    let mut nothing = MemSource::new(rt.alloc(), &[], &[])?;
     let mut out = MemSink::new(rt.alloc(), ROOM, &[])?;
-    let status = memoir(rt.alloc(), ["--help"].as_slice(), &mut nothing, &mut out);
+    let status = run(rt.alloc(), ["--help"].as_slice(), &mut NoBytes, &mut out);
     assert_eq!(rt; status, Status::Done);
-    assert!(rt; out.content().starts_with(b"memoir replay\n"));
+    assert!(rt; out.content().starts_with(b"memoir init VARIANT MODULE\n"));
     Ok(())
 }

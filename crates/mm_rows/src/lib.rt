@@ -2,6 +2,8 @@
 #![tactic(auto)]
 
 #[cfg(test)]
+mod commands;
+#[cfg(test)]
 mod ends;
 #[cfg(test)]
 mod generated;
@@ -17,3 +19,5 @@ mod segments;
 mod stops;
 #[cfg(test)]
 mod streams;
+#[cfg(test)]
+mod texts;

@@ -1,7 +1,11 @@
 //! Runs of the top call, and tables of what they write.
 
-use mm_app::memoir;
-use mm_base::{Bytes, MemSink, MemSource, Sink, Source};
+ghost use Rattle.std.specs.Prelude.{Some, []};
+
+use mm_app::{Status, memoir};
+use mm_base::{Bytes, Failed, MemSink, MemSource, Sink, Source};
+use mm_platform::MemPlatform;
+use mm_store::MemStore;
 use std::alloc::Global;
 use std::process::Abort;
 use std::test::Fail;
@@ -9,9 +13,43 @@ use std::test::Fail;
 /// Room for what a run of the tables writes.
 pub const ROOM: usize = 1 << 20;
 
+/// A source that has no byte.
+#[derive(Drop)]
+pub struct NoBytes;
+
+impl Source for NoBytes {
+    ghost left = { λ _. Some [] };
+
+    ghost faults = { λ _. 0 };
+
+    fn take(&mut self, _buf: &mut [u8]) -> Result<usize, Failed> {
+        Ok(0)
+    }
+}
+
+/// Does what the words say over these streams, a blank platform, an empty store and no entropy.
+pub fn run<S: Source, K: Sink>(
+    alloc: Global,
+    words: &[&str],
+    input: &mut S,
+    out: &mut K,
+) -> Status {
+    let mut platform = MemPlatform::new(alloc, &[0; 104]);
+    let mut store = MemStore::new(alloc);
+    memoir(
+        alloc,
+        words,
+        &mut platform,
+        &mut store,
+        input,
+        &mut NoBytes,
+        out,
+    )
+}
+
 /// Replays an input, and answers the exit status.
 pub fn replay<S: Source, K: Sink>(alloc: Global, input: &mut S, out: &mut K) -> u8 {
-    memoir(alloc, &["replay"], input, out).code()
+    run(alloc, &["replay"], input, out).code()
 }
 
 /// How an input is given and an output received.

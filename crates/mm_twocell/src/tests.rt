@@ -74,5 +74,10 @@ fn a_failed_read_gives_nothing(rt: HostRuntime) -> Result<(), Fail> {
     assert_eq!(rt; read, [9; 3]);
     assert_eq!(rt; memory.raw_read(199, &mut read), Ok(()));
     assert_eq!(rt; read, [0, 1, 2]);
+    memory.stop_at(2, &[])?;
+    let mut cell = TwoCell::new(memory);
+    let mut picked = [9; 104];
+    assert_eq!(rt; cell.nv_read(&mut picked), Err(StepFault::Failed));
+    assert!(rt; picked == [9; 104]);
     Ok(())
 }

@@ -1,25 +1,32 @@
 -- No word of a command but `--help` is refused before the parse.
-use Rattle.std.proofs.Common.{◌≡◌, ◌<◌, ◌≤◌, ◌^◌, ℕ, true, false, List, [], ◌∷◌, length, refl, arith, codes}
-use Rattle.std.specs.Prelude.{None, ◌==◌}
+use Rattle.std.proofs.Common.{◌≡◌, ◌∙◌, ◌<◌, ◌≤◌, ◌^◌, ℕ, true, false, List, [], ◌∷◌, length, refl, sym, subst, arith, codes}
+use Rattle.std.specs.Prelude.{Some, None, Result, Ok, Err, ◌==◌}
 use Rattle.std.specs.Char.{is_ascii_digit}
 use Rattle.std.specs.Fmt.{decimal}
-use Rattle.std.specs.List.{list_any}
+use Rattle.std.specs.List.{AllPass, list_any}
+use Rattle.std.specs.Result.{result_ok}
 use Rattle.std.specs.Str.{all_ascii_digits, bytes_eq}
 use Rattle.std.proofs.lemmas.Bool.{or_parts}
 use Rattle.std.proofs.lemmas.Bool.Decides.{nat_tests}
 use Rattle.std.proofs.lemmas.Fmt.{decimal_nonempty, digits_decimal}
 use Rattle.std.proofs.lemmas.Str.Parse.{numerals_by_value, tells_all_ascii_digits}
+use Rattle.std.proofs.lemmas.List.Elements.{All-head}
+use Rattle.hex.specs.Hex.{decode_sized, is_hex_digit}
+use Rattle.hex.specs.declared.error.FromHexError.{FromHexError}
+use Rattle.hex.proofs.HexLemmas.{decode_of-ok, decode_sized-ok, decode_sized-twice}
 use Rattle.clap.specs.Lexer.{long_of, short_of}
 use Rattle.mm_digest.specs.declared.variant.Variant.{Variant}
 use Rattle.mm_digest.specs.declared.variant.Variant.TheVariants.{Basic, Opt}
+use Rattle.mm_module.specs.Values.{value_at}
 use Rattle.mm_modules.specs.declared.any.AnyModule.{AnyModule}
 use Rattle.mm_modules.specs.declared.any.AnyModule.TheVariants.{Counter, Limiter, Quota, Ledger, Dispenser, ReceiptCounter, ReceiptLimiter, ReceiptQuota}
 use Rattle.mm_modules.specs.Modules.{name_of}
 use Rattle.mm_schedule.specs.Headers.{variant_text}
-use Rattle.mm_words.specs.Commands.{IsAllowed, IsGenerated, generated_words, words_of}
+use Rattle.mm_schedule.specs.declared.header.Header.{Header}
+use Rattle.mm_words.specs.Commands.{IsGenerated, Spells, generated_words, header_words}
 use Rattle.mm_words.specs.Forms.{IsMatched, is_refused}
 use Rattle.mm_words.specs.declared.command.Command.{Command}
-use Rattle.mm_words.specs.declared.command.Command.TheVariants.{Replay, Check, Gen, Bulk, Help}
+use Rattle.mm_words.specs.declared.command.Command.TheVariants.{Init, Run, Checkpoint, Power, Replay, Check, Gen, Bulk, Receipts, Help}
 use Rattle.mm_words.specs.declared.command.Generated.{Generated}
 
 -- `clap` reads the word as a value
@@ -61,12 +68,37 @@ name_kept ReceiptCounter = refl
 name_kept ReceiptLimiter = refl
 name_kept ReceiptQuota = refl
 
+digit_kept : (digits : List ℕ) → 0 < length digits → AllPass is_hex_digit digits → is_refused digits ≡ false
+digit_kept [] some are = absurd (omega arith)
+digit_kept (d ∷ ds) some are =
+    let digit : is_hex_digit d ≡ true = All-head (λ (b : ℕ). is_hex_digit b ≡ true) d ds are in
+    let no_dash : d ≡ 45 → ⊥ = λ dash. let clash : false ≡ true = rw dash at digit in cc in
+    let no_letter : d ≡ 104 → ⊥ = λ letter. let clash : false ≡ true = rw letter at digit in cc in
+    let one : (d == 45) ≡ false = grind (arith, nat_tests) in
+    let two : (d == 104) ≡ false = grind (arith, nat_tests) in
+    rw (one, two) refl
+
+decoded_kept : (digits : List ℕ) (decoded : Result (List ℕ) FromHexError) (key : List ℕ) → decode_sized digits 32 ≡ decoded
+    → result_ok decoded ≡ Some key → is_refused digits ≡ false
+decoded_kept digits (Ok bytes) key is gives =
+    let long = decode_sized-ok digits 32 bytes is in
+    let read = decode_of-ok digits bytes (sym (decode_sized-twice digits 32 long) ∙ is) in
+    digit_kept digits (omega (arith, long)) read.1
+decoded_kept digits (Err fault) key is gives = cc
+
+pub key_kept : (digits key : List ℕ) → value_at digits ≡ Some key → is_refused digits ≡ false
+unfolding value_at
+key_kept digits key gives = decoded_kept digits (decode_sized digits 32) key refl gives
+
 -- all words are kept, and there are at most five
 pub record AreKept (words : List (List ℕ)) : Type 0 where
   pub few : length words ≤ 5
   pub kept : list_any is_refused words ≡ false
 
-generated_kept : (word : List ℕ) (it : Generated) → is_refused word ≡ false → IsGenerated it → AreKept (generated_words word it)
+alone_kept : (word : List ℕ) → is_refused word ≡ false → AreKept (word ∷ [])
+alone_kept word first = record { few = omega arith; kept = rw first refl }
+
+generated_kept : (word : List ℕ) (it : Generated) → is_refused word ≡ false → IsGenerated it → AreKept (word ∷ generated_words it)
 generated_kept word it first allowed = record {
   few = omega arith;
   kept = rw (
@@ -78,9 +110,24 @@ generated_kept word it first allowed = record {
   ) refl;
 }
 
-pub are_kept : (command : Command) → IsAllowed command → IsMatched command → AreKept (words_of command)
-are_kept Replay allowed matched = record { few = omega arith; kept = refl }
-are_kept Check allowed matched = record { few = omega arith; kept = refl }
-are_kept (Gen it) allowed matched = generated_kept (codes "gen") it refl allowed
-are_kept (Bulk it) allowed matched = generated_kept (codes "bulk") it refl allowed
-are_kept Help allowed matched = absurd matched
+header_kept : (header : Header) → AreKept (codes "init" ∷ header_words header)
+header_kept header = record { few = omega arith; kept = rw (variant_kept header.variant, name_kept header.module) refl }
+
+receipts_kept : (digits key : List ℕ) → value_at digits ≡ Some key → AreKept (codes "receipts" ∷ digits ∷ [])
+receipts_kept digits key gives = record { few = omega arith; kept = rw (key_kept digits key gives) refl }
+
+kept_as : (words others : List (List ℕ)) → words ≡ others → AreKept others → AreKept words
+kept_as words others same kept = let P : List (List ℕ) → Type 0 = λ w. AreKept w in subst P (sym same) kept
+
+pub are_kept : (command : Command) (words : List (List ℕ)) → Spells command words → IsMatched command → AreKept words
+are_kept (Init header) words spells matched = kept_as words _ spells.spelled (header_kept header)
+are_kept Run words spells matched = kept_as words _ spells.spelled (alone_kept (codes "run") refl)
+are_kept Checkpoint words spells matched = kept_as words _ spells.spelled (alone_kept (codes "checkpoint") refl)
+are_kept Power words spells matched = kept_as words _ spells.spelled (alone_kept (codes "power") refl)
+are_kept Replay words spells matched = kept_as words _ spells.spelled (alone_kept (codes "replay") refl)
+are_kept Check words spells matched = kept_as words _ spells.spelled (alone_kept (codes "check") refl)
+are_kept (Gen it) words spells matched = kept_as words _ spells.spelled (generated_kept (codes "gen") it refl spells.allowed)
+are_kept (Bulk it) words spells matched = kept_as words _ spells.spelled (generated_kept (codes "bulk") it refl spells.allowed)
+are_kept (Receipts key) words spells matched =
+    let given = spells.spelled in kept_as words _ given.2 (receipts_kept given.0 key given.1)
+are_kept Help words spells matched = absurd matched

@@ -1,4 +1,5 @@
 pub mod Kept
 pub mod Matched
+pub mod OneCommand
 pub mod Reading
 pub mod Taken

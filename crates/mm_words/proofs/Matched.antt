@@ -1,52 +1,31 @@
 -- The words of a command are taken, and what is matched is the command's.
-use Rattle.std.proofs.Common.{◌≡◌, ◌≤◌, ◌∙◌, ℕ, true, false, List, [], refl, sym, ap, arith, codes}
+use Rattle.std.proofs.Common.{◌≡◌, ◌≤◌, ◌∙◌, ℕ, true, false, List, [], ◌∷◌, refl, sym, ap, subst, arith, codes}
 use Rattle.std.specs.Prelude.{Option, Some, None, nat_lt, option_map}
 use Rattle.std.specs.Fmt.{decimal}
 use Rattle.std.specs.Option.{option_map_or}
+use Rattle.std.proofs.lemmas.Bool.Decides.{nat_tests}
 use Rattle.clap.specs.Simple.{subcommand_of}
 use Rattle.clap.specs.Takes.{takes}
-use Rattle.std.proofs.lemmas.Bool.Decides.{nat_tests}
 use Rattle.clap.specs.Walk.{Text, first_of, rows_of}
 use Rattle.clap.specs.declared.parser.matches.Found.{Found}
 use Rattle.clap.proofs.WalkLemmas.{first_value-rows}
 use Rattle.mm_base.proofs.DecimalLemmas.{read_by_spelling}
 use Rattle.mm_digest.specs.declared.variant.Variant.{Variant}
 use Rattle.mm_digest.specs.declared.variant.Variant.TheVariants.{Basic, Opt}
+use Rattle.mm_module.specs.Values.{value_at}
 use Rattle.mm_modules.specs.declared.any.AnyModule.{AnyModule}
 use Rattle.mm_modules.specs.declared.any.AnyModule.TheVariants.{Counter, Limiter, Quota, Ledger, Dispenser, ReceiptCounter, ReceiptLimiter, ReceiptQuota}
 use Rattle.mm_modules.specs.Modules.{module_named, name_of}
 use Rattle.mm_schedule.specs.Headers.{variant_at, variant_text}
+use Rattle.mm_schedule.specs.declared.header.Header.{Header}
 use Rattle.mm_words.specs.App.{the_app}
-use Rattle.mm_words.specs.Commands.{IsAllowed, IsGenerated, words_of}
-use Rattle.mm_words.specs.Forms.{IsMatched, command_in, generated_in}
+use Rattle.mm_words.specs.Commands.{IsGenerated, Spells, generated_words, header_words}
+use Rattle.mm_words.specs.Forms.{IsMatched, command_in, generated_in, header_in, key_in}
 use Rattle.mm_words.specs.declared.command.Command.{Command}
-use Rattle.mm_words.specs.declared.command.Command.TheVariants.{Replay, Check, Gen, Bulk, Help}
+use Rattle.mm_words.specs.declared.command.Command.TheVariants.{Init, Run, Checkpoint, Power, Replay, Check, Gen, Bulk, Receipts, Help}
 use Rattle.mm_words.specs.declared.command.Generated.{Generated}
-use Rattle.mm_words.proofs.Kept.{IsPlainWord, name_kept, number_kept, plain_word, variant_kept}
-use Rattle.mm_words.proofs.Taken.{Given, bulk_met, bulk_taken, check_met, check_taken, gen_met, gen_taken, given, given_in, name_in, replay_met, replay_taken}
-
-number_plain : (it : Generated) → IsGenerated it → IsPlainWord (decimal it.number)
-number_plain it allowed = plain_word (decimal it.number) (number_kept it.number allowed.number)
-
-count_plain : (it : Generated) → IsGenerated it → IsPlainWord (decimal it.count)
-count_plain it allowed = plain_word (decimal it.count) (number_kept it.count (omega (arith, allowed.count)))
-
-variant_plain : (it : Generated) → IsPlainWord (variant_text it.header.variant)
-variant_plain it = plain_word (variant_text it.header.variant) (variant_kept it.header.variant)
-
-name_plain : (it : Generated) → IsPlainWord (name_of it.header.module)
-name_plain it = plain_word (name_of it.header.module) (name_kept it.header.module)
-
-pub is_taken : (command : Command) → IsAllowed command → IsMatched command → takes the_app (words_of command) ≡ true
-is_taken Replay allowed matched = replay_taken
-is_taken Check allowed matched = check_taken
-is_taken (Gen it) allowed matched =
-    gen_taken (decimal it.number) (decimal it.count) (variant_text it.header.variant) (name_of it.header.module)
-    (number_plain it allowed) (count_plain it allowed) (variant_plain it) (name_plain it)
-is_taken (Bulk it) allowed matched =
-    bulk_taken (decimal it.number) (decimal it.count) (variant_text it.header.variant) (name_of it.header.module)
-    (number_plain it allowed) (count_plain it allowed) (variant_plain it) (name_plain it)
-is_taken Help allowed matched = absurd matched
+use Rattle.mm_words.proofs.Kept.{IsPlainWord, key_kept, name_kept, number_kept, plain_word, variant_kept}
+use Rattle.mm_words.proofs.Taken.{Given, IsTaken, alone, bulk_taken, check_taken, checkpoint_taken, gen_taken, generating, given_in, init_taken, power_taken, receipts_taken, replay_taken, run_taken, with_header, with_key}
 
 pub variant-read : (variant : Variant) → variant_at (variant_text variant) ≡ Some variant
 variant-read Basic = refl
@@ -62,88 +41,196 @@ name-read ReceiptCounter = refl
 name-read ReceiptLimiter = refl
 name-read ReceiptQuota = refl
 
-no_given : {g : Given} → None ≡ Some g → ⊥
-no_given none = cc
+-- what was given, as the rows of what was found have it
+abbrev given_by : Text → Found → Given
+given_by name found = given_in (name, rows_of found)
+
+-- a variant and a module, read
+header_again : (header : Header) (found : Found) → first_of (codes "VARIANT") (rows_of found) ≡ Some (variant_text header.variant)
+    → first_of (codes "MODULE") (rows_of found) ≡ Some (name_of header.module) → header_in found ≡ Some header
+unfolding header_in
+header_again header found variant named =
+    rw (
+      first_value-rows found (codes "VARIANT") ∙ variant,
+      first_value-rows found (codes "MODULE") ∙ named,
+      variant-read header.variant,
+      name-read header.module,
+    ) refl
 
 -- the words of a generated schedule, read
-read_again : (it : Generated) (found : Found) → IsGenerated it
-    → first_of (codes "NUMBER") (rows_of found) ≡ Some (decimal it.number) → first_of (codes "COUNT") (rows_of found) ≡ Some (decimal it.count)
-    → first_of (codes "VARIANT") (rows_of found) ≡ Some (variant_text it.header.variant) → first_of (codes "MODULE") (rows_of found) ≡ Some (name_of it.header.module)
-    → generated_in found ≡ Some it
+generated_again : (it : Generated) (found : Found) → IsGenerated it → first_of (codes "NUMBER") (rows_of found) ≡ Some (decimal it.number)
+    → first_of (codes "COUNT") (rows_of found) ≡ Some (decimal it.count) → header_in found ≡ Some it.header → generated_in found ≡ Some it
 unfolding generated_in
-read_again it found allowed number count variant named =
+generated_again it found allowed number count header =
     let few : it.count ≤ 20000 = allowed.count in
     let test : nat_lt 20000 it.count ≡ false = grind (arith, nat_tests) in
     rw (
       first_value-rows found (codes "NUMBER") ∙ number,
       first_value-rows found (codes "COUNT") ∙ count,
-      first_value-rows found (codes "VARIANT") ∙ variant,
-      first_value-rows found (codes "MODULE") ∙ named,
       read_by_spelling (decimal it.number) it.number allowed.number refl,
       read_by_spelling (decimal it.count) it.count (omega arith) refl,
       test,
-      variant-read it.header.variant,
-      name-read it.header.module,
+      header,
     ) refl
 
--- what was given, read off
-read_off : (word : List ℕ) (it : Generated) (name : Text) (found : Found) → IsGenerated it
-    → Some (given_in (name, rows_of found)) ≡ given word (decimal it.number) (decimal it.count) (variant_text it.header.variant) (name_of it.header.module)
-    → (name ≡ word) × (generated_in found ≡ Some it)
-read_off word it name found allowed is = (
-  ap (λ (o : Option Given). option_map_or (λ (g : Given). g.name) o []) is,
-  read_again it found allowed
-      (ap (λ (o : Option Given). option_map_or (λ (g : Given). g.number) o None) is)
-      (ap (λ (o : Option Given). option_map_or (λ (g : Given). g.count) o None) is)
-      (ap (λ (o : Option Given). option_map_or (λ (g : Given). g.variant) o None) is)
-      (ap (λ (o : Option Given). option_map_or (λ (g : Given). g.module_named) o None) is),
+-- a key, read
+key_again : (digits key : List ℕ) (found : Found) → first_of (codes "KEY") (rows_of found) ≡ Some digits → value_at digits ≡ Some key
+    → key_in found ≡ Some key
+unfolding key_in
+key_again digits key found is gives = rw (first_value-rows found (codes "KEY") ∙ is, gives) refl
+
+given_header : (name : List ℕ) (header : Header) (it : Text) (found : Found)
+    → given_by it found ≡ with_header name (variant_text header.variant) (name_of header.module)
+    → (it ≡ name) × (header_in found ≡ Some header)
+given_header name header it found is = (
+  ap (λ (g : Given). g.name) is,
+  header_again header found (ap (λ (g : Given). g.variant) is) (ap (λ (g : Given). g.module_named) is),
 )
 
-gen_again : (it : Generated) (name : Text) (found : Found) → (name ≡ codes "gen") × (generated_in found ≡ Some it) → command_in name found ≡ Some (Gen it)
-unfolding command_in
-gen_again it name found is = rw (is.0, is.1) refl
+given_generated : (name : List ℕ) (it : Generated) (given_name : Text) (found : Found) → IsGenerated it
+    → given_by given_name found ≡ generating name (decimal it.number) (decimal it.count) (variant_text it.header.variant) (name_of it.header.module)
+    → (given_name ≡ name) × (generated_in found ≡ Some it)
+given_generated name it given_name found allowed is = (
+  ap (λ (g : Given). g.name) is,
+  generated_again it found allowed (ap (λ (g : Given). g.number) is) (ap (λ (g : Given). g.count) is)
+      (header_again it.header found (ap (λ (g : Given). g.variant) is) (ap (λ (g : Given). g.module_named) is)),
+)
 
-bulk_again : (it : Generated) (name : Text) (found : Found) → (name ≡ codes "bulk") × (generated_in found ≡ Some it) → command_in name found ≡ Some (Bulk it)
-unfolding command_in
-bulk_again it name found is = rw (is.0, is.1) refl
+given_key : (name digits key : List ℕ) (it : Text) (found : Found) → value_at digits ≡ Some key
+    → given_by it found ≡ with_key name digits → (it ≡ name) × (key_in found ≡ Some key)
+given_key name digits key it found gives is = (
+  ap (λ (g : Given). g.name) is,
+  key_again digits key found (ap (λ (g : Given). g.key) is) gives,
+)
 
-replay_again : (name : Text) (found : Found) → name ≡ codes "replay" → command_in name found ≡ Some Replay
-unfolding command_in
-replay_again name found is = rw is refl
+-- the words are taken, and what is given is the command
+pub record Brings (command : Command) (words : List (List ℕ)) : Type 0 where
+  pub given : Given
+  pub is : IsTaken words given
+  pub matched : (name : Text) (found : Found) → given_by name found ≡ given → command_in name found ≡ Some command
 
-check_again : (name : Text) (found : Found) → name ≡ codes "check" → command_in name found ≡ Some Check
+init_brings : (header : Header) → Brings (Init header) (codes "init" ∷ header_words header)
 unfolding command_in
-check_again name found is = rw is refl
+init_brings header =
+    let variant = plain_word (variant_text header.variant) (variant_kept header.variant) in
+    let named = plain_word (name_of header.module) (name_kept header.module) in
+    record {
+      given = with_header (codes "init") (variant_text header.variant) (name_of header.module);
+      is = init_taken (variant_text header.variant) (name_of header.module) variant named;
+      matched = λ name found same. let read = given_header (codes "init") header name found same in rw (read.0, read.1) refl;
+    }
+
+run_brings : Brings Run (codes "run" ∷ [])
+unfolding command_in
+run_brings = record {
+  given = alone (codes "run");
+  is = run_taken;
+  matched = λ name found same. rw (ap (λ (g : Given). g.name) same) refl;
+}
+
+checkpoint_brings : Brings Checkpoint (codes "checkpoint" ∷ [])
+unfolding command_in
+checkpoint_brings = record {
+  given = alone (codes "checkpoint");
+  is = checkpoint_taken;
+  matched = λ name found same. rw (ap (λ (g : Given). g.name) same) refl;
+}
+
+power_brings : Brings Power (codes "power" ∷ [])
+unfolding command_in
+power_brings = record {
+  given = alone (codes "power");
+  is = power_taken;
+  matched = λ name found same. rw (ap (λ (g : Given). g.name) same) refl;
+}
+
+replay_brings : Brings Replay (codes "replay" ∷ [])
+unfolding command_in
+replay_brings = record {
+  given = alone (codes "replay");
+  is = replay_taken;
+  matched = λ name found same. rw (ap (λ (g : Given). g.name) same) refl;
+}
+
+check_brings : Brings Check (codes "check" ∷ [])
+unfolding command_in
+check_brings = record {
+  given = alone (codes "check");
+  is = check_taken;
+  matched = λ name found same. rw (ap (λ (g : Given). g.name) same) refl;
+}
+
+number_plain : (it : Generated) → IsGenerated it → IsPlainWord (decimal it.number)
+number_plain it allowed = plain_word (decimal it.number) (number_kept it.number allowed.number)
+
+count_plain : (it : Generated) → IsGenerated it → IsPlainWord (decimal it.count)
+count_plain it allowed = plain_word (decimal it.count) (number_kept it.count (omega (arith, allowed.count)))
+
+variant_plain : (it : Generated) → IsPlainWord (variant_text it.header.variant)
+variant_plain it = plain_word (variant_text it.header.variant) (variant_kept it.header.variant)
+
+name_plain : (it : Generated) → IsPlainWord (name_of it.header.module)
+name_plain it = plain_word (name_of it.header.module) (name_kept it.header.module)
+
+gen_brings : (it : Generated) → IsGenerated it → Brings (Gen it) (codes "gen" ∷ generated_words it)
+unfolding command_in
+gen_brings it allowed = record {
+  given = generating (codes "gen") (decimal it.number) (decimal it.count) (variant_text it.header.variant) (name_of it.header.module);
+  is = gen_taken (decimal it.number) (decimal it.count) (variant_text it.header.variant) (name_of it.header.module)
+      (number_plain it allowed) (count_plain it allowed) (variant_plain it) (name_plain it);
+  matched = λ name found same. let read = given_generated (codes "gen") it name found allowed same in rw (read.0, read.1) refl;
+}
+
+bulk_brings : (it : Generated) → IsGenerated it → Brings (Bulk it) (codes "bulk" ∷ generated_words it)
+unfolding command_in
+bulk_brings it allowed = record {
+  given = generating (codes "bulk") (decimal it.number) (decimal it.count) (variant_text it.header.variant) (name_of it.header.module);
+  is = bulk_taken (decimal it.number) (decimal it.count) (variant_text it.header.variant) (name_of it.header.module)
+      (number_plain it allowed) (count_plain it allowed) (variant_plain it) (name_plain it);
+  matched = λ name found same. let read = given_generated (codes "bulk") it name found allowed same in rw (read.0, read.1) refl;
+}
+
+receipts_brings : (digits key : List ℕ) → value_at digits ≡ Some key → Brings (Receipts key) (codes "receipts" ∷ digits ∷ [])
+unfolding command_in
+receipts_brings digits key gives = record {
+  given = with_key (codes "receipts") digits;
+  is = receipts_taken digits (plain_word digits (key_kept digits key gives));
+  matched = λ name found same. let read = given_key (codes "receipts") digits key name found gives same in rw (read.0, read.1) refl;
+}
+
+brings_as : (command : Command) (words others : List (List ℕ)) → words ≡ others → Brings command others → Brings command words
+brings_as command words others same brings = let P : List (List ℕ) → Type 0 = λ w. Brings command w in subst P (sym same) brings
+
+pub brings : (command : Command) (words : List (List ℕ)) → Spells command words → IsMatched command → Brings command words
+brings (Init header) words spells matched = brings_as (Init header) words _ spells.spelled (init_brings header)
+brings Run words spells matched = brings_as Run words _ spells.spelled run_brings
+brings Checkpoint words spells matched = brings_as Checkpoint words _ spells.spelled checkpoint_brings
+brings Power words spells matched = brings_as Power words _ spells.spelled power_brings
+brings Replay words spells matched = brings_as Replay words _ spells.spelled replay_brings
+brings Check words spells matched = brings_as Check words _ spells.spelled check_brings
+brings (Gen it) words spells matched = brings_as (Gen it) words _ spells.spelled (gen_brings it spells.allowed)
+brings (Bulk it) words spells matched = brings_as (Bulk it) words _ spells.spelled (bulk_brings it spells.allowed)
+brings (Receipts key) words spells matched =
+    let given = spells.spelled in brings_as (Receipts key) words _ given.2 (receipts_brings given.0 key given.1)
+brings Help words spells matched = absurd matched
+
+pub is_taken : (command : Command) (words : List (List ℕ)) → Spells command words → IsMatched command → takes the_app words ≡ true
+is_taken command words spells matched = (brings command words spells matched).is.taken
+
+same_given : (one other : Given) → Some one ≡ Some other → one ≡ other
+same_given one other is = ap (λ (o : Option Given). option_map_or (λ (g : Given). g) o one) is
 
 -- what is matched of a command's words is the command
-pub is_matched : (command : Command) (name : Text) (found : Found) → IsAllowed command → IsMatched command
-    → subcommand_of the_app (words_of command) ≡ Some (name, rows_of found) → command_in name found ≡ Some command
-is_matched Replay name found allowed matched is =
-    replay_again name found (ap (λ (o : Option Text). option_map_or (λ (n : Text). n) o []) (sym (ap (option_map name_in) is) ∙ replay_met))
-is_matched Check name found allowed matched is =
-    check_again name found (ap (λ (o : Option Text). option_map_or (λ (n : Text). n) o []) (sym (ap (option_map name_in) is) ∙ check_met))
-is_matched (Gen it) name found allowed matched is =
-    gen_again it name found (read_off (codes "gen") it name found allowed (sym (ap (option_map given_in) is)
-    ∙ gen_met (decimal it.number) (decimal it.count) (variant_text it.header.variant) (name_of it.header.module)
-    (number_plain it allowed) (count_plain it allowed) (variant_plain it) (name_plain it)))
-is_matched (Bulk it) name found allowed matched is =
-    bulk_again it name found (read_off (codes "bulk") it name found allowed (sym (ap (option_map given_in) is)
-    ∙ bulk_met (decimal it.number) (decimal it.count) (variant_text it.header.variant) (name_of it.header.module)
-    (number_plain it allowed) (count_plain it allowed) (variant_plain it) (name_plain it)))
-is_matched Help name found allowed matched is = absurd matched
+pub is_matched : (command : Command) (words : List (List ℕ)) (name : Text) (found : Found) → Spells command words → IsMatched command
+    → subcommand_of the_app words ≡ Some (name, rows_of found) → command_in name found ≡ Some command
+is_matched command words name found spells matched is =
+    let it = brings command words spells matched in
+    it.matched name found (same_given (given_by name found) it.given (sym (ap (option_map given_in) is) ∙ it.is.met))
+
+no_given : {g : Given} → None ≡ Some g → ⊥
+no_given none = cc
 
 -- a subcommand is met
-pub some_met : (command : Command) → IsAllowed command → IsMatched command → subcommand_of the_app (words_of command) ≡ None → ⊥
-some_met Replay allowed matched none =
-    let clash : option_map name_in None ≡ Some (codes "replay") = rw none at replay_met in cc
-some_met Check allowed matched none =
-    let clash : option_map name_in None ≡ Some (codes "check") = rw none at check_met in cc
-some_met (Gen it) allowed matched none =
-    let met = gen_met (decimal it.number) (decimal it.count) (variant_text it.header.variant) (name_of it.header.module)
-    (number_plain it allowed) (count_plain it allowed) (variant_plain it) (name_plain it) in
-    no_given (sym (ap (option_map given_in) none) ∙ met)
-some_met (Bulk it) allowed matched none =
-    let met = bulk_met (decimal it.number) (decimal it.count) (variant_text it.header.variant) (name_of it.header.module)
-    (number_plain it allowed) (count_plain it allowed) (variant_plain it) (name_plain it) in
-    no_given (sym (ap (option_map given_in) none) ∙ met)
-some_met Help allowed matched none = matched
+pub some_met : (command : Command) (words : List (List ℕ)) → Spells command words → IsMatched command → subcommand_of the_app words ≡ None → ⊥
+some_met command words spells matched none =
+    no_given (sym (ap (option_map given_in) none) ∙ (brings command words spells matched).is.met)

@@ -1,6 +1,6 @@
 -- Words and the commands that they spell.
-use Rattle.std.proofs.Common.{◌≡◌, ◌<◌, ◌≤◌, ◌∙◌, ℕ, Bool, true, false, List, [], ◌∷◌, length, refl, sym, ap, arith, codes}
-use Rattle.std.specs.Prelude.{Option, Some, None, option_map, map, ◌||◌}
+use Rattle.std.proofs.Common.{◌≡◌, ◌<◌, ◌≤◌, ◌∙◌, ℕ, Bool, true, false, List, [], ◌∷◌, length, get_or, refl, sym, ap, subst, arith, codes}
+use Rattle.std.specs.Prelude.{Option, Some, None, IsTrue, ◌↔◌, option_map, map, ◌||◌}
 use Rattle.std.specs.Borrow.{Bor}
 use Rattle.std.specs.Cmp.Lexicographic.{pointwise, pointwise_decides}
 use Rattle.std.specs.List.{list_any}
@@ -9,14 +9,52 @@ use Rattle.std.specs.Str.{bytes_eq}
 use Rattle.std.proofs.lemmas.List.{length-map}
 use Rattle.std.proofs.lemmas.Slice.Eq.{bytes_eq-Decides}
 use Rattle.clap.specs.Walk.{Row, Text}
-use Rattle.mm_words.specs.Commands.{Spells}
+use Rattle.mm_module.specs.Values.{value_at}
+use Rattle.mm_words.specs.Commands.{AreReceiptsWords, AreWordsOf, Spells}
 use Rattle.mm_words.specs.Forms.{IsMatched, is_refused}
 use Rattle.mm_words.specs.declared.command.Command.{Command}
-use Rattle.mm_words.specs.declared.command.Command.TheVariants.{Replay, Check, Gen, Bulk, Help}
+use Rattle.mm_words.specs.declared.command.Command.TheVariants.{Init, Run, Checkpoint, Power, Replay, Check, Gen, Bulk, Receipts, Help}
 use Rattle.mm_words.proofs.Kept.{are_kept}
 
 pub same_words : (words others : List (List ℕ)) → pointwise bytes_eq words others ≡ true → words ≡ others
 same_words words others is = (pointwise_decides bytes_eq-Decides words others).0 is
+
+-- a comparison of words decides whether they are the same
+pub tells_words : (result : Bool) (words others : List (List ℕ)) → result ≡ pointwise bytes_eq words others → IsTrue result ↔ (words ≡ others)
+tells_words result words others is = (
+  λ yes. same_words words others (sym is ∙ yes),
+  λ same. is ∙ (pointwise_decides bytes_eq-Decides words others).1 same,
+)
+
+-- the same, of a command that is another's equal
+pub tells_command : {P : Type 0} (command other : Command) (words : List (List ℕ)) → command ≡ other → P ↔ AreWordsOf other words → P ↔ AreWordsOf command words
+tells_command {P} command other words same is = let Q : Command → Type 0 = λ it. P ↔ AreWordsOf it words in subst Q (sym same) is
+
+digits_in : List (List ℕ) → List ℕ
+digits_in [] = []
+digits_in (word ∷ []) = []
+digits_in (word ∷ digits ∷ rest) = digits
+
+same_digits : (word digits other given : List ℕ) → word ∷ digits ∷ [] ≡ other ∷ given ∷ [] → digits ≡ given
+unfolding digits_in
+same_digits word digits other given is = ap digits_in is
+
+-- two words, the first of them `receipts`
+pub tells_receipts : (result : Bool) (word digits key : List ℕ) → word ≡ codes "receipts" → IsTrue result ↔ (value_at digits ≡ Some key)
+    → IsTrue result ↔ AreReceiptsWords key (word ∷ digits ∷ [])
+tells_receipts result word digits key first is = (
+  λ yes. (digits, is.0 yes, rw first refl),
+  λ given. is.1 (rw (same_digits word digits (codes "receipts") given.0 given.2) given.1),
+)
+
+-- the same, of the words where they lie
+pub tells_two : (result : Bool) (words : List (Bor (List ℕ))) (key : List ℕ) (one two : Bor (List ℕ)) → 2 ≤ length words → length words < 3
+    → (get_or words 0 one).now ≡ codes "receipts" → IsTrue result ↔ (value_at (get_or words 1 two).now ≡ Some key)
+    → IsTrue result ↔ AreReceiptsWords key (map (λ (word : Bor (List ℕ)). word.now) words)
+tells_two result [] key one two least most first is = absurd (omega arith)
+tells_two result (word ∷ []) key one two least most first is = absurd (omega arith)
+tells_two result (word ∷ digits ∷ []) key one two least most first is = tells_receipts result word.now digits.now key first is
+tells_two result (word ∷ digits ∷ other ∷ rest) key one two least most first is = absurd (omega arith)
 
 pub other_words : (words others : List (List ℕ)) → pointwise bytes_eq words others ≡ false → words ≡ others → ⊥
 other_words words others is same =
@@ -25,10 +63,15 @@ other_words words others is same =
 -- where `--help` doesn't stand alone the command has a subcommand
 pub no_help : (words : List (List ℕ)) (command : Command) → Spells command words
     → pointwise bytes_eq words (codes "--help" ∷ []) ≡ false → IsMatched command
+no_help words (Init header) spells is = tt
+no_help words Run spells is = tt
+no_help words Checkpoint spells is = tt
+no_help words Power spells is = tt
 no_help words Replay spells is = tt
 no_help words Check spells is = tt
 no_help words (Gen it) spells is = tt
 no_help words (Bulk it) spells is = tt
+no_help words (Receipts key) spells is = tt
 no_help words Help spells is = other_words words (codes "--help" ∷ []) is spells.spelled
 
 -- words that are refused spell none
@@ -36,15 +79,14 @@ pub too_many : (words : List (Bor (List ℕ))) (command : Command) → Spells co
     → IsMatched command → 5 < length words → ⊥
 too_many words command spells matched many =
     let texts : List (List ℕ) = map (λ (word : Bor (List ℕ)). word.now) words in
-    let few : length texts ≤ 5 = rw spells.spelled ((are_kept command spells.allowed matched).few) in
+    let few : length texts ≤ 5 = (are_kept command texts spells matched).few in
     let same : length texts ≡ length words = length-map words (λ (word : Bor (List ℕ)). word.now) in
     absurd (omega arith)
 
 pub one_refused : (words : List (List ℕ)) (command : Command) → Spells command words → IsMatched command
     → list_any is_refused words ≡ true → ⊥
 one_refused words command spells matched is =
-    let none : list_any is_refused words ≡ false = rw spells.spelled ((are_kept command spells.allowed matched).kept) in
-    let clash : true ≡ false = sym is ∙ none in cc
+    let clash : true ≡ false = sym is ∙ (are_kept command words spells matched).kept in cc
 
 -- a test of texts, made of the references to them
 pub any_text : (words : List (Bor (List ℕ))) → list_any (λ (word : Bor (List ℕ)). is_refused word.now) words ≡ list_any is_refused (map (λ (word : Bor (List ℕ)). word.now) words)

@@ -1,6 +1,6 @@
 -- What `clap` makes of the words of each form.
 use Rattle.std.proofs.Common.{◌≡◌, true, List, [], ◌∷◌, refl, codes}
-use Rattle.std.specs.Prelude.{Option, Some, option_map}
+use Rattle.std.specs.Prelude.{Option, Some, None, option_map}
 use Rattle.clap.specs.Simple.{is_simple, subcommand_of}
 use Rattle.clap.specs.Takes.{takes}
 use Rattle.clap.specs.Walk.{Row, Text, first_of}
@@ -12,13 +12,14 @@ pub is_simple_app : is_simple the_app ≡ true
 unfolding clap_on_literals
 is_simple_app = refl
 
--- a subcommand's name and the four words that it was given
+-- a subcommand's name and the words that it was given
 pub record Given : Type 0 where
   pub name : Text
   pub number : Option Text
   pub count : Option Text
   pub variant : Option Text
   pub module_named : Option Text
+  pub key : Option Text
 
 abbrev pub given_in : Text × List Row → Given
 given_in met = record {
@@ -27,50 +28,72 @@ given_in met = record {
   count = first_of (codes "COUNT") met.1;
   variant = first_of (codes "VARIANT") met.1;
   module_named = first_of (codes "MODULE") met.1;
+  key = first_of (codes "KEY") met.1;
 }
 
-abbrev pub given : Text → Text → Text → Text → Text → Option Given
-given name n c v m = Some (record { name = name; number = Some n; count = Some c; variant = Some v; module_named = Some m })
+abbrev pub alone : Text → Given
+alone name = record { name = name; number = None; count = None; variant = None; module_named = None; key = None }
 
-abbrev pub name_in : Text × List Row → Text
-name_in met = met.0
+abbrev pub with_header : Text → Text → Text → Given
+with_header name v m = record (alone name) { variant = Some v; module_named = Some m }
 
-pub replay_taken : takes the_app (codes "replay" ∷ []) ≡ true
+abbrev pub generating : Text → Text → Text → Text → Text → Given
+generating name n c v m = record (with_header name v m) { number = Some n; count = Some c }
+
+abbrev pub with_key : Text → Text → Given
+with_key name k = record (alone name) { key = Some k }
+
+-- the words are taken, and this is given
+pub record IsTaken (words : List Text) (given : Given) : Type 0 where
+  pub taken : takes the_app words ≡ true
+  pub met : option_map given_in (subcommand_of the_app words) ≡ Some given
+
+pub init_taken : (v m : Text) → IsPlainWord v → IsPlainWord m → IsTaken (codes "init" ∷ v ∷ m ∷ []) (with_header (codes "init") v m)
 unfolding clap_on_literals
-replay_taken = refl
+init_taken v m one two = record {
+  taken = rw (one.dashes, one.long, one.short, two.dashes, two.long, two.short) refl;
+  met = rw (one.dashes, one.long, one.short, two.dashes, two.long, two.short) refl;
+}
 
-pub replay_met : option_map name_in (subcommand_of the_app (codes "replay" ∷ [])) ≡ Some (codes "replay")
+pub run_taken : IsTaken (codes "run" ∷ []) (alone (codes "run"))
 unfolding clap_on_literals
-replay_met = refl
+run_taken = record { taken = refl; met = refl }
 
-pub check_taken : takes the_app (codes "check" ∷ []) ≡ true
+pub checkpoint_taken : IsTaken (codes "checkpoint" ∷ []) (alone (codes "checkpoint"))
 unfolding clap_on_literals
-check_taken = refl
+checkpoint_taken = record { taken = refl; met = refl }
 
-pub check_met : option_map name_in (subcommand_of the_app (codes "check" ∷ [])) ≡ Some (codes "check")
+pub power_taken : IsTaken (codes "power" ∷ []) (alone (codes "power"))
 unfolding clap_on_literals
-check_met = refl
+power_taken = record { taken = refl; met = refl }
+
+pub replay_taken : IsTaken (codes "replay" ∷ []) (alone (codes "replay"))
+unfolding clap_on_literals
+replay_taken = record { taken = refl; met = refl }
+
+pub check_taken : IsTaken (codes "check" ∷ []) (alone (codes "check"))
+unfolding clap_on_literals
+check_taken = record { taken = refl; met = refl }
 
 pub gen_taken : (n c v m : Text) → IsPlainWord n → IsPlainWord c → IsPlainWord v → IsPlainWord m
-    → takes the_app (codes "gen" ∷ n ∷ c ∷ v ∷ m ∷ []) ≡ true
+    → IsTaken (codes "gen" ∷ n ∷ c ∷ v ∷ m ∷ []) (generating (codes "gen") n c v m)
 unfolding clap_on_literals
-gen_taken n c v m one two three four =
-    rw (one.dashes, one.long, one.short, two.dashes, two.long, two.short, three.dashes, three.long, three.short, four.dashes, four.long, four.short) refl
-
-pub gen_met : (n c v m : Text) → IsPlainWord n → IsPlainWord c → IsPlainWord v → IsPlainWord m
-    → option_map given_in (subcommand_of the_app (codes "gen" ∷ n ∷ c ∷ v ∷ m ∷ [])) ≡ given (codes "gen") n c v m
-unfolding clap_on_literals
-gen_met n c v m one two three four =
-    rw (one.dashes, one.long, one.short, two.dashes, two.long, two.short, three.dashes, three.long, three.short, four.dashes, four.long, four.short) refl
+gen_taken n c v m one two three four = record {
+  taken = rw (one.dashes, one.long, one.short, two.dashes, two.long, two.short, three.dashes, three.long, three.short, four.dashes, four.long, four.short) refl;
+  met = rw (one.dashes, one.long, one.short, two.dashes, two.long, two.short, three.dashes, three.long, three.short, four.dashes, four.long, four.short) refl;
+}
 
 pub bulk_taken : (n c v m : Text) → IsPlainWord n → IsPlainWord c → IsPlainWord v → IsPlainWord m
-    → takes the_app (codes "bulk" ∷ n ∷ c ∷ v ∷ m ∷ []) ≡ true
+    → IsTaken (codes "bulk" ∷ n ∷ c ∷ v ∷ m ∷ []) (generating (codes "bulk") n c v m)
 unfolding clap_on_literals
-bulk_taken n c v m one two three four =
-    rw (one.dashes, one.long, one.short, two.dashes, two.long, two.short, three.dashes, three.long, three.short, four.dashes, four.long, four.short) refl
+bulk_taken n c v m one two three four = record {
+  taken = rw (one.dashes, one.long, one.short, two.dashes, two.long, two.short, three.dashes, three.long, three.short, four.dashes, four.long, four.short) refl;
+  met = rw (one.dashes, one.long, one.short, two.dashes, two.long, two.short, three.dashes, three.long, three.short, four.dashes, four.long, four.short) refl;
+}
 
-pub bulk_met : (n c v m : Text) → IsPlainWord n → IsPlainWord c → IsPlainWord v → IsPlainWord m
-    → option_map given_in (subcommand_of the_app (codes "bulk" ∷ n ∷ c ∷ v ∷ m ∷ [])) ≡ given (codes "bulk") n c v m
+pub receipts_taken : (k : Text) → IsPlainWord k → IsTaken (codes "receipts" ∷ k ∷ []) (with_key (codes "receipts") k)
 unfolding clap_on_literals
-bulk_met n c v m one two three four =
-    rw (one.dashes, one.long, one.short, two.dashes, two.long, two.short, three.dashes, three.long, three.short, four.dashes, four.long, four.short) refl
+receipts_taken k one = record {
+  taken = rw (one.dashes, one.long, one.short) refl;
+  met = rw (one.dashes, one.long, one.short) refl;
+}

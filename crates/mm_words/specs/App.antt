@@ -14,11 +14,19 @@ has_globals command = (out-Command command).has_globals
 abbrev pub wanted_rule : List ℕ → Rule
 wanted_rule id = record (new_rule id) { required = true; action = Some Set }
 
+-- a subcommand with a variant and a module
+abbrev pub header_app : List ℕ → App
+header_app name = with_rule (with_rule (new_app name) (wanted_rule (codes "VARIANT"))) (wanted_rule (codes "MODULE"))
+
 -- a subcommand with the four words of a generated schedule
 abbrev pub generating_app : List ℕ → App
 generating_app name =
     with_rule (with_rule (with_rule (with_rule (new_app name) (wanted_rule (codes "NUMBER"))) (wanted_rule (codes "COUNT")))
     (wanted_rule (codes "VARIANT"))) (wanted_rule (codes "MODULE"))
+
+-- a subcommand with a key
+abbrev pub key_app : List ℕ → App
+key_app name = with_rule (new_app name) (wanted_rule (codes "KEY"))
 
 -- a subcommand has to stand there, and nothing is taken for a call for help
 abbrev pub top_app : App
@@ -30,8 +38,16 @@ top_app = on_top (λ top. record top {
   disable_version_flag = true;
 }) (new_app (codes "memoir"))
 
+-- the forms that run the module on the platform
+abbrev pub with_host_forms : App → App
+with_host_forms app =
+    with_subcommand (with_subcommand (with_subcommand (with_subcommand app
+    (header_app (codes "init")).top) (new_app (codes "run")).top)
+    (new_app (codes "checkpoint")).top) (new_app (codes "power")).top
+
 abbrev pub the_app : App
 the_app =
-    with_subcommand (with_subcommand (with_subcommand (with_subcommand top_app
+    with_subcommand (with_subcommand (with_subcommand (with_subcommand (with_subcommand (with_host_forms top_app)
     (new_app (codes "replay")).top) (new_app (codes "check")).top)
-    (generating_app (codes "gen")).top) (generating_app (codes "bulk")).top
+    (generating_app (codes "gen")).top) (generating_app (codes "bulk")).top)
+    (key_app (codes "receipts")).top

@@ -1,25 +1,39 @@
 -- The commands and the words that spell them.
-use Rattle.std.specs.Prelude.{◌≡◌, ◌<◌, ◌≤◌, ◌^◌, ℕ, List, [], ◌∷◌, codes}
+use Rattle.std.specs.Prelude.{◌≡◌, ◌<◌, ◌≤◌, ◌^◌, ℕ, List, [], ◌∷◌, Some, codes}
 use Rattle.std.specs.Fmt.{decimal}
 use Rattle.mm_base.specs.Input.{joined}
+use Rattle.mm_module.specs.Values.{value_at}
 use Rattle.mm_modules.specs.Modules.{name_of}
 use Rattle.mm_schedule.specs.Headers.{variant_text}
+use Rattle.mm_schedule.specs.declared.header.Header.{Header}
 use Rattle.mm_words.specs.declared.command.Command.{Command}
-use Rattle.mm_words.specs.declared.command.Command.TheVariants.{Replay, Check, Gen, Bulk, Help}
+use Rattle.mm_words.specs.declared.command.Command.TheVariants.{Init, Run, Checkpoint, Power, Replay, Check, Gen, Bulk, Receipts, Help}
 use Rattle.mm_words.specs.declared.command.Generated.{Generated}
 
--- a word, a number, a count, a variant and a module
-abbrev pub generated_words : List ℕ → Generated → List (List ℕ)
-generated_words word it =
-    word ∷ decimal it.number ∷ decimal it.count ∷ variant_text it.header.variant ∷ name_of it.header.module ∷ []
+-- a variant and a module
+abbrev pub header_words : Header → List (List ℕ)
+header_words header = variant_text header.variant ∷ name_of header.module ∷ []
 
--- the words of a command
-abbrev pub words_of : Command → List (List ℕ)
-words_of Replay = codes "replay" ∷ []
-words_of Check = codes "check" ∷ []
-words_of (Gen it) = generated_words (codes "gen") it
-words_of (Bulk it) = generated_words (codes "bulk") it
-words_of Help = codes "--help" ∷ []
+-- a number, a count, a variant and a module
+abbrev pub generated_words : Generated → List (List ℕ)
+generated_words it = decimal it.number ∷ decimal it.count ∷ header_words it.header
+
+-- `receipts`, and 64 hexadecimal digits of either case that give the key
+abbrev pub AreReceiptsWords : List ℕ → List (List ℕ) → Type 0
+AreReceiptsWords key words = (digits : List ℕ) × (value_at digits ≡ Some key) × (words ≡ codes "receipts" ∷ digits ∷ [])
+
+-- the words are the command's
+abbrev pub AreWordsOf : Command → List (List ℕ) → Type 0
+AreWordsOf (Init header) words = words ≡ codes "init" ∷ header_words header
+AreWordsOf Run words = words ≡ codes "run" ∷ []
+AreWordsOf Checkpoint words = words ≡ codes "checkpoint" ∷ []
+AreWordsOf Power words = words ≡ codes "power" ∷ []
+AreWordsOf Replay words = words ≡ codes "replay" ∷ []
+AreWordsOf Check words = words ≡ codes "check" ∷ []
+AreWordsOf (Gen it) words = words ≡ codes "gen" ∷ generated_words it
+AreWordsOf (Bulk it) words = words ≡ codes "bulk" ∷ generated_words it
+AreWordsOf (Receipts key) words = AreReceiptsWords key words
+AreWordsOf Help words = words ≡ codes "--help" ∷ []
 
 -- a number of 64 bits, and at most 20,000 events
 pub record IsGenerated (it : Generated) : Type 0 where
@@ -28,23 +42,33 @@ pub record IsGenerated (it : Generated) : Type 0 where
 
 -- the numbers of a command are within their bounds
 abbrev pub IsAllowed : Command → Type 0
+IsAllowed (Init header) = Unit {0}
+IsAllowed Run = Unit {0}
+IsAllowed Checkpoint = Unit {0}
+IsAllowed Power = Unit {0}
 IsAllowed Replay = Unit {0}
 IsAllowed Check = Unit {0}
 IsAllowed (Gen it) = IsGenerated it
 IsAllowed (Bulk it) = IsGenerated it
+IsAllowed (Receipts key) = Unit {0}
 IsAllowed Help = Unit {0}
 
 -- the words spell the command
 pub record Spells (command : Command) (words : List (List ℕ)) : Type 0 where
   pub allowed : IsAllowed command
-  pub spelled : words ≡ words_of command
+  pub spelled : AreWordsOf command words
 
 -- the help, a line for each form, and what its capital words stand for
 abbrev pub help_text : List ℕ
 help_text =
-    joined (codes "memoir replay"
+    joined (codes "memoir init VARIANT MODULE"
+    ∷ codes "memoir run"
+    ∷ codes "memoir checkpoint"
+    ∷ codes "memoir power"
+    ∷ codes "memoir replay"
     ∷ codes "memoir check"
     ∷ codes "memoir gen NUMBER COUNT VARIANT MODULE"
     ∷ codes "memoir bulk NUMBER COUNT VARIANT MODULE"
+    ∷ codes "memoir receipts KEY"
     ∷ codes "VARIANT is basic or opt"
     ∷ codes "MODULE is counter, limiter, quota, ledger, dispenser, receipt-counter, receipt-limiter or receipt-quota" ∷ [])

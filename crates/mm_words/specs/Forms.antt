@@ -4,11 +4,13 @@ use Rattle.std.specs.Str.{bytes_eq}
 use Rattle.clap.specs.Words.{first_value}
 use Rattle.clap.specs.declared.parser.matches.Found.{Found}
 use Rattle.mm_base.specs.Decimals.{number_of}
+use Rattle.mm_module.specs.Values.{value_at}
 use Rattle.mm_modules.specs.Modules.{module_named}
 use Rattle.mm_schedule.specs.Headers.{variant_at}
 use Rattle.mm_schedule.specs.Words.{◌>>=◌}
+use Rattle.mm_schedule.specs.declared.header.Header.{Header}
 use Rattle.mm_words.specs.declared.command.Command.{Command}
-use Rattle.mm_words.specs.declared.command.Command.TheVariants.{Replay, Check, Gen, Bulk, Help}
+use Rattle.mm_words.specs.declared.command.Command.TheVariants.{Init, Run, Checkpoint, Power, Replay, Check, Gen, Bulk, Receipts, Help}
 use Rattle.mm_words.specs.declared.command.Generated.{Generated}
 use Rattle.mm_words.specs.declared.fault.WordsFault.{WordsFault}
 use Rattle.mm_words.specs.declared.fault.WordsFault.TheVariants as fault
@@ -22,34 +24,54 @@ is_refused (byte ∷ rest) = byte == 45 || bytes_eq (byte ∷ rest) (codes "help
 abbrev pub count_at : List ℕ → Option ℕ
 count_at word = number_of word >>= λ count. if nat_lt 20000 count then None else Some count
 
+-- the words of a variant and a module, each read as what it has to be
+unfoldable pub header_in : Found → Option Header
+header_in found =
+    first_value found (codes "VARIANT") >>= λ variant_word.
+    first_value found (codes "MODULE") >>= λ module_word.
+    variant_at variant_word >>= λ variant.
+    module_named module_word >>= λ module_read.
+    Some (record { variant = variant; «module» = module_read })
+
 -- the four words of a generated schedule, each read as what it has to be
 unfoldable pub generated_in : Found → Option Generated
 generated_in found =
     first_value found (codes "NUMBER") >>= λ number_word.
     first_value found (codes "COUNT") >>= λ count_word.
-    first_value found (codes "VARIANT") >>= λ variant_word.
-    first_value found (codes "MODULE") >>= λ module_word.
     number_of number_word >>= λ number.
     count_at count_word >>= λ count.
-    variant_at variant_word >>= λ variant.
-    module_named module_word >>= λ module_read.
-    Some (record { number = number; count = count; header = record { variant = variant; «module» = module_read } })
+    header_in found >>= λ header.
+    Some (record { number = number; count = count; header = header })
+
+-- the key of a word of 64 hexadecimal digits
+unfoldable pub key_in : Found → Option (List ℕ)
+key_in found = first_value found (codes "KEY") >>= value_at
 
 -- the command of a subcommand with this name, and what was matched behind it
 unfoldable pub command_in : List ℕ → Found → Option Command
 command_in name found =
-    if bytes_eq name (codes "replay") then Some Replay
+    if bytes_eq name (codes "init") then (header_in found >>= λ header. Some (Init header))
+    else if bytes_eq name (codes "run") then Some Run
+    else if bytes_eq name (codes "checkpoint") then Some Checkpoint
+    else if bytes_eq name (codes "power") then Some Power
+    else if bytes_eq name (codes "replay") then Some Replay
     else if bytes_eq name (codes "check") then Some Check
     else if bytes_eq name (codes "gen") then (generated_in found >>= λ generated. Some (Gen generated))
     else if bytes_eq name (codes "bulk") then (generated_in found >>= λ generated. Some (Bulk generated))
+    else if bytes_eq name (codes "receipts") then (key_in found >>= λ key. Some (Receipts key))
     else None
 
 -- the command has a subcommand
 abbrev pub IsMatched : Command → Type 0
+IsMatched (Init header) = Unit {0}
+IsMatched Run = Unit {0}
+IsMatched Checkpoint = Unit {0}
+IsMatched Power = Unit {0}
 IsMatched Replay = Unit {0}
 IsMatched Check = Unit {0}
 IsMatched (Gen it) = Unit {0}
 IsMatched (Bulk it) = Unit {0}
+IsMatched (Receipts key) = Unit {0}
 IsMatched Help = ⊥
 
 -- this command comes, or memory was wanting

@@ -2,7 +2,7 @@
 
 ghost use Rattle.std.specs.Prelude.{◌≡◌, false, IfOk};
 ghost use Rattle.clap.specs.Words.{app_of, new_app, rule_of};
-ghost use Rattle.mm_words.specs.App.{generating_app, has_globals, the_app, top_app, wanted_rule};
+ghost use Rattle.mm_words.specs.App.{generating_app, has_globals, header_app, key_app, the_app, top_app, wanted_rule, with_host_forms};
 
 use clap::{Arg, ArgAction, Command};
 use std::alloc::{AllocError, Global};
@@ -11,11 +11,22 @@ use std::alloc::{AllocError, Global};
 pub fn command_line<'a>(alloc: Global) -> Result<Command<'a>, AllocError>
     ensures { IfOk result (λ line. app_of line ≡ the_app) }
 {
-    top(alloc)
+    host_forms(alloc, top(alloc))?
         .subcommand(bare(alloc, "replay"))?
         .subcommand(bare(alloc, "check"))?
         .subcommand(generating(alloc, "gen")?)?
-        .subcommand(generating(alloc, "bulk")?)
+        .subcommand(generating(alloc, "bulk")?)?
+        .subcommand(with_key(alloc, "receipts")?)
+}
+
+/// The forms that run the module on the platform.
+fn host_forms<'a>(alloc: Global, line: Command<'a>) -> Result<Command<'a>, AllocError>
+    ensures { IfOk result (λ whole. app_of whole ≡ with_host_forms (app_of line.entry)) }
+{
+    line.subcommand(with_header(alloc, "init")?)?
+        .subcommand(bare(alloc, "run"))?
+        .subcommand(bare(alloc, "checkpoint"))?
+        .subcommand(bare(alloc, "power"))
 }
 
 /// The command that the subcommands are added to. It answers no call for help.
@@ -39,6 +50,16 @@ fn bare<'a>(alloc: Global, name: &'a str) -> Command<'a>
     Command::new(alloc, name)
 }
 
+/// A subcommand with a variant and a module.
+fn with_header<'a>(alloc: Global, name: &'a str) -> Result<Command<'a>, AllocError>
+    ensures app { IfOk result (λ command. app_of command ≡ header_app name.entry.now) }
+    ensures local { IfOk result (λ command. has_globals command ≡ false) }
+{
+    Command::new(alloc, name)
+        .arg(wanted(alloc, "VARIANT"))?
+        .arg(wanted(alloc, "MODULE"))
+}
+
 /// A subcommand with the four words of a generated schedule.
 fn generating<'a>(alloc: Global, name: &'a str) -> Result<Command<'a>, AllocError>
     ensures app { IfOk result (λ command. app_of command ≡ generating_app name.entry.now) }
@@ -49,6 +70,14 @@ fn generating<'a>(alloc: Global, name: &'a str) -> Result<Command<'a>, AllocErro
         .arg(wanted(alloc, "COUNT"))?
         .arg(wanted(alloc, "VARIANT"))?
         .arg(wanted(alloc, "MODULE"))
+}
+
+/// A subcommand with a key.
+fn with_key<'a>(alloc: Global, name: &'a str) -> Result<Command<'a>, AllocError>
+    ensures app { IfOk result (λ command. app_of command ≡ key_app name.entry.now) }
+    ensures local { IfOk result (λ command. has_globals command ≡ false) }
+{
+    Command::new(alloc, name).arg(wanted(alloc, "KEY"))
 }
 
 /// A word that has to stand there.

@@ -1,12 +1,14 @@
 //! What the program is told to do.
 
-ghost use Rattle.std.specs.Prelude.{◌≡◌, [], ◌∷◌, map};
+ghost use Rattle.std.specs.Prelude.{◌≡◌, ◌↔◌, [], ◌∷◌, IsTrue, map};
 ghost use Rattle.std.specs.Cmp.Lexicographic.{pointwise};
 ghost use Rattle.std.specs.Fmt.{decimal};
 ghost use Rattle.std.specs.Str.{bytes_eq};
-ghost use Rattle.mm_words.specs.Commands.{generated_words, words_of};
+ghost use Rattle.mm_module.specs.Values.{value_at};
+ghost use Rattle.mm_words.specs.Commands.{AreReceiptsWords, AreWordsOf, generated_words, header_words};
 
 use itoa::Buffer;
+use mm_module::value_in;
 use mm_schedule::{Header, variant_word};
 
 /// A schedule that is made from a number.
@@ -21,6 +23,14 @@ pub struct Generated {
 /// A command: what one form of words asks for.
 #[derive(Clone, Copy, Debug, PartialEq, Eq)]
 pub enum Command {
+    /// `init VARIANT MODULE`
+    Init(Header),
+    /// `run`
+    Run,
+    /// `checkpoint`
+    Checkpoint,
+    /// `power`
+    Power,
     /// `replay`
     Replay,
     /// `check`
@@ -29,6 +39,8 @@ pub enum Command {
     Gen(Generated),
     /// `bulk NUMBER COUNT VARIANT MODULE`
     Bulk(Generated),
+    /// `receipts KEY`, where KEY is 64 hexadecimal digits.
+    Receipts { key: [u8; 32] },
     /// `--help`
     Help,
 }
@@ -36,31 +48,20 @@ pub enum Command {
 impl Command {
     /// Whether these words spell the command.
     pub(crate) fn is_spelled(&self, words: &[&str]) -> bool
-        ensures { result ≡ pointwise bytes_eq (map (λ s. s.now) words.now) (words_of self.now) }
+        ensures { IsTrue result ↔ AreWordsOf self.now (map (λ s. s.now) words.now) }
     {
         match self {
+            Command::Init(header) => are_header_words(words, "init", header),
+            Command::Run => is_alone(words, "run"),
+            Command::Checkpoint => is_alone(words, "checkpoint"),
+            Command::Power => is_alone(words, "power"),
             Command::Replay => is_alone(words, "replay"),
             Command::Check => is_alone(words, "check"),
-            Command::Gen(generated) => generated.is_spelled(words, "gen"),
-            Command::Bulk(generated) => generated.is_spelled(words, "bulk"),
+            Command::Gen(generated) => are_generated_words(words, "gen", generated),
+            Command::Bulk(generated) => are_generated_words(words, "bulk", generated),
+            Command::Receipts { key } => are_receipts_words(words, key),
             Command::Help => is_alone(words, "--help"),
         }
-    }
-}
-
-impl Generated {
-    /// Whether the words are this one and those of the schedule.
-    fn is_spelled(&self, words: &[&str], form: &str) -> bool
-        ensures { result ≡ pointwise bytes_eq (map (λ s. s.now) words.now) (generated_words form.now self.now) }
-    {
-        let [word, number, count, variant, module] = words else {
-            return false;
-        };
-        *word == form
-            && is_decimal_of(number, self.number)
-            && is_decimal_of(count, u64::from(self.count))
-            && variant.as_bytes() == variant_word(self.header.variant)
-            && module.as_bytes() == self.header.module.name()
     }
 }
 
@@ -71,6 +72,52 @@ pub(crate) fn is_alone(words: &[&str], alone: &str) -> bool
     match words {
         [word] => *word == alone,
         _ => false,
+    }
+}
+
+/// Whether the words are this one, and the variant and the module of a header.
+fn are_header_words(words: &[&str], form: &str, header: &Header) -> bool
+    ensures { result ≡ pointwise bytes_eq (map (λ s. s.now) words.now) (form.now ∷ header_words header.now) }
+{
+    let [word, variant, module] = words else {
+        return false;
+    };
+    *word == form
+        && variant.as_bytes() == variant_word(header.variant)
+        && module.as_bytes() == header.module.name()
+}
+
+/// Whether the words are this one, and those of a generated schedule.
+fn are_generated_words(words: &[&str], form: &str, it: &Generated) -> bool
+    ensures { result ≡ pointwise bytes_eq (map (λ s. s.now) words.now) (form.now ∷ generated_words it.now) }
+{
+    let [word, number, count, variant, module] = words else {
+        return false;
+    };
+    *word == form
+        && is_decimal_of(number, it.number)
+        && is_decimal_of(count, u64::from(it.count))
+        && variant.as_bytes() == variant_word(it.header.variant)
+        && module.as_bytes() == it.header.module.name()
+}
+
+/// Whether the words are `receipts` and the digits of a key.
+fn are_receipts_words(words: &[&str], key: &[u8; 32]) -> bool
+    ensures { IsTrue result ↔ AreReceiptsWords key.now (map (λ s. s.now) words.now) }
+{
+    match words {
+        [word, digits] => *word == "receipts" && gives_key(digits, key),
+        _ => false,
+    }
+}
+
+/// Whether the word is 64 hexadecimal digits that give this key.
+fn gives_key(word: &str, key: &[u8; 32]) -> bool
+    ensures { IsTrue result ↔ (value_at word.now ≡ Some key.now) }
+{
+    match value_in(word.as_bytes()) {
+        Some(value) => value == *key,
+        None => false,
     }
 }
 

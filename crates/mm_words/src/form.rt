@@ -3,11 +3,12 @@
 ghost use Rattle.std.specs.Prelude.{◌≡◌, ◌≤◌, IfSome};
 ghost use Rattle.clap.specs.Words.{found_of};
 ghost use Rattle.mm_words.specs.Commands.{IsAllowed, IsGenerated};
-ghost use Rattle.mm_words.specs.Forms.{command_in, count_at, generated_in};
+ghost use Rattle.mm_words.specs.Forms.{command_in, count_at, generated_in, header_in, key_in};
 
 use crate::command::{Command, Generated};
 use clap::ArgMatches;
 use mm_base::read_decimal;
+use mm_module::value_in;
 use mm_modules::by_name;
 use mm_schedule::{Header, read_variant};
 
@@ -21,6 +22,13 @@ pub fn command_in(name: &str, matches: &ArgMatches<'_>) -> Option<Command>
     ensures matched { result ≡ command_in name.now (found_of matches.now) }
 {
     match name {
+        "init" => {
+            let header = header_in(matches)?;
+            Some(Command::Init(header))
+        }
+        "run" => Some(Command::Run),
+        "checkpoint" => Some(Command::Checkpoint),
+        "power" => Some(Command::Power),
         "replay" => Some(Command::Replay),
         "check" => Some(Command::Check),
         "gen" => {
@@ -30,6 +38,10 @@ pub fn command_in(name: &str, matches: &ArgMatches<'_>) -> Option<Command>
         "bulk" => {
             let generated = generated_in(matches)?;
             Some(Command::Bulk(generated))
+        }
+        "receipts" => {
+            let key = key_in(matches)?;
+            Some(Command::Receipts { key })
         }
         _ => None,
     }
@@ -43,17 +55,35 @@ fn generated_in(matches: &ArgMatches<'_>) -> Option<Generated>
 {
     let number = matches.get_str("NUMBER")?;
     let count = matches.get_str("COUNT")?;
-    let variant = matches.get_str("VARIANT")?;
-    let module = matches.get_str("MODULE")?;
     let number = read_decimal(number.as_bytes())?;
     let count = read_count(count)?;
-    let variant = read_variant(variant.as_bytes())?;
-    let module = by_name(module.as_bytes())?;
+    let header = header_in(matches)?;
     Some(Generated {
         number,
         count,
-        header: Header { variant, module },
+        header,
     })
+}
+
+/// The words of a variant and a module, None where one of them is not what it has to be.
+#[tactic(auto, unfolding(crate::specs::Forms::header_in))]
+fn header_in(matches: &ArgMatches<'_>) -> Option<Header>
+    ensures { result ≡ header_in (found_of matches.now) }
+{
+    let variant = matches.get_str("VARIANT")?;
+    let module = matches.get_str("MODULE")?;
+    let variant = read_variant(variant.as_bytes())?;
+    let module = by_name(module.as_bytes())?;
+    Some(Header { variant, module })
+}
+
+/// The key of a word, None where the word is not 64 hexadecimal digits.
+#[tactic(auto, unfolding(crate::specs::Forms::key_in))]
+fn key_in(matches: &ArgMatches<'_>) -> Option<[u8; 32]>
+    ensures { result ≡ key_in (found_of matches.now) }
+{
+    let digits = matches.get_str("KEY")?;
+    value_in(digits.as_bytes())
 }
 
 /// The number of events that a word writes, None where it is no decimal or over 20,000.

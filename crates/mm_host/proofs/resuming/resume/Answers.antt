@@ -1,5 +1,5 @@
 use Rattle.mm_host.proofs.Blaming.{resumes_told}
-use Rattle.mm_host.proofs.Recovering.{recovers}
+use Rattle.mm_host.proofs.BothRecovering.{recovers}
 use Rattle.mm_host.proofs.resuming.resume.Goals as goal
 
 pub returns-clause-faults : goal.returns-clause-faults

@@ -1,9 +1,8 @@
-use Rattle.std.proofs.Common.{ap, None}
-use Rattle.mm_receipts.specs.Checking.{Tally, Checking}
-use Rattle.mm_receipts.proofs.Playing.{checks-err}
+use Rattle.mm_receipts.proofs.Playing.{honestly, unrefused}
 use Rattle.mm_receipts.proofs.player.receipts.Goals as goal
 
-pub returns-clause-checks : goal.returns-clause-checks
-returns-clause-checks g c =
-    let at_first : Tally → Checking = λ t. record { tally = t; asked = None } in
-    checks-err c.args.key.now _ (ap at_first c.new.ensures) _ _ _ _ c.play.new.player c.play.result c.in-Err.fault c.play.ensures.plays c.in-Err.is
+pub returns-clause-complete : goal.returns-clause-complete
+returns-clause-complete g c = unrefused _ _ _ _ _ _ c.checked.ensures.checks
+
+pub returns-clause-honest : goal.returns-clause-honest
+returns-clause-honest g c = honestly _ _ _ _ _ _ c.checked.ensures.checks

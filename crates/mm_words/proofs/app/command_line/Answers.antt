@@ -1,17 +1,20 @@
 use Rattle.std.proofs.Common.{◌≡◌, ◌∙◌, ap, ap₂, codes}
 use Rattle.std.proofs.lemmas.Result.{IfOk-weaker}
 use Rattle.clap.specs.Words.{App, app_of, new_app, with_subcommand}
-use Rattle.mm_words.specs.App.{generating_app}
+use Rattle.mm_words.specs.App.{generating_app, key_app, with_host_forms}
 use Rattle.mm_words.proofs.app.command_line.Goals as goal
 
 pub returns : goal.returns
 returns c =
     let top = λ (a : App). a.top in
+    let host = c.in_ok-host_forms.ensures ∙ ap with_host_forms c.top.ensures.app in
     let replay : app_of c.bare.result ≡ new_app (codes "replay") = c.bare.ensures.app in
     let check : app_of c.bare-2.result ≡ new_app (codes "check") = c.bare-2.ensures.app in
     let gen : app_of c.in_ok-generating.field-0 ≡ generating_app (codes "gen") = c.in_ok-generating.ensures.app in
     let bulk : app_of c.in_ok-generating-2.field-0 ≡ generating_app (codes "bulk") = c.in_ok-generating-2.ensures.app in
-    let one = c.in_ok-subcommand.ensures.shape c.bare.ensures.local ∙ ap₂ with_subcommand c.top.ensures.app (ap top replay) in
+    let receipts : app_of c.in_ok-with_key.field-0 ≡ key_app (codes "receipts") = c.in_ok-with_key.ensures.app in
+    let one = c.in_ok-subcommand.ensures.shape c.bare.ensures.local ∙ ap₂ with_subcommand host (ap top replay) in
     let two = c.in_ok-subcommand-2.ensures.shape c.bare-2.ensures.local ∙ ap₂ with_subcommand one (ap top check) in
     let three = c.in_ok-subcommand-3.ensures.shape c.in_ok-generating.ensures.local ∙ ap₂ with_subcommand two (ap top gen) in
-    IfOk-weaker c.subcommand-4.result _ _ (λ line adds. adds.shape c.in_ok-generating-2.ensures.local ∙ ap₂ with_subcommand three (ap top bulk)) c.subcommand-4.ensures
+    let four = c.in_ok-subcommand-4.ensures.shape c.in_ok-generating-2.ensures.local ∙ ap₂ with_subcommand three (ap top bulk) in
+    IfOk-weaker c.subcommand-5.result _ _ (λ line adds. adds.shape c.in_ok-with_key.ensures.local ∙ ap₂ with_subcommand four (ap top receipts)) c.subcommand-5.ensures

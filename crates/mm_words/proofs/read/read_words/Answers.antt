@@ -1,4 +1,5 @@
 use Rattle.std.proofs.Common.{◌≡◌, ◌∙◌, sym, true, rules}
+use Rattle.mm_words.proofs.OneCommand.{one_command}
 use Rattle.mm_words.proofs.Reading.{any_text, no_help, one_refused, same_words, too_many}
 use Rattle.mm_words.proofs.read.read_words.Goals.{then-words-gt-LONGEST-via-then-words-gt-LONGEST, then-words-gt-LONGEST-via-else-words-gt-LONGEST+then-has_refused}
 use Rattle.mm_words.proofs.read.read_words.Goals as goal
@@ -18,4 +19,10 @@ returns-then-words-gt-LONGEST-clause-usage c same command spells =
 pub returns-clause-ok : goal.returns-clause-ok
 returns-clause-ok c =
     let yes : c.is_spelled.result ≡ true = search rules in
-    record { allowed = c.in_ok-command.ensures.allowed; spelled = same_words _ _ (sym c.is_spelled.ensures ∙ yes) }
+    record { allowed = c.in_ok-command.ensures.allowed; spelled = c.is_spelled.ensures.0 yes }
+
+pub returns-clause-one : goal.returns-clause-one
+returns-clause-one c other spells = one_command _ other _ spells (returns-clause-ok c)
+
+pub returns-then-is_alone-clause-one : goal.returns-then-is_alone-clause-one
+returns-then-is_alone-clause-one c other spells = one_command _ other _ spells (returns-then-is_alone-clause-ok c)

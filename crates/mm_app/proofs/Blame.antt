@@ -1,0 +1,318 @@
+-- Whom the status of each command blames.
+use Rattle.std.proofs.Common.{◌≡◌, ◌∙◌, ℕ, Bool, false, List, Option, None, Some, Result, Ok, Err, refl, sym, ap, subst, inl, inr}
+use Rattle.mm_base.specs.Faults.{CountsFaults, Rose}
+use Rattle.mm_base.specs.declared.fault.WriteFault as write
+use Rattle.mm_base.specs.declared.replay_fault.ReplayFault.{ReplayFault}
+use Rattle.mm_base.specs.declared.replay_fault.ReplayFault.TheVariants as fault
+use Rattle.mm_bulk.specs.declared.fault.BulkFault.{BulkFault}
+use Rattle.mm_bulk.specs.declared.fault.BulkFault.TheVariants as much
+use Rattle.mm_bulk.specs.declared.summary.Summary.{Summary}
+use Rattle.mm_call.specs.Leaving.{Blames}
+use Rattle.mm_opt.specs.declared.segment.Checkpointed.{Checkpointed}
+use Rattle.mm_opt.specs.declared.segment.Checkpointed.TheVariants as said
+use Rattle.mm_opt.specs.declared.segment.CheckpointRefusal.{CheckpointRefusal}
+use Rattle.mm_opt.specs.declared.segment.CheckpointRefusal.TheVariants as refusal
+use Rattle.mm_opt.specs.Checkpoints.{closing_fault_in}
+use Rattle.mm_platform.specs.declared.fault.StepFault.{StepFault}
+use Rattle.mm_platform.specs.Standing.{Standing}
+use Rattle.mm_platform.specs.Steps.{EndsCycle}
+use Rattle.mm_play.specs.Plays as plays
+use Rattle.mm_words.specs.declared.command.Command.{Command}
+use Rattle.mm_words.specs.declared.command.Command.TheVariants.{Init, Run, Checkpoint, Power, Replay, Check, Gen, Bulk, Receipts, Help}
+use Rattle.mm_app.specs.Blame.{BlamesOutput, BlamesSource, is_platform_fault, is_read_fault, is_store_fault}
+use Rattle.mm_app.specs.Bulk.{bulk_told}
+use Rattle.mm_app.specs.Checkpoint.{checkpoint_told}
+use Rattle.mm_app.specs.Commands.{Does, DoesOrLacks, Reads, UsesPlatform, UsesStore}
+use Rattle.mm_store.specs.Kept.{Kept}
+use Rattle.mm_app.specs.Outside.{Outside, IsStill}
+use Rattle.mm_app.specs.Power.{power_told}
+use Rattle.mm_app.specs.Status.{status_of}
+use Rattle.mm_app.specs.Telling.{EndsAtOnce, GivesText, Stops, StopsAs, Tells, status_by}
+use Rattle.mm_app.specs.declared.status.Status.{Status}
+use Rattle.mm_app.specs.declared.status.Status.TheVariants.{Done, Usage, Memory, WriteFault}
+
+-- two statuses blame the same
+pub record BlameAlike (one other : Status) : Type 0 where
+  pub platform : is_platform_fault one ≡ is_platform_fault other
+  pub store : is_store_fault one ≡ is_store_fault other
+  pub source : is_read_fault one ≡ is_read_fault other
+
+alike : (one other : Status) → one ≡ other → BlameAlike one other
+alike one other e = record { platform = ap is_platform_fault e; store = ap is_store_fault e; source = ap is_read_fault e }
+
+-- what was to be told, as a status
+abbrev end_of : Result (List ℕ) Status → Status
+end_of (Ok text) = Done
+end_of (Err end) = end
+
+wrote_alike : (r : Result (Unit {0}) write.WriteFault) (status : Status) → status ≡ status_by r → BlameAlike status Done
+wrote_alike (Ok done) status e = alike status Done e
+wrote_alike (Err fault) status e = record { platform = ap is_platform_fault e; store = ap is_store_fault e; source = ap is_read_fault e }
+
+told_alike : (told : Result (List ℕ) Status) (received received' : Option (List ℕ)) (writes writes' : ℕ) (status : Status)
+    → Tells told received received' writes writes' status → BlameAlike status (end_of told)
+told_alike (Ok text) received received' writes writes' status t = wrote_alike t.result status t.ends
+told_alike (Err end) received received' writes writes' status t = alike status end t.ends
+
+-- a count that is as before, where nobody is blamed
+unblamed : (blamed : Bool) (before now : ℕ) → blamed ≡ false → now ≡ before → plays.IsBlamed blamed before now
+unblamed blamed before now e same = subst (λ (b : Bool). plays.IsBlamed b before now) (sym e) same
+
+-- what is blamed for one status is for another that blames the same
+blamed_as : (one other : Bool) (before now : ℕ) → one ≡ other → plays.IsBlamed other before now → plays.IsBlamed one before now
+blamed_as one other before now e b = subst (λ (x : Bool). plays.IsBlamed x before now) (sym e) b
+
+played_platform : {T : Type 0} (answer : Result T ReplayFault) → is_platform_fault (status_of answer) ≡ false
+played_platform (Ok it) = refl
+played_platform (Err fault.Memory) = refl
+played_platform (Err fault.ReadFault) = refl
+played_platform (Err fault.WriteFault) = refl
+played_platform (Err (fault.BadLine line)) = refl
+played_platform (Err (fault.LineLong line)) = refl
+played_platform (Err fault.TooMuch) = refl
+
+played_store : {T : Type 0} (answer : Result T ReplayFault) → is_store_fault (status_of answer) ≡ false
+played_store (Ok it) = refl
+played_store (Err fault.Memory) = refl
+played_store (Err fault.ReadFault) = refl
+played_store (Err fault.WriteFault) = refl
+played_store (Err (fault.BadLine line)) = refl
+played_store (Err (fault.LineLong line)) = refl
+played_store (Err fault.TooMuch) = refl
+
+played_source : {T : Type 0} (answer : Result T ReplayFault) → is_read_fault (status_of answer) ≡ plays.is_read_fault answer
+played_source (Ok it) = refl
+played_source (Err fault.Memory) = refl
+played_source (Err fault.ReadFault) = refl
+played_source (Err fault.WriteFault) = refl
+played_source (Err (fault.BadLine line)) = refl
+played_source (Err (fault.LineLong line)) = refl
+played_source (Err fault.TooMuch) = refl
+
+bulk_alike : (count : ℕ) (answer : Result Summary BulkFault) → BlameAlike (end_of (bulk_told count answer)) Done
+bulk_alike count (Ok summary) = alike Done Done refl
+bulk_alike count (Err much.Memory) = record { platform = refl; store = refl; source = refl }
+bulk_alike count (Err much.TooMuch) = record { platform = refl; store = refl; source = refl }
+
+in_bulk_alike : (count : ℕ) (answer : Result Summary BulkFault) (received received' : Option (List ℕ)) (writes writes' : ℕ) (status : Status)
+    → Tells (bulk_told count answer) received received' writes writes' status → BlameAlike status Done
+in_bulk_alike count answer received received' writes writes' status t =
+    let a = told_alike (bulk_told count answer) received received' writes writes' status t in
+    let b = bulk_alike count answer in
+    record { platform = a.platform ∙ b.platform; store = a.store ∙ b.store; source = a.source ∙ b.source }
+
+power_blames : (fault : Option StepFault) (before after : Standing) (emptied : Bool) → EndsCycle fault before after emptied
+    → plays.IsBlamed (is_platform_fault (end_of (power_told fault))) before.faults after.faults
+power_blames None before after emptied e = e.2
+power_blames (Some fault) before after emptied e = e
+
+power_spares : (fault : Option StepFault) → (is_store_fault (end_of (power_told fault)) ≡ false) × (is_read_fault (end_of (power_told fault)) ≡ false)
+power_spares None = (refl, refl)
+power_spares (Some fault) = (refl, refl)
+
+checkpoint_blames : (answer : Result Checkpointed CheckpointRefusal) (before after : ℕ) → Blames (closing_fault_in answer) before after
+    → plays.IsBlamed (is_platform_fault (end_of (checkpoint_told answer))) before after
+checkpoint_blames (Ok said.Done) before after b = b
+checkpoint_blames (Ok said.NoSegment) before after b = b
+checkpoint_blames (Err (refusal.Device fault)) before after b = b
+checkpoint_blames (Err refusal.Blank) before after b = b
+checkpoint_blames (Err refusal.Cell) before after b = b
+checkpoint_blames (Err refusal.Kind) before after b = b
+checkpoint_blames (Err refusal.Lost) before after b = b
+
+checkpoint_spares : (answer : Result Checkpointed CheckpointRefusal)
+    → (is_store_fault (end_of (checkpoint_told answer)) ≡ false) × (is_read_fault (end_of (checkpoint_told answer)) ≡ false)
+checkpoint_spares (Ok said.Done) = (refl, refl)
+checkpoint_spares (Ok said.NoSegment) = (refl, refl)
+checkpoint_spares (Err (refusal.Device fault)) = (refl, refl)
+checkpoint_spares (Err refusal.Blank) = (refl, refl)
+checkpoint_spares (Err refusal.Cell) = (refl, refl)
+checkpoint_spares (Err refusal.Kind) = (refl, refl)
+checkpoint_spares (Err refusal.Lost) = (refl, refl)
+
+-- the output
+
+output_by : (r : Result (Unit {0}) write.WriteFault) (status : Status) (writes writes' : ℕ) → CountsFaults writes writes' r → status ≡ status_by r
+    → BlamesOutput status writes writes'
+output_by (Ok done) status writes writes' c e = record { failed = λ h. absurd (cc); done = λ h. c.kept }
+output_by (Err fault) status writes writes' c e = record { failed = λ h. c.failed; done = λ h. absurd (cc) }
+
+pub output_stopped : (end status : Status) (received received' : Option (List ℕ)) (writes writes' : ℕ) → (end ≡ WriteFault → ⊥)
+    → StopsAs end received received' writes writes' status → BlamesOutput status writes writes'
+output_stopped end status received received' writes writes' other s = record {
+  failed = λ h. absurd (other (sym s.ends ∙ h));
+  done = λ h. s.stops.done (sym s.ends ∙ h);
+}
+
+output_played : {T : Type 0} (answer : Result T ReplayFault) (status : Status) (middle received' : Option (List ℕ)) (writes count writes' : ℕ)
+    → plays.IsBlamed (plays.is_write_fault answer) writes count → status ≡ status_of answer → Stops middle received' count writes' status
+    → BlamesOutput status writes writes'
+output_played (Ok it) status middle received' writes count writes' b e s = record {
+  failed = λ h. absurd (cc);
+  done = λ h. s.done h ∙ b;
+}
+output_played (Err fault.WriteFault) status middle received' writes count writes' b e s = record {
+  failed = λ h. subst (λ (n : ℕ). Rose writes n) (sym (s.failed h)) b;
+  done = λ h. absurd (cc);
+}
+output_played (Err fault.Memory) status middle received' writes count writes' b e s = record { failed = λ h. absurd (cc); done = λ h. absurd (cc) }
+output_played (Err fault.ReadFault) status middle received' writes count writes' b e s = record { failed = λ h. absurd (cc); done = λ h. absurd (cc) }
+output_played (Err (fault.BadLine line)) status middle received' writes count writes' b e s = record { failed = λ h. absurd (cc); done = λ h. absurd (cc) }
+output_played (Err (fault.LineLong line)) status middle received' writes count writes' b e s = record { failed = λ h. absurd (cc); done = λ h. absurd (cc) }
+output_played (Err fault.TooMuch) status middle received' writes count writes' b e s = record { failed = λ h. absurd (cc); done = λ h. absurd (cc) }
+
+output_told : (told : Result (List ℕ) Status) (received received' : Option (List ℕ)) (writes writes' : ℕ) (status : Status)
+    → (end_of told ≡ WriteFault → ⊥) → Tells told received received' writes writes' status → BlamesOutput status writes writes'
+output_told (Ok text) received received' writes writes' status other t = output_by t.result status writes writes' t.counts t.ends
+output_told (Err end) received received' writes writes' status other t = output_stopped end status received received' writes writes' other t
+
+bulk_no_write : (count : ℕ) (answer : Result Summary BulkFault) → end_of (bulk_told count answer) ≡ WriteFault → ⊥
+bulk_no_write count (Ok summary) h = cc
+bulk_no_write count (Err much.Memory) h = cc
+bulk_no_write count (Err much.TooMuch) h = cc
+
+power_no_write : (fault : Option StepFault) → end_of (power_told fault) ≡ WriteFault → ⊥
+power_no_write None h = cc
+power_no_write (Some fault) h = cc
+
+checkpoint_no_write : (answer : Result Checkpointed CheckpointRefusal) → end_of (checkpoint_told answer) ≡ WriteFault → ⊥
+checkpoint_no_write (Ok said.Done) h = cc
+checkpoint_no_write (Ok said.NoSegment) h = cc
+checkpoint_no_write (Err (refusal.Device fault)) h = cc
+checkpoint_no_write (Err refusal.Blank) h = cc
+checkpoint_no_write (Err refusal.Cell) h = cc
+checkpoint_no_write (Err refusal.Kind) h = cc
+checkpoint_no_write (Err refusal.Lost) h = cc
+
+-- the commands
+
+pub record Frames (command : Command) (old new : Outside) : Type 0 where
+  pub standing : (UsesPlatform command → ⊥) → new.standing ≡ old.standing
+  pub kept : (UsesStore command → ⊥) → new.kept ≡ old.kept
+  pub reads : (Reads command → ⊥) → new.reads ≡ old.reads
+
+pub record Blamed (command : Command) (old new : Outside) (status : Status) : Type 0 where
+  pub platform : plays.IsBlamed (is_platform_fault status) old.standing.faults new.standing.faults
+  pub store : plays.IsBlamed (is_store_fault status) old.kept.faults new.kept.faults
+  pub source : BlamesSource command old new status
+
+source_of : (command : Command) (old new : Outside) (status : Status) → plays.IsBlamed (is_read_fault status) old.reads new.reads
+    → plays.IsBlamed (is_read_fault status) old.takes new.takes → BlamesSource command old new status
+source_of (Init header) old new status r t = t
+source_of Run old new status r t = r
+source_of Checkpoint old new status r t = r
+source_of Power old new status r t = r
+source_of Replay old new status r t = r
+source_of Check old new status r t = r
+source_of (Gen it) old new status r t = r
+source_of (Bulk it) old new status r t = r
+source_of (Receipts key) old new status r t = r
+source_of Help old new status r t = r
+
+same_standing : (old new : Outside) → new.standing ≡ old.standing → new.standing.faults ≡ old.standing.faults
+same_standing old new e = ap (λ (s : Standing). s.faults) e
+
+same_kept : (old new : Outside) → new.kept ≡ old.kept → new.kept.faults ≡ old.kept.faults
+same_kept old new e = ap (λ (k : Kept). k.faults) e
+
+-- nobody is blamed, and nothing has changed but the output
+pub still_blamed : (command : Command) (old new : Outside) (status : Status) → IsStill old new → BlameAlike status Done → Blamed command old new status
+still_blamed command old new status s a = record {
+  platform = unblamed _ _ _ a.platform (same_standing old new s.standing);
+  store = unblamed _ _ _ a.store (same_kept old new s.kept);
+  source = source_of command old new status (unblamed _ _ _ a.source s.reads) (unblamed _ _ _ a.source s.takes);
+}
+
+pub ended_blamed : (command : Command) (old new : Outside) (end status : Status) → BlameAlike end Done → EndsAtOnce old new end status → Blamed command old new status
+ended_blamed command old new end status a e =
+    let b = alike status end e.stops.ends in
+    still_blamed command old new status e.still
+    (record { platform = b.platform ∙ a.platform; store = b.store ∙ a.store; source = b.source ∙ a.source })
+
+pub usage_alike : BlameAlike Usage Done
+usage_alike = record { platform = refl; store = refl; source = refl }
+
+pub memory_alike : BlameAlike Memory Done
+memory_alike = record { platform = refl; store = refl; source = refl }
+
+given_blamed : (command : Command) (old new : Outside) (text : List ℕ) (status : Status) → GivesText text old new status → Blamed command old new status
+given_blamed command old new text status g = still_blamed command old new status g.still (wrote_alike g.given.result status g.given.ends)
+
+-- nothing was done but to write a stop line
+pub stopped_blamed : (command : Command) (old new : Outside) (end status : Status) → BlameAlike end Done → IsStill old new
+    → StopsAs end old.received new.received old.writes new.writes status → Blamed command old new status
+stopped_blamed command old new end status a still s = ended_blamed command old new end status a (record { still = still; stops = s })
+
+-- what an answer to lines blames
+source_played : {T : Type 0} (answer : Result T ReplayFault) (status : Status) (reads reads' : ℕ) → status ≡ status_of answer
+    → plays.IsBlamed (plays.is_read_fault answer) reads reads' → plays.IsBlamed (is_read_fault status) reads reads'
+source_played answer status reads reads' e b = blamed_as _ _ _ _ (ap is_read_fault e ∙ played_source answer) b
+
+pub done_blamed : (command : Command) (old new : Outside) (status : Status) → Frames command old new → Does command old new status → Blamed command old new status
+done_blamed (Init header) old new status f d = ended_blamed (Init header) old new Usage status usage_alike d
+done_blamed Run old new status f d = ended_blamed Run old new Usage status usage_alike d
+done_blamed Check old new status f d = ended_blamed Check old new Usage status usage_alike d
+done_blamed (Gen it) old new status f d = given_blamed (Gen it) old new _ status d
+done_blamed Help old new status f d = given_blamed Help old new _ status d
+done_blamed (Bulk it) old new status f d =
+    still_blamed (Bulk it) old new status d.0 (in_bulk_alike it.count d.1.answer _ _ _ _ status d.1.tells)
+done_blamed Replay old new status f d = record {
+  platform = unblamed _ _ _ (ap is_platform_fault d.replayed.ends ∙ played_platform d.replayed.answer) (same_standing old new (f.standing (λ h. h)));
+  store = unblamed _ _ _ (ap is_store_fault d.replayed.ends ∙ played_store d.replayed.answer) (same_kept old new (f.kept (λ h. h)));
+  source = source_played d.replayed.answer status _ _ d.replayed.ends d.replayed.read;
+}
+done_blamed (Receipts key) old new status f d = record {
+  platform = unblamed _ _ _ (ap is_platform_fault d.checked.ends ∙ played_platform d.checked.answer) (same_standing old new (f.standing (λ h. h)));
+  store = unblamed _ _ _ (ap is_store_fault d.checked.ends ∙ played_store d.checked.answer) (same_kept old new (f.kept (λ h. h)));
+  source = source_played d.checked.answer status _ _ d.checked.ends d.checked.read;
+}
+done_blamed Power old new status f d =
+    let a = told_alike (power_told d.fault) _ _ _ _ status d.tells in
+    let spares = power_spares d.fault in
+    record {
+      platform = blamed_as _ _ _ _ a.platform (power_blames d.fault _ _ d.cycles.is_emptied d.cycles.ends);
+      store = unblamed _ _ _ (a.store ∙ spares.0) (same_kept old new (f.kept (λ h. h)));
+      source = unblamed _ _ _ (a.source ∙ spares.1) (f.reads (λ h. h));
+    }
+done_blamed Checkpoint old new status f d =
+    let a = told_alike (checkpoint_told d.answer) _ _ _ _ status d.tells in
+    let spares = checkpoint_spares d.answer in
+    record {
+      platform = blamed_as _ _ _ _ a.platform (checkpoint_blames d.answer _ _ d.faults);
+      store = unblamed _ _ _ (a.store ∙ spares.0) (same_kept old new (f.kept (λ h. h)));
+      source = unblamed _ _ _ (a.source ∙ spares.1) (f.reads (λ h. h));
+    }
+
+pub blamed : (command : Command) (old new : Outside) (status : Status) → Frames command old new → DoesOrLacks command old new status → Blamed command old new status
+blamed command old new status f (inl d) = done_blamed command old new status f d
+blamed command old new status f (inr e) = ended_blamed command old new Memory status memory_alike e
+
+-- the output, for each command
+
+output_ended : (old new : Outside) (end status : Status) → (end ≡ WriteFault → ⊥) → EndsAtOnce old new end status → BlamesOutput status old.writes new.writes
+output_ended old new end status other e = output_stopped end status old.received new.received old.writes new.writes other e.stops
+
+pub no_usage : Usage ≡ WriteFault → ⊥
+no_usage h = cc
+
+pub no_memory : Memory ≡ WriteFault → ⊥
+no_memory h = cc
+
+output_given : (old new : Outside) (text : List ℕ) (status : Status) → GivesText text old new status → BlamesOutput status old.writes new.writes
+output_given old new text status g = output_by g.given.result status _ _ g.given.counts g.given.ends
+
+output_done : (command : Command) (old new : Outside) (status : Status) → Does command old new status → BlamesOutput status old.writes new.writes
+output_done (Init header) old new status d = output_ended old new Usage status no_usage d
+output_done Run old new status d = output_ended old new Usage status no_usage d
+output_done Check old new status d = output_ended old new Usage status no_usage d
+output_done (Gen it) old new status d = output_given old new _ status d
+output_done Help old new status d = output_given old new _ status d
+output_done (Bulk it) old new status d = output_told (bulk_told it.count d.1.answer) _ _ _ _ status (bulk_no_write it.count d.1.answer) d.1.tells
+output_done Replay old new status d = output_played d.replayed.answer status d.middle new.received _ _ _ d.replayed.wrote d.replayed.ends d.stops
+output_done (Receipts key) old new status d = output_played d.checked.answer status d.middle new.received _ _ _ d.checked.wrote d.checked.ends d.stops
+output_done Power old new status d = output_told (power_told d.fault) _ _ _ _ status (power_no_write d.fault) d.tells
+output_done Checkpoint old new status d = output_told (checkpoint_told d.answer) _ _ _ _ status (checkpoint_no_write d.answer) d.tells
+
+pub output_blamed : (command : Command) (old new : Outside) (status : Status) → DoesOrLacks command old new status → BlamesOutput status old.writes new.writes
+output_blamed command old new status (inl d) = output_done command old new status d
+output_blamed command old new status (inr e) = output_ended old new Memory status no_memory e

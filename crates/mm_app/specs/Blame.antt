@@ -1,0 +1,33 @@
+-- Whom a status blames, by the counts of faults.
+use Rattle.std.specs.Prelude.{◌≡◌, ℕ, Bool, true, false}
+use Rattle.mm_base.specs.Faults.{Rose}
+use Rattle.mm_play.specs.Plays.{IsBlamed}
+use Rattle.mm_words.specs.declared.command.Command.{Command}
+use Rattle.mm_words.specs.declared.command.Command.TheVariants.{Init}
+use Rattle.mm_app.specs.Outside.{Outside}
+use Rattle.mm_app.specs.declared.status.Status.{Status}
+use Rattle.mm_app.specs.declared.status.Status.TheVariants.{Done, ReadFault, WriteFault, PlatformFault, StoreFault}
+
+abbrev pub is_platform_fault : Status → Bool
+is_platform_fault PlatformFault = true
+is_platform_fault _ = false
+
+abbrev pub is_store_fault : Status → Bool
+is_store_fault StoreFault = true
+is_store_fault _ = false
+
+abbrev pub is_read_fault : Status → Bool
+is_read_fault ReadFault = true
+is_read_fault _ = false
+
+-- Of the source that the command takes from, the count rose exactly where ReadFault is told: of the entropy for `init`,
+-- and of the input for any other.
+abbrev pub BlamesSource : Command → (old new : Outside) → Status → Type 0
+BlamesSource (Init header) old new status = IsBlamed (is_read_fault status) old.takes new.takes
+BlamesSource _ old new status = IsBlamed (is_read_fault status) old.reads new.reads
+
+-- The output's count rose where WriteFault is told, and is as before where all was done. Beside another status it may
+-- have risen, where the output failed within the stop line.
+pub record BlamesOutput (status : Status) (writes writes' : ℕ) : Type 0 where
+  pub failed : status ≡ WriteFault → Rose writes writes'
+  pub done : status ≡ Done → writes' ≡ writes

@@ -1,0 +1,37 @@
+-- What the objects that the program is handed tell: the platform, the store, the input, the entropy and the output.
+use Rattle.std.specs.Prelude.{◌≡◌, ℕ, List, Option}
+use Rattle.mm_platform.specs.Standing.{Standing}
+use Rattle.mm_store.specs.Kept.{Kept}
+
+-- what stands on the platform, what the store keeps, what is left of the input and of the entropy, what the output
+-- received; and the counts of faults of the last three (the first two have theirs)
+pub record Outside : Type 0 where
+  pub standing : Standing
+  pub kept : Kept
+  pub left : Option (List ℕ)
+  pub reads : ℕ
+  pub entropy : Option (List ℕ)
+  pub takes : ℕ
+  pub received : Option (List ℕ)
+  pub writes : ℕ
+
+abbrev pub outside : Standing → Kept → (left : Option (List ℕ)) (reads : ℕ) (entropy : Option (List ℕ)) (takes : ℕ) (received : Option (List ℕ)) (writes : ℕ) → Outside
+outside standing kept left reads entropy takes received writes = record {
+  standing = standing;
+  kept = kept;
+  left = left;
+  reads = reads;
+  entropy = entropy;
+  takes = takes;
+  received = received;
+  writes = writes;
+}
+
+-- but for the output, each tells what it told
+pub record IsStill (old new : Outside) : Type 0 where
+  pub standing : new.standing ≡ old.standing
+  pub kept : new.kept ≡ old.kept
+  pub left : new.left ≡ old.left
+  pub reads : new.reads ≡ old.reads
+  pub entropy : new.entropy ≡ old.entropy
+  pub takes : new.takes ≡ old.takes

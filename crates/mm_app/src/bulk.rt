@@ -1,0 +1,33 @@
+//! The command `bulk`: a schedule is made from a number, run, and told in five lines.
+
+ghost use Rattle.std.specs.Prelude.{◌≤◌};
+ghost use Rattle.mm_app.specs.Bulk.{RunsInBulk, TellsSummary};
+
+use crate::status::Status;
+use crate::telling::{stopped, written};
+use mm_base::Sink;
+use mm_bulk::{BulkFault, Summary, bulk, summary_text};
+use mm_words::Generated;
+use std::alloc::Global;
+
+/// Runs the schedule of a number, and tells what came of it.
+pub fn run_in_bulk<K: Sink>(alloc: Global, it: &Generated, out: &mut K) -> Status
+    requires { it.now.count ≤ 20000 }
+    ensures { RunsInBulk it.now (K.received out.old) (K.received out.new) (K.faults out.old) (K.faults out.new) result }
+{
+    match bulk(alloc, it.number, it.count, &it.header) {
+        Ok(summary) => tell_summary(alloc, it.count, &summary, out),
+        Err(BulkFault::TooMuch) => stopped(Status::TooMuch, out),
+        Err(BulkFault::Memory) => stopped(Status::Memory, out),
+    }
+}
+
+// Writes the five lines.
+fn tell_summary<K: Sink>(alloc: Global, events: u32, summary: &Summary, out: &mut K) -> Status
+    ensures { TellsSummary events summary.now (K.received out.old) (K.received out.new) (K.faults out.old) (K.faults out.new) result }
+{
+    match summary_text(alloc, events, summary) {
+        Ok(text) => written(text.as_slice(), out),
+        Err(_) => stopped(Status::Memory, out),
+    }
+}

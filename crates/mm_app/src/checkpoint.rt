@@ -1,0 +1,35 @@
+//! The command `checkpoint`: the open segment is closed.
+
+ghost use Rattle.mm_app.specs.Checkpoint.{Checkpoints, checkpoint_told};
+ghost use Rattle.mm_app.specs.Telling.{Tells};
+
+use crate::status::Status;
+use crate::telling::{stopped, written};
+use mm_base::Sink;
+use mm_opt::{CheckpointRefusal, Checkpointed, checkpoint};
+use mm_platform::Platform;
+
+/// Closes the platform's open segment, where there is one.
+pub fn close_segment<P: Platform, K: Sink>(platform: &mut P, out: &mut K) -> Status
+    ensures { Checkpoints (P.standing platform.old) (P.standing platform.new)
+        (K.received out.old) (K.received out.new) (K.faults out.old) (K.faults out.new) result }
+{
+    let answer = checkpoint(platform);
+    tell_checkpoint(answer, out)
+}
+
+// Tells what a checkpoint came to.
+fn tell_checkpoint<K: Sink>(answer: Result<Checkpointed, CheckpointRefusal>, out: &mut K) -> Status
+    ensures { Tells (checkpoint_told answer)
+        (K.received out.old) (K.received out.new) (K.faults out.old) (K.faults out.new) result }
+{
+    match answer {
+        Ok(Checkpointed::Done) => written(b"checkpointed\n", out),
+        Ok(Checkpointed::NoSegment) => written(b"no segment\n", out),
+        Err(CheckpointRefusal::Device(_)) => stopped(Status::PlatformFault, out),
+        Err(CheckpointRefusal::Blank) => stopped(Status::Blank, out),
+        Err(CheckpointRefusal::Cell) => stopped(Status::Cell, out),
+        Err(CheckpointRefusal::Kind) => stopped(Status::Kind, out),
+        Err(CheckpointRefusal::Lost) => stopped(Status::Lost, out),
+    }
+}

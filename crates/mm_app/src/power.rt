@@ -1,0 +1,19 @@
+//! The command `power`: the platform loses its power, and gets it back.
+
+ghost use Rattle.mm_app.specs.Power.{LosesPower};
+
+use crate::status::Status;
+use crate::telling::{stopped, written};
+use mm_base::Sink;
+use mm_platform::Platform;
+
+/// Lets the platform lose its power and get it back.
+pub fn lose_power<P: Platform, K: Sink>(platform: &mut P, out: &mut K) -> Status
+    ensures { LosesPower (P.standing platform.old) (P.standing platform.new)
+        (K.received out.old) (K.received out.new) (K.faults out.old) (K.faults out.new) result }
+{
+    match platform.cycle() {
+        Ok(()) => written(b"power\n", out),
+        Err(_) => stopped(Status::PlatformFault, out),
+    }
+}

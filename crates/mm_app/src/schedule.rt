@@ -1,0 +1,25 @@
+//! The command `gen`: a schedule is made from a number.
+
+ghost use Rattle.std.specs.Prelude.{◌≡◌, ◌≤◌, ◌⊎◌};
+ghost use Rattle.mm_gen.specs.Schedules.{schedule_text};
+ghost use Rattle.mm_app.specs.Telling.{StopsAs, WritesText};
+
+use crate::status::Status;
+use crate::telling::{stopped, written};
+use mm_base::Sink;
+use mm_gen::generate;
+use mm_words::Generated;
+use std::alloc::Global;
+
+/// Writes the schedule of a number.
+pub fn write_schedule<K: Sink>(alloc: Global, it: &Generated, out: &mut K) -> Status
+    requires { it.now.count ≤ 20000 }
+    ensures { WritesText (schedule_text it.now.number it.now.count it.now.header)
+        (K.received out.old) (K.received out.new) (K.faults out.old) (K.faults out.new) result
+        ⊎ StopsAs Status.Memory (K.received out.old) (K.received out.new) (K.faults out.old) (K.faults out.new) result }
+{
+    match generate(alloc, it.number, it.count, &it.header) {
+        Ok(text) => written(text.as_slice(), out),
+        Err(_) => stopped(Status::Memory, out),
+    }
+}

@@ -1,0 +1,182 @@
+-- A replay of a generated schedule, from its header line to its end.
+use Rattle.std.proofs.Common.{◌≡◌, ◌∙◌, ◌≤◌, ◌+◌, ℕ, Bool, true, false, List, [], ◌∷◌, ◌++◌, length, map, nat_lt, Result, Ok, Err, Some, refl, sym, ap, arith, length-append, lit≤}
+use Rattle.std.specs.Prelude.{IfOk}
+use Rattle.std.specs.List.{AllByRecursion}
+use Rattle.std.proofs.lemmas.Bool.Decides.{nat_tests}
+use Rattle.std.proofs.lemmas.List.Elements.{recursion_from_All}
+use Rattle.sha2.specs.Sha256.{sha256}
+use Rattle.mm_base.specs.declared.replay_fault.ReplayFault.{ReplayFault}
+use Rattle.mm_base.specs.declared.replay_fault.ReplayFault.TheVariants as fault
+use Rattle.mm_digest.specs.declared.variant.Variant.{Variant}
+use Rattle.mm_digest.specs.declared.variant.Variant.TheVariants.{Basic, Opt}
+use Rattle.mm_modules.specs.declared.any.AnyModule.{AnyModule}
+use Rattle.mm_modules.specs.declared.any.AnyModule.TheVariants.{Counter, Limiter, Quota, Ledger, Dispenser, ReceiptCounter, ReceiptLimiter, ReceiptQuota}
+use Rattle.mm_modules.specs.Modules.{name_of}
+use Rattle.mm_schedule.specs.declared.header.Header.{Header}
+use Rattle.mm_schedule.specs.Events.{Event}
+use Rattle.mm_schedule.specs.Grammar.{event_at}
+use Rattle.mm_schedule.specs.Headers.{header_at, header_text, variant_text}
+use Rattle.mm_schedule.specs.Replies.{end_line}
+use Rattle.mm_schedule.proofs.HeaderLaws.{header-read}
+use Rattle.mm_schedule.proofs.SpelledIsRead.{spelled_is_read}
+use Rattle.mm_gen.specs.Laws.{IsEventLine}
+use Rattle.mm_gen.specs.Schedules.{schedule_lines}
+use Rattle.mm_gen.proofs.Readable.{is_schedule}
+use Rattle.mm_play.specs.Play.{Told, told, after_writing, and_then, ended, line_limit, run}
+use Rattle.mm_run.specs.Folds.{replies_by_digests}
+use Rattle.mm_run.specs.Held.{world_of}
+use Rattle.mm_replay.specs.Schedule.{Running, Stage, AtHeader, InEvents, after_event, begun, is_too_much, outcome_in, schedule_answer, schedule_closing}
+use Rattle.mm_replay.specs.Text.{text_of, texts_of}
+use Rattle.mm_bulk.specs.Limits.{IsLimited, is_over}
+use Rattle.mm_bulk.specs.Replayed.{IsReplayed, replay_of}
+use Rattle.mm_bulk.specs.Sums.{SumsUp}
+use Rattle.mm_bulk.specs.declared.fault.BulkFault.{BulkFault}
+use Rattle.mm_bulk.specs.declared.fault.BulkFault.TheVariants.{Memory, TooMuch}
+use Rattle.mm_bulk.specs.declared.summary.Summary.{Summary}
+use Rattle.mm_bulk.proofs.Tallying.{heads, left_of, no_events, over_at, over_behind}
+
+-- the replay of event lines, of which the first has this number
+abbrev lines_run : ℕ → Running → List (List ℕ) → Told Stage
+lines_run number r lines = run (schedule_answer header_at) number (InEvents r) lines
+
+fits : (line : List ℕ) → length line ≤ 8400 → nat_lt line_limit (length line) ≡ false
+fits line short = grind (arith, nat_tests)
+
+-- an event line that passes no limit is answered
+goes : (number : ℕ) (r : Running) (line : List ℕ) (more : List (List ℕ)) (event : Event) → length line ≤ 8400 → event_at line ≡ Some event → is_too_much r line ≡ false
+    → lines_run number r (line ∷ more) ≡ after_writing (text_of (outcome_in r event).reply) (lines_run (number + 1) (after_event r line event) more)
+goes number r line more event short is room = rw (fits line short, is, room) refl
+
+-- one that passes a limit ends the replay
+stops : (number : ℕ) (r : Running) (line : List ℕ) (more : List (List ℕ)) (event : Event) → length line ≤ 8400 → event_at line ≡ Some event → is_too_much r line ≡ true
+    → (lines_run number r (line ∷ more)).outcome ≡ Err fault.TooMuch
+stops number r line more event short is much = rw (fits line short, is, much) refl
+
+both_ways : (b : Bool) → b ≡ true → b ≡ false → ⊥
+both_ways b is isnt = cc
+
+-- all these lines are answered
+record AreAnswered (number : ℕ) (r : Running) (lines : List (List ℕ)) (events : List Event) : Type 0 where
+  last : Running
+  ran : lines_run number r lines ≡ told (texts_of (left_of r events).replies) (Ok (InEvents last))
+  digests : last.digests ≡ (left_of r events).state
+  issued : last.issued ≡ (left_of r events).issued
+
+-- an event line that passes no limit, and the others behind it
+answered_more : (number : ℕ) (r : Running) (line : List ℕ) (lines : List (List ℕ)) (event : Event) (events : List Event) → length line ≤ 8400 → event_at line ≡ Some event
+    → is_too_much r line ≡ false → AreAnswered (number + 1) (after_event r line event) lines events → AreAnswered number r (line ∷ lines) (event ∷ events)
+answered_more number r line lines event events short is room rest = record {
+  last = rest.last;
+  ran = goes number r line lines event short is room ∙ ap (after_writing (text_of (outcome_in r event).reply)) rest.ran;
+  digests = rest.digests;
+  issued = rest.issued;
+}
+
+-- by whether the line passes a limit
+answered_line : (number : ℕ) (r : Running) (line : List ℕ) (lines : List (List ℕ)) (event : Event) (events : List Event) (much : Bool) → is_too_much r line ≡ much
+    → length line ≤ 8400 → event_at line ≡ Some event → is_over r (line ∷ lines) ≡ false
+    → (is_over (after_event r line event) lines ≡ false → AreAnswered (number + 1) (after_event r line event) lines events)
+    → AreAnswered number r (line ∷ lines) (event ∷ events)
+answered_line number r line lines event events true is short read over on = absurd (both_ways (is_over r (line ∷ lines)) (over_at r line lines is) over)
+answered_line number r line lines event events false is short read over on =
+    answered_more number r line lines event events short read is (on (over_behind r line lines event read is ∙ over))
+
+all_answered : (lines : List (List ℕ)) (events : List Event) → AllByRecursion IsEventLine lines → map event_at lines ≡ map Some events
+    → (number : ℕ) (r : Running) → is_over r lines ≡ false → AreAnswered number r lines events
+all_answered [] [] are read number r over = record { last = r; ran = refl; digests = refl; issued = refl }
+all_answered [] (event ∷ events) are read number r over = absurd (no_events (Some event) (map Some events) (sym read))
+all_answered (line ∷ lines) [] are read number r over = absurd (no_events (event_at line) (map event_at lines) read)
+all_answered (line ∷ lines) (event ∷ events) are read number r over =
+    let both = heads (event_at line) (Some event) (map event_at lines) (map Some events) read in
+    answered_line number r line lines event events (is_too_much r line) refl are.0.short both.0 over
+    (λ within. all_answered lines events are.1 both.1 (number + 1) (after_event r line event) within)
+
+-- one of them is one too many
+much_line : (number : ℕ) (r : Running) (line : List ℕ) (lines : List (List ℕ)) (event : Event) (much : Bool) → is_too_much r line ≡ much
+    → length line ≤ 8400 → event_at line ≡ Some event → is_over r (line ∷ lines) ≡ true
+    → (is_over (after_event r line event) lines ≡ true → (lines_run (number + 1) (after_event r line event) lines).outcome ≡ Err fault.TooMuch)
+    → (lines_run number r (line ∷ lines)).outcome ≡ Err fault.TooMuch
+much_line number r line lines event true is short read over on = stops number r line lines event short read is
+much_line number r line lines event false is short read over on =
+    ap (λ (t : Told Stage). t.outcome) (goes number r line lines event short read is) ∙ on (over_behind r line lines event read is ∙ over)
+
+much_answered : (lines : List (List ℕ)) → AllByRecursion IsEventLine lines → (number : ℕ) (r : Running) → is_over r lines ≡ true
+    → (lines_run number r lines).outcome ≡ Err fault.TooMuch
+much_answered [] are number r over = absurd (both_ways false over refl)
+much_answered (line ∷ lines) are number r over =
+    let event : Event = are.0.event in
+    much_line number r line lines event (is_too_much r line) refl are.0.short (spelled_is_read line event are.0.spelled) over
+    (λ behind. much_answered lines are.1 (number + 1) (after_event r line event) behind)
+
+-- ---- the header
+
+variant_short : (variant : Variant) → length (variant_text variant) ≤ 20
+variant_short Basic = lit≤ tt
+variant_short Opt = lit≤ tt
+
+name_short : (it : AnyModule) → length (name_of it) ≤ 20
+name_short Counter = lit≤ tt
+name_short Limiter = lit≤ tt
+name_short Quota = lit≤ tt
+name_short Ledger = lit≤ tt
+name_short Dispenser = lit≤ tt
+name_short ReceiptCounter = lit≤ tt
+name_short ReceiptLimiter = lit≤ tt
+name_short ReceiptQuota = lit≤ tt
+
+header_short : (header : Header) → length (header_text header) ≤ 8400
+header_short header =
+    omega (arith, length-append (variant_text header.variant) (32 ∷ name_of header.module), variant_short header.variant, name_short header.module)
+
+headed : (header : Header) (lines : List (List ℕ))
+    → run (schedule_answer header_at) 1 AtHeader (header_text header ∷ lines) ≡ lines_run 2 (begun header) lines
+headed header lines = rw (fits (header_text header) (header_short header), header-read (header_text header) header refl) refl
+
+-- ---- the whole text
+
+-- the replay goes over the lines and then comes to the end of the text
+abbrev ends : Header → List (List ℕ) → Stage → Told Stage
+ends header lines = ended schedule_closing (1 + length (header_text header ∷ lines)) []
+
+whole : (number count : ℕ) (header : Header) → count ≤ 20000
+    → replay_of number count header ≡ and_then (lines_run 2 (begun header) (schedule_lines number count header)) (ends header (schedule_lines number count header))
+whole number count header few =
+    let is = is_schedule number count header few in
+    rw (is.lines, is.ends, headed header (schedule_lines number count header)) refl
+
+replayed_ok : (number count : ℕ) (header : Header) (summary : Summary) → count ≤ 20000 → SumsUp header (schedule_lines number count header) summary
+    → is_over (begun header) (schedule_lines number count header) ≡ false → IsReplayed (replay_of number count header) (Ok summary)
+replayed_ok number count header summary few sums over =
+    let is = is_schedule number count header few in
+    let lines : List (List ℕ) = schedule_lines number count header in
+    let a = all_answered lines sums.events (recursion_from_All IsEventLine lines is.events) sums.read 2 (begun header) over in
+    let replies = replies_by_digests (world_of header) sums.events in
+    let ran : replay_of number count header ≡ told (texts_of replies.replies ++ end_line a.last.digests.count (length a.last.issued)) (Ok (InEvents a.last)) =
+    whole number count header few ∙ ap (λ (t : Told Stage). and_then t (ends header lines)) a.ran in (
+      ap (λ (it : Summary). it.replies.bytes) sums.told
+          ∙ ap (λ (c : ℕ). sha256 (texts_of replies.replies ++ end_line c (length replies.issued))) (sym (ap (λ d. d.count) a.digests))
+          ∙ ap (λ (issued : List (List ℕ)). sha256 (texts_of replies.replies ++ end_line a.last.digests.count (length issued))) (sym a.issued)
+          ∙ ap (λ (t : Told Stage). sha256 t.written) (sym ran),
+      InEvents a.last,
+      ap (λ (t : Told Stage). t.outcome) ran,
+    )
+
+much_stays : (t : Told Stage) (on : Stage → Told Stage) (outcome : Result Stage ReplayFault) → t.outcome ≡ outcome → outcome ≡ Err fault.TooMuch → (and_then t on).outcome ≡ Err fault.TooMuch
+much_stays t on outcome is much = rw (is, much) refl
+
+replayed_much : (number count : ℕ) (header : Header) → count ≤ 20000 → is_over (begun header) (schedule_lines number count header) ≡ true
+    → (replay_of number count header).outcome ≡ Err fault.TooMuch
+replayed_much number count header few over =
+    let is = is_schedule number count header few in
+    let lines : List (List ℕ) = schedule_lines number count header in
+    let stopped = much_answered lines (recursion_from_All IsEventLine lines is.events) 2 (begun header) over in
+    ap (λ (t : Told Stage). t.outcome) (whole number count header few)
+    ∙ much_stays (lines_run 2 (begun header) lines) (ends header lines) _ refl stopped
+
+-- what a run of a schedule comes to is what a replay of its text does
+pub replayed : (number count : ℕ) (header : Header) (result : Result Summary BulkFault) → count ≤ 20000
+    → IfOk result (SumsUp header (schedule_lines number count header)) → IsLimited (is_over (begun header) (schedule_lines number count header)) result
+    → IsReplayed (replay_of number count header) result
+replayed number count header (Ok summary) few sums limit = replayed_ok number count header summary few sums limit
+replayed number count header (Err TooMuch) few sums limit = replayed_much number count header few limit
+replayed number count header (Err Memory) few sums limit = tt

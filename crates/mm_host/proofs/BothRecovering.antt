@@ -1,0 +1,157 @@
+-- Recovery in either variant: what the call for the request that waits leads to.
+use Rattle.std.proofs.Common.{◌≡◌, ℕ, ◌-◌, List, [], ◌++◌, map, Option, Some, Result, Err, refl, sym, ◌∙◌, subst}
+use Rattle.mm_digest.specs.declared.variant.Variant.{Variant}
+use Rattle.mm_digest.specs.declared.variant.Variant.TheVariants.{Basic, Opt}
+use Rattle.mm_platform.specs.Standing.{Item, Standing}
+use Rattle.mm_module.specs.Meaning.{Meaning}
+use Rattle.mm_module.specs.Batch.{Batch, One}
+use Rattle.mm_seal.specs.Snapshot.{Content}
+use Rattle.mm_model.specs.Instance.{Instance, basic, opt}
+use Rattle.mm_model.specs.History.{History, Move, Foreign}
+use Rattle.mm_model.specs.Life.{life_of}
+use Rattle.mm_model.specs.Moves.{digests_of}
+use Rattle.mm_model.specs.Places.{Names}
+use Rattle.mm_model.specs.Standing.{StandsFor}
+use Rattle.mm_model.specs.declared.answer.Answer.{Answer}
+use Rattle.mm_model.specs.declared.answer.BatchAnswer.{BatchAnswer}
+use Rattle.mm_model.specs.declared.refusal.Refusal.{Refusal}
+use Rattle.mm_call.specs.Asked.{IsAsked, IsWithin}
+use Rattle.mm_call.specs.Called.{called}
+use Rattle.mm_call.specs.CallsOn.{CallsOn}
+use Rattle.mm_call.specs.Levels.{by_lists, by_digests, all_made}
+use Rattle.mm_call.specs.Leaving.{whole_in}
+use Rattle.mm_call.specs.Tied.{standing_items}
+use Rattle.mm_call.proofs.Continuing.{stands_at}
+use Rattle.mm_call.proofs.Moving.{same_batches}
+use Rattle.mm_call.proofs.OptLaw.{before as seen_before}
+use Rattle.mm_call.proofs.Tied.{opt_tied}
+use Rattle.mm_call.proofs.Walks.{foreign_first}
+use Rattle.mm_callers.specs.Basic.{AreAsked}
+use Rattle.mm_callers.specs.Opt.{AreShown}
+use Rattle.mm_callers.proofs.Calls.{is_asked as basic_asked, names_made, Comes, comes as basic_comes}
+use Rattle.mm_callers.proofs.OptCalls.{asked_of as asked_by_items, comes}
+use Rattle.mm_store.specs.Kept.{Kept}
+use Rattle.mm_store.specs.Pending.{Pending}
+use Rattle.mm_store.specs.Slots.{Slots, seen_in}
+use Rattle.mm_host.specs.declared.fault.HostFault.{HostFault}
+use Rattle.mm_host.specs.declared.resuming.Resumed.{Resumed}
+use Rattle.mm_host.specs.Asking.{IsCall}
+use Rattle.mm_host.specs.Fitting.{offer_slot, FitsBy}
+use Rattle.mm_host.specs.Recovery.{CanRecover, Recovers}
+use Rattle.mm_host.specs.Resumes.{Resumes}
+use Rattle.mm_host.proofs.OptMoves.{named_after}
+use Rattle.mm_host.proofs.Refusing.{MayRefuse, IsOffered, offered_then, waiting_most, basic_refused, opt_refused}
+use Rattle.mm_host.proofs.Recovering.{Left, LeadsOn, asked_of, recovers_by}
+
+-- what one call for the request that waits comes to by lists
+record Called (all others : List (List ℕ)) (asked : List Batch) (i : Instance) (y : History) (standing : Standing) (offer : List ℕ) (p : Pending) (gives : Result BatchAnswer Refusal) : Type 0 where
+  after : History
+  stands : StandsFor i standing after
+  within : IsWithin all others asked i after
+  names : (content : Content) → Names i y content → Names i after content
+  comes : Comes i y offer (One p.request) after gives
+  refuses : (why : Refusal) → gives ≡ Err why → MayRefuse why (life_of i.variant after)
+
+basic_called : (meaning : Meaning) (key : List ℕ) (all others : List (List ℕ)) (asked : List Batch) (y : History) (old new : Standing) (offer : List ℕ) (p : Pending) (gives : Result BatchAnswer Refusal)
+    → CallsOn Basic meaning old new offer (One p.request) gives → StandsFor (basic meaning key) old y → AreAsked all others asked (basic meaning key) y offer (One p.request)
+    → IsOffered (basic meaning key) y p offer → Called all others asked (basic meaning key) y new offer p gives
+basic_called meaning key all others asked y old new offer p gives c s a f =
+    let i : Instance = basic meaning key in
+    let o = called i (by_lists i) y c.course offer (One p.request) in
+    let k = c.continues key key y all others asked s (basic_asked meaning key all others asked y c.course offer (One p.request) a) in
+    let values : List (List ℕ) = (c.course.fates 1).brings in
+    record {
+      after = o.state;
+      stands = k.stands;
+      within = k.within;
+      names = λ (content : Content) (n : Names i y content). names_made meaning key o.moves y content n;
+      comes = subst (λ (r : Result BatchAnswer Refusal). Comes i y offer (One p.request) o.state r) (sym k.gives)
+          (basic_comes meaning key all others asked y c.course offer (One p.request) a);
+      refuses = λ (why : Refusal) (e : gives ≡ Err why).
+          basic_refused meaning key y c.course p offer why
+          (offered_then i y (all_made (by_lists i) y (map Foreign values ++ [])) p offer
+          (same_batches i (map Foreign values ++ []) y (foreign_first values [])) f) (sym k.gives ∙ e);
+    }
+
+opt_called : (meaning : Meaning) (key barrier : List ℕ) (all others : List (List ℕ)) (asked : List Batch) (y : History) (old new : Standing) (offer : List ℕ) (p : Pending) (gives : Result BatchAnswer Refusal) (items more : List Item)
+    → CallsOn Opt meaning old new offer (One p.request) gives → StandsFor (opt meaning key barrier) old y → AreAsked all others asked (opt meaning key barrier) y offer (One p.request)
+    → old.items ≡ Some items → new.items ≡ Some (standing_items y.is_open items ++ more) → AreShown all others (opt meaning key barrier) y more
+    → IsOffered (opt meaning key barrier) y p offer → Called all others asked (opt meaning key barrier) y new offer p gives
+opt_called meaning key barrier all others asked y old new offer p gives items more c s a known ends shown_so f =
+    let i : Instance = opt meaning key barrier in
+    let o = called i (by_lists i) y c.course offer (One p.request) in
+    let moves : List Move = (called i (by_digests i) (digests_of i y) c.course offer (One p.request)).moves in
+    let g = c.goes key barrier (digests_of i y) (stands_at i old y s) in
+    let is_asked : IsAsked all others asked i y moves offer (One p.request) =
+    asked_by_items meaning key barrier all others asked y moves offer (One p.request) old new items more a shown_so known g.items ends
+    (opt_tied meaning key barrier y (digests_of i y) c.course offer (One p.request) refl) in
+    let k = c.continues key barrier y all others asked s is_asked in
+    let v : List (List ℕ) = (c.course.fates 1).brings in
+    let w : List (List ℕ) = (c.course.fates 2).brings in
+    record {
+      after = o.state;
+      stands = k.stands;
+      within = k.within;
+      names = λ (content : Content) (n : Names i y content). named_after meaning key barrier y c.course offer (One p.request) content a.within.sound n;
+      comes = subst (λ (r : Result BatchAnswer Refusal). Comes i y offer (One p.request) o.state r) (sym k.gives)
+          (comes meaning key barrier all others asked y c.course offer (One p.request) a);
+      refuses = λ (why : Refusal) (e : gives ≡ Err why).
+          opt_refused meaning key barrier y c.course p offer why
+          (offered_then i y (all_made (by_lists i) y (seen_before c.course)) p offer
+          (same_batches i (map Foreign v ++ (map Foreign w ++ [])) y (foreign_first v (map Foreign w ++ []) ∙ foreign_first w [])) f) (sym k.gives ∙ e);
+    }
+
+-- it leads on from slots that fit
+left_by : (all others : List (List ℕ)) (asked : List Batch) (i : Instance) (y : History) (slots : Slots) (before after : Standing) (old : Kept) (p : Pending) (gives : Result BatchAnswer Refusal) (can : CanRecover all others asked i y slots before old) → can.fits.waiting ≡ Some p
+    → FitsBy i slots y (Some p) → Called all others asked i y after (seen_in slots (offer_slot p)) p gives → Left all others asked i y slots can.fits.waiting p after gives
+left_by all others asked i y slots before after old p gives can e f o = record {
+  after = o.after;
+  stands = o.stands;
+  within = o.within;
+  names = o.names;
+  comes = o.comes;
+  refuses = o.refuses;
+  is = e;
+  is_waiting = can.fits.is_waiting;
+  awaited = f.0;
+  holds = f.1;
+}
+
+fits_at : (all others : List (List ℕ)) (asked : List Batch) (i : Instance) (y : History) (slots : Slots) (before : Standing) (old : Kept) (p : Pending) (can : CanRecover all others asked i y slots before old) → can.fits.waiting ≡ Some p → FitsBy i slots y (Some p)
+fits_at all others asked i y slots before old p can e = subst (λ (w : Option Pending). FitsBy i slots y w) e can.fits.fits
+
+offered_at : (all others : List (List ℕ)) (asked : List Batch) (i : Instance) (y : History) (slots : Slots) (before : Standing) (old : Kept) (p : Pending) (can : CanRecover all others asked i y slots before old) → can.fits.waiting ≡ Some p → FitsBy i slots y (Some p)
+    → IsOffered i y p (seen_in slots (offer_slot p))
+offered_at all others asked i y slots before old p can e f = record {
+  content = f.1.content;
+  right = f.1.right;
+  at = f.1.at;
+  awaited = f.0;
+  most = waiting_most (seen_in slots 2) (seen_in slots 3) can.fits.waiting p can.fits.is_waiting e;
+}
+
+pub basic_leads : (meaning : Meaning) (key : List ℕ) (all others : List (List ℕ)) (asked : List Batch) (y : History) (slots : Slots) (before after : Standing) (old : Kept) (can : CanRecover all others asked (basic meaning key) y slots before old)
+    → LeadsOn all others asked Basic (basic meaning key) y slots can.fits.waiting before after
+basic_leads meaning key all others asked y slots before after old can = λ p call e c.
+    let i : Instance = basic meaning key in
+    let f = fits_at all others asked i y slots before old p can e in
+    left_by all others asked i y slots before after old p (whole_in call) can e f
+    (basic_called meaning key all others asked y before after (seen_in slots (offer_slot p)) p (whole_in call) c.goes can.stands
+    (asked_of all others asked i y slots before old p can e f.1) (offered_at all others asked i y slots before old p can e f))
+
+opt_leads : (meaning : Meaning) (key barrier : List ℕ) (all others : List (List ℕ)) (asked : List Batch) (y : History) (slots : Slots) (before after : Standing) (old : Kept) (items more : List Item) (can : CanRecover all others asked (opt meaning key barrier) y slots before old)
+    → before.items ≡ Some items → after.items ≡ Some (standing_items y.is_open items ++ more) → AreShown all others (opt meaning key barrier) y more
+    → LeadsOn all others asked Opt (opt meaning key barrier) y slots can.fits.waiting before after
+opt_leads meaning key barrier all others asked y slots before after old items more can known ends shown_so = λ p call e c.
+    let i : Instance = opt meaning key barrier in
+    let f = fits_at all others asked i y slots before old p can e in
+    left_by all others asked i y slots before after old p (whole_in call) can e f
+    (opt_called meaning key barrier all others asked y before after (seen_in slots (offer_slot p)) p (whole_in call) items more c.goes can.stands
+    (asked_of all others asked i y slots before old p can e f.1) known ends shown_so (offered_at all others asked i y slots before old p can e f))
+
+pub recovers : (variant : Variant) (meaning : Meaning) (before after : Standing) (old new : Kept) (result : Result Resumed HostFault) → Resumes variant meaning before after old new result → Recovers variant meaning before after old new result
+recovers Basic meaning before after old new result r = λ key y slots all others asked can.
+    recovers_by Basic all others asked (basic meaning key) y slots before after old new result can (basic_leads meaning key all others asked y slots before after old can) r
+recovers Opt meaning before after old new result r = λ key barrier y slots all others asked items more can known ends shown_so.
+    recovers_by Opt all others asked (opt meaning key barrier) y slots before after old new result can
+    (opt_leads meaning key barrier all others asked y slots before after old items more can known ends shown_so) r

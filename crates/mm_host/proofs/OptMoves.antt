@@ -1,0 +1,167 @@
+-- The moves of a call of Opt may be made, so what a snapshot names is named after them too.
+use Rattle.std.proofs.Common.{ℕ, ◌≡◌, ◌+◌, ◌^◌, Bool, true, false, ◌&&◌, List, [], ◌∷◌, ◌++◌, Result, Ok, Err, refl, sym, ap, ◌∙◌, subst, append_assoc, arith}
+use Rattle.std.specs.Prelude.{if◌then◌else◌, nat_eq, nat_le}
+use Rattle.std.specs.List.{AllByRecursion, Contains}
+use Rattle.std.specs.Str.{bytes_eq}
+use Rattle.std.proofs.lemmas.List.Elements.{Contains-append_right}
+use Rattle.mm_digest.specs.declared.variant.Variant.TheVariants.{Opt}
+use Rattle.mm_digest.specs.Messages.{extended_message}
+use Rattle.mm_module.specs.Meaning.{Meaning}
+use Rattle.mm_module.specs.Batch.{Batch, size_of}
+use Rattle.mm_seal.specs.declared.snapshot.PartsFault.{PartsFault}
+use Rattle.mm_seal.specs.declared.snapshot.PartsFault.TheVariants.{Form, Kind}
+use Rattle.mm_seal.specs.Snapshot.{Content, Snapshot, tag_of}
+use Rattle.mm_seal.specs.Parts.{parts_of}
+use Rattle.mm_model.specs.Chains.{guard, guard_message, register_of, own_values}
+use Rattle.mm_model.specs.History.{History, Move, Reset, moved, total_of}
+use Rattle.mm_model.specs.Instance.{Instance, opt}
+use Rattle.mm_model.specs.Judge.{is_last, judged, judge}
+use Rattle.mm_model.specs.Life.{Life, Live, Spoiled, Lost as LostLife, life_of, is_lost}
+use Rattle.mm_model.specs.Moves.{MayMove, Brings}
+use Rattle.mm_model.specs.Places.{Names}
+use Rattle.mm_model.specs.Sound.{IsSound}
+use Rattle.mm_model.specs.Steps.{Step, Reads, Changes, Writes, ask_steps}
+use Rattle.mm_model.specs.declared.refusal.Refusal.{Refusal}
+use Rattle.mm_model.specs.declared.refusal.Refusal.TheVariants as refusal
+use Rattle.mm_model.proofs.Moves.{sound_moved}
+use Rattle.mm_model.proofs.Named.{opt_names}
+use Rattle.mm_call.specs.Asked.{foreign_in}
+use Rattle.mm_call.specs.Called.{called}
+use Rattle.mm_call.specs.Courses.{Fate, Course, walk}
+use Rattle.mm_call.specs.Found.{Found, found_from, found_at, found_in, is_fresh}
+use Rattle.mm_call.specs.Levels.{by_lists, all_made}
+use Rattle.mm_call.specs.Order.{admitted, examined}
+use Rattle.mm_call.proofs.BasicLaw.{unlacked}
+use Rattle.mm_call.proofs.Finding.{weighed_tells, found_with_tells}
+use Rattle.mm_call.proofs.OptFinding.{IsLive, lives}
+use Rattle.mm_call.proofs.OptLaw.{before, sight, sight_is}
+use Rattle.mm_call.proofs.OptReady.{IsDue, ready_inside, ready_opening}
+use Rattle.mm_call.proofs.OptShut.{reset_may}
+use Rattle.mm_call.proofs.OptWalks.{AllFine, AreOwn, Ready, walk_fine}
+use Rattle.mm_call.proofs.Walks.{taking, changing, asks}
+
+-- moves that may be made one after another
+AllMay : Instance → History → List Move → Type 0
+AllMay i y [] = Unit {0}
+AllMay i y (m ∷ moves) = MayMove i y m × AllMay i (moved i y m) moves
+
+may_of : (all others : List (List ℕ)) (asked : List Batch) (i : Instance) (moves : List Move) (y : History)
+    → AllFine all others asked i y moves → AllMay i y moves
+unfolding AllMay
+may_of all others asked i [] y fine = tt
+may_of all others asked i (m ∷ moves) y fine = (fine.0.may, may_of all others asked i moves (moved i y m) fine.1)
+
+names_made : (meaning : Meaning) (key barrier : List ℕ) (moves : List Move) (y : History) (content : Content) → IsSound y
+    → AllMay (opt meaning key barrier) y moves → Names (opt meaning key barrier) y content
+    → Names (opt meaning key barrier) (all_made (by_lists (opt meaning key barrier)) y moves) content
+unfolding AllMay
+names_made meaning key barrier [] y content sound may n = n
+names_made meaning key barrier (m ∷ moves) y content sound may n =
+    names_made meaning key barrier moves (moved (opt meaning key barrier) y m) content
+    (sound_moved meaning key barrier y m sound may.0) may.1 (opt_names meaning key barrier y m content sound may.0 n)
+
+-- what is found is found in a live history
+admitted_lives : (life : Life) (here repeat fits again : Bool) → admitted (judged life here repeat) fits ≡ Ok again → life ≡ Live
+admitted_lives Live here repeat fits again e = refl
+admitted_lives Spoiled here repeat fits again e = cc
+admitted_lives LostLife here repeat fits again e = cc
+
+unless_lost : (lost : Bool) (found : Result Found Refusal) (f : Found) → (if lost then Err refusal.Lost else found) ≡ Ok f → found ≡ Ok f
+unless_lost true found f e = cc
+unless_lost false found f e = e
+
+live_from : (meaning : Meaning) (key barrier : List ℕ) (y : History) (b : Batch) (parts : Result Snapshot PartsFault) (found : Found)
+    → found_from (opt meaning key barrier) (by_lists (opt meaning key barrier)) y b parts ≡ Ok found → life_of Opt y ≡ Live
+live_from meaning key barrier y b (Err Form) found is = cc
+live_from meaning key barrier y b (Err Kind) found is = cc
+live_from meaning key barrier y b (Ok snapshot) found is =
+    let t = found_with_tells snapshot.content (examined meaning key snapshot b (judge Opt y snapshot.content.position b)) found is in
+    let w = weighed_tells (meaning.is_spelled snapshot.content.state) (bytes_eq snapshot.tag (tag_of key snapshot.content)) _ _ found.again t.1 in
+    let here = nat_eq snapshot.content.position (total_of y.batches) in
+    let again = nat_eq (snapshot.content.position + size_of b) (total_of y.batches) && is_last y.batches b in
+    let fits = nat_le (snapshot.content.position + size_of b) (2 ^ 48) in
+    admitted_lives (life_of Opt y) here again fits found.again w.2
+
+live_found : (meaning : Meaning) (key barrier : List ℕ) (y : History) (b : Batch) (bytes : List ℕ) (found : Found)
+    → found_at (opt meaning key barrier) (by_lists (opt meaning key barrier)) y b bytes ≡ Ok found → IsLive y
+live_found meaning key barrier y b bytes found is =
+    lives y (live_from meaning key barrier y b (parts_of Opt meaning.id bytes) found (unless_lost (is_lost (life_of Opt y)) _ found is))
+
+fresh_is_found : (found : Result Found Refusal) → is_fresh found ≡ true → (f : Found) × (found ≡ Ok f)
+fresh_is_found (Ok f) e = (f, refl)
+fresh_is_found (Err why) e = cc
+
+first_in : {A : Type 0} (x : A) (xs : List A) → Contains (x ∷ xs) x
+first_in x xs = (0, omega arith, refl)
+
+second_in : {A : Type 0} (x y : A) (xs : List A) → Contains (x ∷ y ∷ xs) y
+second_in x y xs = (1, omega arith, refl)
+
+reset_brings : (others : List (List ℕ)) (y : History) (flag : Bool) → Brings Opt flag others y Reset
+reset_brings others y true = tt
+reset_brings others y false = tt
+
+-- the steps behind the reading steps are ready
+ready_third : (meaning : Meaning) (key barrier : List ℕ) (all others : List (List ℕ)) (fates : ℕ → Fate) (y : History) (b : Batch) (flag fresh : Bool) → y.is_open ≡ flag
+    → (fresh ≡ true → IsDue all (b ∷ []) barrier y b × IsLive y)
+    → Ready all others (b ∷ []) (opt meaning key barrier) fates 3 (changing flag fresh b) y
+ready_third meaning key barrier all others fates y b true false e due = tt
+ready_third meaning key barrier all others fates y b false false e due = tt
+ready_third meaning key barrier all others fates y b true true e due =
+    ready_inside meaning key barrier all others (b ∷ []) fates y b e ((due refl).1.held e) (due refl).0
+ready_third meaning key barrier all others fates y b false true e due = λ outside.
+    let i = opt meaning key barrier in
+    let third : History = taking y (fates 3).brings in
+    let is = (due refl).0 in (
+      record { may = reset_may meaning key barrier third e; brings = reset_brings others third third.is_open; listed = tt },
+      ready_opening meaning key barrier all others (b ∷ []) fates (moved i third Reset) b e refl (due refl).1.clean
+          (record { commits = record { guards = is.commits.guards; run = is.commits.run }; asked_for = is.asked_for }),
+    )
+
+own_asked : (flag fresh : Bool) (b : Batch) → AreOwn (ask_steps Opt flag fresh b)
+own_asked true true b = (refl, tt)
+own_asked true false b = tt
+own_asked false true b = (refl, (refl, (refl, tt)))
+own_asked false false b = tt
+
+each_self : {A : Type 0} (front xs : List A) → AllByRecursion (Contains (front ++ xs)) xs
+each_self front [] = tt
+each_self {A} front (x ∷ xs) =
+    let P : List A → Type 0 = λ w. AllByRecursion (Contains w) xs in
+    (Contains-append_right front (x ∷ xs) x (0, omega arith, refl), subst P (append_assoc front (x ∷ []) xs) (each_self (front ++ x ∷ []) xs))
+
+ask_may : (meaning : Meaning) (key barrier : List ℕ) (y : History) (c : Course) (bytes : List ℕ) (b : Batch)
+    → (let i = opt meaning key barrier in
+    let found = found_in (found_at i (by_lists i) (all_made (by_lists i) y (before c)) b bytes) c.lacks in
+    AllMay i y (walk c.fates 1 (ask_steps Opt y.is_open (is_fresh found) b)).moves)
+ask_may meaning key barrier y c bytes b =
+    let i = opt meaning key barrier in
+    let seen : History = all_made (by_lists i) y (before c) in
+    let found = found_in (found_at i (by_lists i) seen b bytes) c.lacks in
+    let taken : History = sight y c in
+    let run : List ℕ = extended_message (register_of (own_values barrier taken.current)) (guard barrier b) in
+    let all : List (List ℕ) = guard_message barrier b ∷ run ∷ [] in
+    let M : List Step → List Move = λ steps. (walk c.fates 1 steps).moves in
+    let steps : List Step = ask_steps Opt y.is_open (is_fresh found) b in
+    let others : List (List ℕ) = foreign_in (M steps) in
+    let third = ready_third meaning key barrier all others c.fates taken b y.is_open (is_fresh found) refl
+    (λ fresh. let f = fresh_is_found found fresh in (
+      record {
+        commits = record { guards = first_in (guard_message barrier b) (run ∷ []); run = second_in (guard_message barrier b) run [] };
+        asked_for = first_in b [];
+      },
+      subst IsLive (sight_is i y c) (live_found meaning key barrier seen b bytes f.0 (unlacked (found_at i (by_lists i) seen b bytes) c.lacks f.0 f.1)),
+    )) in
+    let ready : Ready all others (b ∷ []) i c.fates 1 (Reads ∷ Reads ∷ changing y.is_open (is_fresh found) b) y = λ o p. third in
+    may_of all others (b ∷ []) i (M steps) y
+    (walk_fine meaning key barrier all others (b ∷ []) c.fates steps 1 y (own_asked y.is_open (is_fresh found) b) (each_self [] others)
+    (subst (λ s. Ready all others (b ∷ []) i c.fates 1 s y) (sym (asks y.is_open (is_fresh found) b)) ready))
+
+-- what a snapshot names is named after a call
+pub named_after : (meaning : Meaning) (key barrier : List ℕ) (y : History) (c : Course) (offer : List ℕ) (b : Batch) (content : Content) → IsSound y
+    → Names (opt meaning key barrier) y content
+    → Names (opt meaning key barrier) (called (opt meaning key barrier) (by_lists (opt meaning key barrier)) y c offer b).state content
+named_after meaning key barrier y c offer b content sound n =
+    let i : Instance = opt meaning key barrier in
+    let found : Result Found Refusal = found_in (found_at i (by_lists i) (all_made (by_lists i) y (before c)) b offer) c.lacks in
+    names_made meaning key barrier (walk c.fates 1 (ask_steps Opt y.is_open (is_fresh found) b)).moves y content sound (ask_may meaning key barrier y c offer b) n

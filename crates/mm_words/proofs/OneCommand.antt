@@ -1,0 +1,75 @@
+-- Words spell one command.
+use Rattle.std.proofs.Common.{◌≡◌, ◌≤◌, ◌∙◌, ℕ, List, [], ◌∷◌, refl, sym, ap, arith, codes}
+use Rattle.std.specs.Prelude.{Option, Some, None, if◌then◌else◌}
+use Rattle.std.specs.Fmt.{decimal}
+use Rattle.std.specs.Option.{option_map_or}
+use Rattle.std.specs.Str.{bytes_eq}
+use Rattle.mm_base.specs.Decimals.{number_of}
+use Rattle.mm_base.proofs.DecimalLemmas.{read_by_spelling}
+use Rattle.mm_module.specs.Values.{value_at}
+use Rattle.mm_modules.specs.Modules.{module_named, name_of}
+use Rattle.mm_schedule.specs.Headers.{variant_at, variant_text}
+use Rattle.mm_schedule.specs.Words.{◌>>=◌}
+use Rattle.mm_schedule.specs.declared.header.Header.{Header}
+use Rattle.mm_words.specs.Commands.{IsGenerated, Spells}
+use Rattle.mm_words.specs.declared.command.Command.{Command}
+use Rattle.mm_words.specs.declared.command.Command.TheVariants.{Init, Run, Checkpoint, Power, Replay, Check, Gen, Bulk, Receipts, Help}
+use Rattle.mm_words.specs.declared.command.Generated.{Generated}
+use Rattle.mm_words.proofs.Matched.{name-read, variant-read}
+
+abbrev header_by : List ℕ → List ℕ → Option Header
+header_by v m = variant_at v >>= λ variant. module_named m >>= λ module_read. Some (record { variant = variant; «module» = module_read })
+
+abbrev generated_by : List ℕ → List ℕ → List ℕ → List ℕ → Option Generated
+generated_by n c v m =
+    number_of n >>= λ number. number_of c >>= λ count. header_by v m >>= λ header.
+    Some (record { number = number; count = count; header = header })
+
+abbrev alone_by : List ℕ → Command
+alone_by word =
+    if bytes_eq word (codes "run") then Run
+    else if bytes_eq word (codes "checkpoint") then Checkpoint
+    else if bytes_eq word (codes "power") then Power
+    else if bytes_eq word (codes "replay") then Replay
+    else if bytes_eq word (codes "check") then Check
+    else Help
+
+-- the command of words that spell one
+abbrev command_by : List (List ℕ) → Option Command
+command_by [] = None
+command_by (w ∷ []) = Some (alone_by w)
+command_by (w ∷ k ∷ []) = value_at k >>= λ key. Some (Receipts key)
+command_by (w ∷ v ∷ m ∷ []) = header_by v m >>= λ header. Some (Init header)
+command_by (w ∷ n ∷ c ∷ v ∷ []) = None
+command_by (w ∷ n ∷ c ∷ v ∷ m ∷ rest) =
+    if bytes_eq w (codes "gen") then (generated_by n c v m >>= λ it. Some (Gen it)) else (generated_by n c v m >>= λ it. Some (Bulk it))
+
+header-again : (header : Header) → header_by (variant_text header.variant) (name_of header.module) ≡ Some header
+header-again header = rw (variant-read header.variant, name-read header.module) refl
+
+generated-again : (it : Generated) → IsGenerated it
+    → generated_by (decimal it.number) (decimal it.count) (variant_text it.header.variant) (name_of it.header.module) ≡ Some it
+generated-again it allowed =
+    let few : it.count ≤ 20000 = allowed.count in
+    rw (
+      read_by_spelling (decimal it.number) it.number allowed.number refl,
+      read_by_spelling (decimal it.count) it.count (omega arith) refl,
+      header-again it.header,
+    ) refl
+
+command-again : (command : Command) (words : List (List ℕ)) → Spells command words → command_by words ≡ Some command
+command-again (Init header) words spells = ap command_by spells.spelled ∙ rw (header-again header) refl
+command-again Run words spells = ap command_by spells.spelled
+command-again Checkpoint words spells = ap command_by spells.spelled
+command-again Power words spells = ap command_by spells.spelled
+command-again Replay words spells = ap command_by spells.spelled
+command-again Check words spells = ap command_by spells.spelled
+command-again (Gen it) words spells = ap command_by spells.spelled ∙ rw (generated-again it spells.allowed) refl
+command-again (Bulk it) words spells = ap command_by spells.spelled ∙ rw (generated-again it spells.allowed) refl
+command-again (Receipts key) words spells = let given = spells.spelled in ap command_by given.2 ∙ rw given.1 refl
+command-again Help words spells = ap command_by spells.spelled
+
+pub one_command : (words : List (List ℕ)) (command other : Command) → Spells command words → Spells other words → command ≡ other
+one_command words command other one two =
+    ap (λ (o : Option Command). option_map_or (λ (it : Command). it) o command)
+    (sym (command-again command words one) ∙ command-again other words two)
