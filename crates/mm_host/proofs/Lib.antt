@@ -18,3 +18,4 @@ mod Putting
 mod Machining
 mod LineStep
 mod SessionRuns
+mod SparingLines

@@ -374,18 +374,18 @@ stops_first : (meaning : Meaning) (key : List ℕ) (all others : List (List ℕ)
 stops_first meaning key all others asked y slots waiting standing kept begun sent fault hand h r s =
     let unrefused : IsUnrefused begun = unrefused_of meaning key y slots waiting r.after begun r.comes in
     record {
-  after = r.after;
-  stands = r.stands;
-  within = r.within;
-  slots_after = r.slots_after;
-  slots_told = r.told;
-  fits = λ n. r.fits;
-  whole = λ n. r.fits;
-  requests = requests_of y.batches;
-  run = refl;
-  committed = waiting_committed y r.after waiting begun sent fault hand h s r.grown unrefused;
-    unrefused = unrefused_says begun sent fault s unrefused;
-}
+      after = r.after;
+      stands = r.stands;
+      within = r.within;
+      slots_after = r.slots_after;
+      slots_told = r.told;
+      fits = λ n. r.fits;
+      whole = λ n. r.fits;
+      requests = requests_of y.batches;
+      run = refl;
+      committed = waiting_committed y r.after waiting begun sent fault hand h s r.grown unrefused;
+      unrefused = unrefused_says begun sent fault s unrefused;
+    }
 
 stops_at_once : (meaning : Meaning) (key : List ℕ) (all others : List (List ℕ)) (asked : List Batch) (y : History) (slots : Slots) (waiting : Option Pending) (platform after : Standing) (store new : Kept) (begun : Result Resumed HostFault) (taken sent : List ℕ) (result : Result Unit SessionFault) (hand : List ℕ → Type 0) → ((p : Pending) → waiting ≡ Some p → hand p.request)
     → RecoversTo all others asked (basic meaning key) y slots waiting platform store begun → after ≡ platform → new ≡ store → StopsAtOnce begun taken sent result
