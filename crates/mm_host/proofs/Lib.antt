@@ -19,3 +19,4 @@ mod Machining
 mod LineStep
 mod SessionRuns
 mod SparingLines
+mod Keeping

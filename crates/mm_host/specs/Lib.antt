@@ -15,3 +15,4 @@ pub mod Turns
 pub mod SessionBlame
 pub mod Continuing
 pub mod SessionLines
+pub mod SlotLaws
