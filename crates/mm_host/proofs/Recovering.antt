@@ -16,6 +16,8 @@ use Rattle.mm_model.specs.declared.refusal.Refusal.{Refusal}
 use Rattle.mm_model.specs.declared.refusal.Refusal.TheVariants as refusal
 use Rattle.mm_call.specs.Asked.{IsWithin}
 use Rattle.mm_call.specs.Leaving.{whole, whole_in}
+use Rattle.mm_call.specs.Refusals.{fault_of}
+use Rattle.mm_platform.specs.declared.fault.StepFault.{StepFault}
 use Rattle.mm_callers.specs.Basic.{AreAsked}
 use Rattle.mm_callers.proofs.Calls.{one_content, Comes}
 use Rattle.mm_store.specs.declared.fault.StoreFault.{StoreFault}
@@ -37,7 +39,7 @@ use Rattle.mm_host.specs.Waiting.{later, IsWaiting}
 use Rattle.mm_host.specs.Resumes.{AfterThree, AfterTwo, started, kept_as, AfterAsk, AfterOffer, AfterFinding, Resumes}
 use Rattle.mm_host.specs.Asking.{IsCall}
 use Rattle.mm_host.specs.Fitting.{offer_slot, Holds, IsAwaited, FitsBy}
-use Rattle.mm_host.specs.Recovery.{IsAskedFor, CanRecover, IsGrown, AnswersAt, ComesTo, RecoversTo}
+use Rattle.mm_host.specs.Recovery.{IsAskedFor, CanRecover, IsGrown, AnswersAt, ComesTo, MayCommit, RecoversTo}
 use Rattle.mm_host.proofs.Slots.{IsElsewhere, elsewhere_same, elsewhere_put}
 use Rattle.mm_host.proofs.Refusing.{MayRefuse}
 use Rattle.mm_host.proofs.Awaited.{awaited_least, still_awaited, grows, answered_at}
@@ -102,6 +104,7 @@ still all others asked i y slots before after old new result can s t h n c = rec
   same_wait = refl;
   honest = h;
   newest = n;
+  only = inl refl;
   comes = c;
 }
 
@@ -150,14 +153,15 @@ pub record Left (all others : List (List ℕ)) (asked : List Batch) (i : Instanc
   pub within : IsWithin all others asked i after
   pub names : (content : Content) → Names i y content → Names i after content
   pub comes : Comes i y (seen_in slots (offer_slot p)) (One p.request) after gives
+  pub only : (why : Refusal) → gives ≡ Err why → fault_of why ≡ None → after.batches ≡ y.batches
   pub refuses : (why : Refusal) → gives ≡ Err why → MayRefuse why (life_of i.variant after)
   pub is : waiting ≡ Some p
   pub is_waiting : IsWaiting (seen_in slots 2) (seen_in slots 3) waiting
   pub awaited : IsAwaited y p
   pub holds : Holds i y (seen_in slots (offer_slot p)) (p.position - 1)
 
-settle : (all others : List (List ℕ)) (asked : List Batch) (i : Instance) (y : History) (slots other : Slots) (waiting : Option Pending) (p : Pending) (standing : Standing) (gives : Result BatchAnswer Refusal) (kept : Kept) (result : Result Resumed HostFault) (l : Left all others asked i y slots waiting p standing gives) → IsElsewhere slots other p → kept.slots ≡ Some other → kept.is_honest ≡ true → IfOk result (λ resumed. seen_in other (position_at resumed % 2) ≡ snapshot_at resumed) → ComesTo i y slots waiting l.after result → RecoversTo all others asked i y slots waiting standing kept result
-settle all others asked i y slots other waiting p standing gives kept result l e t h n c = record {
+settle : (all others : List (List ℕ)) (asked : List Batch) (i : Instance) (y : History) (slots other : Slots) (waiting : Option Pending) (p : Pending) (standing : Standing) (gives : Result BatchAnswer Refusal) (kept : Kept) (result : Result Resumed HostFault) (l : Left all others asked i y slots waiting p standing gives) → IsElsewhere slots other p → kept.slots ≡ Some other → kept.is_honest ≡ true → IfOk result (λ resumed. seen_in other (position_at resumed % 2) ≡ snapshot_at resumed) → (l.after.batches ≡ y.batches) ⊎ MayCommit result → ComesTo i y slots waiting l.after result → RecoversTo all others asked i y slots waiting standing kept result
+settle all others asked i y slots other waiting p standing gives kept result l e t h n o c = record {
   after = l.after;
   stands = l.stands;
   within = l.within;
@@ -181,6 +185,7 @@ settle all others asked i y slots other waiting p standing gives kept result l e
   same_wait = refl;
   honest = h;
   newest = n;
+  only = o;
   comes = c;
 }
 
@@ -190,15 +195,15 @@ keep_exit all others asked i y slots waiting p standing answer (Ok it) old new l
     settle all others asked i y slots (with_slot slots (p.position % 2) answer.snapshot) waiting p standing (Ok (whole answer)) new (Ok (Answered answer)) l
     (elsewhere_put slots p answer.snapshot (awaited_least y p l.awaited))
     (w.leaves h ∙ ap (λ (s : Option Slots). putting (p.position % 2) answer.snapshot s) t) (w.honest ∙ h)
-    (subst (λ (n : ℕ). seen_in (with_slot slots (p.position % 2) answer.snapshot) (n % 2) ≡ answer.snapshot) (sym e) (seen_put slots (p.position % 2) answer.snapshot size)) a
+    (subst (λ (n : ℕ). seen_in (with_slot slots (p.position % 2) answer.snapshot) (n % 2) ≡ answer.snapshot) (sym e) (seen_put slots (p.position % 2) answer.snapshot size)) (inr tt) a
 keep_exit all others asked i y slots waiting p standing answer (Err fault.Memory) old new l h t e size w a =
     settle all others asked i y slots slots waiting p standing (Ok (whole answer)) new (Err (store_fault_as fault.Memory)) l
-    (elsewhere_same slots p) (w.leaves h ∙ t) (w.honest ∙ h) tt tt
+    (elsewhere_same slots p) (w.leaves h ∙ t) (w.honest ∙ h) tt (inr tt) tt
 keep_exit all others asked i y slots waiting p standing answer (Err fault.Failed) old new l h t e size w a =
     let left = w.leaves h in
     settle all others asked i y slots (with_slot slots (p.position % 2) left.0) waiting p standing (Ok (whole answer)) new (Err (store_fault_as fault.Failed)) l
     (elsewhere_put slots p left.0 (awaited_least y p l.awaited))
-    (left.1 ∙ ap (λ (s : Option Slots). putting (p.position % 2) left.0 s) t) (w.honest ∙ h) tt tt
+    (left.1 ∙ ap (λ (s : Option Slots). putting (p.position % 2) left.0 s) t) (w.honest ∙ h) tt (inr tt) tt
 
 answers : (all others : List (List ℕ)) (asked : List Batch) (i : Instance) (y : History) (slots : Slots) (waiting : Option Pending) (p : Pending) (standing : Standing) (answer : Answer) (l : Left all others asked i y slots waiting p standing (Ok (whole answer))) → (AnswersAt i y waiting l.after answer) × (answer.position ≡ p.position)
 answers all others asked i y slots waiting p standing answer l =
@@ -207,12 +212,32 @@ answers all others asked i y slots waiting p standing answer l =
       ap (λ (b : BatchAnswer). b.position) a.answer_is ∙ sym a.position,
     )
 
+-- a refusal that hands on no device's fault committed nothing
+may_commit : (why : Refusal) (broken : StepFault) → fault_of why ≡ Some broken → MayCommit {T = Resumed} (Err (refused_as why))
+may_commit (refusal.Device fault) broken e = refl
+may_commit refusal.Memory broken e = absurd (cc)
+may_commit refusal.Long broken e = absurd (cc)
+may_commit refusal.Blank broken e = absurd (cc)
+may_commit refusal.Cell broken e = absurd (cc)
+may_commit refusal.Lost broken e = absurd (cc)
+may_commit refusal.Form broken e = absurd (cc)
+may_commit refusal.Kind broken e = absurd (cc)
+may_commit refusal.State broken e = absurd (cc)
+may_commit refusal.Tag broken e = absurd (cc)
+may_commit refusal.Stale broken e = absurd (cc)
+may_commit refusal.Full broken e = absurd (cc)
+
+only_by : (all others : List (List ℕ)) (asked : List Batch) (i : Instance) (y : History) (slots : Slots) (waiting : Option Pending) (p : Pending) (standing : Standing) (why : Refusal) (broken : Option StepFault) → fault_of why ≡ broken → (l : Left all others asked i y slots waiting p standing (Err why))
+    → (l.after.batches ≡ y.batches) ⊎ MayCommit {T = Resumed} (Err (refused_as why))
+only_by all others asked i y slots waiting p standing why None e l = inl (l.only why refl e)
+only_by all others asked i y slots waiting p standing why (Some broken) e l = inr (may_commit why broken e)
+
 -- the exits of the call
 pub ask_exit : (all others : List (List ℕ)) (asked : List Batch) (i : Instance) (y : History) (slots : Slots) (waiting : Option Pending) (p : Pending) (standing : Standing) (call : Result Answer Refusal) (old new : Kept) (result : Result Resumed HostFault) → Left all others asked i y slots waiting p standing (whole_in call) → IfOk call (λ answer. IsFit (One p.request) (whole answer)) → old.is_honest ≡ true → old.slots ≡ Some slots → AfterAsk call old new result → RecoversTo all others asked i y slots waiting standing new result
 ask_exit all others asked i y slots waiting p standing (Err why) old new result l fit h t g =
     subst (λ (r : Result Resumed HostFault). RecoversTo all others asked i y slots waiting standing new r) (sym g.1)
     (settle all others asked i y slots slots waiting p standing (Err why) new (Err (refused_as why)) l
-    (elsewhere_same slots p) (ap (λ (k : Kept). k.slots) g.0 ∙ t) (ap (λ (k : Kept). k.is_honest) g.0 ∙ h) tt (refused_comes i y slots waiting l.after why (l.refuses why refl)))
+    (elsewhere_same slots p) (ap (λ (k : Kept). k.slots) g.0 ∙ t) (ap (λ (k : Kept). k.is_honest) g.0 ∙ h) tt (only_by all others asked i y slots waiting p standing why (fault_of why) refl l) (refused_comes i y slots waiting l.after why (l.refuses why refl)))
 ask_exit all others asked i y slots waiting p standing (Ok answer) old new result l fit h t g =
     let a = answers all others asked i y slots waiting p standing answer l in
     subst (λ (r : Result Resumed HostFault). RecoversTo all others asked i y slots waiting standing new r) (sym g.gives)

@@ -1,5 +1,5 @@
 -- What a host program that goes on after a stop comes to, by lists alone.
-use Rattle.std.specs.Prelude.{◌≡◌, ℕ, true, List, [], ◌∷◌, ◌++◌, Option, None, Some, Result, Ok, Err, nat_eq, ◌⊎◌, ◌%◌, IfOk}
+use Rattle.std.specs.Prelude.{◌≡◌, ℕ, true, List, [], ◌∷◌, ◌++◌, Option, None, Some, Result, Ok, Err, nat_eq, ◌⊎◌, ◌%◌, IfOk, IsSome}
 use Rattle.std.specs.List.{Contains}
 use Rattle.mm_digest.specs.declared.variant.Variant.{Variant}
 use Rattle.mm_digest.specs.declared.variant.Variant.TheVariants.{Basic, Opt}
@@ -18,6 +18,7 @@ use Rattle.mm_call.specs.Answers.{answer_on}
 use Rattle.mm_call.specs.Asked.{IsWithin, right_messages}
 use Rattle.mm_call.specs.Found.{right_content}
 use Rattle.mm_call.specs.Leaving.{whole}
+use Rattle.mm_call.specs.Refusals.{fault_of}
 use Rattle.mm_call.specs.Tied.{standing_items}
 use Rattle.mm_callers.specs.Opt.{AreShown}
 use Rattle.mm_store.specs.Kept.{Kept}
@@ -77,6 +78,13 @@ ComesTo i y slots waiting after (Err Memory) = Unit {0}
 ComesTo i y slots waiting after (Err Store) = Unit {0}
 ComesTo i y slots waiting after (Err (Refused why)) = IsRefusedAs why (life_of i.variant after)
 
+-- A request may have been committed where it is answered, and where memory, the store or a device failed.
+abbrev pub MayCommit : {T : Type 0} → Result T HostFault → Type 0
+MayCommit (Ok it) = Unit {0}
+MayCommit (Err Memory) = Unit {0}
+MayCommit (Err Store) = Unit {0}
+MayCommit (Err (Refused why)) = IsSome (fault_of why)
+
 -- Whatever it gives, the platform stands for a history that grew by the request that waits or by nothing, and the slots
 -- fit that one; so it may be called again. What was asked of the history holds of it too, and the newest snapshot is in the
 -- slot of its position's parity.
@@ -85,6 +93,7 @@ pub record RecoversTo (all others : List (List ℕ)) (asked : List Batch) (i : I
   pub stands : StandsFor i standing after
   pub within : IsWithin all others asked i after
   pub grown : IsGrown y waiting after
+  pub only : (after.batches ≡ y.batches) ⊎ MayCommit result
   pub slots_after : Slots
   pub told : kept.slots ≡ Some slots_after
   pub fits : Fits i slots_after after
