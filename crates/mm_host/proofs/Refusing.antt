@@ -171,16 +171,16 @@ found_refused i s p offer o why e =
 -- memory may be wanting besides
 lacking : (found : Result Found Refusal) (lacks : Bool) (why : Refusal) (life : Life) → ((w : Refusal) → found ≡ Err w → IsRefusedAs w life) → found_in found lacks ≡ Err why → MayRefuse why life
 lacking (Err w) lacks why life h e = let same : w ≡ why = cc in inr (subst (λ (x : Refusal). IsRefusedAs x life) same (h w refl))
-lacking (Ok found) false why life h e = absurd (cc)
-lacking (Ok found) true why life h e = let same : Memory ≡ why = cc in inl (sym same)
+lacking (Ok found) false why _ h e = absurd (cc)
+lacking (Ok found) true why _ h e = let same : Memory ≡ why = cc in inl (sym same)
 
 -- how the call ends
 ended_refused : (i : Instance) (seen end : History) (b : Batch) (found : Result Found Refusal) (moves : List Move) (broken : Option StepFault) (why : Refusal) (life : Life)
     → (broken ≡ None → found ≡ Err why → MayRefuse why life) → told (ended_by (by_lists i) seen end b found moves broken) ≡ Err why → MayRefuse why life
 ended_refused i seen end b found moves (Some fault) why life h e =
     let same : Device fault ≡ why = cc in inr (subst (λ (w : Refusal). IsRefusedAs w life) same tt)
-ended_refused i seen end b (Err w) moves None why life h e = let same : w ≡ why = cc in h refl (ap (λ (x : Refusal). Err x) same)
-ended_refused i seen end b (Ok found) moves None why life h e = absurd (cc)
+ended_refused i seen end b (Err w) moves None why _ h e = let same : w ≡ why = cc in h refl (ap (λ (x : Refusal). Err x) same)
+ended_refused i seen end b (Ok found) moves None why _ h e = absurd (cc)
 
 -- a refusal that hands on no device's fault comes where nothing was found, and the walk commits nothing then
 ended_whole : (i : Instance) (seen end : History) (b : Batch) (found : Result Found Refusal) (moves : List Move) (broken : Option StepFault) (why : Refusal)

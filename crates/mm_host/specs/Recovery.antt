@@ -65,10 +65,10 @@ pub record AnswersAt (i : Instance) (y : History) (waiting : Option Pending) (af
 
 -- From slots that fit, a refusal is a device's fault; or in Opt it tells how the history has ended.
 abbrev pub IsRefusedAs : Refusal → Life → Type 0
-IsRefusedAs (Device fault) life = Unit {0}
+IsRefusedAs (Device fault) _ = Unit {0}
 IsRefusedAs Lost life = life ≡ LostLife
 IsRefusedAs Stale life = life ≡ Spoiled
-IsRefusedAs why life = ⊥
+IsRefusedAs why _ = ⊥
 
 -- It begins with the first snapshot exactly where nothing waits.
 abbrev pub ComesTo : Instance → History → Slots → Option Pending → History → Result Resumed HostFault → Type 0
