@@ -1,9 +1,10 @@
-//! The program: its words, its input and output, and its exit status.
+//! The program: its words, its input and output, the files of the current directory, and its exit status.
 #![tactic(auto)]
 
 use mm_app::{Status, StdSink, StdSource, memoir};
-use mm_platform::MemPlatform;
-use mm_store::MemStore;
+use mm_files::{FilePages, FilePlatform, FileSource};
+use mm_pages::PageStore;
+use mm_twocell::TwoCell;
 use std::io::ErrorKind;
 use std::process::ExitCode;
 use std::{env, io};
@@ -27,19 +28,17 @@ fn run(rt: &HostRuntime) -> io::Result<Status> {
     for text in texts.iter() {
         words.push(text.as_str())?;
     }
-    let mut platform = MemPlatform::new(rt.alloc(), &[0; 104]);
-    let mut store = MemStore::new(rt.alloc());
-    let mut input = StdSource::new(rt.reader());
-    let mut entropy = StdSource::new(io::empty());
-    let mut out = StdSink::new(io::writer(rt));
+    let Ok(mut store) = PageStore::new(rt.alloc(), FilePages::new(rt)) else {
+        return Err(io::Error::from(ErrorKind::OutOfMemory));
+    };
     Ok(memoir(
         rt.alloc(),
         &words,
-        &mut platform,
+        &mut TwoCell::new(FilePlatform::new(rt)),
         &mut store,
-        &mut input,
-        &mut entropy,
-        &mut out,
+        &mut StdSource::new(rt.reader()),
+        &mut FileSource::new(rt, "entropy"),
+        &mut StdSink::new(io::writer(rt)),
     ))
 }
 

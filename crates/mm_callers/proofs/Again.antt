@@ -72,7 +72,7 @@ apart : (batches : List Batch) (b : Batch) → total_of batches ≡ total_of (ba
 apart batches b e = absurd (omega (arith, e, total-push batches b, size_of-pos b))
 
 -- the second call, by what the first left
-twice_by : (i : Instance) (y middle after : History) (new : Standing) (offer : List ℕ) (b : Batch) (first : Result BatchAnswer Refusal) (answer : BatchAnswer) → StandsFor i new after → Comes i y offer b middle first → Comes i middle offer b after (Ok answer) → AnswersOnce i y new b answer
+pub twice_by : (i : Instance) (y middle after : History) (new : Standing) (offer : List ℕ) (b : Batch) (first : Result BatchAnswer Refusal) (answer : BatchAnswer) → StandsFor i new after → Comes i y offer b middle first → Comes i middle offer b after (Ok answer) → AnswersOnce i y new b answer
 twice_by i y middle after new offer b first answer s (kept same none) second =
     let r = answers_by i middle after new offer b answer s second in
     record {

@@ -3,3 +3,12 @@ pub mod Again
 pub mod Twice
 pub mod Asking
 pub mod OptCalls
+pub mod OptAlike
+pub mod OptShown
+pub mod OptLeaves
+pub mod OptAsking
+pub mod Completing
+pub mod OptComplete
+pub mod OptClosing
+pub mod OptRepeating
+pub mod OptRepeatAsking

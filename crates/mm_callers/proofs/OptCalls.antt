@@ -23,7 +23,7 @@ use Rattle.mm_model.specs.Messages.{Within}
 use Rattle.mm_model.specs.Moves.{MayMove, digests_of}
 use Rattle.mm_model.specs.Places.{Names}
 use Rattle.mm_model.specs.Sound.{IsSound}
-use Rattle.mm_model.specs.Standing.{StandsFor, IsRight, IsGenuine}
+use Rattle.mm_model.specs.Standing.{StandsFor, IsRight}
 use Rattle.mm_model.specs.Steps.{Step, ask_steps}
 use Rattle.mm_model.proofs.Moves.{sound_moved}
 use Rattle.mm_model.proofs.Named.{opt_names}
@@ -31,7 +31,6 @@ use Rattle.mm_model.specs.declared.answer.Answer.{Answer}
 use Rattle.mm_model.specs.declared.answer.BatchAnswer.{BatchAnswer}
 use Rattle.mm_model.specs.declared.refusal.Refusal.{Refusal}
 use Rattle.mm_model.specs.declared.refusal.Refusal.TheVariants as refusal
-use Rattle.mm_call.specs.Answers.{answer_on}
 use Rattle.mm_call.specs.Order.{examined}
 use Rattle.mm_call.specs.Levels.{by_lists, by_digests, all_made}
 use Rattle.mm_call.specs.Found.{Found, found_at, found_from, found_in, is_fresh}
@@ -40,8 +39,8 @@ use Rattle.mm_call.specs.Called.{called, ended_by, told}
 use Rattle.mm_call.specs.CallsOn.{CallsOn}
 use Rattle.mm_call.specs.Leaving.{whole, whole_in}
 use Rattle.mm_call.specs.Standing.{shown}
-use Rattle.mm_call.specs.Asked.{counted_part, counted_moves, moves_messages, foreign_in, IsWithin, IsAsked}
-use Rattle.mm_call.specs.Tied.{foreign_of, standing_items, IsTied, Tied, shows, nothing}
+use Rattle.mm_call.specs.Asked.{counted_part, counted_moves, moves_messages, foreign_in, IsAsked}
+use Rattle.mm_call.specs.Tied.{foreign_of, standing_items, Tied, shows, nothing}
 use Rattle.mm_call.proofs.BasicLaw.{unlacked}
 use Rattle.mm_call.proofs.Continuing.{stands_at}
 use Rattle.mm_call.proofs.Finding.{Asking, found_with_tells, weighed_tells}
@@ -54,12 +53,12 @@ use Rattle.mm_call.proofs.Walks.{Commits, nothing as none, batch, asks, opt_comm
 use Rattle.mm_opt.specs.Asks.{Calls}
 use Rattle.mm_callers.specs.Basic.{AreAsked, AnswersOnce}
 use Rattle.mm_callers.specs.Opt.{AreShown, AsksOnce}
-use Rattle.mm_callers.proofs.Calls.{Repeats, Comes, kept, grown, Answered, answered_only, answer_again, fresh_found, again_found, fresh_again}
+use Rattle.mm_callers.proofs.Calls.{Comes, kept, grown, answered_only, answer_again, fresh_found, again_found, fresh_again}
 use Rattle.mm_callers.proofs.Again.{answers_by}
 
 -- What counts of the moves is what the register shows
 
-same_rest : (front more other : List Item) → front ++ more ≡ front ++ other → more ≡ other
+pub same_rest : (front more other : List Item) → front ++ more ≡ front ++ other → more ≡ other
 same_rest [] more other e = e
 same_rest (item ∷ front) more other e = same_rest front more other (cc)
 
@@ -70,7 +69,7 @@ shown_same (Some ys) f xs front more other e g h =
     let there : f ys ≡ front ++ more = cc in
     same_rest front other more (sym g ∙ ap f (sym same) ∙ there)
 
-asked_by : (i : Instance) (all others : List (List ℕ)) (asked : List Batch) (y : History) (moves : List Move) (offer : List ℕ) (b : Batch) → AreAsked all others asked i y offer b
+pub asked_by : (i : Instance) (all others : List (List ℕ)) (asked : List Batch) (y : History) (moves : List Move) (offer : List ℕ) (b : Batch) → AreAsked all others asked i y offer b
     → Within (moves_messages i (counted_part y) (counted_moves y.is_open moves)) all → AllByRecursion (Contains others) (foreign_in (counted_moves y.is_open moves))
     → IsAsked all others asked i y moves offer b
 asked_by i all others asked y moves offer b a messages values = record {
@@ -100,14 +99,14 @@ asked_of meaning key barrier all others asked y moves offer b old new items more
 
 -- What a call finds by lists
 
-named_then : (meaning : Meaning) (key barrier : List ℕ) (values : List (List ℕ)) (y : History) (content : Content) → IsSound y → Names (opt meaning key barrier) y content → Names (opt meaning key barrier) (all_made (by_lists (opt meaning key barrier)) y (map Foreign values)) content
+pub named_then : (meaning : Meaning) (key barrier : List ℕ) (values : List (List ℕ)) (y : History) (content : Content) → IsSound y → Names (opt meaning key barrier) y content → Names (opt meaning key barrier) (all_made (by_lists (opt meaning key barrier)) y (map Foreign values)) content
 named_then meaning key barrier [] y content sound n = n
 named_then meaning key barrier (v ∷ values) y content sound n =
     let may : MayMove (opt meaning key barrier) y (Foreign v) = foreign_may (opt meaning key barrier) y y.is_open v in
     named_then meaning key barrier values (moved (opt meaning key barrier) y (Foreign v)) content
     (sound_moved meaning key barrier y (Foreign v) sound may) (opt_names meaning key barrier y (Foreign v) content sound may n)
 
-sound_then : (meaning : Meaning) (key barrier : List ℕ) (values : List (List ℕ)) (y : History) → IsSound y → IsSound (all_made (by_lists (opt meaning key barrier)) y (map Foreign values))
+pub sound_then : (meaning : Meaning) (key barrier : List ℕ) (values : List (List ℕ)) (y : History) → IsSound y → IsSound (all_made (by_lists (opt meaning key barrier)) y (map Foreign values))
 sound_then meaning key barrier [] y sound = sound
 sound_then meaning key barrier (v ∷ values) y sound =
     sound_then meaning key barrier values (moved (opt meaning key barrier) y (Foreign v))
@@ -137,7 +136,7 @@ unless_lost : (lost : Bool) (found : Result Found Refusal) (f : Found) → (if l
 unless_lost true found f e = absurd (cc)
 unless_lost false found f e = e
 
-right_at : (meaning : Meaning) (key barrier : List ℕ) (y : History) (b : Batch) (offer : List ℕ) (found : Found) → found_at (opt meaning key barrier) (by_lists (opt meaning key barrier)) y b offer ≡ Ok found → IsRight (opt meaning key barrier) offer found.offered
+pub right_at : (meaning : Meaning) (key barrier : List ℕ) (y : History) (b : Batch) (offer : List ℕ) (found : Found) → found_at (opt meaning key barrier) (by_lists (opt meaning key barrier)) y b offer ≡ Ok found → IsRight (opt meaning key barrier) offer found.offered
 right_at meaning key barrier y b offer found is =
     right_from meaning key barrier y b offer (parts_of Opt meaning.id offer) refl found
     (unless_lost (is_lost (life_of Opt y)) (found_from (opt meaning key barrier) (by_lists (opt meaning key barrier)) y b (parts_of Opt meaning.id offer)) found is)
@@ -173,6 +172,15 @@ comes_by meaning key barrier all y sees lacks offer b w found same asking is (ba
     let a = answered_only w.broken i sees end b found w.moves answer gives in
     answer_again i end b a.it.again false answer (fresh_again found a.it a.found_is fresh) a.answer_is)
 
+-- what is asked of the offer, at the history that a call sees
+pub seen_asking : (meaning : Meaning) (key barrier : List ℕ) (all others : List (List ℕ)) (asked : List Batch) (y : History) (v w : List (List ℕ)) (offer : List ℕ) (b : Batch) → AreAsked all others asked (opt meaning key barrier) y offer b
+    → Asking all (opt meaning key barrier) (all_made (by_lists (opt meaning key barrier)) y (map Foreign v ++ (map Foreign w ++ []))) offer b
+seen_asking meaning key barrier all others asked y v w offer b a = record {
+  clear = a.clear;
+  listed = a.offered;
+  genuine = λ content right. sees_names meaning key barrier v w y content a.within.sound (a.genuine content right);
+}
+
 -- what a call comes to by lists
 pub comes : (meaning : Meaning) (key barrier : List ℕ) (all others : List (List ℕ)) (asked : List Batch) (y : History) (c : Course) (offer : List ℕ) (b : Batch) → AreAsked all others asked (opt meaning key barrier) y offer b
     → Comes (opt meaning key barrier) y offer b (called (opt meaning key barrier) (by_lists (opt meaning key barrier)) y c offer b).state (told (called (opt meaning key barrier) (by_lists (opt meaning key barrier)) y c offer b).ending)
@@ -184,7 +192,7 @@ comes meaning key barrier all others asked y c offer b a =
     let same : sees.batches ≡ y.batches = same_batches i (map Foreign v ++ (map Foreign w ++ [])) y (foreign_first v (map Foreign w ++ []) ∙ foreign_first w []) in
     let found : Result Found Refusal = found_in (found_at i (by_lists i) sees b offer) c.lacks in
     comes_by meaning key barrier all y sees c.lacks offer b (walk c.fates 1 (ask_steps Opt y.is_open (is_fresh found) b)) found same
-    (record { clear = a.clear; listed = a.offered; genuine = λ content right. sees_names meaning key barrier v w y content a.within.sound (a.genuine content right) })
+    (seen_asking meaning key barrier all others asked y v w offer b a)
     refl
     (subst (λ (st : List Step). Commits b (is_fresh found) (walk c.fates 1 st)) (sym (asks y.is_open (is_fresh found) b)) (opt_commits c.fates y.is_open (is_fresh found) b))
 

@@ -46,7 +46,7 @@ said_if false t x content e = absurd (cc)
 said_if true false x content e = absurd (cc)
 said_if true true x content e = record { spelled = refl; tagged = refl; same = cc }
 
-right_of : (i : Instance) (offer : List ℕ) (parts : Result Snapshot PartsFault) → parts_of i.variant i.meaning.id offer ≡ parts → (content : Content) → content_if_right i parts ≡ Some content → IsRight i offer content
+pub right_of : (i : Instance) (offer : List ℕ) (parts : Result Snapshot PartsFault) → parts_of i.variant i.meaning.id offer ≡ parts → (content : Content) → content_if_right i parts ≡ Some content → IsRight i offer content
 right_of i offer (Err fault) e content is = absurd (cc)
 right_of i offer (Ok snapshot) e content is =
     let a = said_if (i.meaning.is_spelled snapshot.content.state) (bytes_eq snapshot.tag (tag_of i.key snapshot.content)) snapshot.content content is in
@@ -68,12 +68,12 @@ issued_content meaning lawful key y fits = record {
 issued_once : (meaning : Meaning) (key offer : List ℕ) (y : History) (content : Content) → IsContent (issued (basic meaning key) y) → offer ≡ issued_bytes (basic meaning key) y → IsRight (basic meaning key) offer content → issued (basic meaning key) y ≡ content
 issued_once meaning key offer y content is e right = sealed_once key key (issued (basic meaning key) y) content is right.formed (sym e ∙ right.sealed)
 
-listed_by : (i : Instance) (y : History) (b : Batch) (all : List (List ℕ)) (seen : Option Content) → ((content : Content) → seen ≡ Some content → Within (right_messages i b (Some content)) all) → Within (right_messages i b seen) all
+pub listed_by : (i : Instance) (y : History) (b : Batch) (all : List (List ℕ)) (seen : Option Content) → ((content : Content) → seen ≡ Some content → Within (right_messages i b (Some content)) all) → Within (right_messages i b seen) all
 listed_by i y b all None h = tt
 listed_by i y b all (Some content) h = h content refl
 
 -- the batches after the first call
-once_after : (i : Instance) (y after : History) (offer : List ℕ) (b : Batch) (answer : BatchAnswer) → Comes i y offer b after (Ok answer) → IsOnce y.batches b after.batches
+pub once_after : (i : Instance) (y after : History) (offer : List ℕ) (b : Batch) (answer : BatchAnswer) → Comes i y offer b after (Ok answer) → IsOnce y.batches b after.batches
 once_after i y after offer b answer (kept same gives) = inr (same, (gives answer refl).ends)
 once_after i y after offer b answer (grown content right at more gives) = inl more
 
@@ -81,12 +81,12 @@ next_listed : (all : List (List ℕ)) (asked : List Batch) (i : Instance) (y : H
 next_listed all asked i y first second after n (inl more) = subst (λ (bs : List Batch). Contains all (link_message (summary_of i.meaning.id bs) second)) (sym more) n.after_new
 next_listed all asked i y first second after n (inr same) = subst (λ (bs : List Batch). Contains all (link_message (summary_of i.meaning.id bs) second)) (sym same.0) n.after_repeat
 
-answered_at : (i : Instance) (y after : History) (offer : List ℕ) (b : Batch) (answer : BatchAnswer) → Comes i y offer b after (Ok answer) → (answer.position ≡ total_of after.batches) × (answer.snapshot ≡ issued_bytes i after)
+pub answered_at : (i : Instance) (y after : History) (offer : List ℕ) (b : Batch) (answer : BatchAnswer) → Comes i y offer b after (Ok answer) → (answer.position ≡ total_of after.batches) × (answer.snapshot ≡ issued_bytes i after)
 answered_at i y after offer b answer (kept same gives) = let e = (gives answer refl).answer_is in (ap (λ (a : BatchAnswer). a.position) e, ap (λ (a : BatchAnswer). a.snapshot) e)
 answered_at i y after offer b answer (grown content right at more gives) = let e = gives answer refl in (ap (λ (a : BatchAnswer). a.position) e, ap (λ (a : BatchAnswer). a.snapshot) e)
 
 -- a repeat is offered before the end
-not_again : (batches front : List Batch) (b : Batch) → front ++ b ∷ [] ≡ batches → total_of batches ≡ total_of front → ⊥
+pub not_again : (batches front : List Batch) (b : Batch) → front ++ b ∷ [] ≡ batches → total_of batches ≡ total_of front → ⊥
 not_again batches front b e same = absurd (omega (arith, same, ap total_of e, total-push front b, size_of-pos b))
 
 next_by : (meaning : Meaning) (key : List ℕ) (y middle after : History) (new : Standing) (offer : List ℕ) (first second : Batch) (answer : BatchAnswer) → IsOnce y.batches first middle.batches → StandsFor (basic meaning key) new after → ((content : Content) → IsRight (basic meaning key) offer content → issued (basic meaning key) middle ≡ content) → Comes (basic meaning key) middle offer second after (Ok answer) → AnswersNext (basic meaning key) y new first second answer

@@ -2,11 +2,12 @@
 //! history, its requests and the answers that it gets, and no plan, no course and no digest.
 #![tactic(auto)]
 
-mod basic;
-mod opt;
+pub mod basic;
+pub mod closing;
+mod laws;
+pub mod opt;
 
-pub use basic::{ask_again, ask_twice};
-pub use opt::ask_once;
+pub use laws::calls_are_complete;
 
 #[cfg(test)]
 mod tests;

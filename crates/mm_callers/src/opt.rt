@@ -1,11 +1,11 @@
 //! Callers of Opt.
 
-ghost use Rattle.mm_callers.specs.Opt.{AsksOnce};
+ghost use Rattle.mm_callers.specs.Opt.{AsksOnce, AsksByQuietPlan, AsksInMemory, AsksTwice};
 
 use mm_model::{Answer, Refusal};
 use mm_module::Module;
 use mm_opt::ask;
-use mm_platform::Platform;
+use mm_platform::{MemPlatform, Platform};
 use std::alloc::Global;
 
 /// Asks for a request, offering a snapshot, inside a segment or across an opening.
@@ -16,8 +16,66 @@ pub fn ask_once<M: Module, P: Platform>(
     offer: &[u8],
     request: &[u8],
 ) -> Result<Answer, Refusal>
-    ensures { AsksOnce (M.meaning «module».now) (P.standing platform.old) (P.standing platform.new)
+    ensures once { AsksOnce (M.meaning «module».now) (P.standing platform.old) (P.standing platform.new)
+        offer.now request.now result }
+    ensures complete { AsksByQuietPlan (M.meaning «module».now) (P.standing platform.old) (P.standing platform.new)
         offer.now request.now result }
 {
     ask(alloc, module, platform, offer, request)
+}
+
+/// Asks for a request, offering a snapshot, over a platform in memory whose plan is ended: nothing fails, and nobody
+/// else extends the register.
+pub fn ask_in_memory<M: Module>(
+    alloc: Global,
+    module: &M,
+    platform: &mut MemPlatform,
+    offer: &[u8],
+    request: &[u8],
+) -> Result<Answer, Refusal>
+    ensures { AsksInMemory (M.meaning «module».now) platform.old platform.new offer.now request.now result }
+{
+    platform.end_plan();
+    ask_once(alloc, module, platform, offer, request)
+}
+
+/// Asks for a request, offering a snapshot; and once more, offering the same one, where a device's step failed, at
+/// whatever step that was and whether or not it had its effect. The request is committed once, and answered as if it
+/// had been asked once.
+pub fn ask_after_fault<M: Module, P: Platform>(
+    alloc: Global,
+    module: &M,
+    platform: &mut P,
+    offer: &[u8],
+    request: &[u8],
+) -> Result<Answer, Refusal>
+    ensures { AsksOnce (M.meaning «module».now) (P.standing platform.old) (P.standing platform.new)
+        offer.now request.now result }
+{
+    match ask(alloc, module, platform, offer, request) {
+        Ok(answer) => Ok(answer),
+        Err(Refusal::Device(_)) => ask(alloc, module, platform, offer, request),
+        Err(refusal) => Err(refusal),
+    }
+}
+
+/// Asks for two requests, the second on the snapshot of the first answer. The second is always a new one.
+pub fn ask_twice<M: Module, P: Platform>(
+    alloc: Global,
+    module: &M,
+    platform: &mut P,
+    offer: &[u8],
+    first: &[u8],
+    second: &[u8],
+) -> Result<Answer, Refusal>
+    ensures { AsksTwice (M.meaning «module».now) (P.standing platform.old) (P.standing platform.new)
+        offer.now first.now second.now result }
+{
+    match ask(alloc, module, platform, offer, first) {
+        Err(refusal) => Err(refusal),
+        Ok(answer) => {
+            let newest = answer.snapshot.as_slice();
+            ask(alloc, module, platform, newest, second)
+        }
+    }
 }

@@ -1,6 +1,8 @@
 //! The callers over the counter and a platform in memory.
 
-use super::*;
+use crate::basic::{ask_again, ask_twice};
+use crate::closing::{Halted, Replies, ask_close_repeat};
+use crate::opt::{ask_after_fault, ask_in_memory, ask_twice as ask_next};
 use mm_basic::provision;
 use mm_model::{Answer, Refusal};
 use mm_module::Counter;
@@ -16,20 +18,50 @@ fn twice(alloc: Global, platform: &mut MemPlatform, offer: &[u8]) -> Result<Answ
     ask_twice(alloc, &Counter, platform, offer, b"add 5", b"add 2")
 }
 
-fn once(alloc: Global, platform: &mut MemPlatform, offer: &[u8]) -> Result<Answer, Refusal> {
-    ask_once(alloc, &Counter, platform, offer, b"add 5")
+fn after_fault(alloc: Global, platform: &mut MemPlatform, offer: &[u8]) -> Result<Answer, Refusal> {
+    ask_after_fault(alloc, &Counter, platform, offer, b"add 5")
 }
 
-/// A request across an opening.
+fn next(alloc: Global, platform: &mut MemPlatform, offer: &[u8]) -> Result<Answer, Refusal> {
+    ask_next(alloc, &Counter, platform, offer, b"add 5", b"add 2")
+}
+
+fn in_memory(alloc: Global, platform: &mut MemPlatform, offer: &[u8]) -> Result<Answer, Refusal> {
+    ask_in_memory(alloc, &Counter, platform, offer, b"add 3")
+}
+
+fn close_repeat(
+    alloc: Global,
+    platform: &mut MemPlatform,
+    offer: &[u8],
+) -> Result<Replies, Halted> {
+    ask_close_repeat(alloc, &Counter, platform, offer, b"add 4")
+}
+
+/// The write that opens a segment fails, with its effect made and not, and then a request goes on inside the segment; then
+/// two requests go on from the first snapshot, and a third is asked for once more behind a checkpoint.
 #[test]
-fn a_request_opens_a_segment(rt: HostRuntime) -> Result<(), Fail> {
+fn requests_open_a_segment(rt: HostRuntime) -> Result<(), Fail> {
     let alloc = rt.alloc();
     let made = mm_opt::provision(alloc, &Counter, &[7; 32], &[9; 32])?;
+    for done in [false, true] {
+        let mut platform = MemPlatform::new(alloc, &made.cell);
+        platform.plan(Stop::Fail { step: 5, done }, &[])?;
+        let answer = after_fault(alloc, &mut platform, made.snapshot.as_slice())?;
+        assert_eq!(rt; answer.again, done);
+        assert_eq!(rt; answer.position, 1);
+        let later = in_memory(alloc, &mut platform, answer.snapshot.as_slice())?;
+        assert_eq!(rt; later.again, false);
+        assert_eq!(rt; later.output.as_slice(), b"8".as_slice());
+    }
     let mut platform = MemPlatform::new(alloc, &made.cell);
-    let answer = once(alloc, &mut platform, made.snapshot.as_slice())?;
-    assert_eq!(rt; answer.again, false);
-    assert_eq!(rt; answer.position, 1);
-    assert_eq!(rt; answer.output.as_slice(), b"5".as_slice());
+    let answer = next(alloc, &mut platform, made.snapshot.as_slice())?;
+    assert_eq!(rt; answer.position, 2);
+    assert_eq!(rt; answer.output.as_slice(), b"7".as_slice());
+    let replies = close_repeat(alloc, &mut platform, answer.snapshot.as_slice())?;
+    assert_eq!(rt; replies.second.again, true);
+    assert_eq!(rt; replies.second.position, 3);
+    assert_eq!(rt; replies.second.output.as_slice(), b"11".as_slice());
     Ok(())
 }
 

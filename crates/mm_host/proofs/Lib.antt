@@ -14,3 +14,4 @@ mod Turning
 mod Lining
 mod Beginning
 mod SessionBlaming
+mod Keeping

@@ -64,6 +64,16 @@ puts_count [] old new stored p =
 puts_count (put ∷ puts) old new stored p =
     after_count p.1 stored old p.0 new (PutsAll puts p.0 new stored) (λ rest. puts_count puts p.0 new stored rest) p.2.counted p.3
 
+after_honest : (written stored : Result Unit StoreFault) (old middle new : Kept) (Rest : Type 0) → (Rest → new.is_honest ≡ middle.is_honest)
+    → middle.is_honest ≡ old.is_honest → AfterPut written middle new stored Rest → new.is_honest ≡ old.is_honest
+after_honest (Ok it) stored old middle new Rest more h rest = more rest ∙ h
+after_honest (Err why) stored old middle new Rest more h rest = ap (λ (k : Kept). k.is_honest) rest.0 ∙ h
+
+puts_honest : (puts : List Put) (old new : Kept) (stored : Result Unit StoreFault) → PutsAll puts old new stored → new.is_honest ≡ old.is_honest
+puts_honest [] old new stored p = ap (λ (k : Kept). k.is_honest) p.0
+puts_honest (put ∷ puts) old new stored p =
+    after_honest p.1 stored old p.0 new (PutsAll puts p.0 new stored) (λ rest. puts_honest puts p.0 new stored rest) p.2.honest p.3
+
 all_put : Slots → List Put → Slots
 all_put slots [] = slots
 all_put slots (put ∷ puts) = all_put (with_slot slots put.slot put.bytes) puts
@@ -135,6 +145,7 @@ begins variant meaning before after secrets stored lawful size taken cell puts e
       stands_first variant meaning (take 32 secrets) (drop 32 secrets) after.platform values
       (omega (arith, size, length-take 32 secrets)) (omega (arith, size, length-drop 32 secrets))
       (cell ∙ ap (λ (c : Option (List ℕ)). option_map (λ _. cell_spelling (cell_of (instance_from variant meaning secrets) first_history)) c) told) shows;
+  honest = puts_honest (first_puts (issued_bytes (instance_from variant meaning secrets) first_history)) before.store after.store stored puts;
   stores = λ slots honest told. puts_told (first_puts (issued_bytes (instance_from variant meaning secrets) first_history)) slots before.store after.store stored honest told e puts;
   first = λ values. is_first variant meaning (take 32 secrets) (drop 32 secrets) values lawful;
 }

@@ -42,13 +42,14 @@ pub record IsFirst (i : Instance) (y : History) : Type 0 where
       IsWithin all others asked i y
 
 -- 64 bytes were taken. Where the platform tells its cell, and in Opt the register, it stands for the first history of their
--- instance; and an honest store that tells its slots holds the first ones.
+-- instance; and an honest store that tells its slots holds the first ones. A store stays as honest as it was.
 pub record Begins (variant : Variant) (meaning : Meaning) (before after : Devices) : Type 0 where
   pub secrets : List ℕ
   pub counted : length secrets ≡ 64
   pub taken : Consumes before.left after.left secrets
   pub stands : (cell : List ℕ) (values : List (List ℕ)) → before.platform.cell ≡ Some cell →
       ShowsValues variant after.platform values → StandsFor (instance_from variant meaning secrets) after.platform (first_on values)
+  pub honest : after.store.is_honest ≡ before.store.is_honest
   pub stores : (slots : Slots) → before.store.is_honest ≡ true → before.store.slots ≡ Some slots →
       after.store.slots ≡ Some (first_slots (instance_from variant meaning secrets))
   pub first : (values : List (List ℕ)) → IsFirst (instance_from variant meaning secrets) (first_on values)

@@ -13,3 +13,4 @@ pub mod Serving
 pub mod Sessions
 pub mod Turns
 pub mod SessionBlame
+pub mod SlotLaws

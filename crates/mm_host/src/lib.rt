@@ -11,6 +11,7 @@ mod init_fault;
 mod resuming;
 mod serving;
 mod setup;
+mod slot_laws;
 mod telling;
 mod waiting;
 
@@ -19,6 +20,7 @@ pub use init_fault::InitFault;
 pub use resuming::{Resumed, resume};
 pub use serving::session;
 pub use setup::init;
+pub use slot_laws::{first_starts_can_go_on, slots_keep_fitting};
 
 #[cfg(test)]
 mod setup_tests;

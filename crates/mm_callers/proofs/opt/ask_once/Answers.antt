@@ -1,7 +1,13 @@
 use Rattle.mm_callers.proofs.OptCalls.{asked_once}
+use Rattle.mm_callers.proofs.OptComplete.{asked_quietly}
 use Rattle.mm_callers.proofs.opt.ask_once.Goals as goal
 
-pub returns : goal.returns
-returns g c =
+pub returns-clause-once : goal.returns-clause-once
+returns-clause-once g c =
     asked_once (g.M.Module.meaning c.args.module.now) (g.P.Device.standing c.args.platform.now) (g.P.Device.standing c.ask.new.platform)
     c.args.offer.now c.args.request.now c.ask.result c.ask.ensures.calls c.ask.ensures.goes
+
+pub returns-clause-complete : goal.returns-clause-complete
+returns-clause-complete g c =
+    asked_quietly (g.M.Module.meaning c.args.module.now) (g.P.Device.standing c.args.platform.now) (g.P.Device.standing c.ask.new.platform)
+    c.args.offer.now c.args.request.now c.ask.result c.ask.ensures.goes

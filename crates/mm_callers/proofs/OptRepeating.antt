@@ -1,0 +1,296 @@
+-- Opt: the same request behind a checkpoint is answered by its earlier reply.
+use Rattle.std.proofs.Common.{◌≡◌, ℕ, Bool, true, false, List, [], ◌++◌, map, Option, None, Some, Result, Ok, Err, refl, sym, ap, ◌∙◌, subst, append_assoc}
+use Rattle.std.specs.Prelude.{if◌then◌else◌}
+use Rattle.std.specs.List.{fold}
+use Rattle.std.specs.Option.{option_map}
+use Rattle.mm_digest.specs.Messages.{extended_of}
+use Rattle.mm_digest.specs.declared.variant.Variant.TheVariants.{Opt}
+use Rattle.mm_platform.specs.declared.fault.StepFault.{StepFault}
+use Rattle.mm_platform.specs.Standing.{Item, Standing, foreign_item}
+use Rattle.mm_module.specs.Meaning.{Meaning}
+use Rattle.mm_module.specs.Batch.{Batch, One, size_of}
+use Rattle.mm_seal.specs.Snapshot.{Content}
+use Rattle.mm_model.specs.Instance.{Instance, opt}
+use Rattle.mm_model.specs.History.{History, Move, Foreign, total_of}
+use Rattle.mm_model.specs.Moves.{Digests, digests_of}
+use Rattle.mm_model.specs.Standing.{StandsFor, IsRight}
+use Rattle.mm_model.specs.Steps.{Step, ask_steps}
+use Rattle.mm_model.specs.declared.answer.BatchAnswer.{BatchAnswer}
+use Rattle.mm_model.specs.declared.refusal.Refusal.{Refusal}
+use Rattle.mm_call.specs.Answers.{answer_on, last_outputs}
+use Rattle.mm_call.specs.Checkpoints.{checkpointed}
+use Rattle.mm_call.specs.Levels.{Level, by_lists, by_digests, all_made}
+use Rattle.mm_call.specs.Found.{Found, found_at, found_in, is_fresh}
+use Rattle.mm_call.specs.Courses.{Fate, Walked, walk, closes}
+use Rattle.mm_call.specs.Called.{called, seen_at, ended_by, told}
+use Rattle.mm_call.specs.CallsOn.{CallsOn}
+use Rattle.mm_call.specs.Standing.{StandsAt, shown}
+use Rattle.mm_call.specs.Tied.{standing_items}
+use Rattle.mm_call.proofs.BasicLaw.{unlacked}
+use Rattle.mm_call.proofs.Continuing.{stands_at}
+use Rattle.mm_call.proofs.Finding.{Asking}
+use Rattle.mm_call.proofs.OptFinding.{found_same, placed}
+use Rattle.mm_call.proofs.OptHolding.{is_agrees}
+use Rattle.mm_call.proofs.OptShut.{bare, bare_digests, found_digests, foreign_digests, holds_shut}
+use Rattle.mm_call.proofs.Walks.{asks}
+use Rattle.mm_opt.specs.declared.segment.Checkpointed.{Checkpointed as Said}
+use Rattle.mm_opt.specs.ChecksOn.{ChecksOn}
+use Rattle.mm_callers.specs.Basic.{AreAsked, IsOnce, EndsWith}
+use Rattle.mm_callers.specs.Closing.{MayClose, RepeatsReply}
+use Rattle.mm_callers.specs.Opt.{AreShown}
+use Rattle.mm_callers.proofs.Calls.{Comes, kept, grown, one_content, fresh_found}
+use Rattle.mm_callers.proofs.Twice.{once_after, answered_at, not_again}
+use Rattle.mm_callers.proofs.OptCalls.{same_rest, right_at}
+use Rattle.mm_callers.proofs.OptAlike.{opt_closes, Alike, still, grown_by, same_closed, names_alike}
+use Rattle.mm_callers.proofs.OptShown.{Brought, reads_only, flag_kept, shown_front}
+use Rattle.mm_callers.proofs.OptLeaves.{Left, DigestMoves, hands, left_reading, asked_again, call_goes_on}
+use Rattle.mm_callers.proofs.OptClosing.{may_close_front, may_close_back, shown_values, Shut, check_goes_on, shuts}
+
+-- a call whose answer is told as a repeat made its reading steps alone
+told_again : (broken : Option StepFault) (i : Instance) (seen s : Digests) (b : Batch) (found : Result Found Refusal) (moves : List Move) (answer : BatchAnswer) → told (ended_by (by_digests i) seen s b found moves broken) ≡ Ok answer → answer.again ≡ true → is_fresh found ≡ false
+told_again (Some fault) i seen s b found moves answer e again = absurd (cc)
+told_again None i seen s b (Err why) moves answer e again = refl
+told_again None i seen s b (Ok it) moves answer e again =
+    let level : Level Digests = by_digests i in
+    let same : level.answer it.again seen s it.offered b ≡ answer = cc in
+    let is : it.again ≡ true = ap (λ (a : BatchAnswer). a.again) same ∙ again in
+    ap (λ (f : Bool). if f then false else true) is
+
+reading_steps_of : (fates : ℕ → Fate) (flag : Bool) (b : Batch) → Brought (walk fates 1 (ask_steps Opt flag false b)).moves
+reading_steps_of fates true b = reads_only (fates 1).brings (fates 2).brings (fates 1).ends (fates 2).ends
+reading_steps_of fates false b = reads_only (fates 1).brings (fates 2).brings (fates 1).ends (fates 2).ends
+
+-- the first answer's history ends with the batch, and the offer stands before it
+record Offers (i : Instance) (batches : List Batch) (offer : List ℕ) (b : Batch) : Type 0 where
+  content : Content
+  right : IsRight i offer content
+  ends : EndsWith batches b
+  position : content.position ≡ total_of ends.front
+
+offers : (i : Instance) (y after : History) (offer : List ℕ) (b : Batch) (answer : BatchAnswer) → Comes i y offer b after (Ok answer) → Offers i after.batches offer b
+offers i y after offer b answer (kept same gives) =
+    let g = gives answer refl in
+    record { content = g.content; right = g.right; ends = record { front = g.ends.front; is = g.ends.is ∙ sym same }; position = g.position }
+offers i y after offer b answer (grown content right at more gives) =
+    record { content = content; right = right; ends = record { front = y.batches; is = sym more }; position = at }
+
+-- no such offer stands at the end
+not_at_end : (i : Instance) (batches : List Batch) (offer : List ℕ) (b : Batch) (o : Offers i batches offer b) (content : Content) → IsRight i offer content → content.position ≡ total_of batches → ⊥
+not_at_end i batches offer b o content right at =
+    let same : o.content ≡ content = one_content i offer o.content content o.right right in
+    absurd (not_again batches o.ends.front b o.ends.is (sym at ∙ ap (λ (c : Content). c.position) (sym same) ∙ o.position))
+
+-- the outputs of an answer are those of its batches
+same_outputs : (i : Instance) (y z : History) (b : Batch) → y.batches ≡ z.batches → last_outputs i.meaning y (size_of b) ≡ last_outputs i.meaning z (size_of b)
+same_outputs i y z b e = ap (λ (bs : List Batch). last_outputs i.meaning (record y { batches = bs }) (size_of b)) e
+
+outputs_at : (i : Instance) (y after : History) (offer : List ℕ) (b : Batch) (answer : BatchAnswer) → Comes i y offer b after (Ok answer) → answer.outputs ≡ last_outputs i.meaning after (size_of b)
+outputs_at i y after offer b answer (kept same gives) = ap (λ (a : BatchAnswer). a.outputs) (gives answer refl).answer_is
+outputs_at i y after offer b answer (grown content right at more gives) = ap (λ (a : BatchAnswer). a.outputs) (gives answer refl)
+
+once_then : (batches middle later : List Batch) (b : Batch) → middle ≡ later → IsOnce batches b middle → IsOnce batches b later
+once_then batches middle later b e o = subst (λ (bs : List Batch). IsOnce batches b bs) e o
+
+-- the second reply, by what the first call and the second one came to
+repeats_by : (i : Instance) (y one two last : History) (new : Standing) (offer : List ℕ) (b : Batch) (first second : BatchAnswer) → two.batches ≡ one.batches → StandsFor i new last → Comes i y offer b one (Ok first) → Comes i two offer b last (Ok second) → RepeatsReply i y new b first second
+repeats_by i y one two last new offer b first second same s c (grown content right at more gives) =
+    absurd (not_at_end i one.batches offer b (offers i y one offer b first c) content right (at ∙ ap total_of same))
+repeats_by i y one two last new offer b first second same s c (kept is gives) =
+    let g = gives second refl in
+    let batches : last.batches ≡ one.batches = is ∙ same in
+    let again : second.again ≡ true = ap (λ (a : BatchAnswer). a.again) g.answer_is in
+    record {
+      again = again;
+      position = ap (λ (a : BatchAnswer). a.position) g.answer_is ∙ ap total_of batches ∙ sym (answered_at i y one offer b first c).0;
+      outputs = ap (λ (a : BatchAnswer). a.outputs) g.answer_is ∙ same_outputs i last one b batches ∙ sym (outputs_at i y one offer b first c);
+      once = record {
+        batches = last.batches;
+        once = once_then y.batches one.batches last.batches b (sym batches) (once_after i y one offer b first c);
+        run = record { after = last; stands = s; batches_are = refl; answer_is = g.answer_is ∙ ap (λ (f : Bool). answer_on i last b f) (sym again) };
+      };
+    }
+
+closed_same : (meaning : Meaning) (key barrier : List ℕ) (y after : History) (b : Batch) → Alike meaning key barrier y b after → after.closed ≡ y.closed
+closed_same meaning key barrier y after b (still e) = ap (λ (x : History). x.closed) e
+closed_same meaning key barrier y after b (grown_by e) = same_closed meaning key barrier y after b e
+
+module _ (meaning : Meaning) (key barrier : List ℕ) (all others : List (List ℕ)) (asked : List Batch) where
+  -- The two calls and the checkpoint, where the second call made its reading steps alone; or where it found a new batch.
+  record Behind (y : History) (answered closed new : Standing) (offer request : List ℕ) (first second : BatchAnswer) : Type 0 where
+    one : Left meaning key barrier all others asked y answered offer request (Ok first)
+    two : Shut meaning key barrier all others asked one.after closed
+
+  behind : (y : History) (old answered closed new : Standing) (offer request : List ℕ) (first second : BatchAnswer) (said : Said) (items more : List Item) → CallsOn Opt meaning old answered offer (One request) (Ok first) → ChecksOn answered closed (Ok said)
+      → StandsFor (opt meaning key barrier) old y → old.items ≡ Some items → closed.items ≡ Some (standing_items y.is_open items ++ more)
+      → AreAsked all others asked (opt meaning key barrier) y offer (One request) → AreShown all others (opt meaning key barrier) y more → MayClose all (opt meaning key barrier) y more
+      → Behind y answered closed new offer request first second
+  behind y old answered closed new offer request first second said items more c k s known ends a shown_so may =
+      let i : Instance = opt meaning key barrier in
+      let h = hands meaning key barrier all others asked y old answered closed offer request (Ok first) items more c
+      (check_goes_on meaning key barrier all others asked answered closed said k) s known ends a shown_so in
+      let after : History = h.left.after in
+      let may_then : after.is_open ≡ true → MayClose all i after h.more = λ is.
+      let p = h.pushed is in
+      may_close_back all i y after p.front h.more (closed_same meaning key barrier y after (One request) h.left.alike) p.register (subst (λ (xs : List Item). MayClose all i y xs) (sym p.whole) may) in
+      record {
+        one = h.left;
+        two = shuts meaning key barrier all others asked after answered closed said h.items h.more k h.left.stands h.known h.ends a.clear h.left.within h.shown_are may_then;
+      }
+
+  -- what is asked of the second call
+  asked_behind : (y : History) (answered closed new : Standing) (offer request : List ℕ) (first second : BatchAnswer) → (x : Behind y answered closed new offer request first second) → AreAsked all others asked (opt meaning key barrier) y offer (One request)
+      → AreAsked all others asked (opt meaning key barrier) x.two.after offer (One request)
+  asked_behind y answered closed new offer request first second x a =
+      let b = asked_again meaning key barrier all others asked y answered offer request (Ok first) x.one a in record {
+        clear = a.clear;
+        apart = a.apart;
+        within = x.two.within;
+        is_asked = a.is_asked;
+        genuine = λ content right. x.two.names content (b.genuine content right);
+        offered = a.offered;
+      }
+
+  -- the moves of the second call, by digests
+  abbrev Fresh : (closed new : Standing) (offer request : List ℕ) (second : BatchAnswer) → CallsOn Opt meaning closed new offer (One request) (Ok second) → Digests → Bool
+  Fresh closed new offer request second c d =
+      is_fresh (found_in (found_at (opt meaning key barrier) (by_digests (opt meaning key barrier)) (seen_at (opt meaning key barrier) (by_digests (opt meaning key barrier)) d c.course) (One request) offer) c.course.lacks)
+
+  reads_alone : (closed new : Standing) (offer request : List ℕ) (second : BatchAnswer) (c : CallsOn Opt meaning closed new offer (One request) (Ok second)) (d : Digests) → Fresh closed new offer request second c d ≡ false
+      → Brought (called (opt meaning key barrier) (by_digests (opt meaning key barrier)) d c.course offer (One request)).moves
+  reads_alone closed new offer request second c d e =
+      subst (λ (fresh : Bool). Brought (walk c.course.fates 1 (ask_steps Opt d.flag fresh (One request))).moves) (sym e) (reading_steps_of c.course.fates d.flag (One request))
+
+  -- from reading steps alone
+  replies_alike : (y : History) (answered closed new : Standing) (offer request : List ℕ) (first second : BatchAnswer) (x : Behind y answered closed new offer request first second) (c : CallsOn Opt meaning closed new offer (One request) (Ok second))
+      → AreAsked all others asked (opt meaning key barrier) y offer (One request) → Fresh closed new offer request second c (digests_of (opt meaning key barrier) x.two.after) ≡ false
+      → RepeatsReply (opt meaning key barrier) y new (One request) first second
+  replies_alike y answered closed new offer request first second x c a e =
+      let i : Instance = opt meaning key barrier in
+      let z : History = x.two.after in
+      let r = reads_alone closed new offer request second c (digests_of i z) e in
+      let l = left_reading meaning key barrier all others asked z closed new offer request (Ok second) c r.values x.two.stands (asked_behind y answered closed new offer request first second x a) x.two.is_shut r.are in
+      repeats_by i y x.one.after z l.0.after new offer (One request) first second x.two.batches l.0.stands x.one.comes l.0.comes
+
+  -- a call that is told as a repeat leaves all items in front
+  repeat_shows : (closed new : Standing) (offer request : List ℕ) (second : BatchAnswer) (c : CallsOn Opt meaning closed new offer (One request) (Ok second)) (d : Digests) → StandsAt (opt meaning key barrier) closed d → second.again ≡ true → (items : List Item) → closed.items ≡ Some items
+      → (more : List Item) × (new.items ≡ Some (items ++ more))
+  repeat_shows closed new offer request second c d s again items known =
+      let i : Instance = opt meaning key barrier in
+      let b : Batch = One request in
+      let g = c.goes key barrier d s in
+      let o = called i (by_digests i) d c.course offer b in
+      let seen : Digests = seen_at i (by_digests i) d c.course in
+      let found : Result Found Refusal = found_in (found_at i (by_digests i) seen b offer) c.course.lacks in
+      let w : Walked = walk c.course.fates 1 (ask_steps Opt d.flag (is_fresh found) b) in
+      let r = reads_alone closed new offer request second c d (told_again w.broken i seen (all_made (by_digests i) d w.moves) b found w.moves second (sym g.gives) again) in (
+        map foreign_item r.values,
+        g.items ∙ ap (option_map (shown i d o.moves)) known
+            ∙ ap (λ (ms : List Move). Some (shown i d ms items)) r.are ∙ ap (λ (xs : List Item). Some xs) (shown_values meaning key barrier r.values d items),
+      )
+
+  -- a call on such an offer, with no segment open, doesn't find a new batch
+  never_fresh : (y : History) (answered closed new : Standing) (offer request : List ℕ) (first second : BatchAnswer) (x : Behind y answered closed new offer request first second) (c : CallsOn Opt meaning closed new offer (One request) (Ok second))
+      → AreAsked all others asked (opt meaning key barrier) y offer (One request) → Fresh closed new offer request second c (digests_of (opt meaning key barrier) x.two.after) ≡ true → ⊥
+  never_fresh y answered closed new offer request first second x c a e =
+      let i : Instance = opt meaning key barrier in
+      let b : Batch = One request in
+      let z : History = x.two.after in
+      let d : Digests = digests_of i z in
+      let asks_z = asked_behind y answered closed new offer request first second x a in
+      let v : List (List ℕ) = (c.course.fates 1).brings in
+      let w : List (List ℕ) = (c.course.fates 2).brings in
+      let seen : Digests = seen_at i (by_digests i) d c.course in
+      let once : List ℕ = fold extended_of d.register v in
+      let register : List ℕ = fold extended_of once w in
+      let seen_is : seen ≡ record d { register = register } = foreign_digests i v (map Foreign w ++ []) d ∙ foreign_digests i w [] (record d { register = once }) in
+      let f = fresh_found (found_in (found_at i (by_digests i) seen b offer) c.course.lacks) e in
+      let was = unlacked (found_at i (by_digests i) seen b offer) c.course.lacks f.0 f.1 in
+      let asking : Asking all i (bare z) offer b = record {
+        clear = asks_z.clear;
+        listed = asks_z.offered;
+        genuine = λ content right. names_alike meaning key barrier z (bare z) content refl (asks_z.genuine content right);
+      } in
+      let same : found_at i (by_digests i) seen b offer ≡ found_at i (by_lists i) (bare z) b offer =
+      ap (λ (s : Digests). found_at i (by_digests i) s b offer) seen_is
+      ∙ found_digests meaning key barrier d register b offer x.two.is_shut
+      ∙ found_same meaning key barrier all others asked (bare z) (bare_digests d) offer b (record { clear = asks_z.clear; apart = asks_z.apart }) asks_z.is_asked
+      (holds_shut meaning key barrier all others asked z d x.two.is_shut (is_agrees i z d refl) x.two.within) asking in
+      let listed : found_at i (by_lists i) (bare z) b offer ≡ Ok f.0 = sym same ∙ was in
+      let p = placed meaning key barrier all (bare z) offer b asking f.0 listed in
+      not_at_end i x.one.after.batches offer b (offers i y x.one.after offer b first x.one.comes) f.0.offered (right_at meaning key barrier (bare z) b offer f.0 listed)
+      (p.position ∙ ap total_of (p.fresh f.2 ∙ x.two.batches))
+
+  repeats_either : (fresh : Bool) (y : History) (answered closed new : Standing) (offer request : List ℕ) (first second : BatchAnswer) (x : Behind y answered closed new offer request first second) (c : CallsOn Opt meaning closed new offer (One request) (Ok second))
+      → AreAsked all others asked (opt meaning key barrier) y offer (One request) → Fresh closed new offer request second c (digests_of (opt meaning key barrier) x.two.after) ≡ fresh → RepeatsReply (opt meaning key barrier) y new (One request) first second
+  repeats_either true y answered closed new offer request first second x c a e = absurd (never_fresh y answered closed new offer request first second x c a e)
+  repeats_either false y answered closed new offer request first second x c a e = replies_alike y answered closed new offer request first second x c a e
+
+  -- the second reply, where the register's items are known when the checkpoint was over
+  pub repeats_between : (y : History) (old answered closed new : Standing) (offer request : List ℕ) (first second : BatchAnswer) (said : Said) (items more : List Item) → CallsOn Opt meaning old answered offer (One request) (Ok first) → ChecksOn answered closed (Ok said) → CallsOn Opt meaning closed new offer (One request) (Ok second)
+      → StandsFor (opt meaning key barrier) old y → old.items ≡ Some items → closed.items ≡ Some (standing_items y.is_open items ++ more)
+      → AreAsked all others asked (opt meaning key barrier) y offer (One request) → AreShown all others (opt meaning key barrier) y more → MayClose all (opt meaning key barrier) y more
+      → RepeatsReply (opt meaning key barrier) y new (One request) first second
+  repeats_between y old answered closed new offer request first second said items more c k d s known ends a shown_so may =
+      let x = behind y old answered closed new offer request first second said items more c k s known ends a shown_so may in
+      repeats_either (Fresh closed new offer request second d (digests_of (opt meaning key barrier) x.two.after)) y answered closed new offer request first second x d a refl
+
+  -- the items when the checkpoint was over
+  record Front (y : History) (closed : Standing) (items : List Item) : Type 0 where
+    more : List Item
+    is : closed.items ≡ Some (standing_items y.is_open items ++ more)
+
+  kept_open : (y : History) (old answered : Standing) (offer request : List ℕ) (first : BatchAnswer) (c : CallsOn Opt meaning old answered offer (One request) (Ok first)) → y.is_open ≡ true
+      → (all_made (by_digests (opt meaning key barrier)) (digests_of (opt meaning key barrier) y) (DigestMoves meaning key barrier all others asked old answered offer request (Ok first) c y)).flag ≡ true
+  kept_open y old answered offer request first c e =
+      let i : Instance = opt meaning key barrier in
+      let d : Digests = digests_of i y in
+      let fresh : Bool = is_fresh (found_in (found_at i (by_digests i) (seen_at i (by_digests i) d c.course) (One request) offer) c.course.lacks) in
+      flag_kept meaning key barrier (DigestMoves meaning key barrier all others asked old answered offer request (Ok first) c y) d e
+      (ap (λ (st : List Step). closes (walk c.course.fates 1 st).moves) (asks y.is_open fresh (One request)) ∙ opt_closes c.course.fates y.is_open fresh (One request))
+
+  front_by : (flag : Bool) (y : History) (old answered closed : Standing) (offer request : List ℕ) (first : BatchAnswer) (said : Said) (items there : List Item) → CallsOn Opt meaning old answered offer (One request) (Ok first) → ChecksOn answered closed (Ok said)
+      → StandsFor (opt meaning key barrier) old y → old.items ≡ Some items → closed.items ≡ Some there → y.is_open ≡ flag → Front y closed items
+  front_by false y old answered closed offer request first said items there c k s known shown_there e = record {
+    more = there;
+    is = shown_there ∙ ap (λ (f : Bool). Some (standing_items f items ++ there)) (sym e);
+  }
+  front_by true y old answered closed offer request first said items there c k s known shown_there e =
+      let i : Instance = opt meaning key barrier in
+      let d : Digests = digests_of i y in
+      let at = stands_at i old y s in
+      let g = c.goes key barrier d at in
+      let one = call_goes_on meaning key barrier all others asked old answered offer request (Ok first) c d at e items known in
+      let two = check_goes_on meaning key barrier all others asked answered closed said k (all_made (by_digests i) d (DigestMoves meaning key barrier all others asked old answered offer request (Ok first) c y))
+      g.stands (kept_open y old answered offer request first c e) (items ++ one.0) one.1 in
+      record {
+        more = one.0 ++ two.0;
+        is = two.1 ∙ ap (λ (xs : List Item). Some xs) (append_assoc items one.0 two.0) ∙ ap (λ (f : Bool). Some (standing_items f items ++ (one.0 ++ two.0))) (sym e);
+      }
+
+  -- the second reply, where it is told as a repeat, and the register's items are known at the end
+  pub repeats_shown : (y : History) (old answered closed new : Standing) (offer request : List ℕ) (first second : BatchAnswer) (said : Said) (items more : List Item) → CallsOn Opt meaning old answered offer (One request) (Ok first) → ChecksOn answered closed (Ok said) → CallsOn Opt meaning closed new offer (One request) (Ok second) → second.again ≡ true
+      → StandsFor (opt meaning key barrier) old y → old.items ≡ Some items → new.items ≡ Some (standing_items y.is_open items ++ more)
+      → AreAsked all others asked (opt meaning key barrier) y offer (One request) → AreShown all others (opt meaning key barrier) y more → MayClose all (opt meaning key barrier) y more
+      → RepeatsReply (opt meaning key barrier) y new (One request) first second
+  repeats_shown y old answered closed new offer request first second said items more c k r again s known ends a shown_so may =
+      let i : Instance = opt meaning key barrier in
+      let d : Digests = digests_of i y in
+      let moves : List Move = DigestMoves meaning key barrier all others asked old answered offer request (Ok first) c y in
+      let g = c.goes key barrier d (stands_at i old y s) in
+      let d1 : Digests = all_made (by_digests i) d moves in
+      let h = k.goes Opt meaning key barrier d1 g.stands in
+      let o = checkpointed i (by_digests i) d1 k.course in
+      let there : List Item = shown i d1 o.moves (shown i d moves items) in
+      let shown_there : closed.items ≡ Some there = h.items ∙ ap (option_map (shown i d1 o.moves)) (g.items ∙ ap (option_map (shown i d moves)) known) in
+      let front = front_by y.is_open y old answered closed offer request first said items there c k s known shown_there refl in
+      let t = repeat_shows closed new offer request second r o.state h.stands again there shown_there in
+      let split_there : Some there ≡ Some (standing_items y.is_open items ++ front.more) = sym shown_there ∙ front.is in
+      let split : there ≡ standing_items y.is_open items ++ front.more = cc in
+      let both : Some (there ++ t.0) ≡ Some (standing_items y.is_open items ++ more) = sym t.1 ∙ ends in
+      let reach : there ++ t.0 ≡ standing_items y.is_open items ++ more = cc in
+      let same : front.more ++ t.0 ≡ more = same_rest (standing_items y.is_open items) (front.more ++ t.0) more
+      (sym (append_assoc (standing_items y.is_open items) front.more t.0) ∙ ap (λ (xs : List Item). xs ++ t.0) (sym split) ∙ reach) in
+      let whole : AreShown all others i y (front.more ++ t.0) = subst (λ (xs : List Item). AreShown all others i y xs) (sym same) shown_so in
+      let closes_so : MayClose all i y (front.more ++ t.0) = subst (λ (xs : List Item). MayClose all i y xs) (sym same) may in
+      repeats_between y old answered closed new offer request first second said items front.more c k r s known front.is a
+      (shown_front all others i y front.more t.0 whole) (may_close_front all i y front.more t.0 closes_so)

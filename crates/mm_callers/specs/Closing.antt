@@ -1,0 +1,73 @@
+-- What a caller of Opt gets that closes the segment between a request and the same request once more, by lists.
+use Rattle.std.specs.Prelude.{◌≡◌, ℕ, true, List, [], ◌∷◌, ◌++◌, Some, Result, Ok, Err}
+use Rattle.mm_digest.specs.declared.variant.Variant.TheVariants.{Opt}
+use Rattle.mm_digest.specs.Messages.{extended_of, anchored_message}
+use Rattle.mm_platform.specs.Standing.{Item, Standing, values_of}
+use Rattle.mm_module.specs.Meaning.{Meaning}
+use Rattle.mm_module.specs.Batch.{Batch, One}
+use Rattle.mm_model.specs.Instance.{Instance, opt}
+use Rattle.mm_model.specs.History.{History, register_value_of, cell_digest_of}
+use Rattle.mm_model.specs.Messages.{Within}
+use Rattle.mm_model.specs.Standing.{StandsFor}
+use Rattle.mm_model.specs.declared.answer.Answer.{Answer}
+use Rattle.mm_model.specs.declared.answer.BatchAnswer.{BatchAnswer}
+use Rattle.mm_call.specs.Asked.{counted_part}
+use Rattle.mm_call.specs.CallsOn.{CallsOn}
+use Rattle.mm_call.specs.Leaving.{whole}
+use Rattle.mm_call.specs.Tied.{standing_items}
+use Rattle.mm_opt.specs.declared.segment.Checkpointed.{Checkpointed}
+use Rattle.mm_opt.specs.ChecksOn.{ChecksOn}
+use Rattle.mm_callers.specs.Basic.{AreAsked, AnswersOnce}
+use Rattle.mm_callers.specs.Opt.{AreShown}
+use Rattle.mm_callers.specs.declared.closing.Replies.{Replies}
+use Rattle.mm_callers.specs.declared.closing.Halted.{Halted}
+
+-- The messages by which a segment may be closed at this anchor: with the register's value before each of these values, and
+-- after the last of them.
+abbrev pub closing_messages : List ℕ → List ℕ → List (List ℕ) → List (List ℕ)
+closing_messages anchor register [] = anchored_message anchor register ∷ []
+closing_messages anchor register (v ∷ values) = anchored_message anchor register ∷ closing_messages anchor (extended_of register v) values
+
+-- What is asked besides for a checkpoint: the messages by which it may close the segment, at any of these items.
+abbrev pub MayClose : List (List ℕ) → Instance → History → List Item → Type 0
+MayClose all i y more = Within (closing_messages (cell_digest_of i Opt y) (register_value_of i (counted_part y)) (values_of more)) all
+
+-- The second reply is the first one again: it is told as a repeat, at the first one's position and with its outputs, and
+-- the batch stands once in the run that it is of.
+pub record RepeatsReply (i : Instance) (y : History) (new : Standing) (b : Batch) (first second : BatchAnswer) : Type 0 where
+  pub again : second.again ≡ true
+  pub position : second.position ≡ first.position
+  pub outputs : second.outputs ≡ first.outputs
+  pub once : AnswersOnce i y new b second
+
+-- A request, a checkpoint and the request once more, where the second reply is told as a repeat. What is asked of what
+-- others do is asked of the register's items at exit.
+abbrev pub RepeatsBehind : Meaning → Standing → Standing → List ℕ → List ℕ → Result Replies Halted → Type 0
+RepeatsBehind meaning old new offer request (Err why) = Unit {0}
+RepeatsBehind meaning old new offer request (Ok replies) =
+    replies.second.again ≡ true →
+    (key barrier : List ℕ) (y : History) (all others : List (List ℕ)) (asked : List Batch) (items more : List Item) →
+    StandsFor (opt meaning key barrier) old y → old.items ≡ Some items → new.items ≡ Some (standing_items y.is_open items ++ more) →
+    AreAsked all others asked (opt meaning key barrier) y offer (One request) → AreShown all others (opt meaning key barrier) y more →
+    MayClose all (opt meaning key barrier) y more →
+    RepeatsReply (opt meaning key barrier) y new (One request) (whole replies.first) (whole replies.second)
+
+-- It is told as a repeat. A request that is taken as new empties the register, so what was in it when the segment was
+-- closed isn't seen at exit: it is seen on the platform when the checkpoint was over, which each of the three calls ties
+-- to what stood before and after. What is asked is asked of the items there.
+pub record ClosesBetween (meaning : Meaning) (old new : Standing) (offer request : List ℕ) (first second : Answer) : Type 0 where
+  pub answered : Standing
+  pub closed : Standing
+  pub asks : CallsOn Opt meaning old answered offer (One request) (Ok (whole first))
+  pub said : Checkpointed
+  pub checks : ChecksOn answered closed (Ok said)
+  pub asks_again : CallsOn Opt meaning closed new offer (One request) (Ok (whole second))
+  pub repeats : (key barrier : List ℕ) (y : History) (all others : List (List ℕ)) (asked : List Batch) (items more : List Item) →
+      StandsFor (opt meaning key barrier) old y → old.items ≡ Some items → closed.items ≡ Some (standing_items y.is_open items ++ more) →
+      AreAsked all others asked (opt meaning key barrier) y offer (One request) → AreShown all others (opt meaning key barrier) y more →
+      MayClose all (opt meaning key barrier) y more →
+      RepeatsReply (opt meaning key barrier) y new (One request) (whole first) (whole second)
+
+abbrev pub NeverTwice : Meaning → Standing → Standing → List ℕ → List ℕ → Result Replies Halted → Type 0
+NeverTwice meaning old new offer request (Err why) = Unit {0}
+NeverTwice meaning old new offer request (Ok replies) = ClosesBetween meaning old new offer request replies.first replies.second

@@ -1,0 +1,49 @@
+-- What a step of the register does to what is told, where no content is.
+use Rattle.std.proofs.Common.{◌≡◌, ℕ, true, [], refl, arith}
+use Rattle.std.specs.Prelude.{None, Result, Ok, Err, IfErr}
+use Rattle.std.specs.Result.{result_err}
+use Rattle.mm_base.specs.Faults.{counted, CountsFaults}
+use Rattle.mm_platform.specs.declared.fault.StepFault.{StepFault}
+use Rattle.mm_platform.specs.declared.fault.StepFault.TheVariants as step
+use Rattle.mm_platform.specs.Steps.{Act, ReadCell, WriteCell, ReadRegister, ResetRegister, ExtendRegister, EndsBy, Goes, beside, cell_after, items_after, writes_after}
+use Rattle.mm_files.specs.Untold.{untold}
+
+abbrev IsFailed : {T : Type 0} → Result T StepFault → Type 0
+IsFailed result = IfErr result (λ fault. fault ≡ step.Failed)
+
+cell_untold : (act : Act) → None ≡ cell_after act true None
+cell_untold ReadCell = refl
+cell_untold (WriteCell bytes) = refl
+cell_untold ReadRegister = refl
+cell_untold ResetRegister = refl
+cell_untold (ExtendRegister value) = refl
+
+items_untold : (act : Act) → None ≡ items_after act true (beside [] None)
+items_untold ReadCell = refl
+items_untold (WriteCell bytes) = refl
+items_untold ReadRegister = refl
+items_untold ResetRegister = refl
+items_untold (ExtendRegister value) = refl
+
+ends_untold : {T : Type 0} (steps steps' faults faults' : ℕ) (result : Result T StepFault) → CountsFaults faults faults' result → IsFailed result
+    → EndsBy (result_err result) (untold steps faults) (untold steps' faults') true
+ends_untold steps steps' faults faults' (Ok value) counts failed = record { made = refl; was_on = refl; is_on = refl; faults = counts.kept }
+ends_untold steps steps' faults faults' (Err step.Failed) counts failed = record { was_on = refl; is_on = refl; faults = counts.failed }
+ends_untold steps steps' faults faults' (Err step.Off) counts failed = cc
+
+-- a step of the register
+pub goes_untold : {T : Type 0} (act : Act) (steps steps' faults faults' : ℕ) (result : Result T StepFault) → steps' ≡ counted steps → 0 ≡ writes_after act 0
+    → CountsFaults faults faults' result → IsFailed result
+    → Goes act (untold steps faults) (untold steps' faults') (result_err result)
+goes_untold act steps steps' faults faults' result one writes counts failed = record {
+  is_made = true;
+  others = [];
+  cell = cell_untold act;
+  items = items_untold act;
+  steps = one;
+  writes = writes;
+  room = omega arith;
+  plan = refl;
+  ends = ends_untold steps steps' faults faults' result counts failed;
+  told = λ plan told. absurd (cc);
+}

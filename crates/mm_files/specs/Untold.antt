@@ -1,0 +1,32 @@
+-- What is told of devices whose content isn't known.
+use Rattle.std.specs.Prelude.{◌≡◌, ℕ, true, false, List, length, None, Some}
+use Rattle.mm_pages.specs.Paged.{Paged}
+use Rattle.mm_platform.specs.Standing.{Standing}
+
+-- a platform that is on and has room, of which only the steps and faults are counted
+abbrev pub untold : ℕ → ℕ → Standing
+untold steps faults = record {
+  cell = None;
+  items = None;
+  is_on = true;
+  steps = steps;
+  writes = 0;
+  spare = 1;
+  faults = faults;
+  plan = None;
+}
+
+-- pages of which nothing is promised, and only the faults and calls are counted
+abbrev pub untold_pages : ℕ → ℕ → ℕ → ℕ → Paged
+untold_pages faults reads writes lengths = record {
+  slots = None;
+  is_honest = false;
+  faults = faults;
+  page_reads = reads;
+  page_writes = writes;
+  length_writes = lengths;
+}
+
+-- where no bytes are told, each that are have this length
+pub none_are : (size : ℕ) (bytes : List ℕ) → None ≡ Some bytes → length bytes ≡ size
+none_are size bytes told = absurd (cc)

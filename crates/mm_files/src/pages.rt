@@ -1,0 +1,65 @@
+//! Pages over files.
+
+ghost use Rattle.std.specs.Prelude.{◌≡◌};
+ghost use Rattle.mm_files.specs.Untold.{untold_pages};
+
+use crate::counting::counted;
+use crate::slots::Slots;
+use mm_base::Failed;
+use mm_pages::PageDevice;
+use std::rt::Files;
+
+/// Four slots in the files `slot0` to `slot3` of the current directory, which have the plain bytes. No content is told.
+#[derive(Drop)]
+pub struct FilePages<'a, R: Files> {
+    slots: Slots<'a, R>,
+    faults: u64,
+    page_reads: u64,
+    page_writes: u64,
+    length_writes: u64,
+}
+
+impl<'a, R: Files> FilePages<'a, R> {
+    /// The pages of these files. None is opened before the first call.
+    pub fn new(files: &'a R) -> FilePages<'a, R>
+        ensures faults { result.faults ≡ 0 }
+        ensures reads { result.page_reads ≡ 0 }
+        ensures writes { result.page_writes ≡ 0 }
+        ensures lengths { result.length_writes ≡ 0 }
+    {
+        FilePages {
+            slots: Slots::new(files),
+            faults: 0,
+            page_reads: 0,
+            page_writes: 0,
+            length_writes: 0,
+        }
+    }
+}
+
+impl<R: Files> PageDevice for FilePages<'_, R> {
+    ghost pages = { λ it. untold_pages it.faults it.page_reads it.page_writes it.length_writes };
+
+    fn length(&mut self, slot: u8) -> Result<u32, Failed> {
+        let outcome = self.slots.length(slot);
+        counted(&mut self.faults, outcome)
+    }
+
+    fn read_page(&mut self, slot: u8, page: u16, into: &mut [u8; 256]) -> Result<(), Failed> {
+        self.page_reads = self.page_reads.saturating_add(1);
+        let outcome = self.slots.read(slot, page, into);
+        counted(&mut self.faults, outcome)
+    }
+
+    fn write_page(&mut self, slot: u8, page: u16, bytes: &[u8; 256]) -> Result<(), Failed> {
+        self.page_writes = self.page_writes.saturating_add(1);
+        let outcome = self.slots.write(slot, page, bytes);
+        counted(&mut self.faults, outcome)
+    }
+
+    fn set_length(&mut self, slot: u8, length: u32) -> Result<(), Failed> {
+        self.length_writes = self.length_writes.saturating_add(1);
+        let outcome = self.slots.set_length(slot, length);
+        counted(&mut self.faults, outcome)
+    }
+}

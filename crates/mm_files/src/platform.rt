@@ -1,0 +1,111 @@
+//! A platform over files.
+
+ghost use Rattle.std.specs.Prelude.{◌≡◌, IfErr};
+ghost use Rattle.mm_base.specs.Faults.{CountsFaults};
+ghost use Rattle.mm_files.specs.Untold.{none_are, untold};
+
+use crate::counting::counted;
+use crate::folder::Folder;
+use crate::lock::Lock;
+use mm_base::Memory;
+use mm_digest::{Digest, zero};
+use mm_platform::{Device, RawNv, Register, StepFault};
+use std::io;
+use std::rt::Files;
+
+/// Non-volatile memory of 209 bytes in the file `nv`, and a register in the file `register`, both of the current
+/// directory. No content is told. The first call locks the directory; where another program holds the lock each call
+/// fails.
+#[derive(Drop)]
+pub struct FilePlatform<'a, R: Files> {
+    folder: Folder<'a, R>,
+    steps: u64,
+    faults: u64,
+}
+
+impl<'a, R: Files> FilePlatform<'a, R>
+where
+    R::File: Lock,
+{
+    /// The platform over these files. None is opened before the first call.
+    pub fn new(files: &'a R) -> FilePlatform<'a, R>
+        ensures steps { result.steps ≡ 0 }
+        ensures faults { result.faults ≡ 0 }
+    {
+        FilePlatform {
+            folder: Folder::new(files),
+            steps: 0,
+            faults: 0,
+        }
+    }
+}
+
+// An outcome whose error is told as `Failed` and counted once.
+fn told<T>(faults: &mut u64, outcome: io::Result<T>) -> Result<T, StepFault>
+    ensures counts { CountsFaults faults.old faults.new result }
+    ensures failed { IfErr result (λ fault. fault ≡ StepFault.Failed) }
+{
+    match counted(faults, outcome) {
+        Ok(value) => Ok(value),
+        Err(_) => Err(StepFault::Failed),
+    }
+}
+
+impl<R: Files> Device for FilePlatform<'_, R>
+where
+    R::File: Lock,
+{
+    ghost standing = { λ it. untold it.steps it.faults };
+}
+
+impl<R: Files> RawNv for FilePlatform<'_, R>
+where
+    R::File: Lock,
+{
+    fn raw_read(&mut self, at: u16, into: &mut [u8]) -> Result<(), StepFault> {
+        let outcome = self.folder.nv();
+        let bytes = told(&mut self.faults, outcome)?;
+        let start = usize::from(at);
+        into.copy_from_slice(&bytes[start..start + into.len()]);
+        Ok(())
+    }
+
+    fn raw_write(&mut self, at: u16, bytes: &[u8]) -> Result<(), StepFault> {
+        let outcome = self.folder.put_nv(at, bytes);
+        told(&mut self.faults, outcome)
+    }
+
+    fn raw_cycle(&mut self) -> Result<(), StepFault> {
+        let outcome = self.folder.put_register(&zero());
+        told(&mut self.faults, outcome)
+    }
+
+    ghost is_whole = { λ _ bytes told. none_are 209 bytes told };
+}
+
+impl<R: Files> Register for FilePlatform<'_, R>
+where
+    R::File: Lock,
+{
+    fn reg_ready(&mut self) -> Result<(), Memory> {
+        Ok(())
+    }
+
+    fn reg_read(&mut self) -> Result<Digest, StepFault> {
+        self.steps = self.steps.saturating_add(1);
+        let outcome = self.folder.register();
+        told(&mut self.faults, outcome)
+    }
+
+    fn reg_reset(&mut self) -> Result<(), StepFault> {
+        self.steps = self.steps.saturating_add(1);
+        let outcome = self.folder.put_register(&zero());
+        told(&mut self.faults, outcome)
+    }
+
+    fn reg_extend(&mut self, value: &Digest) -> Result<(), StepFault> {
+        self.steps = self.steps.saturating_add(1);
+        let outcome = self.folder.extend_register(value);
+        told(&mut self.faults, outcome)
+    }
+}

@@ -1,0 +1,57 @@
+//! A source over a file.
+
+ghost use Rattle.std.specs.Prelude.{◌≡◌, ◌≤◌, None, IfOk, length};
+
+use crate::counting::counted;
+use mm_base::{Failed, Source};
+use std::fs;
+use std::io::{self, Read};
+use std::rt::Files;
+
+/// The bytes of a file of the current directory. They aren't told.
+#[derive(Drop)]
+pub struct FileSource<'a, R: Files> {
+    files: &'a R,
+    name: &'a str,
+    file: Option<R::File>,
+    faults: u64,
+}
+
+impl<'a, R: Files> FileSource<'a, R> {
+    /// A source over the file of this name, which is opened at the first call. Where there is none that call fails.
+    pub fn new(files: &'a R, name: &'a str) -> FileSource<'a, R>
+        ensures { result.faults ≡ 0 }
+    {
+        FileSource {
+            files,
+            name,
+            file: None,
+            faults: 0,
+        }
+    }
+
+    // Reads the next bytes.
+    fn read(&mut self, buf: &mut [u8]) -> io::Result<usize>
+        ensures within { IfOk result (λ count. count ≤ length buf.new) }
+        ensures faults { self.new.faults ≡ self.old.faults }
+    {
+        if let Some(file) = &mut self.file {
+            return file.read(buf);
+        }
+        let mut file = fs::open(self.files, self.name)?;
+        let count = file.read(buf)?;
+        self.file = Some(file);
+        Ok(count)
+    }
+}
+
+impl<R: Files> Source for FileSource<'_, R> {
+    ghost left = { λ _. None };
+
+    ghost faults = { λ source. source.faults };
+
+    fn take(&mut self, buf: &mut [u8]) -> Result<usize, Failed> {
+        let outcome = self.read(buf);
+        counted(&mut self.faults, outcome)
+    }
+}
