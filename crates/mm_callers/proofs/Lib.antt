@@ -12,3 +12,4 @@ pub mod OptComplete
 pub mod OptClosing
 pub mod OptRepeating
 pub mod OptRepeatAsking
+pub mod OptWelcome

@@ -62,7 +62,7 @@ pub same_rest : (front more other : List Item) → front ++ more ≡ front ++ ot
 same_rest [] more other e = e
 same_rest (item ∷ front) more other e = same_rest front more other (cc)
 
-shown_same : (items : Option (List Item)) (f : List Item → List Item) (xs front more other : List Item) → items ≡ Some xs → f xs ≡ front ++ other → option_map f items ≡ Some (front ++ more) → other ≡ more
+pub shown_same : (items : Option (List Item)) (f : List Item → List Item) (xs front more other : List Item) → items ≡ Some xs → f xs ≡ front ++ other → option_map f items ≡ Some (front ++ more) → other ≡ more
 shown_same None f xs front more other e g h = cc
 shown_same (Some ys) f xs front more other e g h =
     let same : ys ≡ xs = cc in

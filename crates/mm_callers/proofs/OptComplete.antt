@@ -3,6 +3,7 @@ use Rattle.std.proofs.Common.{◌≡◌, ℕ, Bool, true, false, List, [], ◌�
 use Rattle.std.specs.List.{AllByRecursion, Contains}
 use Rattle.mm_digest.specs.declared.variant.Variant.TheVariants.{Opt}
 use Rattle.mm_digest.specs.Messages.{extended_message}
+use Rattle.mm_platform.specs.declared.fault.StepFault.{StepFault}
 use Rattle.mm_platform.specs.Standing.{Standing}
 use Rattle.mm_platform.specs.Told.{quiet_plan}
 use Rattle.mm_module.specs.Meaning.{Meaning}
@@ -18,7 +19,7 @@ use Rattle.mm_model.specs.Steps.{ask_steps}
 use Rattle.mm_model.specs.declared.answer.Answer.{Answer}
 use Rattle.mm_model.specs.declared.answer.BatchAnswer.{BatchAnswer}
 use Rattle.mm_model.specs.declared.refusal.Refusal.{Refusal}
-use Rattle.mm_model.specs.declared.refusal.Refusal.TheVariants.{Memory}
+use Rattle.mm_model.specs.declared.refusal.Refusal.TheVariants.{Memory, Device}
 use Rattle.mm_call.specs.Levels.{by_lists, by_digests}
 use Rattle.mm_call.specs.Found.{Found, found_at, found_in, is_fresh}
 use Rattle.mm_call.specs.Courses.{Done, Fate, Course, walk}
@@ -143,3 +144,10 @@ asked_in_memory meaning old middle new offer request result e complete on key ba
     let s_then : StandsFor i ended y = record { spells = s.spells; cell = s.cell; register = s.register } in
     complete (ap (λ (x : Standing). x.is_on) e ∙ on) (ap (λ (x : Standing). x.plan) e) key barrier y all others asked again short
     (subst (λ (x : Standing). StandsFor i x y) (sym e) s_then) a m w
+
+-- a first call by a quiet plan doesn't end by a device's fault
+pub asked_faultless : (meaning : Meaning) (old middle new : Standing) (offer request : List ℕ) (why : Refusal) (fault : StepFault) → why ≡ Device fault → (result : Result Answer Refusal) → AsksByQuietPlan meaning old middle offer request (Err why) → AsksByQuietPlan meaning old new offer request result
+asked_faultless meaning old middle new offer request why fault is result first on plan key barrier y all others asked again short s a m w =
+    let t = first on plan key barrier y all others asked again short s a m w in
+    let clash : Device fault ≡ Memory = sym is ∙ t.0 in
+    absurd (cc)

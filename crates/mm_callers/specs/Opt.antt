@@ -1,5 +1,5 @@
 -- What callers of Opt get, by lists alone. What is asked of what others do is asked of the register's items at exit.
-use Rattle.std.specs.Prelude.{◌≡◌, ℕ, Bool, true, false, List, ◌++◌, Some, Result, Ok, Err}
+use Rattle.std.specs.Prelude.{◌≡◌, ℕ, Bool, true, false, List, [], ◌++◌, Some, Result, Ok, Err}
 use Rattle.std.specs.List.{AllByRecursion, Contains}
 use Rattle.mm_digest.specs.Messages.{extended_message}
 use Rattle.mm_platform.specs.Standing.{Item, Standing, values_of}
@@ -18,7 +18,7 @@ use Rattle.mm_model.specs.declared.answer.BatchAnswer.{BatchAnswer}
 use Rattle.mm_model.specs.declared.refusal.Refusal.{Refusal}
 use Rattle.mm_model.specs.declared.refusal.Refusal.TheVariants.{Memory}
 use Rattle.mm_call.specs.Asked.{counted_part}
-use Rattle.mm_call.specs.Leaving.{whole, whole_in}
+use Rattle.mm_call.specs.Leaving.{whole, whole_in, IsAnswered}
 use Rattle.mm_call.specs.Tied.{standing_items, foreign_of}
 use Rattle.mm_callers.specs.Basic.{AreAsked, AnswersOnce, AnswersNext, IsOfRun}
 use Rattle.mm_callers.specs.Complete.{IsWelcome, batches_then}
@@ -81,3 +81,13 @@ AsksByQuietPlan meaning old new offer request result =
 abbrev pub AsksInMemory : Meaning → Standing → Standing → List ℕ → List ℕ → Result Answer Refusal → Type 0
 AsksInMemory meaning old new offer request result =
     old.is_on ≡ true → AnswersUndisturbed meaning old new offer request result
+
+-- Over any platform: a call on a welcome offer is answered, unless memory was wanting, or a device's step failed, which was
+-- counted; where nobody else extended the register inside a segment.
+abbrev pub AsksWelcome : Meaning → Standing → Standing → List ℕ → List ℕ → Result Answer Refusal → Type 0
+AsksWelcome meaning old new offer request result =
+    (key barrier : List ℕ) (y : History) (all others : List (List ℕ)) (asked : List Batch) (items more : List Item) (again : Bool) →
+    is_long (One request) ≡ false → StandsFor (opt meaning key barrier) old y →
+    old.items ≡ Some items → new.items ≡ Some (standing_items y.is_open items ++ more) → (y.is_open ≡ true → foreign_of more ≡ []) →
+    AreAsked all others asked (opt meaning key barrier) y offer (One request) → AreShown all others (opt meaning key barrier) y more →
+    IsWelcome (opt meaning key barrier) y offer (One request) again → IsAnswered (whole_in result) old new

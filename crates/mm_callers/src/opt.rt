@@ -1,6 +1,6 @@
 //! Callers of Opt.
 
-ghost use Rattle.mm_callers.specs.Opt.{AsksOnce, AsksByQuietPlan, AsksInMemory, AsksTwice};
+ghost use Rattle.mm_callers.specs.Opt.{AsksOnce, AsksByQuietPlan, AsksInMemory, AsksTwice, AsksWelcome};
 
 use mm_model::{Answer, Refusal};
 use mm_module::Module;
@@ -17,6 +17,8 @@ pub fn ask_once<M: Module, P: Platform>(
     request: &[u8],
 ) -> Result<Answer, Refusal>
     ensures once { AsksOnce (M.meaning «module».now) (P.standing platform.old) (P.standing platform.new)
+        offer.now request.now result }
+    ensures welcome { AsksWelcome (M.meaning «module».now) (P.standing platform.old) (P.standing platform.new)
         offer.now request.now result }
     ensures complete { AsksByQuietPlan (M.meaning «module».now) (P.standing platform.old) (P.standing platform.new)
         offer.now request.now result }
@@ -49,7 +51,9 @@ pub fn ask_after_fault<M: Module, P: Platform>(
     offer: &[u8],
     request: &[u8],
 ) -> Result<Answer, Refusal>
-    ensures { AsksOnce (M.meaning «module».now) (P.standing platform.old) (P.standing platform.new)
+    ensures once { AsksOnce (M.meaning «module».now) (P.standing platform.old) (P.standing platform.new)
+        offer.now request.now result }
+    ensures complete { AsksByQuietPlan (M.meaning «module».now) (P.standing platform.old) (P.standing platform.new)
         offer.now request.now result }
 {
     match ask(alloc, module, platform, offer, request) {

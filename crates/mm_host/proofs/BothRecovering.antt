@@ -1,5 +1,5 @@
 -- Recovery in either variant: what the call for the request that waits leads to.
-use Rattle.std.proofs.Common.{◌≡◌, ℕ, ◌-◌, List, [], ◌++◌, map, Option, Some, Result, Err, refl, sym, ◌∙◌, subst}
+use Rattle.std.proofs.Common.{◌≡◌, ℕ, List, [], ◌++◌, map, Option, None, Some, Result, Err, refl, sym, ◌∙◌, subst}
 use Rattle.mm_digest.specs.declared.variant.Variant.{Variant}
 use Rattle.mm_digest.specs.declared.variant.Variant.TheVariants.{Basic, Opt}
 use Rattle.mm_platform.specs.Standing.{Item, Standing}
@@ -20,6 +20,7 @@ use Rattle.mm_call.specs.Called.{called}
 use Rattle.mm_call.specs.CallsOn.{CallsOn}
 use Rattle.mm_call.specs.Levels.{by_lists, by_digests, all_made}
 use Rattle.mm_call.specs.Leaving.{whole_in}
+use Rattle.mm_call.specs.Refusals.{fault_of}
 use Rattle.mm_call.specs.Tied.{standing_items}
 use Rattle.mm_call.proofs.Continuing.{stands_at}
 use Rattle.mm_call.proofs.Moving.{same_batches}
@@ -33,15 +34,16 @@ use Rattle.mm_callers.proofs.OptCalls.{asked_of as asked_by_items, comes}
 use Rattle.mm_store.specs.Kept.{Kept}
 use Rattle.mm_store.specs.Pending.{Pending}
 use Rattle.mm_store.specs.Slots.{Slots, seen_in}
+use Rattle.std.specs.Prelude.{true}
 use Rattle.mm_host.specs.declared.fault.HostFault.{HostFault}
 use Rattle.mm_host.specs.declared.resuming.Resumed.{Resumed}
 use Rattle.mm_host.specs.Asking.{IsCall}
 use Rattle.mm_host.specs.Fitting.{offer_slot, FitsBy}
-use Rattle.mm_host.specs.Recovery.{CanRecover, Recovers}
-use Rattle.mm_host.specs.Resumes.{Resumes}
+use Rattle.mm_host.specs.Recovery.{CanRecover, RecoversTo, Recovers}
+use Rattle.mm_host.specs.Resumes.{AfterAsk, Resumes}
 use Rattle.mm_host.proofs.OptMoves.{named_after}
-use Rattle.mm_host.proofs.Refusing.{MayRefuse, IsOffered, offered_then, waiting_most, basic_refused, opt_refused}
-use Rattle.mm_host.proofs.Recovering.{Left, LeadsOn, asked_of, recovers_by}
+use Rattle.mm_host.proofs.Refusing.{MayRefuse, IsOffered, offered_then, waiting_most, basic_keeps, opt_keeps, basic_refused, opt_refused}
+use Rattle.mm_host.proofs.Recovering.{Left, LeadsOn, asked_of, asked_by, recovers_by}
 
 -- what one call for the request that waits comes to by lists
 record Called (all others : List (List ℕ)) (asked : List Batch) (i : Instance) (y : History) (standing : Standing) (offer : List ℕ) (p : Pending) (gives : Result BatchAnswer Refusal) : Type 0 where
@@ -50,6 +52,7 @@ record Called (all others : List (List ℕ)) (asked : List Batch) (i : Instance)
   within : IsWithin all others asked i after
   names : (content : Content) → Names i y content → Names i after content
   comes : Comes i y offer (One p.request) after gives
+  only : (why : Refusal) → gives ≡ Err why → fault_of why ≡ None → after.batches ≡ y.batches
   refuses : (why : Refusal) → gives ≡ Err why → MayRefuse why (life_of i.variant after)
 
 basic_called : (meaning : Meaning) (key : List ℕ) (all others : List (List ℕ)) (asked : List Batch) (y : History) (old new : Standing) (offer : List ℕ) (p : Pending) (gives : Result BatchAnswer Refusal)
@@ -67,6 +70,8 @@ basic_called meaning key all others asked y old new offer p gives c s a f =
       names = λ (content : Content) (n : Names i y content). names_made meaning key o.moves y content n;
       comes = subst (λ (r : Result BatchAnswer Refusal). Comes i y offer (One p.request) o.state r) (sym k.gives)
           (basic_comes meaning key all others asked y c.course offer (One p.request) a);
+      only = λ (why : Refusal) (e : gives ≡ Err why) (none : fault_of why ≡ None).
+          basic_keeps meaning key y c.course (One p.request) offer why (sym k.gives ∙ e) none;
       refuses = λ (why : Refusal) (e : gives ≡ Err why).
           basic_refused meaning key y c.course p offer why
           (offered_then i y (all_made (by_lists i) y (map Foreign values ++ [])) p offer
@@ -95,6 +100,8 @@ opt_called meaning key barrier all others asked y old new offer p gives items mo
       names = λ (content : Content) (n : Names i y content). named_after meaning key barrier y c.course offer (One p.request) content a.within.sound n;
       comes = subst (λ (r : Result BatchAnswer Refusal). Comes i y offer (One p.request) o.state r) (sym k.gives)
           (comes meaning key barrier all others asked y c.course offer (One p.request) a);
+      only = λ (why : Refusal) (e : gives ≡ Err why) (none : fault_of why ≡ None).
+          opt_keeps meaning key barrier y c.course (One p.request) offer why (sym k.gives ∙ e) none;
       refuses = λ (why : Refusal) (e : gives ≡ Err why).
           opt_refused meaning key barrier y c.course p offer why
           (offered_then i y (all_made (by_lists i) y (seen_before c.course)) p offer
@@ -110,6 +117,7 @@ left_by all others asked i y slots before after old p gives can e f o = record {
   within = o.within;
   names = o.names;
   comes = o.comes;
+  only = o.only;
   refuses = o.refuses;
   is = e;
   is_waiting = can.fits.is_waiting;
@@ -148,6 +156,12 @@ opt_leads meaning key barrier all others asked y slots before after old items mo
     left_by all others asked i y slots before after old p (whole_in call) can e f
     (opt_called meaning key barrier all others asked y before after (seen_in slots (offer_slot p)) p (whole_in call) items more c.goes can.stands
     (asked_of all others asked i y slots before old p can e f.1) known ends shown_so (offered_at all others asked i y slots before old p can e f))
+
+-- the exits of a call of Basic
+pub asked_exit : (meaning : Meaning) (key : List ℕ) (all others : List (List ℕ)) (asked : List Batch) (y : History) (slots : Slots) (before after : Standing) (first old new : Kept) (p : Pending) (call : Result Answer Refusal) (result : Result Resumed HostFault) (can : CanRecover all others asked (basic meaning key) y slots before first) → can.fits.waiting ≡ Some p → old.is_honest ≡ true → old.slots ≡ Some slots → IsCall Basic meaning before after (seen_in slots (offer_slot p)) p.request call → AfterAsk call old new result → RecoversTo all others asked (basic meaning key) y slots can.fits.waiting after new result
+asked_exit meaning key all others asked y slots before after first old new p call result can e h t c g =
+    asked_by Basic all others asked (basic meaning key) y slots before after first old new p call result can
+    (basic_leads meaning key all others asked y slots before after first can) e h t c g
 
 pub recovers : (variant : Variant) (meaning : Meaning) (before after : Standing) (old new : Kept) (result : Result Resumed HostFault) → Resumes variant meaning before after old new result → Recovers variant meaning before after old new result
 recovers Basic meaning before after old new result r = λ key y slots all others asked can.

@@ -15,3 +15,7 @@ mod Lining
 mod Beginning
 mod SessionBlaming
 mod Keeping
+mod Putting
+mod Machining
+mod LineStep
+mod SessionRuns

@@ -1,11 +1,10 @@
 -- Why a call for the request that waits is refused.
-use Rattle.std.proofs.Common.{◌≡◌, ◌≢◌, ℕ, ◌+◌, ◌-◌, ◌≤◌, ◌^◌, Bool, true, false, ◌&&◌, List, [], ◌∷◌, ◌++◌, length, map, Option, None, Some, Result, Ok, Err, refl, sym, ap, ◌∙◌, subst, inl, inr, arith}
+use Rattle.std.proofs.Common.{◌≡◌, ℕ, ◌+◌, ◌-◌, ◌≤◌, ◌^◌, Bool, true, false, ◌&&◌, List, [], ◌∷◌, ◌++◌, map, Option, None, Some, Result, Ok, Err, refl, sym, ap, ◌∙◌, subst, inl, inr, arith}
 use Rattle.std.specs.Prelude.{◌⊎◌, nat_eq, nat_le, if◌then◌else◌}
 use Rattle.std.specs.Str.{bytes_eq}
 use Rattle.std.proofs.lemmas.Bool.{le-leb}
 use Rattle.std.proofs.lemmas.Bool.Decides.{nat_tests}
 use Rattle.std.proofs.lemmas.Slice.Eq.{bytes_eq-Decides}
-use Rattle.mm_digest.specs.declared.variant.Variant.{Variant}
 use Rattle.mm_digest.specs.declared.variant.Variant.TheVariants.{Basic, Opt}
 use Rattle.mm_module.specs.Batch.{Batch, One}
 use Rattle.mm_module.specs.Meaning.{Meaning}
@@ -20,20 +19,20 @@ use Rattle.mm_model.specs.Judge.{is_last, judged, judge}
 use Rattle.mm_model.specs.Life.{Life, Live, Spoiled, Lost as LostLife, life_of, is_lost}
 use Rattle.mm_model.specs.Standing.{IsRight}
 use Rattle.mm_model.specs.Steps.{Step, ask_steps}
-use Rattle.mm_model.specs.declared.answer.BatchAnswer.{BatchAnswer}
 use Rattle.mm_model.specs.declared.refusal.Refusal.{Refusal}
-use Rattle.mm_model.specs.declared.refusal.Refusal.TheVariants.{Memory, Long, Device, Blank, Cell, Lost, Form, Kind, State, Tag, Stale, Full}
+use Rattle.mm_model.specs.declared.refusal.Refusal.TheVariants.{Memory, Device, Lost, Stale}
 use Rattle.mm_model.specs.declared.verdict.Verdict.{Verdict}
-use Rattle.mm_model.specs.declared.verdict.Verdict.TheVariants as verdict
 use Rattle.mm_model.proofs.Batches.{before_the_last}
 use Rattle.mm_call.specs.Called.{ended_by, told, called}
 use Rattle.mm_call.specs.Courses.{Course, Fate, Walked, walk}
 use Rattle.mm_call.specs.Found.{Found, found_with, found_from, found_at, found_in, is_fresh}
 use Rattle.mm_call.specs.Levels.{by_lists, all_made}
 use Rattle.mm_call.specs.Order.{admitted, weighed, examined}
-use Rattle.mm_call.proofs.OptLaw.{before, sight, sight_is}
+use Rattle.mm_call.proofs.OptLaw.{before, sight_is}
 use Rattle.mm_call.proofs.OptWalks.{path_is}
-use Rattle.mm_call.proofs.Walks.{taking}
+use Rattle.mm_call.proofs.Moving.{same_batches}
+use Rattle.mm_call.proofs.Walks.{taking, Commits, nothing, batch, asks, basic_commits, opt_commits}
+use Rattle.mm_call.specs.Refusals.{fault_of}
 use Rattle.mm_callers.specs.Basic.{EndsWith}
 use Rattle.mm_store.specs.Pending.{Pending, ReadsPending}
 use Rattle.mm_host.specs.Fitting.{IsAwaited}
@@ -182,6 +181,47 @@ ended_refused i seen end b found moves (Some fault) why life h e =
     let same : Device fault ≡ why = cc in inr (subst (λ (w : Refusal). IsRefusedAs w life) same tt)
 ended_refused i seen end b (Err w) moves None why life h e = let same : w ≡ why = cc in h refl (ap (λ (x : Refusal). Err x) same)
 ended_refused i seen end b (Ok found) moves None why life h e = absurd (cc)
+
+-- a refusal that hands on no device's fault comes where nothing was found, and the walk commits nothing then
+ended_whole : (i : Instance) (seen end : History) (b : Batch) (found : Result Found Refusal) (moves : List Move) (broken : Option StepFault) (why : Refusal)
+    → told (ended_by (by_lists i) seen end b found moves broken) ≡ Err why → fault_of why ≡ None → (w : Refusal) × (found ≡ Err w)
+ended_whole i seen end b found moves (Some fault) why e none =
+    let same : Device fault ≡ why = cc in
+    let some : fault_of (Device fault) ≡ None = subst (λ (w : Refusal). fault_of w ≡ None) (sym same) none in absurd (cc)
+ended_whole i seen end b (Err w) moves None why e none = (w, refl)
+ended_whole i seen end b (Ok found) moves None why e none = absurd (cc)
+
+not_fresh : (found : Result Found Refusal) (why : Refusal) → found ≡ Err why → is_fresh found ≡ true → ⊥
+not_fresh (Err w) why e f = cc
+not_fresh (Ok found) why e f = cc
+
+keeps_by : (i : Instance) (b : Batch) (y : History) (w : Walked) (found : Result Found Refusal) (why : Refusal) → found ≡ Err why → Commits b (is_fresh found) w
+    → (all_made (by_lists i) y w.moves).batches ≡ y.batches
+keeps_by i b y w found why e (nothing none unless) = same_batches i w.moves y none
+keeps_by i b y w found why e (batch one fresh) = absurd (not_fresh found why e fresh)
+
+pub basic_keeps : (meaning : Meaning) (key : List ℕ) (y : History) (c : Course) (b : Batch) (offer : List ℕ) (why : Refusal)
+    → told (called (basic meaning key) (by_lists (basic meaning key)) y c offer b).ending ≡ Err why → fault_of why ≡ None
+    → (called (basic meaning key) (by_lists (basic meaning key)) y c offer b).state.batches ≡ y.batches
+basic_keeps meaning key y c b offer why e none =
+    let i : Instance = basic meaning key in
+    let seen : History = all_made (by_lists i) y (map Foreign (c.fates 1).brings ++ []) in
+    let found : Result Found Refusal = found_in (found_at i (by_lists i) seen b offer) c.lacks in
+    let w : Walked = walk c.fates 1 (ask_steps Basic y.is_open (is_fresh found) b) in
+    let f = ended_whole i seen (all_made (by_lists i) y w.moves) b found w.moves w.broken why e none in
+    keeps_by i b y w found f.0 f.1 (basic_commits c.fates y.is_open (is_fresh found) b)
+
+pub opt_keeps : (meaning : Meaning) (key barrier : List ℕ) (y : History) (c : Course) (b : Batch) (offer : List ℕ) (why : Refusal)
+    → told (called (opt meaning key barrier) (by_lists (opt meaning key barrier)) y c offer b).ending ≡ Err why → fault_of why ≡ None
+    → (called (opt meaning key barrier) (by_lists (opt meaning key barrier)) y c offer b).state.batches ≡ y.batches
+opt_keeps meaning key barrier y c b offer why e none =
+    let i : Instance = opt meaning key barrier in
+    let seen : History = all_made (by_lists i) y (before c) in
+    let found : Result Found Refusal = found_in (found_at i (by_lists i) seen b offer) c.lacks in
+    let w : Walked = walk c.fates 1 (ask_steps Opt y.is_open (is_fresh found) b) in
+    let f = ended_whole i seen (all_made (by_lists i) y w.moves) b found w.moves w.broken why e none in
+    keeps_by i b y w found f.0 f.1
+    (subst (λ (steps : List Step). Commits b (is_fresh found) (walk c.fates 1 steps)) (sym (asks y.is_open (is_fresh found) b)) (opt_commits c.fates y.is_open (is_fresh found) b))
 
 -- Basic: its life never ends
 pub basic_refused : (meaning : Meaning) (key : List ℕ) (y : History) (c : Course) (p : Pending) (offer : List ℕ) (why : Refusal)

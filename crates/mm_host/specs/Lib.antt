@@ -14,3 +14,4 @@ pub mod Sessions
 pub mod Turns
 pub mod SessionBlame
 pub mod SlotLaws
+pub mod Continuing

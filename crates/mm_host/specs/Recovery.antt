@@ -1,5 +1,5 @@
 -- What a host program that goes on after a stop comes to, by lists alone.
-use Rattle.std.specs.Prelude.{◌≡◌, ℕ, true, List, [], ◌∷◌, ◌++◌, Option, None, Some, Result, Ok, Err, nat_eq, ◌⊎◌}
+use Rattle.std.specs.Prelude.{◌≡◌, ℕ, true, List, [], ◌∷◌, ◌++◌, Option, None, Some, Result, Ok, Err, nat_eq, ◌%◌, IfOk, IsSome, ◌⊎◌}
 use Rattle.std.specs.List.{Contains}
 use Rattle.mm_digest.specs.declared.variant.Variant.{Variant}
 use Rattle.mm_digest.specs.declared.variant.Variant.TheVariants.{Basic, Opt}
@@ -18,6 +18,7 @@ use Rattle.mm_call.specs.Answers.{answer_on}
 use Rattle.mm_call.specs.Asked.{IsWithin, right_messages}
 use Rattle.mm_call.specs.Found.{right_content}
 use Rattle.mm_call.specs.Leaving.{whole}
+use Rattle.mm_call.specs.Refusals.{fault_of}
 use Rattle.mm_call.specs.Tied.{standing_items}
 use Rattle.mm_callers.specs.Opt.{AreShown}
 use Rattle.mm_store.specs.Kept.{Kept}
@@ -28,6 +29,7 @@ use Rattle.mm_host.specs.declared.fault.HostFault.TheVariants.{Memory, Store, Re
 use Rattle.mm_host.specs.declared.resuming.Resumed.{Resumed}
 use Rattle.mm_host.specs.declared.resuming.Resumed.TheVariants.{Start, Answered}
 use Rattle.mm_host.specs.Fitting.{offer_slot, Fits}
+use Rattle.mm_host.specs.Saying.{position_at, snapshot_at}
 
 -- What is asked for the request that waits: it is among those asked, and the messages of its offer are in the list.
 abbrev pub IsAskedFor : List (List ℕ) → List Batch → Instance → Slots → Option Pending → Type 0
@@ -76,17 +78,28 @@ ComesTo i y slots waiting after (Err Memory) = Unit {0}
 ComesTo i y slots waiting after (Err Store) = Unit {0}
 ComesTo i y slots waiting after (Err (Refused why)) = IsRefusedAs why (life_of i.variant after)
 
+-- A request may have been committed where it is answered, and where memory, the store or a device failed.
+abbrev pub MayCommit : {T : Type 0} → Result T HostFault → Type 0
+MayCommit (Ok it) = Unit {0}
+MayCommit (Err Memory) = Unit {0}
+MayCommit (Err Store) = Unit {0}
+MayCommit (Err (Refused why)) = IsSome (fault_of why)
+
 -- Whatever it gives, the platform stands for a history that grew by the request that waits or by nothing, and the slots
--- fit that one; so it may be called again. What was asked of the history holds of it too.
+-- fit that one; so it may be called again. What was asked of the history holds of it too, and the newest snapshot is in the
+-- slot of its position's parity.
 pub record RecoversTo (all others : List (List ℕ)) (asked : List Batch) (i : Instance) (y : History) (slots : Slots) (waiting : Option Pending) (standing : Standing) (kept : Kept) (result : Result Resumed HostFault) : Type 0 where
   pub after : History
   pub stands : StandsFor i standing after
   pub within : IsWithin all others asked i after
   pub grown : IsGrown y waiting after
+  pub only : (after.batches ≡ y.batches) ⊎ MayCommit result
   pub slots_after : Slots
   pub told : kept.slots ≡ Some slots_after
   pub fits : Fits i slots_after after
   pub same_wait : fits.waiting ≡ waiting
+  pub honest : kept.is_honest ≡ true
+  pub newest : IfOk result (λ resumed. seen_in slots_after (position_at resumed % 2) ≡ snapshot_at resumed)
   pub comes : ComesTo i y slots waiting after result
 
 -- Over a platform of Basic it recovers from every history, under every key; over one of Opt under every key and barrier,

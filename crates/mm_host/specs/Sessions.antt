@@ -92,6 +92,12 @@ pub record GoesOn (variant : Variant) (meaning : Meaning) (begun : Result Resume
   pub wrote : sent ≡ text_of begun ++ replies
   pub lines : ServesLines variant meaning (record { platform = platform; store = store; last = first }) after new left taken replies result
 
+-- It stops at once, or it goes on, as what waited came to.
+abbrev pub AfterResume : Variant → Meaning → Result Resumed HostFault → Standing → Standing → Kept → Kept → Option (List ℕ) → List ℕ → List ℕ → Result Unit SessionFault → Type 0
+AfterResume variant meaning begun platform after store new left taken sent result =
+    ((after ≡ platform) × (new ≡ store) × StopsAtOnce begun taken sent result)
+    ⊎ GoesOn variant meaning begun platform after store new left taken sent result
+
 -- The call: these bytes were taken of the input, and those written.
 pub record Sessions (variant : Variant) (meaning : Meaning) (before after : Standing) (old new : Kept) (left left' received received' : Option (List ℕ)) (result : Result Unit SessionFault) : Type 0 where
   pub taken : List ℕ
@@ -102,5 +108,4 @@ pub record Sessions (variant : Variant) (meaning : Meaning) (before after : Stan
   pub platform : Standing
   pub store : Kept
   pub resumes : Resumes variant meaning before platform old store begun
-  pub goes : ((after ≡ platform) × (new ≡ store) × StopsAtOnce begun taken sent result)
-      ⊎ GoesOn variant meaning begun platform after store new left' taken sent result
+  pub goes : AfterResume variant meaning begun platform after store new left' taken sent result

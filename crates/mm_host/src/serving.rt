@@ -5,6 +5,7 @@ ghost use Rattle.mm_base.specs.Lines.{IsWithin};
 ghost use Rattle.mm_play.specs.Plays.{IsBlamed};
 ghost use Rattle.mm_store.specs.Calls.{WritesSlot};
 ghost use Rattle.mm_store.specs.Pending.{pending_spelling};
+ghost use Rattle.mm_host.specs.Continuing.{Continues};
 ghost use Rattle.mm_host.specs.Saying.{IsSized, Tells, position_at, snapshot_at};
 ghost use Rattle.mm_host.specs.Serving.{AsksLine};
 ghost use Rattle.mm_host.specs.SessionBlame.{IsRefusalNamed, is_platform_fault, is_read_fault, is_store_fault, is_write_fault};
@@ -50,6 +51,9 @@ pub fn session<M: Module, P: Platform, T: Store, S: Source, K: Sink>(
     ensures read { IsBlamed (is_read_fault result) (S.faults input.old) (S.faults input.new) }
     ensures wrote { IsBlamed (is_write_fault result) (K.faults out.old) (K.faults out.new) }
     ensures named { IsRefusalNamed result }
+    ensures continues { Continues variant (M.meaning «module».now) (P.standing platform.old) (P.standing platform.new)
+        (T.kept store.old) (T.kept store.new) (S.left input.old) (S.left input.new)
+        (K.received out.old) (K.received out.new) result }
 {
     session_by_steps(alloc, variant, module, platform, store, input, out)
 }
@@ -208,6 +212,7 @@ fn serve<M: Module, P: Platform, T: Store, K: Sink>(
 }
 
 // Writes the record of a line, asks for it, and keeps the answer's snapshot.
+#[tactic(auto, using(crate::proofs::Askable::askable))]
 fn ask_line<M: Module, P: Platform, T: Store>(
     alloc: Global,
     variant: Variant,

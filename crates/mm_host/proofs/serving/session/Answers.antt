@@ -1,4 +1,5 @@
 use Rattle.mm_host.proofs.SessionBlaming.{session_told}
+use Rattle.mm_host.proofs.SessionRuns.{continues}
 use Rattle.mm_host.proofs.serving.session.Goals as goal
 
 pub returns-clause-platform : goal.returns-clause-platform
@@ -9,3 +10,7 @@ returns-clause-store g c = (session_told _ _ _ _ _ _ _ _ _ _ _ c.session_by_step
 
 pub returns-clause-named : goal.returns-clause-named
 returns-clause-named g c = (session_told _ _ _ _ _ _ _ _ _ _ _ c.session_by_steps.ensures.sessions).named
+
+pub returns-clause-continues : goal.returns-clause-continues
+returns-clause-continues g c =
+    continues c.args.variant (g.M.Module.meaning c.args.module.now) (g.met.M.Module.is_lawful c.args.module.now) _ _ _ _ _ _ _ _ c.session_by_steps.result

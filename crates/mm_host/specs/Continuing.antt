@@ -1,0 +1,135 @@
+-- What a session comes to by lists alone: its replies are those of one run of the module, and the slots that it leaves fit
+-- the history that the platform stands for.
+use Rattle.std.specs.Prelude.{◌≡◌, ◌≢◌, ◌+◌, ◌-◌, ◌<◌, ◌≤◌, ◌^◌, ℕ, List, [], ◌∷◌, ◌++◌, Option, None, Some, Result, Ok, Err, IsSome, nat_eq, if◌then◌else◌, ◌⊎◌}
+use Rattle.std.proofs.Common.{inl, inr}
+use Rattle.std.specs.List.{Contains}
+use Rattle.mm_base.specs.Input.{lines_of}
+use Rattle.mm_digest.specs.declared.variant.Variant.{Variant}
+use Rattle.mm_digest.specs.declared.variant.Variant.TheVariants.{Basic, Opt}
+use Rattle.mm_platform.specs.Standing.{Standing}
+use Rattle.mm_module.specs.Meaning.{Meaning}
+use Rattle.mm_module.specs.Batch.{Batch, One}
+use Rattle.mm_model.specs.Chains.{link_message, summary_of}
+use Rattle.mm_model.specs.Instance.{Instance, basic}
+use Rattle.mm_model.specs.History.{History, requests_of, total_of}
+use Rattle.mm_model.specs.Standing.{StandsFor}
+use Rattle.mm_model.specs.declared.answer.Answer.{Answer}
+use Rattle.mm_call.specs.Asked.{IsWithin}
+use Rattle.mm_call.specs.Refusals.{fault_of}
+use Rattle.mm_schedule.specs.declared.reply.Reply.{Reply}
+use Rattle.mm_schedule.specs.declared.reply.Reply.TheVariants.{Told}
+use Rattle.mm_schedule.specs.Machine.{StepsOn}
+use Rattle.mm_store.specs.Kept.{Kept}
+use Rattle.mm_store.specs.Pending.{Pending}
+use Rattle.mm_store.specs.Slots.{Slots, seen_in}
+use Rattle.mm_host.specs.declared.fault.HostFault.{HostFault}
+use Rattle.mm_host.specs.declared.fault.SessionFault.{SessionFault}
+use Rattle.mm_host.specs.declared.fault.SessionFault.TheVariants.{Memory, Store, Refused, ReadFault, WriteFault, LineLong, BadLine, TooMuch}
+use Rattle.mm_host.specs.declared.resuming.Resumed.{Resumed}
+use Rattle.mm_host.specs.declared.resuming.Resumed.TheVariants.{Start, Answered}
+use Rattle.mm_host.specs.Fitting.{Fits}
+use Rattle.mm_host.specs.Recovery.{CanRecover}
+use Rattle.mm_host.specs.Serving.{Served}
+use Rattle.mm_host.specs.Sessions.{AfterResume, BeginsWith, Sessions}
+use Rattle.mm_host.specs.Waiting.{IsWaiting}
+
+-- What is asked of requests that are to follow these batches, one after another: each is among those asked, the message
+-- by which it follows is in the list, and there is a position for it.
+abbrev pub AreToFollow : List (List ℕ) → List Batch → ℕ → List Batch → List (List ℕ) → Type 0
+AreToFollow all asked id batches [] = Unit {0}
+AreToFollow all asked id batches (line ∷ lines) =
+    Contains asked (One line) × Contains all (link_message (summary_of id batches) (One line)) × (total_of batches < 2 ^ 48)
+    × AreToFollow all asked id (batches ++ One line ∷ []) lines
+
+-- the batches once what waits is answered
+abbrev pub batches_then : History → Option Pending → List Batch
+batches_then y None = y.batches
+batches_then y (Some p) = if nat_eq p.position (total_of y.batches) then y.batches else y.batches ++ One p.request ∷ []
+
+-- What is asked of a session on these lines: what is asked of a recovery, and that the lines are to follow it.
+pub record CanServe (all others : List (List ℕ)) (asked : List Batch) (i : Instance) (y : History) (slots : Slots) (standing : Standing) (kept : Kept) (lines : List (List ℕ)) : Type 0 where
+  pub can : CanRecover all others asked i y slots standing kept
+  pub follow : AreToFollow all asked i.meaning.id (batches_then y can.fits.waiting) lines
+
+-- the position of what waits, and 0 where nothing does
+abbrev pub position_of : Option Pending → ℕ
+position_of None = 0
+position_of (Some p) = p.position
+
+-- What waits says no later position than this. A write of a record that failed may leave any bytes: this asks that they
+-- aren't by chance a record of a later position.
+pub record IsNotBeyond (slots : Slots) (position : ℕ) : Type 0 where
+  pub waiting : Option Pending
+  pub is_waiting : IsWaiting (seen_in slots 2) (seen_in slots 3) waiting
+  pub most : position_of waiting ≤ position
+
+-- the reply that an answer is
+abbrev pub reply_of : Answer → Reply
+reply_of answer = Told answer.again (answer.position - 1) (answer.output ∷ [])
+
+-- Requests are asked one after another, and these answers are the replies of one run of the module, from some requests to
+-- others.
+abbrev pub RunsOver : Meaning → List (List ℕ) → List Served → List (List ℕ) → Type 0
+RunsOver meaning requests [] after = after ≡ requests
+RunsOver meaning requests (c ∷ calls) after =
+    (between : List (List ℕ)) × StepsOn meaning requests (One c.line) (reply_of c.answer) between × RunsOver meaning between calls after
+
+-- what waited, with its answer
+abbrev pub told_first : Option Pending → Resumed → List Served
+told_first None last = []
+told_first (Some p) (Start first) = []
+told_first (Some p) (Answered answer) = record { line = p.request; answer = answer } ∷ []
+
+-- the requests that a session told, each with its answer
+abbrev pub told_in : {variant : Variant} {meaning : Meaning} {begun : Result Resumed HostFault} {platform after : Standing} {store new : Kept} {left : Option (List ℕ)} {taken sent : List ℕ} {result : Result Unit SessionFault} → Option Pending → AfterResume variant meaning begun platform after store new left taken sent result → List Served
+told_in waiting (inl stops) = []
+told_in waiting (inr goes) = told_first waiting goes.first ++ goes.lines.calls
+
+-- the request in hand where a session stopped: what waited, or the line after those that were told
+abbrev pub IsInHand : {variant : Variant} {meaning : Meaning} {begun : Result Resumed HostFault} {platform after : Standing} {store new : Kept} {left : Option (List ℕ)} {taken sent : List ℕ} {result : Result Unit SessionFault} → Option Pending → AfterResume variant meaning begun platform after store new left taken sent result → List ℕ → Type 0
+IsInHand waiting (inl stops) request = (p : Pending) × (waiting ≡ Some p) × (p.request ≡ request)
+IsInHand waiting (inr goes) request = (held : List ℕ) × BeginsWith goes.lines.more request held
+
+-- A request may be committed and not told where memory, the store, a device or the output failed.
+abbrev pub MayBeUntold : {T : Type 0} → Result T SessionFault → Type 0
+MayBeUntold (Ok it) = ⊥
+MayBeUntold (Err Memory) = Unit {0}
+MayBeUntold (Err Store) = Unit {0}
+MayBeUntold (Err (Refused why)) = IsSome (fault_of why)
+MayBeUntold (Err WriteFault) = Unit {0}
+MayBeUntold (Err ReadFault) = ⊥
+MayBeUntold (Err (LineLong line)) = ⊥
+MayBeUntold (Err (BadLine line)) = ⊥
+MayBeUntold (Err TooMuch) = ⊥
+
+-- one request more than those told is committed, the one in hand
+pub record HasUntold (hand : List ℕ → Type 0) (result : Result Unit SessionFault) (requests after : List (List ℕ)) : Type 0 where
+  pub request : List ℕ
+  pub in_hand : hand request
+  pub untold : MayBeUntold result
+  pub grown : after ≡ requests ++ request ∷ []
+
+-- From a history: what was told is one run of the module behind the history's requests. The platform stands for a history
+-- of that run's requests, or of those and the one in hand. The slots fit it, so that the session may be gone on with.
+pub record ContinuesTo (all others : List (List ℕ)) (asked : List Batch) (i : Instance) (y : History) (standing : Standing) (kept : Kept) (told : List Served) (hand : List ℕ → Type 0) (result : Result Unit SessionFault) : Type 0 where
+  pub after : History
+  pub stands : StandsFor i standing after
+  pub within : IsWithin all others asked i after
+  pub slots_after : Slots
+  pub slots_told : kept.slots ≡ Some slots_after
+  pub fits : IsNotBeyond slots_after (total_of after.batches + 1) → Fits i slots_after after
+  pub whole : result ≢ Err Store → Fits i slots_after after
+  pub requests : List (List ℕ)
+  pub run : RunsOver i.meaning (requests_of y.batches) told requests
+  pub committed : (requests_of after.batches ≡ requests) ⊎ HasUntold hand result requests (requests_of after.batches)
+
+-- Over a platform of Basic, an honest store and an input that tell what they hold: by whatever steps the session went, from
+-- every history under every key.
+abbrev pub Continues : Variant → Meaning → Standing → Standing → Kept → Kept → Option (List ℕ) → Option (List ℕ) → Option (List ℕ) → Option (List ℕ) → Result Unit SessionFault → Type 0
+Continues Opt meaning before after old new left left' received received' result = Unit {0}
+Continues Basic meaning before after old new left left' received received' result =
+    (s : Sessions Basic meaning before after old new left left' received received' result)
+    (key : List ℕ) (y : History) (slots : Slots) (all others : List (List ℕ)) (asked : List Batch) (input : List ℕ) →
+    left ≡ Some input → (can : CanServe all others asked (basic meaning key) y slots before old (lines_of input)) →
+    ContinuesTo all others asked (basic meaning key) y after new (told_in can.can.fits.waiting s.goes)
+    (IsInHand can.can.fits.waiting s.goes) result
