@@ -1,5 +1,5 @@
 -- Recovery in either variant: what the call for the request that waits leads to.
-use Rattle.std.proofs.Common.{◌≡◌, ℕ, List, [], ◌++◌, map, Option, None, Some, Result, Err, refl, sym, ◌∙◌, subst}
+use Rattle.std.proofs.Common.{◌≡◌, ℕ, ◌-◌, List, [], ◌++◌, map, Option, None, Some, Result, Err, refl, sym, ◌∙◌, subst}
 use Rattle.mm_digest.specs.declared.variant.Variant.{Variant}
 use Rattle.mm_digest.specs.declared.variant.Variant.TheVariants.{Basic, Opt}
 use Rattle.mm_platform.specs.Standing.{Item, Standing}
@@ -34,16 +34,15 @@ use Rattle.mm_callers.proofs.OptCalls.{asked_of as asked_by_items, comes}
 use Rattle.mm_store.specs.Kept.{Kept}
 use Rattle.mm_store.specs.Pending.{Pending}
 use Rattle.mm_store.specs.Slots.{Slots, seen_in}
-use Rattle.std.specs.Prelude.{true}
 use Rattle.mm_host.specs.declared.fault.HostFault.{HostFault}
 use Rattle.mm_host.specs.declared.resuming.Resumed.{Resumed}
 use Rattle.mm_host.specs.Asking.{IsCall}
 use Rattle.mm_host.specs.Fitting.{offer_slot, FitsBy}
-use Rattle.mm_host.specs.Recovery.{CanRecover, RecoversTo, Recovers}
-use Rattle.mm_host.specs.Resumes.{AfterAsk, Resumes}
+use Rattle.mm_host.specs.Recovery.{CanRecover, Recovers}
+use Rattle.mm_host.specs.Resumes.{Resumes}
 use Rattle.mm_host.proofs.OptMoves.{named_after}
 use Rattle.mm_host.proofs.Refusing.{MayRefuse, IsOffered, offered_then, waiting_most, basic_keeps, opt_keeps, basic_refused, opt_refused}
-use Rattle.mm_host.proofs.Recovering.{Left, LeadsOn, asked_of, asked_by, recovers_by}
+use Rattle.mm_host.proofs.Recovering.{Left, LeadsOn, asked_of, recovers_by}
 
 -- what one call for the request that waits comes to by lists
 record Called (all others : List (List ℕ)) (asked : List Batch) (i : Instance) (y : History) (standing : Standing) (offer : List ℕ) (p : Pending) (gives : Result BatchAnswer Refusal) : Type 0 where
@@ -138,7 +137,7 @@ offered_at all others asked i y slots before old p can e f = record {
   most = waiting_most (seen_in slots 2) (seen_in slots 3) can.fits.waiting p can.fits.is_waiting e;
 }
 
-basic_leads : (meaning : Meaning) (key : List ℕ) (all others : List (List ℕ)) (asked : List Batch) (y : History) (slots : Slots) (before after : Standing) (old : Kept) (can : CanRecover all others asked (basic meaning key) y slots before old)
+pub basic_leads : (meaning : Meaning) (key : List ℕ) (all others : List (List ℕ)) (asked : List Batch) (y : History) (slots : Slots) (before after : Standing) (old : Kept) (can : CanRecover all others asked (basic meaning key) y slots before old)
     → LeadsOn all others asked Basic (basic meaning key) y slots can.fits.waiting before after
 basic_leads meaning key all others asked y slots before after old can = λ p call e c.
     let i : Instance = basic meaning key in
@@ -156,12 +155,6 @@ opt_leads meaning key barrier all others asked y slots before after old items mo
     left_by all others asked i y slots before after old p (whole_in call) can e f
     (opt_called meaning key barrier all others asked y before after (seen_in slots (offer_slot p)) p (whole_in call) items more c.goes can.stands
     (asked_of all others asked i y slots before old p can e f.1) known ends shown_so (offered_at all others asked i y slots before old p can e f))
-
--- the exits of a call of Basic
-pub asked_exit : (meaning : Meaning) (key : List ℕ) (all others : List (List ℕ)) (asked : List Batch) (y : History) (slots : Slots) (before after : Standing) (first old new : Kept) (p : Pending) (call : Result Answer Refusal) (result : Result Resumed HostFault) (can : CanRecover all others asked (basic meaning key) y slots before first) → can.fits.waiting ≡ Some p → old.is_honest ≡ true → old.slots ≡ Some slots → IsCall Basic meaning before after (seen_in slots (offer_slot p)) p.request call → AfterAsk call old new result → RecoversTo all others asked (basic meaning key) y slots can.fits.waiting after new result
-asked_exit meaning key all others asked y slots before after first old new p call result can e h t c g =
-    asked_by Basic all others asked (basic meaning key) y slots before after first old new p call result can
-    (basic_leads meaning key all others asked y slots before after first can) e h t c g
 
 pub recovers : (variant : Variant) (meaning : Meaning) (before after : Standing) (old new : Kept) (result : Result Resumed HostFault) → Resumes variant meaning before after old new result → Recovers variant meaning before after old new result
 recovers Basic meaning before after old new result r = λ key y slots all others asked can.

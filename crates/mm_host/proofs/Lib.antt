@@ -14,8 +14,9 @@ mod Turning
 mod Lining
 mod Beginning
 mod SessionBlaming
-mod Keeping
 mod Putting
 mod Machining
 mod LineStep
 mod SessionRuns
+mod SparingLines
+mod Keeping

@@ -1,5 +1,5 @@
 -- What a line comes to by lists, from where a session of Basic stands.
-use Rattle.std.proofs.Common.{◌≡◌, ◌≢◌, ◌∙◌, ◌+◌, ◌-◌, ◌%◌, ◌<◌, ◌≤◌, ◌^◌, ◌&&◌, ℕ, Bool, true, false, List, [], ◌∷◌, ◌++◌, length, take, Option, None, Some, Result, Ok, Err, refl, sym, ap, subst, inl, inr, arith}
+use Rattle.std.proofs.Common.{◌≡◌, ◌≢◌, ◌∙◌, ◌+◌, ◌-◌, ◌%◌, ◌<◌, ◌≤◌, ◌^◌, ◌&&◌, ℕ, Bool, true, false, List, [], ◌∷◌, ◌++◌, length, take, Option, None, Some, Result, Ok, Err, refl, sym, ap, subst, inl, inr, arith, IsSome}
 use Rattle.std.specs.Prelude.{◌⊎◌, if◌then◌else◌, nat_eq}
 use Rattle.std.specs.List.{Contains}
 use Rattle.std.specs.Str.{bytes_eq}
@@ -8,6 +8,11 @@ use Rattle.std.proofs.lemmas.Bool.Decides.{nat_tests}
 use Rattle.mm_base.specs.Lines.{IsWithin}
 use Rattle.mm_digest.specs.declared.variant.Variant.TheVariants.{Basic}
 use Rattle.mm_platform.specs.Standing.{Standing}
+use Rattle.mm_model.specs.declared.refusal.Refusal.{Refusal}
+use Rattle.mm_model.specs.declared.refusal.Refusal.TheVariants.{Long, Device, Blank, Cell, Lost, Form, Kind, State, Tag, Stale, Full}
+use Rattle.mm_model.specs.declared.refusal.Refusal.TheVariants as refusal
+use Rattle.mm_model.specs.Life.{Live}
+use Rattle.mm_call.specs.Refusals.{fault_of}
 use Rattle.mm_module.specs.Meaning.{Meaning, IsLawful}
 use Rattle.mm_module.specs.Batch.{Batch, One}
 use Rattle.mm_seal.specs.declared.snapshot.PartsFault.{PartsFault}
@@ -45,14 +50,15 @@ use Rattle.mm_host.specs.declared.resuming.Resumed.TheVariants.{Start, Answered}
 use Rattle.mm_host.specs.Asking.{IsCall}
 use Rattle.mm_host.specs.Continuing.{IsNotBeyond, position_of, reply_of}
 use Rattle.mm_host.specs.Fitting.{Fits, FitsBy, Holds, offer_slot}
-use Rattle.mm_host.specs.Recovery.{AnswersAt, CanRecover, MayCommit, RecoversTo}
+use Rattle.mm_host.specs.Recovery.{AnswersAt, CanRecover, ComesTo, RecoversTo, IsRefusedAs}
 use Rattle.mm_host.specs.Saying.{position_at, snapshot_at}
 use Rattle.mm_host.specs.Waiting.{IsWaiting}
 use Rattle.mm_host.specs.Serving.{AfterRecord, AsksLine, Place, record_for}
 use Rattle.mm_host.proofs.Machining.{holds_issued, steps_fresh}
 use Rattle.mm_host.proofs.Putting.{IsNext, IsPut, fits_next, put_next, snapshot_same, torn_fits, waits_next}
 use Rattle.mm_host.proofs.Recording.{length-pending_spelling}
-use Rattle.mm_host.proofs.BothRecovering.{asked_exit}
+use Rattle.mm_host.proofs.BothRecovering.{basic_leads}
+use Rattle.mm_host.proofs.Recovering.{ask_exit}
 
 -- Between two lines: the slots fit, the last answer is that of the history's end, and its snapshot is in its slot.
 pub record Settled (i : Instance) (y : History) (slots : Slots) (last : Resumed) : Type 0 where
@@ -69,6 +75,33 @@ pub record IsSettledAt (all others : List (List ℕ)) (asked : List Batch) (i : 
   pub stands : StandsFor i at.platform y
   pub within : IsWithinAll all others asked i y
   pub settled : Settled i y slots at.last
+
+-- It is refused only for a device's fault; else it goes on, or memory is wanting, or the store failed.
+abbrev pub IsUnrefused : Result Resumed HostFault → Type 0
+IsUnrefused (Ok it) = Unit {0}
+IsUnrefused (Err host.Memory) = Unit {0}
+IsUnrefused (Err host.Store) = Unit {0}
+IsUnrefused (Err (host.Refused why)) = IsSome (fault_of why)
+
+refused_device : (why : Refusal) → IsRefusedAs why Live → IsSome (fault_of why)
+refused_device (Device broken) h = refl
+refused_device refusal.Memory h = absurd h
+refused_device Long h = absurd h
+refused_device Blank h = absurd h
+refused_device Cell h = absurd h
+refused_device Lost h = absurd (cc)
+refused_device Form h = absurd h
+refused_device Kind h = absurd h
+refused_device State h = absurd h
+refused_device Tag h = absurd h
+refused_device Stale h = absurd (cc)
+refused_device Full h = absurd h
+
+pub unrefused_of : (meaning : Meaning) (key : List ℕ) (y : History) (slots : Slots) (waiting : Option Pending) (after : History) (came : Result Resumed HostFault) → ComesTo (basic meaning key) y slots waiting after came → IsUnrefused came
+unrefused_of meaning key y slots waiting after (Ok it) c = tt
+unrefused_of meaning key y slots waiting after (Err host.Memory) c = tt
+unrefused_of meaning key y slots waiting after (Err host.Store) c = tt
+unrefused_of meaning key y slots waiting after (Err (host.Refused why)) c = refused_device why c
 
 -- a line that was answered
 pub record LineGoes (i : Instance) (y after : History) (slots : Slots) (kept : Kept) (line : List ℕ) (answer : Answer) : Type 0 where
@@ -90,7 +123,8 @@ pub record LineComes (all others : List (List ℕ)) (asked : List Batch) (i : In
   pub told : kept.slots ≡ Some slots_after
   pub fits : IsNotBeyond slots_after (total_of after.batches + 1) → Fits i slots_after after
   pub whole : came ≢ Err host.Store → Fits i slots_after after
-  pub grown : (after.batches ≡ y.batches) ⊎ ((after.batches ≡ y.batches ++ One line ∷ []) × MayCommit came)
+  pub grown : (after.batches ≡ y.batches) ⊎ (after.batches ≡ y.batches ++ One line ∷ [])
+  pub unrefused : IsUnrefused came
   pub goes : LineGoesBy i y after slots_after kept line came
 
 -- the message of the offer is in the list
@@ -168,11 +202,6 @@ waiting_fits i y slots other last line s n p = record {
 
 -- a recovery of the line is what it comes to
 
-grown_by : (y after : History) (line : List ℕ) (came : Result Resumed HostFault) → (after.batches ≡ y.batches) ⊎ (after.batches ≡ y.batches ++ One line ∷ []) → (after.batches ≡ y.batches) ⊎ MayCommit came → (after.batches ≡ y.batches) ⊎ ((after.batches ≡ y.batches ++ One line ∷ []) × MayCommit came)
-grown_by y after line came (inl same) only = inl same
-grown_by y after line came (inr more) (inl same) = inl same
-grown_by y after line came (inr more) (inr may) = inr (more, may)
-
 more_only : (y after : History) (line : List ℕ) (position : ℕ) → position ≡ total_of y.batches + 1 → position ≡ total_of after.batches → (after.batches ≡ y.batches) ⊎ (after.batches ≡ y.batches ++ One line ∷ []) → after.batches ≡ y.batches ++ One line ∷ []
 more_only y after line position e at (inl same) = absurd (omega (arith, e, at, ap total_of same))
 more_only y after line position e at (inr more) = more
@@ -218,7 +247,8 @@ by_recovery meaning lawful key all others asked y slots next standing kept came 
   told = r.told;
   fits = λ n. r.fits;
   whole = λ n. r.fits;
-  grown = grown_by y r.after next.request came r.grown r.only;
+  grown = r.grown;
+  unrefused = unrefused_of meaning key y slots (Some next) r.after came r.comes;
   goes = goes_by meaning lawful key all others asked y slots next standing kept came e most r;
 }
 
@@ -230,8 +260,8 @@ pub record MayFollow (all : List (List ℕ)) (asked : List Batch) (id : ℕ) (y 
   pub within : IsWithin 4096 line
 
 -- the record isn't written whole
-unwritten : (all others : List (List ℕ)) (asked : List Batch) (i : Instance) (y : History) (at : Place) (after : Standing) (new : Kept) (line : List ℕ) (slots : Slots) (why : HostFault) → IsSettledAt all others asked i y at → after ≡ at.platform → new.slots ≡ Some slots → (IsNotBeyond slots (total_of y.batches + 1) → Fits i slots y) → (why ≢ host.Store → Fits i slots y) → LineComes all others asked i y line after new (Err why)
-unwritten all others asked i y at after new line slots why s same told fits whole = record {
+unwritten : (all others : List (List ℕ)) (asked : List Batch) (i : Instance) (y : History) (at : Place) (after : Standing) (new : Kept) (line : List ℕ) (slots : Slots) (why : HostFault) → IsSettledAt all others asked i y at → after ≡ at.platform → new.slots ≡ Some slots → (IsNotBeyond slots (total_of y.batches + 1) → Fits i slots y) → (why ≢ host.Store → Fits i slots y) → IsUnrefused (Err why) → LineComes all others asked i y line after new (Err why)
+unwritten all others asked i y at after new line slots why s same told fits whole u = record {
   after = y;
   stands = subst (λ (x : Standing). StandsFor i x y) (sym same) s.stands;
   within = s.within;
@@ -240,6 +270,7 @@ unwritten all others asked i y at after new line slots why s same told fits whol
   fits = fits;
   whole = λ n. whole (λ (e : why ≡ host.Store). n (ap (λ (f : HostFault). Err f) e));
   grown = inl refl;
+  unrefused = u;
   goes = tt;
 }
 
@@ -250,7 +281,7 @@ after_record : (meaning : Meaning) → IsLawful meaning → (key : List ℕ) (al
 after_record meaning lawful key all others asked y at (Err fault.Memory) after middle new line came clear apart s f w g =
     subst (λ (r : Result Resumed HostFault). LineComes all others asked (basic meaning key) y line after new r) (sym g.2)
     (unwritten all others asked (basic meaning key) y at after new line s.slots host.Memory s g.0
-    (ap (λ (k : Kept). k.slots) g.1 ∙ w.leaves s.honest ∙ s.told) (λ n. s.settled.fits) (λ n. s.settled.fits))
+    (ap (λ (k : Kept). k.slots) g.1 ∙ w.leaves s.honest ∙ s.told) (λ n. s.settled.fits) (λ n. s.settled.fits) tt)
 after_record meaning lawful key all others asked y at (Err fault.Failed) after middle new line came clear apart s f w g =
     let left = w.leaves s.honest in
     let position : ℕ = position_at at.last in
@@ -259,7 +290,7 @@ after_record meaning lawful key all others asked y at (Err fault.Failed) after m
     (unwritten all others asked (basic meaning key) y at after new line slots host.Store s g.0
     (ap (λ (k : Kept). k.slots) g.1 ∙ left.1 ∙ ap (λ (x : Option Slots). putting (2 + (position + 1) % 2) left.0 x) s.told)
     (torn_fits (basic meaning key) y s.slots slots position left.0 s.settled.fits s.settled.recorded s.settled.at_end (newest_holds (basic meaning key) y s.slots at.last s.settled) (put_next s.slots position left.0))
-    (λ (n : host.Store ≢ host.Store). absurd (n refl)))
+    (λ (n : host.Store ≢ host.Store). absurd (n refl)) tt)
 after_record meaning lawful key all others asked y at (Ok it) after middle new line came clear apart s f w g =
     let i : Instance = basic meaning key in
     let position : ℕ = position_at at.last in
@@ -287,8 +318,10 @@ after_record meaning lawful key all others asked y at (Ok it) after middle new l
       );
     } in
     by_recovery meaning lawful key all others asked y slots next after new came (ap (λ (m : ℕ). m + 1) s.settled.at_end) n.most
-    (asked_exit meaning key all others asked y slots at.platform after middle middle new next g.asked came can refl (w.honest ∙ s.honest) told
-    (subst (λ (x : List ℕ). IsCall Basic meaning at.platform after x line g.asked) (sym offers) g.asks) g.goes)
+    (ask_exit all others asked i y slots (Some next) next after g.asked middle new came
+    (basic_leads meaning key all others asked y slots at.platform after middle can next g.asked refl
+    (subst (λ (x : List ℕ). IsCall Basic meaning at.platform after x line g.asked) (sym offers) g.asks))
+    g.asks.fits (w.honest ∙ s.honest) told g.goes)
   where
     one_back : (n : ℕ) → n + 1 - 1 ≡ n
     one_back n = omega arith

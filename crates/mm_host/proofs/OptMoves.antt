@@ -1,5 +1,5 @@
 -- The moves of a call of Opt may be made, so what a snapshot names is named after them too.
-use Rattle.std.proofs.Common.{ℕ, ◌≡◌, ◌+◌, ◌^◌, Bool, true, false, ◌&&◌, List, [], ◌∷◌, ◌++◌, Result, Ok, Err, refl, sym, subst, append_assoc, arith}
+use Rattle.std.proofs.Common.{ℕ, ◌≡◌, ◌+◌, ◌^◌, Bool, true, false, ◌&&◌, List, [], ◌∷◌, ◌++◌, Result, Ok, Err, refl, sym, ap, ◌∙◌, subst, append_assoc, arith}
 use Rattle.std.specs.Prelude.{if◌then◌else◌, nat_eq, nat_le}
 use Rattle.std.specs.List.{AllByRecursion, Contains}
 use Rattle.std.specs.Str.{bytes_eq}
@@ -20,7 +20,7 @@ use Rattle.mm_model.specs.Life.{Life, Live, Spoiled, Lost as LostLife, life_of, 
 use Rattle.mm_model.specs.Moves.{MayMove, Brings}
 use Rattle.mm_model.specs.Places.{Names}
 use Rattle.mm_model.specs.Sound.{IsSound}
-use Rattle.mm_model.specs.Steps.{Step, Reads, ask_steps}
+use Rattle.mm_model.specs.Steps.{Step, Reads, Changes, Writes, ask_steps}
 use Rattle.mm_model.specs.declared.refusal.Refusal.{Refusal}
 use Rattle.mm_model.specs.declared.refusal.Refusal.TheVariants as refusal
 use Rattle.mm_model.proofs.Moves.{sound_moved}

@@ -1,6 +1,5 @@
 -- Every exit of a recovery leaves slots that fit the history.
-use Rattle.std.proofs.Common.{◌≡◌, ◌≤◌, ℕ, ◌-◌, ◌%◌, true, List, length, take, Option, None, Some, Result, Ok, Err, IfOk, refl, sym, ap, ◌∙◌, subst, inl, inr, arith}
-use Rattle.std.proofs.lemmas.List.{take_all}
+use Rattle.std.proofs.Common.{◌≡◌, ℕ, ◌-◌, ◌%◌, true, List, Option, None, Some, Result, Ok, Err, refl, sym, ap, ◌∙◌, subst, inl, inr, ◌≤◌, length, take, IfOk, arith}
 use Rattle.std.specs.Prelude.{◌⊎◌}
 use Rattle.mm_digest.specs.declared.variant.Variant.{Variant}
 use Rattle.mm_platform.specs.Standing.{Standing}
@@ -10,16 +9,15 @@ use Rattle.mm_model.specs.Instance.{Instance}
 use Rattle.mm_model.specs.History.{History}
 use Rattle.mm_model.specs.Places.{Names}
 use Rattle.mm_model.specs.Standing.{StandsFor, IsRight}
-use Rattle.mm_model.specs.Life.{life_of}
 use Rattle.mm_model.specs.declared.answer.Answer.{Answer}
 use Rattle.mm_model.specs.declared.answer.BatchAnswer.{BatchAnswer}
+use Rattle.mm_model.specs.Life.{life_of}
 use Rattle.mm_model.specs.declared.refusal.Refusal.{Refusal}
+use Rattle.mm_model.specs.declared.refusal.Refusal.TheVariants as refusal
 use Rattle.mm_call.specs.Asked.{IsWithin}
 use Rattle.mm_call.specs.Leaving.{whole, whole_in}
 use Rattle.mm_call.specs.Refusals.{fault_of}
 use Rattle.mm_platform.specs.declared.fault.StepFault.{StepFault}
-use Rattle.mm_model.specs.declared.refusal.Refusal.TheVariants.{Long, Device, Blank, Cell, Lost, Form, Kind, State, Tag, Stale, Full}
-use Rattle.mm_model.specs.declared.refusal.Refusal.TheVariants as refusal
 use Rattle.mm_callers.specs.Basic.{AreAsked}
 use Rattle.mm_callers.proofs.Calls.{one_content, Comes}
 use Rattle.mm_store.specs.declared.fault.StoreFault.{StoreFault}
@@ -29,15 +27,17 @@ use Rattle.mm_store.specs.Kept.{Kept}
 use Rattle.mm_store.specs.Pending.{Pending}
 use Rattle.mm_store.specs.Slots.{Slots, longest_slot, seen_in, with_slot}
 use Rattle.mm_store.proofs.SlotLaws.{longest_slot-is, slot_in-with_slot}
+use Rattle.std.proofs.lemmas.List.{take_all}
+use Rattle.mm_model.specs.Fit.{IsFit}
+use Rattle.mm_host.specs.Saying.{position_at, snapshot_at}
 use Rattle.mm_store.proofs.PendingLaws.{one_reading}
 use Rattle.mm_host.specs.declared.fault.HostFault.{HostFault}
 use Rattle.mm_host.specs.declared.resuming.Resumed.{Resumed}
 use Rattle.mm_host.specs.declared.resuming.Resumed.TheVariants.{Start, Answered}
 use Rattle.mm_host.specs.Faults.{store_fault_as, refused_as}
 use Rattle.mm_host.specs.Waiting.{later, IsWaiting}
-use Rattle.mm_host.specs.Resumes.{AfterThree, AfterTwo, started, kept_as, AfterAsk, Keeps, AfterOffer, AfterFinding, Resumes}
+use Rattle.mm_host.specs.Resumes.{AfterThree, AfterTwo, started, kept_as, AfterAsk, AfterOffer, AfterFinding, Resumes}
 use Rattle.mm_host.specs.Asking.{IsCall}
-use Rattle.mm_host.specs.Saying.{position_at, snapshot_at}
 use Rattle.mm_host.specs.Fitting.{offer_slot, Holds, IsAwaited, FitsBy}
 use Rattle.mm_host.specs.Recovery.{IsAskedFor, CanRecover, IsGrown, AnswersAt, ComesTo, MayCommit, RecoversTo}
 use Rattle.mm_host.proofs.Slots.{IsElsewhere, elsewhere_same, elsewhere_put}
@@ -92,10 +92,10 @@ grown_none : (y : History) (waiting : Option Pending) → IsGrown y waiting y
 grown_none y None = refl
 grown_none y (Some p) = inl refl
 
-still : (all others : List (List ℕ)) (asked : List Batch) (i : Instance) (y : History) (slots : Slots) (before after : Standing) (old new : Kept) (result : Result Resumed HostFault) (can : CanRecover all others asked i y slots before old) → StandsFor i after y → new.slots ≡ Some slots → new.is_honest ≡ true → IfOk result (λ resumed. seen_in slots (position_at resumed % 2) ≡ snapshot_at resumed) → ComesTo i y slots can.fits.waiting y result → RecoversTo all others asked i y slots can.fits.waiting after new result
+still : (all others : List (List ℕ)) (asked : List Batch) (i : Instance) (y : History) (slots : Slots) (before after : Standing) (old new : Kept) (result : Result Resumed HostFault) (can : CanRecover all others asked i y slots before old) → after ≡ before → new.slots ≡ Some slots → new.is_honest ≡ true → IfOk result (λ resumed. seen_in slots (position_at resumed % 2) ≡ snapshot_at resumed) → ComesTo i y slots can.fits.waiting y result → RecoversTo all others asked i y slots can.fits.waiting after new result
 still all others asked i y slots before after old new result can s t h n c = record {
   after = y;
-  stands = s;
+  stands = subst (λ (x : Standing). StandsFor i x y) (sym s) can.stands;
   within = can.within;
   grown = grown_none y can.fits.waiting;
   slots_after = slots;
@@ -107,18 +107,6 @@ still all others asked i y slots before after old new result can s t h n c = rec
   only = inl refl;
   comes = c;
 }
-
-stands_same : (i : Instance) (before after : Standing) (y : History) → StandsFor i before y → after ≡ before → StandsFor i after y
-stands_same i before after y s e = subst (λ (x : Standing). StandsFor i x y) (sym e) s
-
--- a slot shows the bytes that were put there, where they are no more than the longest
-
-take_whole : (bytes : List ℕ) (n : ℕ) → length bytes ≤ 1048690 → n ≡ 1100000 → take n bytes ≡ bytes
-take_whole bytes n h e = take_all n bytes (omega (arith, h, e))
-
-pub seen_put : (slots : Slots) (n : ℕ) (bytes : List ℕ) → length bytes ≤ 1048690 → seen_in (with_slot slots n bytes) n ≡ bytes
-seen_put slots n bytes h =
-    ap (λ (x : List ℕ). take longest_slot x) (slot_in-with_slot slots n bytes) ∙ take_whole bytes longest_slot h longest_slot-is
 
 -- a store's fault comes to nothing more, nor does want of memory in the call
 store_comes : (i : Instance) (y : History) (slots : Slots) (waiting : Option Pending) (after : History) (why : StoreFault) → ComesTo i y slots waiting after (Err (store_fault_as why))
@@ -148,6 +136,15 @@ refused_comes i y slots waiting after refusal.Stale (inl e) = absurd (cc)
 refused_comes i y slots waiting after refusal.Stale (inr h) = h
 refused_comes i y slots waiting after refusal.Full (inl e) = absurd (cc)
 refused_comes i y slots waiting after refusal.Full (inr h) = h
+
+-- a slot shows the bytes that were put there, where they are no more than the longest
+
+take_whole : (bytes : List ℕ) (n : ℕ) → length bytes ≤ 1048690 → n ≡ 1100000 → take n bytes ≡ bytes
+take_whole bytes n h e = take_all n bytes (omega (arith, h, e))
+
+seen_put : (slots : Slots) (n : ℕ) (bytes : List ℕ) → length bytes ≤ 1048690 → seen_in (with_slot slots n bytes) n ≡ bytes
+seen_put slots n bytes h =
+    ap (λ (x : List ℕ). take longest_slot x) (slot_in-with_slot slots n bytes) ∙ take_whole bytes longest_slot h longest_slot-is
 
 -- what stands once the request that waits was asked
 pub record Left (all others : List (List ℕ)) (asked : List Batch) (i : Instance) (y : History) (slots : Slots) (waiting : Option Pending) (p : Pending) (standing : Standing) (gives : Result BatchAnswer Refusal) : Type 0 where
@@ -215,12 +212,36 @@ answers all others asked i y slots waiting p standing answer l =
       ap (λ (b : BatchAnswer). b.position) a.answer_is ∙ sym a.position,
     )
 
--- an answer is kept
-answer_exit : (all others : List (List ℕ)) (asked : List Batch) (i : Instance) (y : History) (slots : Slots) (waiting : Option Pending) (p : Pending) (standing : Standing) (answer : Answer) (old new : Kept) (result : Result Resumed HostFault) → Left all others asked i y slots waiting p standing (Ok (whole answer)) → length answer.snapshot ≤ 1048690 → old.is_honest ≡ true → old.slots ≡ Some slots → Keeps answer old new result → RecoversTo all others asked i y slots waiting standing new result
-answer_exit all others asked i y slots waiting p standing answer old new result l size h t g =
+-- a refusal that hands on no device's fault committed nothing
+may_commit : (why : Refusal) (broken : StepFault) → fault_of why ≡ Some broken → MayCommit {T = Resumed} (Err (refused_as why))
+may_commit (refusal.Device fault) broken e = refl
+may_commit refusal.Memory broken e = absurd (cc)
+may_commit refusal.Long broken e = absurd (cc)
+may_commit refusal.Blank broken e = absurd (cc)
+may_commit refusal.Cell broken e = absurd (cc)
+may_commit refusal.Lost broken e = absurd (cc)
+may_commit refusal.Form broken e = absurd (cc)
+may_commit refusal.Kind broken e = absurd (cc)
+may_commit refusal.State broken e = absurd (cc)
+may_commit refusal.Tag broken e = absurd (cc)
+may_commit refusal.Stale broken e = absurd (cc)
+may_commit refusal.Full broken e = absurd (cc)
+
+only_by : (all others : List (List ℕ)) (asked : List Batch) (i : Instance) (y : History) (slots : Slots) (waiting : Option Pending) (p : Pending) (standing : Standing) (why : Refusal) (broken : Option StepFault) → fault_of why ≡ broken → (l : Left all others asked i y slots waiting p standing (Err why))
+    → (l.after.batches ≡ y.batches) ⊎ MayCommit {T = Resumed} (Err (refused_as why))
+only_by all others asked i y slots waiting p standing why None e l = inl (l.only why refl e)
+only_by all others asked i y slots waiting p standing why (Some broken) e l = inr (may_commit why broken e)
+
+-- the exits of the call
+pub ask_exit : (all others : List (List ℕ)) (asked : List Batch) (i : Instance) (y : History) (slots : Slots) (waiting : Option Pending) (p : Pending) (standing : Standing) (call : Result Answer Refusal) (old new : Kept) (result : Result Resumed HostFault) → Left all others asked i y slots waiting p standing (whole_in call) → IfOk call (λ answer. IsFit (One p.request) (whole answer)) → old.is_honest ≡ true → old.slots ≡ Some slots → AfterAsk call old new result → RecoversTo all others asked i y slots waiting standing new result
+ask_exit all others asked i y slots waiting p standing (Err why) old new result l fit h t g =
+    subst (λ (r : Result Resumed HostFault). RecoversTo all others asked i y slots waiting standing new r) (sym g.1)
+    (settle all others asked i y slots slots waiting p standing (Err why) new (Err (refused_as why)) l
+    (elsewhere_same slots p) (ap (λ (k : Kept). k.slots) g.0 ∙ t) (ap (λ (k : Kept). k.is_honest) g.0 ∙ h) tt (only_by all others asked i y slots waiting p standing why (fault_of why) refl l) (refused_comes i y slots waiting l.after why (l.refuses why refl)))
+ask_exit all others asked i y slots waiting p standing (Ok answer) old new result l fit h t g =
     let a = answers all others asked i y slots waiting p standing answer l in
     subst (λ (r : Result Resumed HostFault). RecoversTo all others asked i y slots waiting standing new r) (sym g.gives)
-    (keep_exit all others asked i y slots waiting p standing answer g.written old new l h t a.1 size
+    (keep_exit all others asked i y slots waiting p standing answer g.written old new l h t a.1 fit.snapshot
     (subst (λ (n : ℕ). WritesSlot (n % 2) answer.snapshot old new g.written) a.1 g.writes) a.0)
 
 -- what an honest store's slots ask of the call for what waits
@@ -243,57 +264,26 @@ LeadsOn all others asked variant i y slots waiting before after =
     (p : Pending) (call : Result Answer Refusal) → waiting ≡ Some p → IsCall variant i.meaning before after (seen_in slots (offer_slot p)) p.request call
     → Left all others asked i y slots waiting p after (whole_in call)
 
--- a refusal that hands on no device's fault committed nothing
-may_commit : (why : Refusal) (broken : StepFault) → fault_of why ≡ Some broken → MayCommit {T = Resumed} (Err (refused_as why))
-may_commit (Device fault) broken e = refl
-may_commit refusal.Memory broken e = absurd (cc)
-may_commit Long broken e = absurd (cc)
-may_commit Blank broken e = absurd (cc)
-may_commit Cell broken e = absurd (cc)
-may_commit Lost broken e = absurd (cc)
-may_commit Form broken e = absurd (cc)
-may_commit Kind broken e = absurd (cc)
-may_commit State broken e = absurd (cc)
-may_commit Tag broken e = absurd (cc)
-may_commit Stale broken e = absurd (cc)
-may_commit Full broken e = absurd (cc)
-
-refuse_exit : (all others : List (List ℕ)) (asked : List Batch) (i : Instance) (y : History) (slots : Slots) (waiting : Option Pending) (p : Pending) (standing : Standing) (new : Kept) (why : Refusal) (broken : Option StepFault) → fault_of why ≡ broken → Left all others asked i y slots waiting p standing (Err why) → new.slots ≡ Some slots → new.is_honest ≡ true → RecoversTo all others asked i y slots waiting standing new (Err (refused_as why))
-refuse_exit all others asked i y slots waiting p standing new why None e l t h =
-    settle all others asked i y slots slots waiting p standing (Err why) new (Err (refused_as why)) l
-    (elsewhere_same slots p) t h tt (inl (l.only why refl e)) (refused_comes i y slots waiting l.after why (l.refuses why refl))
-refuse_exit all others asked i y slots waiting p standing new why (Some broken) e l t h =
-    settle all others asked i y slots slots waiting p standing (Err why) new (Err (refused_as why)) l
-    (elsewhere_same slots p) t h tt (inr (may_commit why broken e)) (refused_comes i y slots waiting l.after why (l.refuses why refl))
-
--- the exits of the call
-pub asked_by : (variant : Variant) (all others : List (List ℕ)) (asked : List Batch) (i : Instance) (y : History) (slots : Slots) (before after : Standing) (first old new : Kept) (p : Pending) (call : Result Answer Refusal) (result : Result Resumed HostFault) (can : CanRecover all others asked i y slots before first) → LeadsOn all others asked variant i y slots can.fits.waiting before after → can.fits.waiting ≡ Some p → old.is_honest ≡ true → old.slots ≡ Some slots → IsCall variant i.meaning before after (seen_in slots (offer_slot p)) p.request call → AfterAsk call old new result → RecoversTo all others asked i y slots can.fits.waiting after new result
-asked_by variant all others asked i y slots before after first old new p (Ok answer) result can leads e h t c g =
-    answer_exit all others asked i y slots can.fits.waiting p after answer old new result (leads p (Ok answer) e c) c.fits.snapshot h t g
-asked_by variant all others asked i y slots before after first old new p (Err why) result can leads e h t c g =
-    subst (λ (r : Result Resumed HostFault). RecoversTo all others asked i y slots can.fits.waiting after new r) (sym g.1)
-    (refuse_exit all others asked i y slots can.fits.waiting p after new why (fault_of why) refl (leads p (Err why) e c)
-    (ap (λ (k : Kept). k.slots) g.0 ∙ t) (ap (λ (k : Kept). k.is_honest) g.0 ∙ h))
-
 -- the exits of the offer
 offer_exit : (variant : Variant) (all others : List (List ℕ)) (asked : List Batch) (i : Instance) (y : History) (slots : Slots) (offer : Result (List ℕ) StoreFault) (before after : Standing) (first old middle new : Kept) (p : Pending) (result : Result Resumed HostFault) (can : CanRecover all others asked i y slots before first) → LeadsOn all others asked variant i y slots can.fits.waiting before after → can.fits.waiting ≡ Some p → old.is_honest ≡ true → old.slots ≡ Some slots → ReadsSlot (offer_slot p) old middle offer → AfterOffer variant i.meaning before after offer middle new p result → RecoversTo all others asked i y slots can.fits.waiting after new result
 offer_exit variant all others asked i y slots (Err why) before after first old middle new p result can leads e h t r g =
     subst (λ (x : Result Resumed HostFault). RecoversTo all others asked i y slots can.fits.waiting after new x) (sym g.2)
-    (still all others asked i y slots before after first new (Err (store_fault_as why)) can (stands_same i before after y can.stands g.0) (ap (λ (k : Kept). k.slots) g.1 ∙ r.slots ∙ t) (ap (λ (k : Kept). k.is_honest) g.1 ∙ r.honest ∙ h) tt (store_comes i y slots can.fits.waiting y why))
+    (still all others asked i y slots before after first new (Err (store_fault_as why)) can g.0 (ap (λ (k : Kept). k.slots) g.1 ∙ r.slots ∙ t) (ap (λ (k : Kept). k.is_honest) g.1 ∙ r.honest ∙ h) tt (store_comes i y slots can.fits.waiting y why))
 offer_exit variant all others asked i y slots (Ok offer) before after first old middle new p result can leads e h t r g =
-    asked_by variant all others asked i y slots before after first middle new p g.asked result can leads e (r.honest ∙ h) (r.slots ∙ t)
-    (subst (λ (x : List ℕ). IsCall variant i.meaning before after x p.request g.asked) (r.gives slots t) g.asks) g.goes
+    ask_exit all others asked i y slots can.fits.waiting p after g.asked middle new result
+    (leads p g.asked e (subst (λ (x : List ℕ). IsCall variant i.meaning before after x p.request g.asked) (r.gives slots t) g.asks)) g.asks.fits
+    (r.honest ∙ h) (r.slots ∙ t) g.goes
 
 start_exit : (all others : List (List ℕ)) (asked : List Batch) (i : Instance) (y : History) (slots : Slots) (zero : Result (List ℕ) StoreFault) (before after : Standing) (first old new : Kept) (can : CanRecover all others asked i y slots before first) → can.fits.waiting ≡ None → after ≡ before → old.slots ≡ Some slots → old.is_honest ≡ true → ReadsSlot 0 old new zero → RecoversTo all others asked i y slots can.fits.waiting after new (started zero)
 start_exit all others asked i y slots (Ok bytes) before after first old new can e s t h r =
-    still all others asked i y slots before after first new (Ok (Start bytes)) can (stands_same i before after y can.stands s) (r.slots ∙ t) (r.honest ∙ h) (sym (r.gives slots t)) (e, r.gives slots t)
+    still all others asked i y slots before after first new (Ok (Start bytes)) can s (r.slots ∙ t) (r.honest ∙ h) (sym (r.gives slots t)) (e, r.gives slots t)
 start_exit all others asked i y slots (Err why) before after first old new can e s t h r =
-    still all others asked i y slots before after first new (Err (store_fault_as why)) can (stands_same i before after y can.stands s) (r.slots ∙ t) (r.honest ∙ h) tt (store_comes i y slots can.fits.waiting y why)
+    still all others asked i y slots before after first new (Err (store_fault_as why)) can s (r.slots ∙ t) (r.honest ∙ h) tt (store_comes i y slots can.fits.waiting y why)
 
 found_exit : (variant : Variant) (all others : List (List ℕ)) (asked : List Batch) (i : Instance) (y : History) (slots : Slots) (waiting : Result (Option Pending) StoreFault) (before after : Standing) (old middle new : Kept) (result : Result Resumed HostFault) (can : CanRecover all others asked i y slots before old) → LeadsOn all others asked variant i y slots can.fits.waiting before after → Saw slots old middle waiting → AfterFinding variant i.meaning before after waiting middle new result → RecoversTo all others asked i y slots can.fits.waiting after new result
 found_exit variant all others asked i y slots (Err why) before after old middle new result can leads s g =
     subst (λ (x : Result Resumed HostFault). RecoversTo all others asked i y slots can.fits.waiting after new x) (sym g.2)
-    (still all others asked i y slots before after old new (Err (store_fault_as why)) can (stands_same i before after y can.stands g.0) (ap (λ (k : Kept). k.slots) g.1 ∙ s.told) (ap (λ (k : Kept). k.is_honest) g.1 ∙ s.honest ∙ can.honest) tt (store_comes i y slots can.fits.waiting y why))
+    (still all others asked i y slots before after old new (Err (store_fault_as why)) can g.0 (ap (λ (k : Kept). k.slots) g.1 ∙ s.told) (ap (λ (k : Kept). k.is_honest) g.1 ∙ s.honest ∙ can.honest) tt (store_comes i y slots can.fits.waiting y why))
 found_exit variant all others asked i y slots (Ok None) before after old middle new result can leads s g =
     let e : can.fits.waiting ≡ None = one_waiting (seen_in slots 2) (seen_in slots 3) can.fits.waiting None can.fits.is_waiting (s.waiting None refl) in
     subst (λ (x : Result Resumed HostFault). RecoversTo all others asked i y slots can.fits.waiting after new x) (sym g.1.gives)

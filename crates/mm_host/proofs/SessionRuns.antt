@@ -29,18 +29,19 @@ use Rattle.mm_host.specs.declared.fault.SessionFault.{SessionFault}
 use Rattle.mm_host.specs.declared.fault.SessionFault.TheVariants.{Memory, Store, Refused, ReadFault, WriteFault, LineLong, BadLine, TooMuch}
 use Rattle.mm_host.specs.declared.resuming.Resumed.{Resumed}
 use Rattle.mm_host.specs.declared.resuming.Resumed.TheVariants.{Start, Answered}
-use Rattle.mm_host.specs.Continuing.{AreToFollow, CanServe, Continues, ContinuesTo, HasUntold, IsInHand, MayBeUntold, RunsOver, batches_then, position_of, told_first, told_in}
+use Rattle.mm_host.specs.Continuing.{AreToFollow, CanServe, Continues, ContinuesTo, HasUntold, IsInHand, MayBeUntold, RunsOver, batches_then, position_of, told_first, told_in, IsUnrefusedAt}
 use Rattle.mm_host.specs.Faults.{told_as}
 use Rattle.mm_host.specs.Fitting.{Fits, FitsBy, Holds, IsAwaited}
-use Rattle.mm_host.specs.Recovery.{CanRecover, IsGrown, MayCommit, RecoversTo}
+use Rattle.mm_host.specs.Recovery.{CanRecover, IsGrown, RecoversTo}
 use Rattle.mm_host.specs.Saying.{Says, comes_as, text_of}
 use Rattle.mm_host.specs.Serving.{Place, Served, Serves, lines_served}
 use Rattle.mm_host.specs.Sessions.{AfterResume, BeginsWith, Ends, GoesOn, IsAtRest, Stops, StopsAtOnce, StopsInLine}
 use Rattle.mm_host.specs.Waiting.{IsWaiting, later}
 use Rattle.mm_host.proofs.Awaited.{one_more}
 use Rattle.mm_host.proofs.Machining.{RunsOver-append, holds_issued, steps_again, steps_fresh}
-use Rattle.mm_host.proofs.LineStep.{IsSettledAt, line_comes}
+use Rattle.mm_host.proofs.LineStep.{IsSettledAt, line_comes, IsUnrefused, unrefused_of}
 use Rattle.mm_host.proofs.BothRecovering.{recovers}
+use Rattle.mm_host.proofs.Refusing.{waiting_most}
 
 -- over lines that were answered
 
@@ -137,37 +138,6 @@ answered_first : (i : Instance) (y after : History) (p : Pending) (answer : Answ
 answered_first i y after p answer w at is (inl same) = answered_same i y after p answer w at is same
 answered_first i y after p answer w at is (inr more) = answered_more i y after p answer at is more
 
--- a record that waits is valid
-
-valid_two : (x : Option Pending) (bytes : List ℕ) (p : Pending) → ReadsPending 2 bytes x → x ≡ Some p → p.position ≤ 2 ^ 48
-valid_two None bytes p r e = absurd (cc)
-valid_two (Some q) bytes p r e = subst (λ (x : Pending). x.position ≤ 2 ^ 48) (same_pending q p e) r.0.most
-  where
-    same_pending : (q p : Pending) → Some q ≡ Some p → q ≡ p
-    same_pending q p h = cc
-
-valid_three : (x : Option Pending) (bytes : List ℕ) (p : Pending) → ReadsPending 3 bytes x → x ≡ Some p → p.position ≤ 2 ^ 48
-valid_three None bytes p r e = absurd (cc)
-valid_three (Some q) bytes p r e = subst (λ (x : Pending). x.position ≤ 2 ^ 48) (same_pending q p e) r.0.most
-  where
-    same_pending : (q p : Pending) → Some q ≡ Some p → q ≡ p
-    same_pending q p h = cc
-
-later_is : (t : Bool) (a b p : Pending) → (if t then Some a else Some b) ≡ Some p → (Some a ≡ Some p) ⊎ (Some b ≡ Some p)
-later_is true a b p e = inl e
-later_is false a b p e = inr e
-
-one_waits : (a b : Option Pending) (p : Pending) → later a b ≡ Some p → (a ≡ Some p) ⊎ (b ≡ Some p)
-one_waits None b p e = inr e
-one_waits (Some a) None p e = inl e
-one_waits (Some a) (Some b) p e = later_is _ a b p e
-
-waits_within : (two three : List ℕ) (p : Pending) → IsWaiting two three (Some p) → p.position ≤ 2 ^ 48
-waits_within two three p w = elim (one_waits w.in_two w.in_three p (sym w.is)) [
-  | inl e ↦ valid_two w.in_two two p w.reads_two e
-  | inr e ↦ valid_three w.in_three three p w.reads_three e
-]
-
 fits_none : (i : Instance) (y : History) (slots : Slots) (f : Fits i slots y) → f.waiting ≡ None → FitsBy i slots y None
 fits_none i y slots f e = subst (λ (w : Option Pending). FitsBy i slots y w) e f.fits
 
@@ -206,7 +176,7 @@ begins_answered meaning lawful key all others asked y slots (Some q) standing ke
     let here : q.position ≡ total_of r.after.batches = ap (λ (x : Pending). x.position) (sym same) ∙ at in
     let answers : whole answer ≡ answer_on i r.after (One q.request) (nat_eq q.position (total_of y.batches)) =
     is ∙ ap (λ (x : Pending). answer_on i r.after (One x.request) (nat_eq x.position (total_of y.batches))) same in
-    let most : q.position ≤ 2 ^ 48 = waits_within (seen_in slots 2) (seen_in slots 3) q w in
+    let most : q.position ≤ 2 ^ 48 = waiting_most (seen_in slots 2) (seen_in slots 3) (Some q) q w refl in
     let a = answered_first i y r.after q answer f.0 here answers r.grown in
     let end : answer.position ≡ total_of r.after.batches = ap (λ (b : BatchAnswer). b.position) answers in
     record {
@@ -237,7 +207,7 @@ begins meaning lawful key all others asked y slots before old can standing kept 
 
 -- the ends
 
-untold_by : (f : HostFault) → MayCommit {T = Resumed} (Err f) → MayBeUntold {T = Unit} (Err (told_as f))
+untold_by : (f : HostFault) → IsUnrefused (Err f) → MayBeUntold {T = Unit} (Err (told_as f))
 untold_by host.Memory m = m
 untold_by host.Store m = m
 untold_by (host.Refused why) m = m
@@ -245,15 +215,30 @@ untold_by (host.Refused why) m = m
 same_fault : (f g : SessionFault) (r : Result Resumed SessionFault) → r ≡ Err f → r ≡ Err g → g ≡ f
 same_fault f g r h k = cc
 
-untold_came : (came : Result Resumed HostFault) (fault : SessionFault) → Err fault ≡ comes_as came → MayCommit came → MayBeUntold {T = Unit} (Err fault)
+untold_came : (came : Result Resumed HostFault) (fault : SessionFault) → Err fault ≡ comes_as came → IsUnrefused came → MayBeUntold {T = Unit} (Err fault)
 untold_came (Ok it) fault e m = absurd (cc)
 untold_came (Err f) fault e m =
     subst (λ (x : SessionFault). MayBeUntold {T = Unit} (Err x)) (same_fault fault (told_as f) (Err fault) refl e) (untold_by f m)
 
-untold : (came : Result Resumed HostFault) (sent : List ℕ) (fault : SessionFault) → Says came sent (Err fault) → MayCommit came → MayBeUntold {T = Unit} (Err fault)
+untold : (came : Result Resumed HostFault) (sent : List ℕ) (fault : SessionFault) → Says came sent (Err fault) → IsUnrefused came → MayBeUntold {T = Unit} (Err fault)
 untold came sent fault (inl s) m = untold_came came fault s.1 m
 untold came sent fault (inr s) m =
     subst (λ (x : SessionFault). MayBeUntold {T = Unit} (Err x)) (same_fault fault WriteFault (Err fault) refl s.0) tt
+
+unrefused_by : (f : HostFault) → IsUnrefused (Err f) → IsUnrefusedAt {T = Unit} (Err (told_as f))
+unrefused_by host.Memory m = m
+unrefused_by host.Store m = m
+unrefused_by (host.Refused why) m = m
+
+unrefused_came : (came : Result Resumed HostFault) (fault : SessionFault) → Err fault ≡ comes_as came → IsUnrefused came → IsUnrefusedAt {T = Unit} (Err fault)
+unrefused_came (Ok it) fault e m = absurd (cc)
+unrefused_came (Err f) fault e m =
+    subst (λ (x : SessionFault). IsUnrefusedAt {T = Unit} (Err x)) (same_fault fault (told_as f) (Err fault) refl e) (unrefused_by f m)
+
+unrefused_says : (came : Result Resumed HostFault) (sent : List ℕ) (fault : SessionFault) → Says came sent (Err fault) → IsUnrefused came → IsUnrefusedAt {T = Unit} (Err fault)
+unrefused_says came sent fault (inl s) m = unrefused_came came fault s.1 m
+unrefused_says came sent fault (inr s) m =
+    subst (λ (x : SessionFault). IsUnrefusedAt {T = Unit} (Err x)) (same_fault fault WriteFault (Err fault) refl s.0) tt
 
 store_came : (came : Result Resumed HostFault) (sent : List ℕ) (fault : SessionFault) → Says came sent (Err fault) → came ≡ Err host.Store → fault ≡ Store
 store_came came sent fault (inl s) e =
@@ -261,8 +246,8 @@ store_came came sent fault (inl s) e =
 store_came came sent fault (inr s) e = absurd (s.1 (ap text_of e))
 
 -- it rests where it stands
-rests_at : (all others : List (List ℕ)) (asked : List Batch) (i : Instance) (y z : History) (at : Place) (after : Standing) (new : Kept) (sent : List ℕ) (told : List Served) (hand : List ℕ → Type 0) (result : Result Unit SessionFault) → IsSettledAt all others asked i z at → RunsOver i.meaning (requests_of y.batches) told (requests_of z.batches) → IsAtRest at after new sent → ContinuesTo all others asked i y after new told hand result
-rests_at all others asked i y z at after new sent told hand result s r e = record {
+rests_at : (all others : List (List ℕ)) (asked : List Batch) (i : Instance) (y z : History) (at : Place) (after : Standing) (new : Kept) (sent : List ℕ) (told : List Served) (hand : List ℕ → Type 0) (result : Result Unit SessionFault) → IsSettledAt all others asked i z at → RunsOver i.meaning (requests_of y.batches) told (requests_of z.batches) → IsAtRest at after new sent → IsUnrefusedAt result → ContinuesTo all others asked i y after new told hand result
+rests_at all others asked i y z at after new sent told hand result s r e u = record {
   after = z;
   stands = subst (λ (x : Standing). StandsFor i x z) (sym e.platform) s.stands;
   within = s.within;
@@ -273,16 +258,17 @@ rests_at all others asked i y z at after new sent told hand result s r e = recor
   requests = requests_of z.batches;
   run = r;
   committed = inl refl;
+  unrefused = u;
 }
 
-line_committed : (z after : History) (line : List ℕ) (came : Result Resumed HostFault) (sent : List ℕ) (fault : SessionFault) (hand : List ℕ → Type 0) → hand line → Says came sent (Err fault) → (after.batches ≡ z.batches) ⊎ ((after.batches ≡ z.batches ++ One line ∷ []) × MayCommit came)
+line_committed : (z after : History) (line : List ℕ) (came : Result Resumed HostFault) (sent : List ℕ) (fault : SessionFault) (hand : List ℕ → Type 0) → hand line → Says came sent (Err fault) → IsUnrefused came → (after.batches ≡ z.batches) ⊎ (after.batches ≡ z.batches ++ One line ∷ [])
     → (requests_of after.batches ≡ requests_of z.batches) ⊎ HasUntold hand (Err fault) (requests_of z.batches) (requests_of after.batches)
-line_committed z after line came sent fault hand h s (inl same) = inl (ap requests_of same)
-line_committed z after line came sent fault hand h s (inr more) = inr (record {
+line_committed z after line came sent fault hand h s u (inl same) = inl (ap requests_of same)
+line_committed z after line came sent fault hand h s u (inr more) = inr (record {
   request = line;
   in_hand = h;
-  untold = untold came sent fault s more.1;
-  grown = ap requests_of more.0 ∙ requests-push z.batches (One line);
+  untold = untold came sent fault s u;
+  grown = ap requests_of more ∙ requests-push z.batches (One line);
 })
 
 stops_in : (meaning : Meaning) → IsLawful meaning → (key : List ℕ) (all others : List (List ℕ)) (asked : List Batch) (y z : History) (number : ℕ) (at : Place) (after : Standing) (new : Kept) (more rest sent : List ℕ) (told : List Served) (hand : List ℕ → Type 0) (fault : SessionFault)
@@ -305,7 +291,8 @@ stops_in meaning lawful key all others asked y z number at after new more rest s
       whole = λ n. l.whole (λ (c : e.came ≡ Err host.Store). n (ap (λ (x : SessionFault). Err x) (store_came e.came sent fault e.says c)));
       requests = requests_of z.batches;
       run = r;
-      committed = line_committed z l.after e.line e.came sent fault hand (in_hand e.line e.held e.begins) e.says l.grown;
+      committed = line_committed z l.after e.line e.came sent fault hand (in_hand e.line e.held e.begins) e.says l.unrefused l.grown;
+      unrefused = unrefused_says e.came sent fault e.says l.unrefused;
     }
 
 stops_by : (meaning : Meaning) → IsLawful meaning → (key : List ℕ) (all others : List (List ℕ)) (asked : List Batch) (y z : History) (number : ℕ) (at : Place) (after : Standing) (new : Kept) (left : Option (List ℕ)) (more rest sent : List ℕ) (told : List Served) (hand : List ℕ → Type 0) (fault : SessionFault)
@@ -316,16 +303,16 @@ stops_by meaning lawful key all others asked y z number at after new left more r
 stops_by meaning lawful key all others asked y z number at after new left more rest sent told hand Store clear apart s r f h e = stops_in meaning lawful key all others asked y z number at after new more rest sent told hand Store clear apart s r f h e
 stops_by meaning lawful key all others asked y z number at after new left more rest sent told hand (Refused why) clear apart s r f h e = stops_in meaning lawful key all others asked y z number at after new more rest sent told hand (Refused why) clear apart s r f h e
 stops_by meaning lawful key all others asked y z number at after new left more rest sent told hand WriteFault clear apart s r f h e = stops_in meaning lawful key all others asked y z number at after new more rest sent told hand WriteFault clear apart s r f h e
-stops_by meaning lawful key all others asked y z number at after new left more rest sent told hand ReadFault clear apart s r f h e = rests_at all others asked (basic meaning key) y z at after new sent told hand (Err ReadFault) s r e.0
-stops_by meaning lawful key all others asked y z number at after new left more rest sent told hand (BadLine line) clear apart s r f h e = rests_at all others asked (basic meaning key) y z at after new sent told hand (Err (BadLine line)) s r e.0
-stops_by meaning lawful key all others asked y z number at after new left more rest sent told hand (LineLong line) clear apart s r f h e = rests_at all others asked (basic meaning key) y z at after new sent told hand (Err (LineLong line)) s r e.0
-stops_by meaning lawful key all others asked y z number at after new left more rest sent told hand TooMuch clear apart s r f h e = rests_at all others asked (basic meaning key) y z at after new sent told hand (Err TooMuch) s r e.0
+stops_by meaning lawful key all others asked y z number at after new left more rest sent told hand ReadFault clear apart s r f h e = rests_at all others asked (basic meaning key) y z at after new sent told hand (Err ReadFault) s r e.0 tt
+stops_by meaning lawful key all others asked y z number at after new left more rest sent told hand (BadLine line) clear apart s r f h e = rests_at all others asked (basic meaning key) y z at after new sent told hand (Err (BadLine line)) s r e.0 tt
+stops_by meaning lawful key all others asked y z number at after new left more rest sent told hand (LineLong line) clear apart s r f h e = rests_at all others asked (basic meaning key) y z at after new sent told hand (Err (LineLong line)) s r e.0 tt
+stops_by meaning lawful key all others asked y z number at after new left more rest sent told hand TooMuch clear apart s r f h e = rests_at all others asked (basic meaning key) y z at after new sent told hand (Err TooMuch) s r e.0 tt
 
 ends_by : (meaning : Meaning) → IsLawful meaning → (key : List ℕ) (all others : List (List ℕ)) (asked : List Batch) (y z : History) (number : ℕ) (at : Place) (after : Standing) (new : Kept) (left : Option (List ℕ)) (more rest sent : List ℕ) (told : List Served) (hand : List ℕ → Type 0) (result : Result Unit SessionFault)
     → IsClear all → AreNoGuards (basic meaning key).barrier others asked → IsSettledAt all others asked (basic meaning key) z at → RunsOver meaning (requests_of y.batches) told (requests_of z.batches)
     → AreToFollow all asked meaning.id z.batches (lines_of (more ++ rest)) → ((line held : List ℕ) → BeginsWith more line held → hand line)
     → Ends Basic meaning number at after new left more sent result → ContinuesTo all others asked (basic meaning key) y after new told hand result
-ends_by meaning lawful key all others asked y z number at after new left more rest sent told hand (Ok it) clear apart s r f h e = rests_at all others asked (basic meaning key) y z at after new sent told hand (Ok it) s r e.0
+ends_by meaning lawful key all others asked y z number at after new left more rest sent told hand (Ok it) clear apart s r f h e = rests_at all others asked (basic meaning key) y z at after new sent told hand (Ok it) s r e.0 tt
 ends_by meaning lawful key all others asked y z number at after new left more rest sent told hand (Err fault) clear apart s r f h e = stops_by meaning lawful key all others asked y z number at after new left more rest sent told hand fault clear apart s r f h e
 
 -- what is told of an input is what was taken of it and what is left
@@ -370,12 +357,11 @@ serves_on meaning lawful key all others asked y slots before after old new input
     a.follow (λ (line held : List ℕ) (w : BeginsWith l.more line held). (held, w)) l.ends
 
 -- what waited, where the session stops at once
-waiting_committed : (y after : History) (waiting : Option Pending) (begun : Result Resumed HostFault) (sent : List ℕ) (fault : SessionFault) (hand : List ℕ → Type 0) → ((p : Pending) → waiting ≡ Some p → hand p.request) → Says begun sent (Err fault) → IsGrown y waiting after → (after.batches ≡ y.batches) ⊎ MayCommit begun
+waiting_committed : (y after : History) (waiting : Option Pending) (begun : Result Resumed HostFault) (sent : List ℕ) (fault : SessionFault) (hand : List ℕ → Type 0) → ((p : Pending) → waiting ≡ Some p → hand p.request) → Says begun sent (Err fault) → IsGrown y waiting after → IsUnrefused begun
     → (requests_of after.batches ≡ requests_of y.batches) ⊎ HasUntold hand (Err fault) (requests_of y.batches) (requests_of after.batches)
 waiting_committed y after None begun sent fault hand h s g o = inl (ap requests_of g)
 waiting_committed y after (Some p) begun sent fault hand h s (inl same) o = inl (ap requests_of same)
-waiting_committed y after (Some p) begun sent fault hand h s (inr more) (inl same) = inl (ap requests_of same)
-waiting_committed y after (Some p) begun sent fault hand h s (inr more) (inr may) = inr (record {
+waiting_committed y after (Some p) begun sent fault hand h s (inr more) may = inr (record {
   request = p.request;
   in_hand = h p refl;
   untold = untold begun sent fault s may;
@@ -385,18 +371,21 @@ waiting_committed y after (Some p) begun sent fault hand h s (inr more) (inr may
 stops_first : (meaning : Meaning) (key : List ℕ) (all others : List (List ℕ)) (asked : List Batch) (y : History) (slots : Slots) (waiting : Option Pending) (standing : Standing) (kept : Kept) (begun : Result Resumed HostFault) (sent : List ℕ) (fault : SessionFault) (hand : List ℕ → Type 0) → ((p : Pending) → waiting ≡ Some p → hand p.request)
     → RecoversTo all others asked (basic meaning key) y slots waiting standing kept begun → Says begun sent (Err fault)
     → ContinuesTo all others asked (basic meaning key) y standing kept [] hand (Err fault)
-stops_first meaning key all others asked y slots waiting standing kept begun sent fault hand h r s = record {
-  after = r.after;
-  stands = r.stands;
-  within = r.within;
-  slots_after = r.slots_after;
-  slots_told = r.told;
-  fits = λ n. r.fits;
-  whole = λ n. r.fits;
-  requests = requests_of y.batches;
-  run = refl;
-  committed = waiting_committed y r.after waiting begun sent fault hand h s r.grown r.only;
-}
+stops_first meaning key all others asked y slots waiting standing kept begun sent fault hand h r s =
+    let unrefused : IsUnrefused begun = unrefused_of meaning key y slots waiting r.after begun r.comes in
+    record {
+      after = r.after;
+      stands = r.stands;
+      within = r.within;
+      slots_after = r.slots_after;
+      slots_told = r.told;
+      fits = λ n. r.fits;
+      whole = λ n. r.fits;
+      requests = requests_of y.batches;
+      run = refl;
+      committed = waiting_committed y r.after waiting begun sent fault hand h s r.grown unrefused;
+      unrefused = unrefused_says begun sent fault s unrefused;
+    }
 
 stops_at_once : (meaning : Meaning) (key : List ℕ) (all others : List (List ℕ)) (asked : List Batch) (y : History) (slots : Slots) (waiting : Option Pending) (platform after : Standing) (store new : Kept) (begun : Result Resumed HostFault) (taken sent : List ℕ) (result : Result Unit SessionFault) (hand : List ℕ → Type 0) → ((p : Pending) → waiting ≡ Some p → hand p.request)
     → RecoversTo all others asked (basic meaning key) y slots waiting platform store begun → after ≡ platform → new ≡ store → StopsAtOnce begun taken sent result

@@ -102,6 +102,18 @@ MayBeUntold (Err (LineLong line)) = ⊥
 MayBeUntold (Err (BadLine line)) = ⊥
 MayBeUntold (Err TooMuch) = ⊥
 
+-- It is refused only for a device's fault.
+abbrev pub IsUnrefusedAt : {T : Type 0} → Result T SessionFault → Type 0
+IsUnrefusedAt (Ok it) = Unit {0}
+IsUnrefusedAt (Err Memory) = Unit {0}
+IsUnrefusedAt (Err Store) = Unit {0}
+IsUnrefusedAt (Err (Refused why)) = IsSome (fault_of why)
+IsUnrefusedAt (Err WriteFault) = Unit {0}
+IsUnrefusedAt (Err ReadFault) = Unit {0}
+IsUnrefusedAt (Err (LineLong line)) = Unit {0}
+IsUnrefusedAt (Err (BadLine line)) = Unit {0}
+IsUnrefusedAt (Err TooMuch) = Unit {0}
+
 -- one request more than those told is committed, the one in hand
 pub record HasUntold (hand : List ℕ → Type 0) (result : Result Unit SessionFault) (requests after : List (List ℕ)) : Type 0 where
   pub request : List ℕ
@@ -110,7 +122,8 @@ pub record HasUntold (hand : List ℕ → Type 0) (result : Result Unit SessionF
   pub grown : after ≡ requests ++ request ∷ []
 
 -- From a history: what was told is one run of the module behind the history's requests. The platform stands for a history
--- of that run's requests, or of those and the one in hand. The slots fit it, so that the session may be gone on with.
+-- of that run's requests, or of those and the one in hand. The slots fit it, so that the session may be gone on with. No
+-- refusal comes but for a device's fault.
 pub record ContinuesTo (all others : List (List ℕ)) (asked : List Batch) (i : Instance) (y : History) (standing : Standing) (kept : Kept) (told : List Served) (hand : List ℕ → Type 0) (result : Result Unit SessionFault) : Type 0 where
   pub after : History
   pub stands : StandsFor i standing after
@@ -122,6 +135,7 @@ pub record ContinuesTo (all others : List (List ℕ)) (asked : List Batch) (i : 
   pub requests : List (List ℕ)
   pub run : RunsOver i.meaning (requests_of y.batches) told requests
   pub committed : (requests_of after.batches ≡ requests) ⊎ HasUntold hand result requests (requests_of after.batches)
+  pub unrefused : IsUnrefusedAt result
 
 -- Over a platform of Basic, an honest store and an input that tell what they hold: by whatever steps the session went, from
 -- every history under every key.

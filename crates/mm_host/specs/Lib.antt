@@ -13,5 +13,6 @@ pub mod Serving
 pub mod Sessions
 pub mod Turns
 pub mod SessionBlame
-pub mod SlotLaws
 pub mod Continuing
+pub mod SessionLines
+pub mod SlotLaws

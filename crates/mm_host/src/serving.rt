@@ -9,6 +9,7 @@ ghost use Rattle.mm_host.specs.Continuing.{Continues};
 ghost use Rattle.mm_host.specs.Saying.{IsSized, Tells, position_at, snapshot_at};
 ghost use Rattle.mm_host.specs.Serving.{AsksLine};
 ghost use Rattle.mm_host.specs.SessionBlame.{IsRefusalNamed, is_platform_fault, is_read_fault, is_store_fault, is_write_fault};
+ghost use Rattle.mm_host.specs.SessionLines.{SparesLines};
 ghost use Rattle.mm_host.specs.Sessions.{ServesLines, Sessions};
 ghost use Rattle.mm_host.specs.Turns.{AsksAndTells, ServesInput, TakesLine, Turns};
 
@@ -51,6 +52,7 @@ pub fn session<M: Module, P: Platform, T: Store, S: Source, K: Sink>(
     ensures read { IsBlamed (is_read_fault result) (S.faults input.old) (S.faults input.new) }
     ensures wrote { IsBlamed (is_write_fault result) (K.faults out.old) (K.faults out.new) }
     ensures named { IsRefusalNamed result }
+    ensures lines { SparesLines (S.left input.old) result }
     ensures continues { Continues variant (M.meaning «module».now) (P.standing platform.old) (P.standing platform.new)
         (T.kept store.old) (T.kept store.new) (S.left input.old) (S.left input.new)
         (K.received out.old) (K.received out.new) result }

@@ -1,5 +1,6 @@
 use Rattle.mm_host.proofs.SessionBlaming.{session_told}
 use Rattle.mm_host.proofs.SessionRuns.{continues}
+use Rattle.mm_host.proofs.SparingLines.{spares_lines}
 use Rattle.mm_host.proofs.serving.session.Goals as goal
 
 pub returns-clause-platform : goal.returns-clause-platform
@@ -14,3 +15,6 @@ returns-clause-named g c = (session_told _ _ _ _ _ _ _ _ _ _ _ c.session_by_step
 pub returns-clause-continues : goal.returns-clause-continues
 returns-clause-continues g c =
     continues c.args.variant (g.M.Module.meaning c.args.module.now) (g.met.M.Module.is_lawful c.args.module.now) _ _ _ _ _ _ _ _ c.session_by_steps.result
+
+pub returns-clause-lines : goal.returns-clause-lines
+returns-clause-lines g c = spares_lines _ _ _ _ _ _ _ _ _ _ _ c.session_by_steps.ensures.sessions

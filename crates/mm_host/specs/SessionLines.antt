@@ -1,0 +1,30 @@
+-- When the lines of an input are to blame for a session's end.
+use Rattle.std.specs.Prelude.{◌≡◌, ◌≤◌, ℕ, List, [], length, Option, Some, Result, Ok, Err}
+use Rattle.std.specs.List.{AllByRecursion}
+use Rattle.mm_base.specs.Input.{lines_of, tail_of}
+use Rattle.mm_host.specs.declared.fault.SessionFault.{SessionFault}
+use Rattle.mm_host.specs.declared.fault.SessionFault.TheVariants.{Memory, Store, Refused, ReadFault, WriteFault, LineLong, BadLine, TooMuch}
+use Rattle.mm_host.specs.Serving.{line_limit}
+use Rattle.mm_host.specs.Sessions.{most_lines}
+
+-- Each line has its LF and no more bytes than a line may have, and there are no more lines than there may be.
+pub record AreWithin (input : List ℕ) : Type 0 where
+  pub whole : tail_of input ≡ []
+  pub short : AllByRecursion (λ line. length line ≤ line_limit) (lines_of input)
+  pub few : length (lines_of input) ≤ most_lines
+
+-- no line is to blame
+abbrev pub IsNoLines : {T : Type 0} → Result T SessionFault → Type 0
+IsNoLines (Ok it) = Unit {0}
+IsNoLines (Err Memory) = Unit {0}
+IsNoLines (Err Store) = Unit {0}
+IsNoLines (Err (Refused why)) = Unit {0}
+IsNoLines (Err ReadFault) = Unit {0}
+IsNoLines (Err WriteFault) = Unit {0}
+IsNoLines (Err (LineLong line)) = ⊥
+IsNoLines (Err (BadLine line)) = ⊥
+IsNoLines (Err TooMuch) = ⊥
+
+-- An input that tells its bytes, whose lines are within the limits, isn't blamed for them.
+abbrev pub SparesLines : Option (List ℕ) → Result Unit SessionFault → Type 0
+SparesLines left result = (input : List ℕ) → left ≡ Some input → AreWithin input → IsNoLines result
