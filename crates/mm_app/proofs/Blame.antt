@@ -44,7 +44,7 @@ use Rattle.mm_app.specs.Commands.{Does, DoesOrLacks, Reads, UsesPlatform, UsesSt
 use Rattle.mm_store.specs.Kept.{Kept}
 use Rattle.mm_app.specs.Outside.{Outside, IsStill}
 use Rattle.mm_app.specs.Power.{power_told}
-use Rattle.mm_app.specs.Running.{AfterLooking, FindsInstance, SeesInstance, headed, instance_of, refused_at, session_status}
+use Rattle.mm_app.specs.Running.{AfterLooking, FindsInstance, headed, instance_of, refused_at, session_status}
 use Rattle.mm_app.specs.Starting.{init_told}
 use Rattle.mm_app.specs.Status.{status_of}
 use Rattle.mm_app.specs.Telling.{EndsAtOnce, GivesText, Stops, StopsAs, Tells, status_by}

@@ -1,7 +1,9 @@
 -- What the command `run` does.
 use Rattle.std.specs.Prelude.{◌≡◌, ℕ, List, Option, None, Some, Result, Ok, Err}
 use Rattle.mm_digest.specs.declared.variant.Variant.{Variant}
+use Rattle.mm_host.specs.Continuing.{Continues}
 use Rattle.mm_host.specs.SessionBlame.{IsRefusalNamed, is_platform_fault, is_read_fault, is_store_fault, is_write_fault}
+use Rattle.mm_host.specs.SessionLines.{SparesLines}
 use Rattle.mm_host.specs.Sessions.{Sessions}
 use Rattle.mm_host.specs.declared.fault.SessionFault.{SessionFault}
 use Rattle.mm_host.specs.declared.fault.SessionFault.TheVariants as session
@@ -74,11 +76,13 @@ pub record LooksAtInstance (before after : Standing) (found : Result Header Stat
   pub goes : Goes ReadCell before after fault
   pub finds : FindsInstance fault before found
 
--- A session over the instance, which ended with an answer of this status. Each count of faults rose exactly where its
--- object is to blame for it.
+-- A session over the instance, which ended with an answer of this status: its steps; that lines within the limits aren't to
+-- blame; and from which history to which it went, by one run of the module, with slots to go on from. Each count of faults rose exactly where its object is to blame.
 pub record Served (header : Header) (before after : Standing) (old new : Kept) (left left' received received' : Option (List ℕ)) (reads reads' writes writes' : ℕ) (status : Status) : Type 0 where
   pub answer : Result (Unit {0}) SessionFault
   pub sessions : Sessions header.variant (meaning_of header.module) before after old new left left' received received' answer
+  pub lines : SparesLines left answer
+  pub continues : Continues header.variant (meaning_of header.module) before after old new left left' received received' answer
   pub platform : IsBlamed (is_platform_fault answer) before.faults after.faults
   pub store : IsBlamed (is_store_fault answer) old.faults new.faults
   pub read : IsBlamed (is_read_fault answer) reads reads'
