@@ -1,0 +1,4 @@
+pub mod KeptLaws
+pub mod MarkLaws
+pub mod Settling
+pub mod Walking

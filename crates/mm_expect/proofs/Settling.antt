@@ -1,0 +1,122 @@
+-- What the fields of a chronicle keep goes on with its moves.
+use Rattle.std.proofs.Common.{◌≡◌, ℕ, true, false, List, [], ◌∷◌, ◌++◌, length, sym, ap, ◌∙◌, subst}
+use Rattle.std.specs.Prelude.{IsTrue, nat_le}
+use Rattle.std.proofs.lemmas.List.{same_from_push}
+use Rattle.mm_digest.specs.declared.variant.Variant.{Variant}
+use Rattle.mm_digest.specs.declared.variant.Variant.TheVariants.{Basic, Opt}
+use Rattle.mm_module.specs.Batch.{Batch, members_of, size_of}
+use Rattle.mm_module.specs.Meaning.{state_from, state_after}
+use Rattle.mm_module.proofs.RunLaws.{state_after-append, state_from-is_spelled}
+use Rattle.mm_modules.specs.declared.any.AnyModule.{AnyModule}
+use Rattle.mm_modules.specs.Modules.{meaning_of}
+use Rattle.mm_modules.specs.ModulesLaws.{any_is_lawful}
+use Rattle.mm_model.specs.Chains.{guard, register_of}
+use Rattle.mm_model.specs.History.{History, Value, requests_of, values_of, renamed, committed}
+use Rattle.mm_model.specs.Life.{is_empty, has_value}
+use Rattle.mm_call.proofs.Calling.{requests-push}
+use Rattle.mm_expect.specs.declared.marks.Marks.{Marks}
+use Rattle.mm_expect.specs.Marks.{marks_of, with_value, emptied, closed_by, linked, grown, opened}
+use Rattle.mm_expect.specs.Recorded.{barrier_of, instance_with}
+use Rattle.mm_expect.specs.Settled.{IsSettled}
+use Rattle.mm_expect.proofs.MarkLaws.{marks_value, marks_emptied, marks_shut, marks_linked, marks_grown, marks_opened}
+
+spelled_same : («module» : AnyModule) (next state : List ℕ) (members : List (List ℕ)) → next ≡ state_from (meaning_of «module») state members
+    → IsTrue ((meaning_of «module»).is_spelled state) → IsTrue ((meaning_of «module»).is_spelled next)
+spelled_same «module» next state members run spelled =
+    let P : List ℕ → Type 0 = λ v. IsTrue ((meaning_of «module»).is_spelled v) in
+    subst P (sym run) (state_from-is_spelled (meaning_of «module») (any_is_lawful «module») state members spelled)
+
+module _ (variant : Variant) («module» : AnyModule) (barrier : List ℕ) (y z : History) (old new : Marks) (state before : List ℕ) where
+  -- a move that commits nothing
+  settled_still : IsSettled variant «module» barrier y old state before → z.batches ≡ y.batches
+      → new ≡ marks_of (instance_with variant «module») z → IsSettled variant «module» barrier z new state before
+  settled_still s same marks = record {
+    barrier_is = s.barrier_is;
+    marks_is = marks;
+    state_is = s.state_is ∙ ap (λ (bs : List Batch). state_after (meaning_of «module») (requests_of bs)) (sym same);
+    before_is = λ front last e. s.before_is front last (sym same ∙ e);
+    spelled = s.spelled;
+    begun = s.begun;
+  }
+
+  pub settled_value : (v : List ℕ) → IsSettled variant «module» barrier y old state before → z ≡ record y { items = y.items ++ Value v ∷ [] }
+      → new ≡ with_value old v → IsSettled variant «module» barrier z new state before
+  settled_value v s is marks =
+      settled_still s (ap (λ (h : History). h.batches) is)
+      (marks ∙ ap (λ (m : Marks). with_value m v) s.marks_is ∙ sym (marks_value (instance_with variant «module») y v)
+      ∙ ap (marks_of (instance_with variant «module»)) (sym is))
+
+  pub settled_emptied : IsSettled variant «module» barrier y old state before → z ≡ record y { items = [] }
+      → new ≡ emptied old (is_empty z.current) → IsSettled variant «module» barrier z new state before
+  settled_emptied s is marks =
+      settled_still s (ap (λ (h : History). h.batches) is)
+      (marks ∙ ap (λ (m : Marks). emptied m (is_empty z.current)) s.marks_is
+      ∙ ap (λ (h : History). emptied (marks_of (instance_with variant «module») y) (is_empty h.current)) is
+      ∙ sym (marks_emptied (instance_with variant «module») y)
+      ∙ ap (marks_of (instance_with variant «module»)) (sym is))
+
+  pub settled_shut : IsSettled variant «module» barrier y old state before
+      → z ≡ record y { closed = y.closed ++ y.items ∷ []; current = []; is_open = false }
+      → new ≡ closed_by variant old (has_value y.items) (is_empty y.items) → IsSettled variant «module» barrier z new state before
+  settled_shut s is marks =
+      settled_still s (ap (λ (h : History). h.batches) is)
+      (marks ∙ ap (λ (m : Marks). closed_by variant m (has_value y.items) (is_empty y.items)) s.marks_is
+      ∙ sym (marks_shut (instance_with variant «module») y)
+      ∙ ap (marks_of (instance_with variant «module»)) (sym is))
+
+  -- the module's states after the batch, and before it
+  abbrev pub Ran : List ℕ → List ℕ → Batch → Type 0
+  Ran next kept b =
+      (next ≡ state_from (meaning_of «module») (state_after (meaning_of «module») (requests_of y.batches)) (members_of b)) × (kept ≡ state)
+
+  -- a batch is committed
+  settled_more : (b : Batch) (next kept : List ℕ) → IsSettled variant «module» barrier y old state before → z.batches ≡ y.batches ++ b ∷ []
+      → new ≡ marks_of (instance_with variant «module») z → Ran next kept b
+      → IsSettled variant «module» barrier z new next kept
+  settled_more b next kept s grows marks (run, was) =
+      let meaning = meaning_of «module» in
+      record {
+        barrier_is = s.barrier_is;
+        marks_is = marks;
+        state_is = run
+            ∙ sym (state_after-append meaning (requests_of y.batches) (members_of b))
+            ∙ ap (state_after meaning) (sym (requests-push y.batches b))
+            ∙ ap (λ (bs : List Batch). state_after meaning (requests_of bs)) (sym grows);
+        before_is = λ front last e. was ∙ s.state_is
+            ∙ ap (λ (bs : List Batch). state_after meaning (requests_of bs)) (same_from_push y.batches front b last (sym grows ∙ e)).0;
+        spelled = spelled_same «module» next state (members_of b) (run ∙ ap (λ (v : List ℕ). state_from meaning v (members_of b)) (sym s.state_is)) s.spelled;
+        begun = subst (λ (v : List ℕ). IsTrue (meaning.is_spelled v)) (sym was) s.spelled;
+      }
+
+  pub settled_linked : (b : Batch) (next kept : List ℕ) → IsSettled variant «module» barrier y old state before → variant ≡ Basic
+      → z ≡ committed Basic y.is_open y b → new ≡ linked old b → Ran next kept b
+      → IsSettled variant «module» barrier z new next kept
+  settled_linked b next kept s basic is marks run =
+      let i = instance_with variant «module» in
+      settled_more b next kept s (ap (λ (h : History). h.batches) is)
+      (marks ∙ ap (λ (m : Marks). linked m b) s.marks_is ∙ sym (marks_linked i y b basic) ∙ ap (marks_of i) (sym is)) run
+
+  pub settled_grown : (b : Batch) (next kept value : List ℕ) (size : ℕ) → IsSettled variant «module» barrier y old state before → variant ≡ Opt
+      → z ≡ committed Opt true y b → size ≡ size_of b → value ≡ guard (barrier_of variant) b → new ≡ grown old size value
+      → Ran next kept b → IsSettled variant «module» barrier z new next kept
+  settled_grown b next kept value size s opt is sized guards marks run =
+      let i = instance_with variant «module» in
+      settled_more b next kept s (ap (λ (h : History). h.batches) is)
+      (marks ∙ ap (λ (m : Marks). grown m size value) s.marks_is
+      ∙ ap (λ n. grown (marks_of i y) n value) sized
+      ∙ ap (λ v. grown (marks_of i y) (size_of b) v) guards
+      ∙ sym (marks_grown i y b opt) ∙ ap (marks_of i) (sym is)) run
+
+  pub settled_opened : (b : Batch) (next kept value register : List ℕ) (size : ℕ) → IsSettled variant «module» barrier y old state before → variant ≡ Opt
+      → z ≡ committed Opt false y b → size ≡ size_of b → value ≡ guard barrier b → register ≡ register_of (values_of barrier z.items)
+      → new ≡ opened old size value register (nat_le (length y.items) 1)
+      → Ran next kept b → IsSettled variant «module» barrier z new next kept
+  settled_opened b next kept value register size s opt is sized guards reads marks run =
+      let i = instance_with variant «module» in
+      settled_more b next kept s (ap (λ (h : History). h.batches) is)
+      (marks ∙ ap (λ (m : Marks). opened m size value register (nat_le (length y.items) 1)) s.marks_is
+      ∙ ap (λ n. opened (marks_of i y) n value register (nat_le (length y.items) 1)) sized
+      ∙ ap (λ v. opened (marks_of i y) (size_of b) v register (nat_le (length y.items) 1)) (guards ∙ ap (λ r. guard r b) s.barrier_is)
+      ∙ ap (λ v. opened (marks_of i y) (size_of b) (guard i.barrier b) v (nat_le (length y.items) 1))
+      (reads ∙ ap (λ r. register_of (values_of r z.items)) s.barrier_is ∙ ap (λ (h : History). register_of (values_of i.barrier h.items)) is)
+      ∙ sym (marks_opened i y b opt) ∙ ap (marks_of i) (sym is)) run

@@ -1,0 +1,235 @@
+//! A history with what it comes to.
+
+ghost use Rattle.std.specs.Prelude.{◌≡◌, ◌++◌, IfOk};
+ghost use Rattle.mm_digest.specs.Messages.{anchored_message};
+
+use crate::lists::Lists;
+use crate::marks::{Marks, guard};
+use mm_base::{Bytes, Memory};
+use mm_call::{Ran, run_batch};
+use mm_digest::{Digest, Variant};
+use mm_module::{Batch, Module};
+use mm_modules::AnyModule;
+use std::alloc::Global;
+use std::marker::Model;
+use std::mem;
+
+/// A history as lists, and beside it what would take long to find again. Contracts see the variant, the module and the
+/// history, and the messages of the moves since they were last taken out.
+#[derive(Drop)]
+pub(crate) struct Chronicle {
+    alloc: Global,
+    variant: Variant,
+    module: AnyModule,
+    barrier: [u8; 32],
+    lists: Lists,
+    marks: Marks,
+    /// The module's state.
+    state: Bytes,
+    /// The module's state before the last batch.
+    before: Bytes,
+    extending: Vec<Bytes>,
+    closing: Vec<Bytes>,
+}
+
+impl Model for Chronicle {
+    ghost use Rattle.mm_expect.specs.Recorded.{Recorded};
+    ghost use Rattle.mm_expect.specs.Settled.{IsSettled};
+
+    ghost Value = { Recorded };
+
+    ghost view = { λ s. record {
+      variant = s.variant;
+      «module» = s.«module»;
+      history = s.lists;
+      extending = s.extending.items;
+      closing = s.closing.items;
+    } };
+
+    ghost invariant = { λ s. IsSettled s.variant s.«module» s.barrier s.lists s.marks s.state s.before };
+}
+
+impl Chronicle {
+    ghost use Rattle.std.specs.Prelude.{◌≡◌, ◌++◌, ◌+◌, ◌<◌, ◌^◌, [], ◌∷◌, true, false, OnOk};
+    ghost use Rattle.mm_digest.specs.declared.variant.Variant.TheVariants.{Basic, Opt};
+    ghost use Rattle.mm_module.specs.Batch.{size_of};
+    ghost use Rattle.mm_module.specs.Batches.{batch_of};
+    ghost use Rattle.mm_model.specs.Chains.{guard};
+    ghost use Rattle.mm_model.specs.Long.{is_long};
+    ghost use Rattle.mm_model.specs.History.{Move, Commit, Foreign, Placed, Reset, Close, Power, committed, register_value_of, cell_digest_of, total_of};
+    ghost use Rattle.mm_expect.specs.Recorded.{Went, instance_of, extension_messages, closing_messages, state_after_batch};
+
+    // Lists the message by which the register takes in a value: none in Basic, which has no register.
+    fn tell_extension(&mut self, value: &Digest) -> Result<(), Memory>
+        ensures { OnOk result (self.new ≡ record self.old { extending = self.old.extending
+            ++ extension_messages self.old.variant (register_value_of (instance_of self.old) self.old.history) value.now.bytes }) }
+    {
+        if let Variant::Opt = self.variant {
+            let message = joined(self.alloc, &self.marks.register.bytes, &value.bytes)?;
+            self.extending.push(message)?;
+        }
+        Ok(())
+    }
+
+    /// Others put a value into the register.
+    pub(crate) fn bring(&mut self, value: &Digest) -> Result<(), Memory>
+        ensures { OnOk result (Went self.old self.new (Foreign value.now.bytes ∷ [])) }
+    {
+        self.tell_extension(value)?;
+        self.lists.take_in(value)?;
+        self.marks = self.marks.with_value(value);
+        Ok(())
+    }
+
+    /// The core puts the guard of a batch into the register, which isn't committed yet.
+    pub(crate) fn place(&mut self, batch: Batch<'_>) -> Result<(), Memory>
+        ensures { OnOk result (Went self.old self.new (Placed (batch_of batch.entry) ∷ [])) }
+    {
+        let value = guard(&self.barrier, batch);
+        self.bring(&value)
+    }
+
+    /// The register is emptied: by the core, or as power is lost.
+    pub(crate) fn empty(&mut self)
+        ensures reset { Went self.old self.new (Reset ∷ []) }
+        ensures power { Went self.old self.new (Power ∷ []) }
+    {
+        self.lists.empty();
+        self.marks = self.marks.emptied(self.lists.is_clear());
+    }
+
+    // Lists the message by which a segment is closed: none in Basic, which has no segments.
+    fn tell_closing(&mut self) -> Result<(), Memory>
+        ensures { OnOk result (self.new ≡ record self.old { closing = self.old.closing
+            ++ closing_messages self.old.variant (cell_digest_of (instance_of self.old) self.old.variant self.old.history)
+            (register_value_of (instance_of self.old) self.old.history) }) }
+    {
+        if let Variant::Opt = self.variant {
+            let message = anchored_message(self.alloc, &self.marks.cell, &self.marks.register)?;
+            self.closing.push(message)?;
+        }
+        Ok(())
+    }
+
+    /// The open segment is closed.
+    pub(crate) fn close(&mut self) -> Result<(), Memory>
+        ensures { OnOk result (Went self.old self.new (Close ∷ [])) }
+    {
+        self.tell_closing()?;
+        let has_value = self.lists.has_value();
+        let is_bare = self.lists.is_bare();
+        self.lists.close()?;
+        self.marks = self.marks.closed(self.variant, has_value, is_bare);
+        Ok(())
+    }
+
+    /// A batch is committed.
+    pub(crate) fn commit(&mut self, batch: Batch<'_>) -> Result<(), Memory>
+        requires { is_long (batch_of batch) ≡ false }
+        ensures { OnOk result (Went self.old self.new (Commit (batch_of batch.entry) ∷ [])) }
+    {
+        let Ran { state, .. } = run_batch(self.alloc, &self.module, self.state.as_slice(), batch)?;
+        let size = batch.len() as u64;
+        if size > u64::MAX - self.marks.total {
+            return Err(Memory);
+        }
+        match self.variant {
+            Variant::Basic => self.link(batch, size, state),
+            Variant::Opt => {
+                if self.lists.is_open() {
+                    self.grow(batch, size, state)
+                } else {
+                    self.begin_segment(batch, size, state)
+                }
+            }
+        }
+    }
+
+    // Basic: a batch of this size is committed, after which the module has this state.
+    fn link(&mut self, batch: Batch<'_>, size: u64, state: Bytes) -> Result<(), Memory>
+        requires variant { self.old.variant ≡ Basic }
+        requires size { size ≡ size_of (batch_of batch) }
+        requires fits { total_of self.old.history.batches + size < 2 ^ 64 }
+        requires state { state ≡ state_after_batch self.old (batch_of batch) }
+        ensures { OnOk result (Went self.old self.new (Commit (batch_of batch.entry) ∷ [])) }
+    {
+        self.lists.add(batch)?;
+        self.marks = self.marks.linked(batch, size);
+        self.before = mem::replace(&mut self.state, state);
+        Ok(())
+    }
+
+    // Opt, inside a segment: likewise.
+    fn grow(&mut self, batch: Batch<'_>, size: u64, state: Bytes) -> Result<(), Memory>
+        requires variant { self.old.variant ≡ Opt }
+        requires inside { self.old.history.is_open ≡ true }
+        requires size { size ≡ size_of (batch_of batch) }
+        requires fits { total_of self.old.history.batches + size < 2 ^ 64 }
+        requires state { state ≡ state_after_batch self.old (batch_of batch) }
+        ensures { OnOk result (Went self.old self.new (Commit (batch_of batch.entry) ∷ [])) }
+    {
+        let value = guard(&self.barrier, batch);
+        self.tell_extension(&value)?;
+        self.add_inside(batch, size, state, &value)
+    }
+
+    // The same, whose message is listed, by the batch's guard.
+    fn add_inside(
+        &mut self,
+        batch: Batch<'_>,
+        size: u64,
+        state: Bytes,
+        value: &Digest,
+    ) -> Result<(), Memory>
+        requires variant { self.old.variant ≡ Opt }
+        requires size { size ≡ size_of (batch_of batch) }
+        requires fits { total_of self.old.history.batches + size < 2 ^ 64 }
+        requires state { state ≡ state_after_batch self.old (batch_of batch) }
+        requires guards { value.now.bytes ≡ guard (instance_of self.old).barrier (batch_of batch) }
+        ensures { OnOk result (self.new ≡ record self.old { history = committed Opt true self.old.history (batch_of batch.entry) }) }
+    {
+        self.lists.add_inside(batch)?;
+        self.marks = self.marks.grown(size, value);
+        self.before = mem::replace(&mut self.state, state);
+        Ok(())
+    }
+
+    // Opt, with no segment open: likewise.
+    fn begin_segment(&mut self, batch: Batch<'_>, size: u64, state: Bytes) -> Result<(), Memory>
+        requires variant { self.old.variant ≡ Opt }
+        requires outside { self.old.history.is_open ≡ false }
+        requires size { size ≡ size_of (batch_of batch) }
+        requires fits { total_of self.old.history.batches + size < 2 ^ 64 }
+        requires state { state ≡ state_after_batch self.old (batch_of batch) }
+        ensures { OnOk result (Went self.old self.new (Commit (batch_of batch.entry) ∷ [])) }
+    {
+        let value = guard(&self.barrier, batch);
+        let is_alone = self.lists.is_alone();
+        self.lists.open(batch)?;
+        let register = self.lists.register(&self.barrier);
+        self.marks = self.marks.opened(size, &value, register, is_alone);
+        self.before = mem::replace(&mut self.state, state);
+        Ok(())
+    }
+}
+
+// The message by which a segment is closed: byte 03, the anchor and the register's value.
+fn anchored_message(alloc: Global, anchor: &Digest, register: &Digest) -> Result<Bytes, Memory>
+    ensures { IfOk result (λ bytes. bytes ≡ anchored_message anchor.now.bytes register.now.bytes) }
+{
+    let mut bytes = Bytes::with_capacity(alloc, 65)?;
+    bytes.push(3)?;
+    bytes.append(&anchor.bytes)?;
+    bytes.append(&register.bytes)?;
+    Ok(bytes)
+}
+
+// Two byte lists, one after the other.
+fn joined(alloc: Global, first: &[u8], second: &[u8]) -> Result<Bytes, Memory>
+    ensures { IfOk result (λ bytes. bytes ≡ first.now ++ second.now) }
+{
+    let mut bytes = Bytes::with_capacity(alloc, first.len() + second.len())?;
+    bytes.append(first)?;
+    bytes.append(second)?;
+    Ok(bytes)
+}
