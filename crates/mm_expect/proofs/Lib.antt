@@ -2,3 +2,6 @@ pub mod KeptLaws
 pub mod MarkLaws
 pub mod Settling
 pub mod Walking
+pub mod FindLaws
+pub mod Asking
+pub mod Flipping

@@ -1,6 +1,6 @@
 -- A chronicle goes on by moves, one after another.
 use Rattle.std.proofs.Common.{◌≡◌, ℕ, ◌+◌, ◌<◌, ◌≤◌, Bool, true, false, List, [], ◌∷◌, ◌++◌, length, map, take, get_or, filter, cond, Option, None, Some, refl, sym, ap, ◌∙◌, subst, append_assoc}
-use Rattle.std.specs.Prelude.{◌==◌, if◌then◌else◌}
+use Rattle.std.specs.Prelude.{◌==◌, if◌then◌else◌, Result, Ok, Err, OnOk, IfOk}
 use Rattle.std.proofs.lemmas.List.{append-nil, map-append, take_all}
 use Rattle.std.proofs.lemmas.List.Elements.{filter_more}
 use Rattle.mm_platform.specs.declared.fault.StepFault.{StepFault}
@@ -16,12 +16,15 @@ use Rattle.mm_model.specs.Instance.{Instance}
 use Rattle.mm_model.specs.History.{History, Move, Foreign, moved}
 use Rattle.mm_model.specs.Steps.{Step}
 use Rattle.mm_call.specs.Levels.{by_lists, all_made}
-use Rattle.mm_call.specs.Courses.{End, Done, Fails, Fate, Walked, step_moves, after_step, walk, planned, end_of}
+use Rattle.mm_call.specs.Courses.{End, Done, Fails, Fate, Walked, made_move, step_moves, after_step, walk, planned, end_of}
 use Rattle.mm_call.proofs.Walks.{made-append}
 use Rattle.mm_run.specs.Folds.{plan_of}
 use Rattle.mm_expect.specs.Numbered.{messages_if, messages_where}
 use Rattle.mm_expect.specs.Recorded.{Recorded, Went, instance_of, instance_with}
-use Rattle.mm_expect.specs.Walking.{Walks}
+use Rattle.mm_expect.specs.declared.course.Move as code
+use Rattle.mm_expect.specs.declared.course.Step as code_step
+use Rattle.mm_expect.specs.declared.course.Step.TheVariants.{Changes}
+use Rattle.mm_expect.specs.Walking.{move_of, step_of, steps_of, Walks}
 
 pub messages_where-append : (closing : Bool) (i : Instance) (xs ys : List Move) (y : History)
     → messages_where closing i y (xs ++ ys) ≡ messages_where closing i y xs ++ messages_where closing i (all_made (by_lists i) y xs) ys
@@ -76,28 +79,29 @@ kept_value m true = refl
 kept_value m false = refl
 
 -- the values that are due, one more meddle looked at
-due_taken : (step : ℕ) (meddles : List Meddle) (i : ℕ) (m : Meddle) (flag : Bool) → i < length meddles → m ≡ get_or meddles i m → (m.step == step) ≡ flag
-    → map Foreign (due step (take (i + 1) meddles)) ≡ map Foreign (due step (take i meddles)) ++ (if flag then Foreign m.value.bytes ∷ [] else [])
-due_taken step meddles i m flag l is e =
+due_taken : (step : ℕ) (meddles : List Meddle) (i : ℕ) (d : Meddle) (flag : Bool) → i < length meddles → ((get_or meddles i d).step == step) ≡ flag
+    → map Foreign (due step (take (i + 1) meddles)) ≡ map Foreign (due step (take i meddles)) ++ (if flag then Foreign (get_or meddles i d).value.bytes ∷ [] else [])
+due_taken step meddles i d flag l e =
+    let m : Meddle = get_or meddles i d in
     let p : Meddle → Bool = λ x. x.step == step in
     let v : Meddle → List ℕ = λ x. x.value.bytes in
     let front : List Meddle = filter p (take i meddles) in
     ap (λ (ms : List Meddle). map Foreign (map v ms))
-    (filter_more p meddles i m l ∙ ap (λ (x : Meddle). front ++ cond (p x) (x ∷ []) []) (sym is) ∙ ap (λ (b : Bool). front ++ cond b (m ∷ []) []) e)
+    (filter_more p meddles i d l ∙ ap (λ (b : Bool). front ++ cond b (m ∷ []) []) e)
     ∙ ap (map Foreign) (map-append v front (cond flag (m ∷ []) []) ∙ ap (λ (vs : List (List ℕ)). map v front ++ vs) (kept_value m flag))
     ∙ added (map v front) m.value.bytes flag
 
-pub bring_one : (a b c : Recorded) (step : ℕ) (meddles : List Meddle) (i : ℕ) (m : Meddle) → i < length meddles → m ≡ get_or meddles i m
-    → (m.step == step) ≡ true → Went a b (map Foreign (due step (take i meddles))) → Went b c (Foreign m.value.bytes ∷ [])
+pub bring_one : (a b c : Recorded) (step : ℕ) (meddles : List Meddle) (i : ℕ) (d : Meddle) → i < length meddles
+    → ((get_or meddles i d).step == step) ≡ true → Went a b (map Foreign (due step (take i meddles))) → Went b c (Foreign (get_or meddles i d).value.bytes ∷ [])
     → Went a c (map Foreign (due step (take (i + 1) meddles)))
-bring_one a b c step meddles i m l is e first second =
-    subst (Went a c) (sym (due_taken step meddles i m true l is e)) (went_then a b c _ _ first second)
+bring_one a b c step meddles i d l e first second =
+    subst (Went a c) (sym (due_taken step meddles i d true l e)) (went_then a b c _ _ first second)
 
-pub bring_none : (a b : Recorded) (step : ℕ) (meddles : List Meddle) (i : ℕ) (m : Meddle) → i < length meddles → m ≡ get_or meddles i m
-    → (m.step == step) ≡ false → Went a b (map Foreign (due step (take i meddles)))
+pub bring_none : (a b : Recorded) (step : ℕ) (meddles : List Meddle) (i : ℕ) (d : Meddle) → i < length meddles
+    → ((get_or meddles i d).step == step) ≡ false → Went a b (map Foreign (due step (take i meddles)))
     → Went a b (map Foreign (due step (take (i + 1) meddles)))
-bring_none a b step meddles i m l is e first =
-    subst (Went a b) (sym (due_taken step meddles i m false l is e ∙ append-nil _)) first
+bring_none a b step meddles i d l e first =
+    subst (Went a b) (sym (due_taken step meddles i d false l e ∙ append-nil _)) first
 
 -- the values that are due, when all meddles were looked at
 pub bring_all : (a b : Recorded) (step : ℕ) (meddles : List Meddle) (i : ℕ) → length meddles ≤ i
@@ -135,3 +139,22 @@ module _ (a b c : Recorded) (stop : Stop) (meddles : List Meddle) (n : ℕ) (ste
   walks_broken fault breaks first =
       let W : Option StepFault → Type 0 = λ f. Walks a c (after_step step (due n meddles) (end_of f (is_made_at stop n)) (walk fates (n + 1) later)) (Some fault) in
       subst W (sym breaks) (record { went = first; broken = refl })
+
+pub changes_then : {E : Type 0} (r : Result (Unit {0}) E) (a b c : Recorded) (action : code.Move) (made : Bool) (values : List (List ℕ)) (step : code_step.Step)
+    → step ≡ Changes action → OnOk r (Went b c (made_move made (move_of action))) → Went a b (map Foreign values)
+    → OnOk r (Went a c (step_moves (step_of step) made values))
+changes_then (Err e) a b c action made values step is second first = tt
+changes_then (Ok x) a b c action made values step is second first =
+    subst (λ (s : code_step.Step). Went a c (step_moves (step_of s) made values)) (sym is)
+    (went_then a b c (map Foreign values) (made_move made (move_of action)) first second)
+
+pub walks_on : {E : Type 0} (r : Result (Option StepFault) E) (a b c : Recorded) (stop : Stop) (meddles : List Meddle) (n : ℕ) (step : code_step.Step)
+    (later all : List code_step.Step) → all ≡ step ∷ later → fault_at stop n ≡ None → (made : Bool) → made ≡ is_made_at stop n
+    → Went a b (step_moves (step_of step) made (due n meddles))
+    → IfOk r (Walks b c (walk (planned (plan_of stop meddles)) (n + 1) (steps_of later)))
+    → IfOk r (Walks a c (walk (planned (plan_of stop meddles)) n (steps_of all)))
+walks_on (Err e) a b c stop meddles n step later all is whole made m first more = tt
+walks_on (Ok fault) a b c stop meddles n step later all is whole made m first more =
+    subst (λ (s : List code_step.Step). Walks a c (walk (planned (plan_of stop meddles)) n (steps_of s)) fault) (sym is)
+    (walks_whole a b c stop meddles n (step_of step) (steps_of later) fault whole
+    (subst (λ (x : Bool). Went a b (step_moves (step_of step) x (due n meddles))) m first) more)

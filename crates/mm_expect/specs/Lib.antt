@@ -4,3 +4,7 @@ pub mod Marks
 pub mod Recorded
 pub mod Settled
 pub mod Walking
+pub mod Calls
+pub mod Closings
+pub mod Asked
+pub mod OfferedBytes

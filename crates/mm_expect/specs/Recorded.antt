@@ -8,7 +8,7 @@ use Rattle.mm_module.specs.Meaning.{state_from, state_after}
 use Rattle.mm_modules.specs.declared.any.AnyModule.{AnyModule}
 use Rattle.mm_modules.specs.Modules.{meaning_of}
 use Rattle.mm_model.specs.Instance.{Instance}
-use Rattle.mm_model.specs.History.{History, Move, requests_of}
+use Rattle.mm_model.specs.History.{History, Move, requests_of, first_history}
 use Rattle.mm_call.specs.Levels.{by_lists, all_made}
 use Rattle.mm_run.specs.Held.{world_key, world_barrier}
 use Rattle.mm_expect.specs.Numbered.{messages_where}
@@ -38,6 +38,16 @@ instance_with variant «module» = record {
 
 abbrev pub instance_of : Recorded → Instance
 instance_of r = instance_with r.variant r.«module»
+
+-- the first one of a variant and a module
+abbrev pub first_recorded : Variant → AnyModule → Recorded
+first_recorded variant «module» = record {
+  variant = variant;
+  «module» = «module»;
+  history = first_history;
+  extending = [];
+  closing = [];
+}
 
 -- The chronicle went on by these moves, and their messages are put behind those that it has.
 pub record Went (old new : Recorded) (moves : List Move) : Type 0 where

@@ -1,13 +1,14 @@
 //! A history with what it comes to.
 
-ghost use Rattle.std.specs.Prelude.{◌≡◌, ◌++◌, IfOk};
-ghost use Rattle.mm_digest.specs.Messages.{anchored_message};
+ghost use Rattle.std.specs.Prelude.{◌≡◌};
 
+use crate::keys::barrier;
 use crate::lists::Lists;
 use crate::marks::{Marks, guard};
+use crate::messages::{anchored_message, joined};
 use mm_base::{Bytes, Memory};
 use mm_call::{Ran, run_batch};
-use mm_digest::{Digest, Variant};
+use mm_digest::{Digest, Variant, zero};
 use mm_module::{Batch, Module};
 use mm_modules::AnyModule;
 use std::alloc::Global;
@@ -18,18 +19,18 @@ use std::mem;
 /// history, and the messages of the moves since they were last taken out.
 #[derive(Drop)]
 pub(crate) struct Chronicle {
-    alloc: Global,
-    variant: Variant,
-    module: AnyModule,
-    barrier: [u8; 32],
-    lists: Lists,
-    marks: Marks,
+    pub(crate) alloc: Global,
+    pub(crate) variant: Variant,
+    pub(crate) module: AnyModule,
+    pub(crate) barrier: [u8; 32],
+    pub(crate) lists: Lists,
+    pub(crate) marks: Marks,
     /// The module's state.
-    state: Bytes,
+    pub(crate) state: Bytes,
     /// The module's state before the last batch.
-    before: Bytes,
-    extending: Vec<Bytes>,
-    closing: Vec<Bytes>,
+    pub(crate) before: Bytes,
+    pub(crate) extending: Vec<Bytes>,
+    pub(crate) closing: Vec<Bytes>,
 }
 
 impl Model for Chronicle {
@@ -50,14 +51,58 @@ impl Model for Chronicle {
 }
 
 impl Chronicle {
-    ghost use Rattle.std.specs.Prelude.{◌≡◌, ◌++◌, ◌+◌, ◌<◌, ◌^◌, [], ◌∷◌, true, false, OnOk};
+    ghost use Rattle.std.specs.Prelude.{◌≡◌, ◌++◌, ◌+◌, ◌<◌, ◌^◌, [], ◌∷◌, true, false, IfOk, OnOk};
     ghost use Rattle.mm_digest.specs.declared.variant.Variant.TheVariants.{Basic, Opt};
     ghost use Rattle.mm_module.specs.Batch.{size_of};
     ghost use Rattle.mm_module.specs.Batches.{batch_of};
     ghost use Rattle.mm_model.specs.Chains.{guard};
     ghost use Rattle.mm_model.specs.Long.{is_long};
     ghost use Rattle.mm_model.specs.History.{Move, Commit, Foreign, Placed, Reset, Close, Power, committed, register_value_of, cell_digest_of, total_of};
-    ghost use Rattle.mm_expect.specs.Recorded.{Went, instance_of, extension_messages, closing_messages, state_after_batch};
+    ghost use Rattle.mm_expect.specs.Recorded.{first_recorded, Went, instance_of, extension_messages, closing_messages, state_after_batch};
+
+    /// The first history of a variant and a module.
+    pub(crate) fn new(alloc: Global, variant: Variant, module: AnyModule) -> Result<Chronicle, Memory>
+        ensures { IfOk result (λ it. it ≡ first_recorded variant «module») }
+    {
+        let state = module.first_state(alloc)?;
+        let before = module.first_state(alloc)?;
+        let barrier = match variant {
+            Variant::Basic => zero().bytes,
+            Variant::Opt => barrier(),
+        };
+        Ok(Chronicle {
+            alloc,
+            variant,
+            module,
+            barrier,
+            lists: Lists::new(alloc),
+            marks: Marks::first(variant, module.id()),
+            state,
+            before,
+            extending: Vec::new(alloc),
+            closing: Vec::new(alloc),
+        })
+    }
+
+    /// Forgets the messages.
+    pub(crate) fn forget_messages(&mut self)
+        ensures { self.new ≡ record self.old { extending = []; closing = [] } }
+    {
+        self.extending.clear();
+        self.closing.clear();
+    }
+
+    /// Moves the messages behind these: those that extend the register, and then those that close a segment.
+    pub(crate) fn hand_messages(&mut self, messages: &mut Vec<Bytes>) -> Result<(), Memory>
+        ensures history { self.new.history ≡ self.old.history }
+        ensures variant { self.new.variant ≡ self.old.variant }
+        ensures module { self.new.«module» ≡ self.old.«module» }
+        ensures messages { OnOk result (messages.new.items ≡ messages.old.items ++ (self.old.extending ++ self.old.closing)) }
+    {
+        messages.append(&mut self.extending)?;
+        messages.append(&mut self.closing)?;
+        Ok(())
+    }
 
     // Lists the message by which the register takes in a value: none in Basic, which has no register.
     fn tell_extension(&mut self, value: &Digest) -> Result<(), Memory>
@@ -211,25 +256,4 @@ impl Chronicle {
         self.before = mem::replace(&mut self.state, state);
         Ok(())
     }
-}
-
-// The message by which a segment is closed: byte 03, the anchor and the register's value.
-fn anchored_message(alloc: Global, anchor: &Digest, register: &Digest) -> Result<Bytes, Memory>
-    ensures { IfOk result (λ bytes. bytes ≡ anchored_message anchor.now.bytes register.now.bytes) }
-{
-    let mut bytes = Bytes::with_capacity(alloc, 65)?;
-    bytes.push(3)?;
-    bytes.append(&anchor.bytes)?;
-    bytes.append(&register.bytes)?;
-    Ok(bytes)
-}
-
-// Two byte lists, one after the other.
-fn joined(alloc: Global, first: &[u8], second: &[u8]) -> Result<Bytes, Memory>
-    ensures { IfOk result (λ bytes. bytes ≡ first.now ++ second.now) }
-{
-    let mut bytes = Bytes::with_capacity(alloc, first.len() + second.len())?;
-    bytes.append(first)?;
-    bytes.append(second)?;
-    Ok(bytes)
 }

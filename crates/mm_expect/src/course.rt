@@ -43,8 +43,8 @@ fn fault_at(stop: Stop, step: u8) -> Option<StepFault>
     }
 }
 
-// Whether the step of this number has its effect.
-fn is_made_at(stop: Stop, step: u8) -> bool
+/// Whether the step of this number has its effect.
+pub(crate) fn is_made_at(stop: Stop, step: u8) -> bool
     ensures { result ≡ is_made_at stop step }
 {
     match stop {

@@ -1,9 +1,15 @@
 //! What is expected of a schedule, event by event: the fold by lists, which knows no digest, followed in code.
 #![tactic(auto)]
 
+mod answering;
+mod calls;
 mod chronicle;
 mod course;
+mod judging;
 mod kept;
 mod keys;
 mod lists;
 mod marks;
+mod messages;
+mod offered;
+mod replies;
