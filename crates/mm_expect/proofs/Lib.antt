@@ -5,3 +5,7 @@ pub mod Walking
 pub mod FindLaws
 pub mod Asking
 pub mod Flipping
+pub mod CheckLaws
+pub mod ComingLaws
+pub mod AfterLaws
+pub mod PrintLaws

@@ -8,3 +8,6 @@ pub mod Calls
 pub mod Closings
 pub mod Asked
 pub mod OfferedBytes
+pub mod Coming
+pub mod Traced
+pub mod Hears

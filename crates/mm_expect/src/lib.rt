@@ -5,6 +5,7 @@ mod answering;
 mod calls;
 mod chronicle;
 mod course;
+mod expecting;
 mod judging;
 mod kept;
 mod keys;
@@ -13,3 +14,5 @@ mod marks;
 mod messages;
 mod offered;
 mod replies;
+
+pub use expecting::{Expecting, Heard};
