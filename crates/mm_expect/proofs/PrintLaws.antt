@@ -104,7 +104,7 @@ ended_printable i lawful way y seen b (Ok f) walked same admits c None e =
     let ends = ends_by i y seen b f.again walked same (admits f refl) c e in
     told_printable i lawful (all_made (by_lists i) y walked.moves) b f.again ends.0 ends.1
 
-commits_any : (variant : Variant) (course : Course) (is_open fresh : Bool) (b : Batch) → Commits b fresh (walk course.fates 1 (ask_steps variant is_open fresh b))
+pub commits_any : (variant : Variant) (course : Course) (is_open fresh : Bool) (b : Batch) → Commits b fresh (walk course.fates 1 (ask_steps variant is_open fresh b))
 commits_any Basic course is_open fresh b = basic_commits course.fates is_open fresh b
 commits_any Opt course is_open fresh b =
     subst (λ s. Commits b fresh (walk course.fates 1 s)) (sym (asks is_open fresh b)) (opt_commits course.fates is_open fresh b)
