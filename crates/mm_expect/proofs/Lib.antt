@@ -5,3 +5,4 @@ pub mod Walking
 pub mod FindLaws
 pub mod Asking
 pub mod Flipping
+pub mod NameLaws

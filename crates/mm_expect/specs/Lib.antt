@@ -8,3 +8,4 @@ pub mod Calls
 pub mod Closings
 pub mod Asked
 pub mod OfferedBytes
+pub mod Naming

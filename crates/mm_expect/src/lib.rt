@@ -11,5 +11,6 @@ mod keys;
 mod lists;
 mod marks;
 mod messages;
+mod naming;
 mod offered;
 mod replies;
