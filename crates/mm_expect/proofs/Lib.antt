@@ -6,3 +6,4 @@ pub mod FindLaws
 pub mod Asking
 pub mod Flipping
 pub mod NameLaws
+pub mod GenuineLaws

@@ -9,3 +9,4 @@ pub mod Closings
 pub mod Asked
 pub mod OfferedBytes
 pub mod Naming
+pub mod Genuine
