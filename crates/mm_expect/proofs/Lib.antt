@@ -10,3 +10,5 @@ pub mod ComingLaws
 pub mod AfterLaws
 pub mod PrintLaws
 pub mod FewLaws
+pub mod NameLaws
+pub mod GenuineLaws

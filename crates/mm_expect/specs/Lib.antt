@@ -11,3 +11,5 @@ pub mod OfferedBytes
 pub mod Coming
 pub mod Traced
 pub mod Hears
+pub mod Naming
+pub mod Genuine

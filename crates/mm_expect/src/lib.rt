@@ -12,6 +12,7 @@ mod keys;
 mod lists;
 mod marks;
 mod messages;
+mod naming;
 mod offered;
 mod replies;
 
