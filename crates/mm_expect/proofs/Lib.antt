@@ -12,3 +12,4 @@ pub mod PrintLaws
 pub mod FewLaws
 pub mod NameLaws
 pub mod GenuineLaws
+pub mod JudgeLaws

@@ -13,3 +13,4 @@ pub mod Traced
 pub mod Hears
 pub mod Naming
 pub mod Genuine
+pub mod Judged
