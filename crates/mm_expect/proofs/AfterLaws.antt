@@ -61,15 +61,3 @@ event_state old new issued later event front back said comes kept =
       history = (comes.state ∙ ap (λ (o : Outcome History). o.state) same) j;
       issued = (kept ∙ sym comes.issued_is ∙ ap (λ (o : Outcome History). o.issued) same) j;
     }
-
-pub event_reply : (old new : Recorded) (issued : List (List ℕ)) (event : Event) (front back : List (List ℕ)) (said : Said)
-    → ComesTo old new issued event front back said
-    → said.reply ≡ (outcome_of (world_of (header_of old)) (by_lists (world_of (header_of old))) old.history issued event).reply
-event_reply old new issued event front back said comes =
-    comes.reply ∙ ap (λ (i : Instance). (outcome_of i (by_lists i) old.history issued event).reply) (instance_is (header_of old))
-
-pub event_messages_are : (old new : Recorded) (issued : List (List ℕ)) (event : Event) (front back : List (List ℕ)) (said : Said)
-    → ComesTo old new issued event front back said → front ≡ [] → back ≡ numbered_event (world_of (header_of old)) old.history issued event
-event_messages_are old new issued event front back said comes none =
-    comes.messages ∙ ap (λ v. v ++ numbered_event (instance_of old) old.history issued event) none
-    ∙ ap (λ (i : Instance). numbered_event i old.history issued event) (instance_is (header_of old))

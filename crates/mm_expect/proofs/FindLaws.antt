@@ -33,33 +33,6 @@ lost_when true false false marred = refl
 lost_when false bare own false = refl
 lost_when false bare own true = refl
 
-again_with : (offered : Content) (r : Result Bool Refusal) → again_in (found_with offered r) ≡ r
-again_with offered (Ok again) = refl
-again_with offered (Err why) = refl
-
-module _ (i : Instance) (y : History) (b : Batch) (bytes : List ℕ) where
-  pub found_lost : is_lost (life_of i.variant y) ≡ true → Err refusal.Lost ≡ again_in (found_at i (by_lists i) y b bytes)
-  found_lost lost =
-      sym (ap (λ (l : Bool). again_in (if l then Err refusal.Lost else found_from i (by_lists i) y b (parts_of i.variant i.meaning.id bytes))) lost)
-
-  found_parts : (parts : Result Snapshot PartsFault) → is_lost (life_of i.variant y) ≡ false → parts_of i.variant i.meaning.id bytes ≡ parts
-      → again_in (found_at i (by_lists i) y b bytes) ≡ again_in (found_from i (by_lists i) y b parts)
-  found_parts parts kept is =
-      ap (λ (l : Bool). again_in (if l then Err refusal.Lost else found_from i (by_lists i) y b (parts_of i.variant i.meaning.id bytes))) kept
-      ∙ ap (λ (p : Result Snapshot PartsFault). again_in (found_from i (by_lists i) y b p)) is
-
-  pub found_fault : (fault : PartsFault) (why : Refusal) → is_lost (life_of i.variant y) ≡ false → parts_of i.variant i.meaning.id bytes ≡ Err fault
-      → again_in (found_from i (by_lists i) y b (Err fault)) ≡ Err why → Err why ≡ again_in (found_at i (by_lists i) y b bytes)
-  found_fault fault why kept is e = sym (found_parts (Err fault) kept is ∙ e)
-
-  pub found_examined : (snapshot : Snapshot) (r : Result Bool Refusal) → is_lost (life_of i.variant y) ≡ false
-      → parts_of i.variant i.meaning.id bytes ≡ Ok snapshot
-      → r ≡ examined i.meaning i.key snapshot b (judge i.variant y snapshot.content.position b)
-      → r ≡ again_in (found_at i (by_lists i) y b bytes)
-  found_examined snapshot r kept is e =
-      e ∙ sym (again_with snapshot.content (examined i.meaning i.key snapshot b (judge i.variant y snapshot.content.position b)))
-      ∙ sym (found_parts (Ok snapshot) kept is)
-
 admitted_live : (life : Life) (here repeat fits again : Bool) → admitted (judged life here repeat) fits ≡ Ok again
     → (again ≡ false → here ≡ true) × (again ≡ true → repeat ≡ true)
 admitted_live Live here repeat fits again e = admitted_tells here repeat fits again e

@@ -6,7 +6,6 @@ pub mod FindLaws
 pub mod Asking
 pub mod Flipping
 pub mod CheckLaws
-pub mod ComingLaws
 pub mod AfterLaws
 pub mod PrintLaws
 pub mod FewLaws

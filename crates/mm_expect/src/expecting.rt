@@ -15,8 +15,8 @@ ghost use Rattle.mm_expect.specs.Recorded.{Went, instance_of};
 use crate::calls::Closing;
 use crate::chronicle::Chronicle;
 use crate::course::Course;
-use crate::keys::key;
 use crate::kept::normal;
+use crate::keys::key;
 use crate::messages::list_place;
 use crate::offered::offered;
 use crate::offers::{is_genuine, right_body};
@@ -163,7 +163,14 @@ fn ask(
             if is_long(&batch) {
                 return Ok(quiet(Reply::No(Cause::Long)));
             }
-            call(chronicle, key, course, found.bytes(), normal(batch), messages)
+            call(
+                chronicle,
+                key,
+                course,
+                found.bytes(),
+                normal(batch),
+                messages,
+            )
         }
     }
 }
@@ -308,12 +315,7 @@ impl Expecting {
         ensures printable { IfOk result (λ heard. IsPrintable heard.reply) }
         ensures grows { OnOk result (length self.new.issued ≤ length self.old.issued + 1) }
     {
-        let is_genuine = is_genuine(
-            &self.chronicle,
-            &self.key,
-            self.issued.as_slice(),
-            event,
-        )?;
+        let is_genuine = is_genuine(&self.chronicle, &self.key, self.issued.as_slice(), event)?;
         let mut messages = Vec::new(self.alloc);
         let Said { reply, snapshot } = follow(
             &mut self.chronicle,
