@@ -1,13 +1,22 @@
-// A library with one function.
+//! The check of a recorded run: whether the premises of the headline hold of it, and whether its replies are those that are
+//! expected.
 #![tactic(auto)]
 
-ghost use Rattle.std.specs.Prelude.{◌≡◌};
-ghost use Rattle.mm_check.specs.Echo.{echo_of};
+mod checking;
+mod comparing;
+mod deciding;
+mod difference;
+mod digests;
+mod guards;
+mod laws;
+mod lines;
+mod messages;
+mod nowhere;
+mod player;
+mod reading;
+mod texts;
+mod verdicts;
 
-// The `ensures` clause is the contract: what `echo` returns is `echo_of` of its argument, a definition
-// in `specs/Echo.antt`, which a caller's clause can cite too.
-pub fn echo(x: usize) -> usize
-    ensures { result ≡ echo_of x }
-{
-    x
-}
+pub use checking::check;
+pub use laws::premise_is_fixed;
+pub use verdicts::{Agreement, Premise, Verdicts};

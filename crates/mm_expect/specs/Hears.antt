@@ -1,8 +1,6 @@
 -- What an event comes to by lists, behind those that were followed so far.
-use Rattle.std.specs.Prelude.{◌≡◌, ℕ, ◌+◌, Bool, true, false, List, [], ◌∷◌, ◌++◌, map, length, Vec}
-use Rattle.mm_schedule.specs.declared.header.Header.{Header}
+use Rattle.std.specs.Prelude.{◌≡◌, Bool, true, false}
 use Rattle.mm_schedule.specs.Events.{Event}
-use Rattle.mm_schedule.specs.Replies.{IsPrintable}
 use Rattle.mm_model.specs.Instance.{Instance}
 use Rattle.mm_model.specs.History.{History}
 use Rattle.mm_call.specs.Levels.{by_lists}
@@ -10,11 +8,6 @@ use Rattle.mm_run.specs.Folds.{Followed, outcome_of}
 use Rattle.mm_run.specs.Premises.{IsGenuineEvent}
 use Rattle.mm_expect.specs.Numbered.{numbered_event}
 use Rattle.mm_expect.specs.declared.heard.Heard.{Heard}
-use Rattle.mm_expect.specs.declared.expecting.Expecting.{Expecting}
-
--- the lists of bytes
-abbrev pub lists_in : {A : Type 0} → List (Vec ℕ A) → List (List ℕ)
-lists_in {A} vecs = map (λ (v : Vec ℕ A). v.items) vecs
 
 -- the test tells whether it holds
 abbrev pub Tells : Bool → Type 0 → Type 0
@@ -24,10 +17,5 @@ Tells false fact = fact → ⊥
 -- the reply that is expected, the messages in the order of their numbers, and whether the offer is genuine
 pub record Hears (i : Instance) (before : Followed History) (event : Event) (heard : Heard) : Type 0 where
   pub reply : heard.reply ≡ (outcome_of i (by_lists i) before.state before.issued event).reply
-  pub printable : IsPrintable heard.reply
-  pub messages : lists_in heard.messages.items ≡ numbered_event i before.state before.issued event
+  pub messages : heard.messages.items ≡ numbered_event i before.state before.issued event
   pub genuine : Tells heard.is_genuine (IsGenuineEvent i before.state before.issued event)
-
--- It stands where the expected run of these events stands.
-pub record IsAfter (header : Header) (events : List Event) (it : Expecting) : Type 0 where
-  pub never : ⊥

@@ -1,36 +1,35 @@
--- The messages of an event in the order of their numbers.
-use Rattle.std.specs.Prelude.{ℕ, Bool, true, false, List, [], ◌∷◌, ◌++◌, if◌then◌else◌}
+-- The messages of an event, in the order of their numbers.
+use Rattle.std.specs.Prelude.{ℕ, Bool, true, false, List, [], ◌++◌, ◌∷◌}
 use Rattle.mm_model.specs.Instance.{Instance}
-use Rattle.mm_model.specs.History.{History, Move, Commit, Foreign, Placed, Reset, Close, Power, moved}
+use Rattle.mm_model.specs.History.{History, Move, Commit, Foreign, Placed, Reset, Close, Power as PowerMove, moved}
 use Rattle.mm_model.specs.Messages.{move_messages}
 use Rattle.mm_schedule.specs.Events.{Event}
-use Rattle.mm_run.specs.Premises.{event_messages, moves_of}
+use Rattle.mm_run.specs.Premises.{moves_of, event_messages}
 
--- whether a move closes a segment
-abbrev pub is_closing : Move → Bool
-is_closing (Commit b) = false
-is_closing (Foreign d) = false
-is_closing (Placed b) = false
-is_closing Reset = false
-is_closing Close = true
-is_closing Power = false
+-- the messages of a move, by whether those of moves that close a segment are asked for, or those of all others
+abbrev pub messages_if : Bool → Instance → History → Move → List (List ℕ)
+messages_if true i y Close = move_messages i y Close
+messages_if true i y (Commit b) = []
+messages_if true i y (Foreign v) = []
+messages_if true i y (Placed b) = []
+messages_if true i y Reset = []
+messages_if true i y PowerMove = []
+messages_if false i y Close = []
+messages_if false i y (Commit b) = move_messages i y (Commit b)
+messages_if false i y (Foreign v) = move_messages i y (Foreign v)
+messages_if false i y (Placed b) = move_messages i y (Placed b)
+messages_if false i y Reset = move_messages i y Reset
+messages_if false i y PowerMove = move_messages i y PowerMove
 
--- the messages by which moves extend the register, in order of time
-abbrev pub extending_messages : Instance → History → List Move → List (List ℕ)
-extending_messages i y [] = []
-extending_messages i y (m ∷ moves) =
-    (if is_closing m then [] else move_messages i y m) ++ extending_messages i (moved i y m) moves
+-- The messages of moves in two parts: of those that close a segment, and of all others, which extend the register; each in
+-- order of time.
+abbrev pub messages_where : Bool → Instance → History → List Move → List (List ℕ)
+messages_where closing i y [] = []
+messages_where closing i y (m ∷ moves) = messages_if closing i y m ++ messages_where closing i (moved i y m) moves
 
--- the messages by which moves close segments
-abbrev pub closings_messages : Instance → History → List Move → List (List ℕ)
-closings_messages i y [] = []
-closings_messages i y (m ∷ moves) =
-    (if is_closing m then move_messages i y m else []) ++ closings_messages i (moved i y m) moves
-
--- those of an event: what is asked of a right offer; then what extends the register; and last what closes a segment,
--- though the cell is written before others bring their values at that step
+-- The messages of an event in the order of their numbers: what is asked of a right offer; what extends the register; and
+-- last what closes a segment, though its step writes the cell before others bring their values there.
 abbrev pub numbered_event : Instance → History → List (List ℕ) → Event → List (List ℕ)
 numbered_event i y issued event =
     event_messages i issued event
-    ++ extending_messages i y (moves_of i y issued event)
-    ++ closings_messages i y (moves_of i y issued event)
+    ++ (messages_where false i y (moves_of i y issued event) ++ messages_where true i y (moves_of i y issued event))

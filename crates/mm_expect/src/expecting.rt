@@ -1,27 +1,38 @@
 //! The fold by lists.
 
-ghost use Rattle.std.specs.Prelude.{◌≡◌, ◌++◌, [], ◌∷◌, List, IfOk, OnOk};
+ghost use Rattle.std.specs.Prelude.{◌≡◌, ◌+◌, ◌-◌, ◌^◌, ◌<◌, ◌≤◌, ◌++◌, [], ◌∷◌, List, length, IfOk, OnOk};
 
 use crate::heard::Heard;
 use mm_base::Memory;
 use mm_schedule::{Event, Header};
 use std::alloc::Global;
+use std::marker::Model;
 
 /// Where the expected run of a schedule stands.
 #[derive(Drop)]
 pub struct Expecting {
-    committed: u64,
+    header: Header,
+}
+
+impl Model for Expecting {
+    ghost use Rattle.std.specs.Prelude.{[]};
+    ghost use Rattle.mm_expect.specs.Traced.{Traced};
+    ghost use Rattle.mm_model.specs.History.{first_history};
+    ghost Value = { Traced };
+
+    ghost view = { λ it. record { header = it.header; history = first_history; issued = [] } };
 }
 
 impl Expecting {
     ghost use Rattle.mm_schedule.specs.declared.header.Header as ghost_header;
     ghost use Rattle.mm_schedule.specs.Events as events;
     ghost use Rattle.mm_schedule.specs.Events.{event_of};
+    ghost use Rattle.mm_schedule.specs.Replies.{IsPrintable};
     ghost use Rattle.mm_run.specs.Folds.{expected};
     ghost use Rattle.mm_run.specs.Held.{world_of};
-    ghost use Rattle.mm_expect.specs.Hears.{Hears, IsAfter};
+    ghost use Rattle.mm_expect.specs.Hears.{Hears};
+    ghost use Rattle.mm_expect.specs.Traced.{IsAfter};
     ghost use Rattle.mm_model.specs.History.{total_of};
-    ghost use Rattle.std.specs.Prelude.{length};
 
     /// A run at its first event.
     pub fn begin(_alloc: Global, _header: &Header) -> Result<Expecting, Memory>
@@ -31,29 +42,32 @@ impl Expecting {
     }
 
     /// What the next event comes to.
-    pub fn event(&mut self, _alloc: Global, event: &Event) -> Result<Heard, Memory>
+    pub fn event(&mut self, event: &Event) -> Result<Heard, Memory>
+        requires { length self.old.issued < 2 ^ 32 - 1 }
         ensures heard { (header : ghost_header.Header) (before : List events.Event) → IsAfter header before self.old
             → IfOk result (λ heard. Hears (world_of header) (expected (world_of header) before) (event_of event.now) heard) }
         ensures after { (header : ghost_header.Header) (before : List events.Event) → IsAfter header before self.old
             → OnOk result (IsAfter header (before ++ event_of event.now ∷ []) self.new) }
+        ensures printable { IfOk result (λ heard. IsPrintable heard.reply) }
+        ensures grows { length self.new.issued ≤ length self.old.issued + 1 }
     {
-        self.committed = 0;
+        let _ = &self.header;
         Err(Memory)
     }
 
     /// How many requests were committed.
     pub fn committed(&self) -> u64
-        ensures { (header : ghost_header.Header) (before : List events.Event) → IsAfter header before self.now
-            → result ≡ total_of (expected (world_of header) before).state.batches }
+        ensures { result ≡ total_of self.now.history.batches }
     {
-        self.committed
+        let _ = &self.header;
+        0
     }
 
     /// How many snapshots were issued.
     pub fn issued(&self) -> u32
-        ensures { (header : ghost_header.Header) (before : List events.Event) → IsAfter header before self.now
-            → result ≡ length (expected (world_of header) before).issued }
+        ensures { result ≡ length self.now.issued }
     {
+        let _ = &self.header;
         0
     }
 }
