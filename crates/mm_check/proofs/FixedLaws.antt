@@ -194,22 +194,24 @@ no_zero i events clear = clear_no_zero (numbered i events) (clear_numbers i even
 
 -- what others bring
 
+any_first : (p : List ℕ → Bool) (x : List ℕ) (xs : List (List ℕ)) (here : Bool) → p x ≡ here
+    → (list_any p xs ≡ true → (y : List ℕ) × Contains xs y × (p y ≡ true)) → (here || list_any p xs) ≡ true → (y : List ℕ) × Contains (x ∷ xs) y × (p y ≡ true)
+any_first p x xs true e later g = (x, Contains-append_left (x ∷ []) xs x (Contains-push [] x), e)
+any_first p x xs false e later g = let f = later g in (f.0, Contains-append_right (x ∷ []) xs f.0 f.1, f.2)
+
 any_some : (p : List ℕ → Bool) (xs : List (List ℕ)) → list_any p xs ≡ true → (x : List ℕ) × Contains xs x × (p x ≡ true)
 any_some p [] h = absurd (cc)
-any_some p (x ∷ xs) h = by_first (p x) refl h
-  where
-    by_first : (here : Bool) → p x ≡ here → (here || list_any p xs) ≡ true → (y : List ℕ) × Contains (x ∷ xs) y × (p y ≡ true)
-    by_first true e g = (x, Contains-append_left (x ∷ []) xs x (Contains-push [] x), e)
-    by_first false e g = let f = any_some p xs g in (f.0, Contains-append_right (x ∷ []) xs f.0 f.1, f.2)
+any_some p (x ∷ xs) h = any_first p x xs (p x) refl (any_some p xs) h
+
+guard_first : (barrier d : List ℕ) (b : Batch) (batches : List Batch) (here : Bool) → bytes_eq d (guard barrier b) ≡ here
+    → (list_any (bytes_eq d) (own_values barrier batches) ≡ true → (c : Batch) × Contains batches c × (d ≡ guard barrier c))
+    → (here || list_any (bytes_eq d) (own_values barrier batches)) ≡ true → (c : Batch) × Contains (b ∷ batches) c × (d ≡ guard barrier c)
+guard_first barrier d b batches true e later g = (b, Contains-append_left (b ∷ []) batches b (Contains-push [] b), (bytes_eq-Decides d (guard barrier b)).0 e)
+guard_first barrier d b batches false e later g = let f = later g in (f.0, Contains-append_right (b ∷ []) batches f.0 f.1, f.2)
 
 guard_some : (barrier d : List ℕ) (batches : List Batch) → list_any (bytes_eq d) (own_values barrier batches) ≡ true → (b : Batch) × Contains batches b × (d ≡ guard barrier b)
 guard_some barrier d [] h = absurd (cc)
-guard_some barrier d (b ∷ batches) h = by_first (bytes_eq d (guard barrier b)) refl h
-  where
-    by_first : (here : Bool) → bytes_eq d (guard barrier b) ≡ here → (here || list_any (bytes_eq d) (own_values barrier batches)) ≡ true
-        → (c : Batch) × Contains (b ∷ batches) c × (d ≡ guard barrier c)
-    by_first true e g = (b, Contains-append_left (b ∷ []) batches b (Contains-push [] b), (bytes_eq-Decides d (guard barrier b)).0 e)
-    by_first false e g = let f = guard_some barrier d batches g in (f.0, Contains-append_right (b ∷ []) batches f.0 f.1, f.2)
+guard_some barrier d (b ∷ batches) h = guard_first barrier d b batches (bytes_eq d (guard barrier b)) refl (guard_some barrier d batches) h
 
 secured_some : (guards : List (List ℕ)) (es : List Event) (n : ℕ) → first_where (is_secured guards) es ≡ Some n
     → (d : List ℕ) × Contains (foreign_values es) d × (list_any (bytes_eq d) guards ≡ true)
@@ -282,16 +284,16 @@ record Facts (i : Instance) (es : List Event) (p : Premise) : Type 0 where
 some_none : {A : Type 0} (o : Option A) (x : A) → o ≡ Some x → o ≡ None → ⊥
 some_none o x s n = cc
 
-told_shared : (pair : Option (ℕ × ℕ)) (zero secured forged : Option ℕ) (first second : ℕ) → pair ≡ Some (first, second) → Shared first second ≡ premise_by pair zero secured forged
-told_shared pair zero secured forged first second e = sym (ap (λ (o : Option (ℕ × ℕ)). premise_by o zero secured forged) e)
+told_shared : (pair : Option (ℕ × ℕ)) (nought secured forged : Option ℕ) (first second : ℕ) → pair ≡ Some (first, second) → Shared first second ≡ premise_by pair nought secured forged
+told_shared pair nought secured forged first second e = sym (ap (λ (o : Option (ℕ × ℕ)). premise_by o nought secured forged) e)
 
-told_zero : (pair : Option (ℕ × ℕ)) (zero secured forged : Option ℕ) (m : ℕ) → pair ≡ None → zero ≡ Some m → Zero m ≡ premise_by pair zero secured forged
-told_zero pair zero secured forged m p z = sym (ap (λ (o : Option (ℕ × ℕ)). premise_by o zero secured forged) p ∙ ap (λ (o : Option ℕ). premise_by None o secured forged) z)
+told_zero : (pair : Option (ℕ × ℕ)) (nought secured forged : Option ℕ) (m : ℕ) → pair ≡ None → nought ≡ Some m → Zero m ≡ premise_by pair nought secured forged
+told_zero pair nought secured forged m p z = sym (ap (λ (o : Option (ℕ × ℕ)). premise_by o nought secured forged) p ∙ ap (λ (o : Option ℕ). premise_by None o secured forged) z)
 
-told_later : (pair : Option (ℕ × ℕ)) (zero secured found forged : Option ℕ) → pair ≡ None → zero ≡ None → secured ≡ found
-    → premise_by None None found forged ≡ premise_by pair zero secured forged
-told_later pair zero secured found forged p z s =
-    sym (ap (λ (o : Option (ℕ × ℕ)). premise_by o zero secured forged) p ∙ ap (λ (o : Option ℕ). premise_by None o secured forged) z
+told_later : (pair : Option (ℕ × ℕ)) (nought secured found forged : Option ℕ) → pair ≡ None → nought ≡ None → secured ≡ found
+    → premise_by None None found forged ≡ premise_by pair nought secured forged
+told_later pair nought secured found forged p z s =
+    sym (ap (λ (o : Option (ℕ × ℕ)). premise_by o nought secured forged) p ∙ ap (λ (o : Option ℕ). premise_by None o secured forged) z
     ∙ ap (λ (o : Option ℕ). premise_by None None o forged) s)
 
 secured_opt : (variant : Variant) (barrier : List ℕ) (es : List Event) (n : ℕ) → variant ≡ Opt → first_where (is_secured (own_values barrier (asked_batches es))) es ≡ Some n
@@ -330,9 +332,9 @@ facts_of i es Held h = record {
   first = λ s z g. h.1;
 }
 
-same_premise : (pair : Option (ℕ × ℕ)) (zero secured f g : Option ℕ) → (pair ≡ None → zero ≡ None → secured ≡ None → f ≡ g)
-    → premise_by pair zero secured f ≡ premise_by pair zero secured g
-same_premise (Some pair) zero secured f g h = refl
+same_premise : (pair : Option (ℕ × ℕ)) (nought secured f g : Option ℕ) → (pair ≡ None → nought ≡ None → secured ≡ None → f ≡ g)
+    → premise_by pair nought secured f ≡ premise_by pair nought secured g
+same_premise (Some pair) nought secured f g h = refl
 same_premise None (Some message) secured f g h = refl
 same_premise None None (Some event) f g h = refl
 same_premise None None None f g h = ap (premise_by None None None) (h refl refl refl)

@@ -1,9 +1,8 @@
 //! The events of a recorded run, as they are read.
 
-ghost use Rattle.std.specs.Prelude.{◌≡◌, ◌≤◌, ◌++◌, ◌∷◌, [], length, IfOk, IfErr, OnOk};
+ghost use Rattle.std.specs.Prelude.{◌≡◌, ◌≤◌, ◌++◌, ◌∷◌, [], length, IfOk, OnOk};
 ghost use Rattle.mm_schedule.specs.Grammar.{event_at};
 ghost use Rattle.mm_schedule.specs.Replies.{IsPrintable, lines_of};
-ghost use Rattle.mm_play.specs.declared.player.TakeFault.TheVariants.{Memory};
 ghost use Rattle.mm_run.specs.Held.{world_of};
 ghost use Rattle.mm_check.specs.Checking.{Read, first_read, read_event};
 ghost use Rattle.mm_check.specs.Verdicts.{AreVerdicts, run_lines};
@@ -56,20 +55,20 @@ fn event_in(alloc: Global, line: &[u8]) -> Result<Event, TakeFault>
 }
 
 /// Keeps an event and the lines of its reply.
-fn remember(alloc: Global, events: &mut Vec<Event>, told: &mut Vec<Bytes>, event: Event, reply: &Reply) -> Result<(), TakeFault>
+fn remember(
+    alloc: Global,
+    events: &mut Vec<Event>,
+    told: &mut Vec<Bytes>,
+    event: Event,
+    reply: &Reply,
+) -> Result<(), Memory>
     requires { IsPrintable reply.now }
     ensures events { OnOk result (events.new.items ≡ events.old.items ++ event ∷ []) }
     ensures told { OnOk result (told.new.items ≡ told.old.items ++ lines_of reply.now) }
-    ensures fault { IfErr result (λ fault. fault ≡ Memory) }
 {
-    match put_reply(alloc, told, reply) {
-        Ok(()) => {}
-        Err(_) => return Err(TakeFault::Memory),
-    }
-    match events.push(event) {
-        Ok(()) => Ok(()),
-        Err(_) => Err(TakeFault::Memory),
-    }
+    put_reply(alloc, told, reply)?;
+    events.push(event)?;
+    Ok(())
 }
 
 impl Reading {
@@ -93,8 +92,10 @@ impl Reading {
     {
         let event = event_in(alloc, line)?;
         let reply = self.progress.answer(line, &event)?;
-        remember(alloc, &mut self.events, &mut self.told, event, &reply)?;
-        Ok(self)
+        match remember(alloc, &mut self.events, &mut self.told, event, &reply) {
+            Ok(()) => Ok(self),
+            Err(_) => Err(TakeFault::Memory),
+        }
     }
 
     /// What the events come to, for recorded lines to be compared.

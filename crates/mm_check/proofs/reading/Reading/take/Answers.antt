@@ -7,4 +7,4 @@ invariant_of-self c =
     let a = c.in_ok-reply.ensures.answers in
     is_run_next c.self.inside.header (running c.self.inside.progress) (running c.answer.new.self) c.self.inside.events.items c.remember.new.events.items
     c.self.inside.told.items c.remember.new.told.items c.args.line.now c.in_ok-event.event c.in_ok-reply.reply c.self.invariant a.0 a.1 a.2
-    c.in_ok-remember.ensures.events c.in_ok-remember.ensures.told
+    c.in-Ok.ensures.events c.in-Ok.ensures.told
