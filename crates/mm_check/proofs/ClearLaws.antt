@@ -72,13 +72,13 @@ pairs_apart (x ∷ ms) none m n hm hn e =
     let parts = pairs_none (first_where (bytes_eq (sha256 x)) (digests_of ms)) (shared_in (digests_of ms)) none in
     elim (cons_cases x ms m hm) [
       | inl xm ↦ elim (cons_cases x ms n hn) [
-          | inl xn ↦ sym xm ∙ xn
-          | inr ln ↦ absurd (found_none (bytes_eq (sha256 x)) ms n ln (same_digest (sha256 x) (sha256 n) (ap sha256 xm ∙ e)) parts.0)
-        ]
+        | inl xn ↦ sym xm ∙ xn
+        | inr ln ↦ absurd (found_none (bytes_eq (sha256 x)) ms n ln (same_digest (sha256 x) (sha256 n) (ap sha256 xm ∙ e)) parts.0)
+      ]
       | inr lm ↦ elim (cons_cases x ms n hn) [
-          | inl xn ↦ absurd (found_none (bytes_eq (sha256 x)) ms m lm (same_digest (sha256 x) (sha256 m) (ap sha256 xn ∙ sym e)) parts.0)
-          | inr ln ↦ pairs_apart ms parts.1 m n lm ln e
-        ]
+        | inl xn ↦ absurd (found_none (bytes_eq (sha256 x)) ms m lm (same_digest (sha256 x) (sha256 m) (ap sha256 xn ∙ sym e)) parts.0)
+        | inr ln ↦ pairs_apart ms parts.1 m n lm ln e
+      ]
     ]
 
 pub clear_from : (ms : List (List ℕ)) → shared_in (digests_of ms) ≡ None → zero_in (digests_of ms) ≡ None → IsClear ms
@@ -145,7 +145,7 @@ closing_is i y PowerMove = refl
 
 pub parts_are : (i : Instance) (y : History) (v : Move) (ext clo : List (List ℕ))
     → messages_if false i y v ++ ext ++ (messages_if true i y v ++ clo)
-      ≡ cond (is_closing v) [] (move_messages i y v) ++ ext ++ (cond (is_closing v) (move_messages i y v) [] ++ clo)
+    ≡ cond (is_closing v) [] (move_messages i y v) ++ ext ++ (cond (is_closing v) (move_messages i y v) [] ++ clo)
 parts_are i y v ext clo =
     ap (λ (l : List (List ℕ)). l ++ ext ++ (messages_if true i y v ++ clo)) (extending_is i y v)
     ∙ ap (λ (l : List (List ℕ)). cond (is_closing v) [] (move_messages i y v) ++ ext ++ (l ++ clo)) (closing_is i y v)

@@ -47,7 +47,7 @@ same_step false n later = refl
 
 step_at : (expected : List (List ℕ)) (count n : ℕ) (line : List ℕ) (rest : List (List ℕ))
     → settled (differs_then None (is_line line (slice_get expected count)) n) (difference_from (n + 1) rest (drop (count + 1) expected))
-      ≡ difference_from n (with_end line ∷ rest) (drop count expected)
+    ≡ difference_from n (with_end line ∷ rest) (drop count expected)
 step_at [] count n line rest =
     ap (λ (o : Option (List ℕ)). settled (differs_then None (is_line line o) n) (difference_from (n + 1) rest (drop (count + 1) []))) (get_none count)
     ∙ sym (ap (difference_from n (with_end line ∷ rest)) (drop_none count))
@@ -62,7 +62,7 @@ at header events count differs = record { header = header; events = events; coun
 
 compare_ends : (header : Header) (events : List Event) (lines : List (List ℕ)) (count : ℕ) (differs : Option ℕ)
     → end_difference (fold after_compared (at header events count differs) lines)
-      ≡ settled differs (difference_from (count + 1) (map with_end lines) (drop count (expected_lines (world_of header) events)))
+    ≡ settled differs (difference_from (count + 1) (map with_end lines) (drop count (expected_lines (world_of header) events)))
 compare_ends header events [] count (Some first) = refl
 compare_ends header events [] count None = end_at (expected_lines (world_of header) events) count (count + 1)
 compare_ends header events (line ∷ lines) count (Some first) = compare_ends header events lines (count + 1) (Some first)

@@ -41,8 +41,8 @@ pub counts-new : (ds : List (List ℕ)) (old new : Digests) (x : List ℕ) → C
     → new.shared ≡ old.shared → Counts (ds ++ x ∷ []) new
 counts-new ds old new x h a none goes same = record {
   firsts = finds-new (number_at old) (number_at new) ds x h.firsts none (λ (d : List ℕ).
-    goes d ∙ ap (λ b. cond b (Some (old.count + 1)) (number_at old d)) (is_eq-slice_cmp x d ∙ bytes_eq-flip x d)
-    ∙ ap (λ (n : ℕ). cond (bytes_eq d x) (Some (n + 1)) (number_at old d)) h.count);
+      goes d ∙ ap (λ b. cond b (Some (old.count + 1)) (number_at old d)) (is_eq-slice_cmp x d ∙ bytes_eq-flip x d)
+      ∙ ap (λ (n : ℕ). cond (bytes_eq d x) (Some (n + 1)) (number_at old d)) h.count);
   count = a.count ∙ one_longer ds x old.count h.count;
   shared = ap pair_of same ∙ h.shared ∙ sym (shared-new (number_at old) ds x h.firsts none);
   zero = zero_goes ds old new x h a;

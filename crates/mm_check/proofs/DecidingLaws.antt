@@ -48,12 +48,12 @@ use Rattle.mm_check.specs.declared.deciding.Deciding.{Deciding}
 -- what stands behind one event more
 after_one : (i : Instance) (es : List Event) (e : Event)
     → (let f : Followed History = expected i es in
-      expected i (es ++ e ∷ []) ≡ continued f (followed i (by_lists i) f.state f.issued (e ∷ [])))
+    expected i (es ++ e ∷ []) ≡ continued f (followed i (by_lists i) f.state f.issued (e ∷ [])))
 after_one i es e = goes_on i (by_lists i) es (e ∷ []) first_history (first_issued i)
 
 from_push : (i : Instance) (es : List Event) (e : Event) (y : History) (issued : List (List ℕ))
     → (let f : Followed History = followed i (by_lists i) y issued es in
-      numbered_from i y issued (es ++ e ∷ []) ≡ numbered_from i y issued es ++ numbered_event i f.state f.issued e)
+    numbered_from i y issued (es ++ e ∷ []) ≡ numbered_from i y issued es ++ numbered_event i f.state f.issued e)
 from_push i [] e y issued = append-nil (numbered_event i y issued e)
 from_push i (x ∷ es) e y issued =
     let o = outcome_of i (by_lists i) y issued x in
@@ -62,7 +62,7 @@ from_push i (x ∷ es) e y issued =
 
 pub numbered-push : (i : Instance) (es : List Event) (e : Event)
     → (let f : Followed History = expected i es in
-      numbered i (es ++ e ∷ []) ≡ fold listed (numbered i es) (numbered_event i f.state f.issued e))
+    numbered i (es ++ e ∷ []) ≡ fold listed (numbered i es) (numbered_event i f.state f.issued e))
 numbered-push i es e =
     let start = start_message i.variant i.meaning.id ∷ [] in
     ap (λ (l : List (List ℕ)). fold listed start l) (from_push i es e first_history (first_issued i))
@@ -74,7 +74,7 @@ lines_of_all-append (x ∷ xs) ys = ap (λ (l : List (List ℕ)). lines_of x ++ 
 
 lines-push : (i : Instance) (es : List Event) (e : Event)
     → (let f : Followed History = expected i es in
-      lines_of_all (expected i (es ++ e ∷ [])).replies ≡ lines_of_all f.replies ++ lines_of (outcome_of i (by_lists i) f.state f.issued e).reply)
+    lines_of_all (expected i (es ++ e ∷ [])).replies ≡ lines_of_all f.replies ++ lines_of (outcome_of i (by_lists i) f.state f.issued e).reply)
 lines-push i es e =
     let f = expected i es in
     let said = (outcome_of i (by_lists i) f.state f.issued e).reply in
@@ -83,7 +83,7 @@ lines-push i es e =
 
 genuine_push : (i : Instance) (es : List Event) (e : Event) (y : History) (issued : List (List ℕ))
     → (let f : Followed History = followed i (by_lists i) y issued es in
-      AreGenuine i y issued es → IsGenuineEvent i f.state f.issued e → AreGenuine i y issued (es ++ e ∷ []))
+    AreGenuine i y issued es → IsGenuineEvent i f.state f.issued e → AreGenuine i y issued (es ++ e ∷ []))
 genuine_push i [] e y issued all here = (here, tt)
 genuine_push i (x ∷ es) e y issued all here =
     let o = outcome_of i (by_lists i) y issued x in (all.0, genuine_push i es e o.state o.issued all.1 here)
@@ -174,8 +174,8 @@ secured_told Opt meaning es n is = (refl, is)
 
 decided_by : (variant : Variant) (meaning : Meaning) (es : List Event) (pair : Option (ℕ × ℕ)) (zero secured forged : Option ℕ)
     → (let i : Instance = instance_by variant meaning world_key world_barrier in
-      pair ≡ shared_in (digests_of (numbered i es)) → zero ≡ zero_in (digests_of (numbered i es)) → secured ≡ secured_by variant world_barrier es
-      → IsFirstForged i es forged → Decides i es (premise_by pair zero secured forged))
+    pair ≡ shared_in (digests_of (numbered i es)) → zero ≡ zero_in (digests_of (numbered i es)) → secured ≡ secured_by variant world_barrier es
+    → IsFirstForged i es forged → Decides i es (premise_by pair zero secured forged))
 decided_by variant meaning es (Some pair) zero secured forged p z s f = sym p
 decided_by variant meaning es None (Some message) secured forged p z s f = (sym p, sym z)
 decided_by variant meaning es None None (Some event) forged p z s f =
@@ -236,8 +236,15 @@ pub room_for : (header : Header) (es : List CodeEvent) (index : ℕ) (event : Co
 room_for header es index event it heard few h hears =
     let i = world_of header in
     let f = expected i (events_of (take index es)) in
-    omega (arith, few_taken es index few, h.lists.counts.count, length-map (numbered i (events_of (take index es))) sha256, numbered_few i (take index es),
-    ap length hears.messages, heard_few i f.state f.issued event)
+    omega (
+      arith,
+      few_taken es index few,
+      h.lists.counts.count,
+      length-map (numbered i (events_of (take index es))) sha256,
+      numbered_few i (take index es),
+      ap length hears.messages,
+      heard_few i f.state f.issued event,
+    )
 
 pub issues_few : (header : Header) (es : List CodeEvent) (index : ℕ) (it : Deciding) → length es ≤ 20000 → Stands header (events_of (take index es)) it
     → length it.expecting.issued < 4294967295

@@ -49,7 +49,7 @@ pub differs_here : (t e : List (List ℕ)) (i : ℕ) (b : List ℕ) (found : Boo
     → found ≡ is_found (slice_get t i) b → found ≡ false → Differ (i + 1) ≡ agreement_of (first_difference t e)
 differs_here t e i b found h at f is =
     sym (ap agreement_of (h ∙ differ_at t e i (i + 1) b at
-      ∙ ap (λ (c : Bool). cond c (difference_from (i + 1 + 1) (drop (i + 1) t) (drop (i + 1) e)) (Some (i + 1))) (sym f ∙ is)))
+    ∙ ap (λ (c : Bool). cond c (difference_from (i + 1 + 1) (drop (i + 1) t) (drop (i + 1) e)) (Some (i + 1))) (sym f ∙ is)))
 
 surplus_at : (t : List (List ℕ)) (k n : ℕ) → k < length t → difference_from n (drop k t) [] ≡ Some n
 surplus_at [] k n h = absurd (omega arith)

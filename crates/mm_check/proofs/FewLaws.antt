@@ -144,8 +144,12 @@ if_few false i y PowerMove = move_few i.variant y.is_open i y PowerMove
 where_few : (closing : Bool) (i : Instance) (y : History) (moves : List Move) → length (messages_where closing i y moves) ≤ length moves
 where_few closing i y [] = omega arith
 where_few closing i y (m ∷ moves) =
-    omega (arith, if_few closing i y m, where_few closing i (moved i y m) moves,
-    length-append (messages_if closing i y m) (messages_where closing i (moved i y m) moves))
+    omega (
+      arith,
+      if_few closing i y m,
+      where_few closing i (moved i y m) moves,
+      length-append (messages_if closing i y m) (messages_where closing i (moved i y m) moves),
+    )
 
 second_few : (none : Bool) (a e v : List ℕ) → length (form_messages a e v ++ cond none [] (anchored_message a e ∷ form_messages (anchored_of a e) zero_bytes v)) ≤ 5
 second_few true a e v = omega arith
@@ -177,9 +181,15 @@ event_few : (i : Instance) (y : History) (issued : List (List ℕ)) (event : Eve
 event_few i y issued event few =
     let moves = moves_of i y issued event in
     let asks = event_messages i issued event in
-    omega (arith, asks_few i issued event, moves_few i y issued event few, where_few false i y moves, where_few true i y moves,
-    length-append (messages_where false i y moves) (messages_where true i y moves),
-    length-append asks (messages_where false i y moves ++ messages_where true i y moves))
+    omega (
+      arith,
+      asks_few i issued event,
+      moves_few i y issued event few,
+      where_few false i y moves,
+      where_few true i y moves,
+      length-append (messages_where false i y moves) (messages_where true i y moves),
+      length-append asks (messages_where false i y moves ++ messages_where true i y moves),
+    )
 
 -- an event of the code has at most eight meddles
 
@@ -200,8 +210,12 @@ from_few : (i : Instance) (y : History) (issued : List (List ℕ)) (events : Lis
 from_few i y issued [] = omega arith
 from_few i y issued (event ∷ events) =
     let o = outcome_of i (by_lists i) y issued (event_of event) in
-    omega (arith, heard_few i y issued event, from_few i o.state o.issued events,
-    length-append (numbered_event i y issued (event_of event)) (numbered_from i o.state o.issued (events_of events)))
+    omega (
+      arith,
+      heard_few i y issued event,
+      from_few i o.state o.issued events,
+      length-append (numbered_event i y issued (event_of event)) (numbered_from i o.state o.issued (events_of events)),
+    )
 
 listed_one : (has : Bool) (seen : List (List ℕ)) (x : List ℕ) → length (cond has seen (seen ++ x ∷ [])) ≤ length seen + 1
 listed_one true seen x = omega arith
@@ -213,5 +227,8 @@ listed_few (x ∷ ms) seen = omega (arith, listed_few ms (listed seen x), listed
 
 pub numbered_few : (i : Instance) (events : List CodeEvent) → length (numbered i (events_of events)) ≤ 1 + 96 * length events
 numbered_few i events =
-    omega (arith, listed_few (numbered_from i first_history (first_issued i) (events_of events)) (start_message i.variant i.meaning.id ∷ []),
-    from_few i first_history (first_issued i) events)
+    omega (
+      arith,
+      listed_few (numbered_from i first_history (first_issued i) (events_of events)) (start_message i.variant i.meaning.id ∷ []),
+      from_few i first_history (first_issued i) events,
+    )

@@ -103,8 +103,12 @@ replies_few : (i : Instance) (events : List Event) (y : History) (issued : List 
 replies_few i [] y issued = omega arith
 replies_few i (event ∷ events) y issued =
     let o = outcome_of i (by_lists i) y issued event in
-    omega (arith, event_lines_few i y issued event, replies_few i events o.state o.issued,
-    length-append (lines_of o.reply) (lines_of_all (followed i (by_lists i) o.state o.issued events).replies))
+    omega (
+      arith,
+      event_lines_few i y issued event,
+      replies_few i events o.state o.issued,
+      length-append (lines_of o.reply) (lines_of_all (followed i (by_lists i) o.state o.issued events).replies),
+    )
 
 pub expected_few : (i : Instance) (events : List Event) → length (expected_lines i events) ≤ 64 * length events + 1
 expected_few i events =

@@ -102,14 +102,14 @@ clear_none (x ∷ ms) once clear =
     let first : Contains (x ∷ ms) x = Contains-append_left (x ∷ []) ms x (Contains-push [] x) in
     pairs_of_none (first_where (bytes_eq (sha256 x)) (digests_of ms)) (shared_in (digests_of ms))
     (none_or (first_where (bytes_eq (sha256 x)) (digests_of ms)) (λ n h.
-      let f = found_some (bytes_eq (sha256 x)) ms n h in
-      once.0 (subst (λ (l : List ℕ). Contains ms l)
-      (sym (clear.apart x f.0 first (Contains-append_right (x ∷ []) ms f.0 f.1) ((bytes_eq-Decides (sha256 x) (sha256 f.0)).0 f.2))) f.1)))
+    let f = found_some (bytes_eq (sha256 x)) ms n h in
+    once.0 (subst (λ (l : List ℕ). Contains ms l)
+    (sym (clear.apart x f.0 first (Contains-append_right (x ∷ []) ms f.0 f.1) ((bytes_eq-Decides (sha256 x) (sha256 f.0)).0 f.2))) f.1)))
     (clear_none ms once.1 (clear_of_fewer ms (x ∷ ms) (λ m h. Contains-append_right (x ∷ []) ms m h) clear))
 
 clear_no_zero : (ms : List (List ℕ)) → IsClear ms → zero_in (digests_of ms) ≡ None
 clear_no_zero ms clear = none_or (zero_in (digests_of ms)) (λ n h.
-  let f = found_some is_zero ms n h in clear.nonzero f.0 f.1 ((bytes_eq-Decides (sha256 f.0) zero_bytes).0 f.2))
+    let f = found_some is_zero ms n h in clear.nonzero f.0 f.1 ((bytes_eq-Decides (sha256 f.0) zero_bytes).0 f.2))
 
 -- what is listed is a message of the run
 
@@ -117,16 +117,16 @@ part_in : (closing : Bool) (here later : List (List ℕ)) (ext clo : List (List 
 part_in true here later ext clo rest m h = elim (Contains-append_cases ([] ++ ext) (here ++ clo) m h) [
   | inl e ↦ Contains-append_right here later m (rest m (Contains-append_left ext clo m e))
   | inr b ↦ elim (Contains-append_cases here clo m b) [
-      | inl now ↦ Contains-append_left here later m now
-      | inr c ↦ Contains-append_right here later m (rest m (Contains-append_right ext clo m c))
-    ]
+    | inl now ↦ Contains-append_left here later m now
+    | inr c ↦ Contains-append_right here later m (rest m (Contains-append_right ext clo m c))
+  ]
 ]
 part_in false here later ext clo rest m h = elim (Contains-append_cases (here ++ ext) ([] ++ clo) m h) [
   | inr c ↦ Contains-append_right here later m (rest m (Contains-append_right ext clo m c))
   | inl b ↦ elim (Contains-append_cases here ext m b) [
-      | inl now ↦ Contains-append_left here later m now
-      | inr e ↦ Contains-append_right here later m (rest m (Contains-append_left ext clo m e))
-    ]
+    | inl now ↦ Contains-append_left here later m now
+    | inr e ↦ Contains-append_right here later m (rest m (Contains-append_left ext clo m e))
+  ]
 ]
 
 parts_in : (i : Instance) (moves : List Move) (y : History) → IsIn (messages_where false i y moves ++ messages_where true i y moves) (moves_messages i y moves)
@@ -165,9 +165,9 @@ all_back : (ms seen : List (List ℕ)) (m : List ℕ) → Contains (fold listed 
 all_back [] seen m h = inl h
 all_back (x ∷ ms) seen m h = elim (all_back ms (listed seen x) m h) [
   | inl before ↦ elim (listed_back seen x m (list_any (bytes_eq x) seen) before) [
-      | inl s ↦ inl s
-      | inr same ↦ inr (subst (λ (l : List ℕ). Contains (x ∷ ms) l) same (Contains-append_left (x ∷ []) ms x (Contains-push [] x)))
-    ]
+    | inl s ↦ inl s
+    | inr same ↦ inr (subst (λ (l : List ℕ). Contains (x ∷ ms) l) same (Contains-append_left (x ∷ []) ms x (Contains-push [] x)))
+  ]
   | inr later ↦ inr (Contains-append_right (x ∷ []) ms m later)
 ]
 
@@ -227,9 +227,9 @@ secured_some guards (e ∷ es) n h = elim (found_here (is_secured guards e) (fir
 apart_none : (variant : Variant) (i : Instance) (es : List Event) → AreApart variant i es → secured_by variant i.barrier es ≡ None
 apart_none Basic i es apart = refl
 apart_none Opt i es apart = none_or (secured_by Opt i.barrier es) (λ n h.
-  let f = secured_some (own_values i.barrier (asked_batches es)) es n h in
-  let g = guard_some i.barrier f.0 (asked_batches es) f.2 in
-  apart f.0 g.0 f.1 g.1 g.2)
+    let f = secured_some (own_values i.barrier (asked_batches es)) es n h in
+    let g = guard_some i.barrier f.0 (asked_batches es) f.2 in
+    apart f.0 g.0 f.1 g.1 g.2)
 
 -- the first event that isn't genuine
 
@@ -264,9 +264,9 @@ same_number : (i : Instance) (es : List Event) (m n : ℕ) → IsForgedAt i es m
 same_number i es m n h k = elim (cases_lt (length h.before) (length k.before)) [
   | inl less ↦ absurd (not_before i es m n h k less)
   | inr others ↦ elim (cases_lt (length k.before) (length h.before)) [
-      | inl less ↦ absurd (not_before i es n m k h less)
-      | inr same ↦ omega (arith, h.place, k.place)
-    ]
+    | inl less ↦ absurd (not_before i es n m k h less)
+    | inr same ↦ omega (arith, h.place, k.place)
+  ]
 ]
 
 first_same : (i : Instance) (es : List Event) (f g : Option ℕ) → IsFirstForged i es f → IsFirstForged i es g → f ≡ g
@@ -344,5 +344,5 @@ premise_fixed i es p q hp hq =
     let a = facts_of i es p hp in
     let b = facts_of i es q hq in
     a.is ∙ same_premise (shared_in (digests_of (numbered i es))) (zero_in (digests_of (numbered i es))) (secured_by i.variant i.barrier es) a.forged b.forged
-      (λ s z g. first_same i es a.forged b.forged (a.first s z g) (b.first s z g))
+    (λ s z g. first_same i es a.forged b.forged (a.first s z g) (b.first s z g))
     ∙ sym b.is

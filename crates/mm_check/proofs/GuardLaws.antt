@@ -82,7 +82,7 @@ events_more es i d h = ap events_of (take_more es i d h) ∙ map_append event_of
 
 pub guards_more : (barrier : List ℕ) (es : List CodeEvent) (i : ℕ) (d : CodeEvent) → i < length es
     → own_values barrier (asked_batches (events_of (take i es))) ++ own_values barrier (batches_of (event_of (get_or es i d)))
-      ≡ own_values barrier (asked_batches (events_of (take (i + 1) es)))
+    ≡ own_values barrier (asked_batches (events_of (take (i + 1) es)))
 guards_more barrier es i d h =
     let e = event_of (get_or es i d) in
     let before = events_of (take i es) in

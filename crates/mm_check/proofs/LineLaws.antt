@@ -10,4 +10,4 @@ lines_more first old new lines i line was at is =
     let within : i < length lines = slice_get_within lines i line at in
     is ∙ ap (λ (l : List (List ℕ)). l ++ line ∷ []) was ∙ append_assoc first (take i lines) (line ∷ [])
     ∙ ap (λ (l : List (List ℕ)). first ++ l)
-      (sym (take_more lines i line within ∙ ap (λ (l : List ℕ). take i lines ++ l ∷ []) (get_or_from_slice_get lines i line line at)))
+    (sym (take_more lines i line within ∙ ap (λ (l : List ℕ). take i lines ++ l ∷ []) (get_or_from_slice_get lines i line line at)))

@@ -24,7 +24,7 @@ first_one false = refl
 
 first_pass : {A : Type 0} (p : A → Bool) (y : A) (pass : Bool) (xs : List A) (x : A) → first_where p (xs ++ x ∷ []) ≡ or_here (first_where p xs) (p x) (length xs + 1)
     → (let o : Option ℕ = cond pass (Some 1) (option_map (λ n. n + 1) (first_where p (xs ++ x ∷ []))) in
-      let w : Option ℕ = cond pass (Some 1) (option_map (λ n. n + 1) (first_where p xs)) in o ≡ or_here w (p x) (length (y ∷ xs) + 1))
+    let w : Option ℕ = cond pass (Some 1) (option_map (λ n. n + 1) (first_where p xs)) in o ≡ or_here w (p x) (length (y ∷ xs) + 1))
 first_pass p y true xs x e = refl
 first_pass p y false xs x e = ap (option_map (λ n. n + 1)) e ∙ more_here (first_where p xs) (p x) (length xs + 1) (length (y ∷ xs) + 1) (omega arith)
 
@@ -114,7 +114,7 @@ shared_in-push (d ∷ ds) x =
     ap (λ (o : Option ℕ). shared_with o (shared_in (ds ++ x ∷ []))) found
     ∙ ap (shared_with (or_here (first_where (bytes_eq d) ds) (bytes_eq x d) (length ds + 1))) (shared_in-push ds x)
     ∙ shared_step (first_where (bytes_eq d) ds) (shared_in ds) (first_where (bytes_eq x) ds) (bytes_eq x d) (length ds + 1) (length (d ∷ ds) + 1)
-      (shared_in-from_one ds) (omega arith)
+    (shared_in-from_one ds) (omega arith)
 
 -- the look-ups after one more digest: of one that has come before, and of a new one
 

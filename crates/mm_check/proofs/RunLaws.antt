@@ -55,7 +55,7 @@ next_run header r events told line event h room =
       lines = ap (λ (l : List (List ℕ)). l ++ lines_of (outcome_in r event).reply) h.lines
           ∙ ap (λ (x : Outcome Digests). lines_of_all f.replies ++ lines_of x.reply) same
           ∙ sym (ap (λ (g : Followed Digests). lines_of_all g.replies) on ∙ lines_of_all-append f.replies (o.reply ∷ [])
-            ∙ ap (λ (l : List (List ℕ)). lines_of_all f.replies ++ l) (append-nil (lines_of o.reply)));
+          ∙ ap (λ (l : List (List ℕ)). lines_of_all f.replies ++ l) (append-nil (lines_of o.reply)));
       count = omega (arith, h.count, length-append events (event ∷ []));
       few = omega (arith, few_events r line room);
     }
@@ -74,7 +74,7 @@ pub is_run_next : (header : Header) (r next : Running) (events longer : List Cod
 is_run_next header r next events longer told more line event reply h room said is grown lines =
     let a = next_run header r (events_of events) told line (event_of event) h room in
     let b = subst (λ (l : List (List ℕ)). IsRun header (after_event r line (event_of event)) (events_of events ++ event_of event ∷ []) l)
-      (sym (lines ∙ ap (λ (x : Reply). told ++ lines_of x) said)) a in
+    (sym (lines ∙ ap (λ (x : Reply). told ++ lines_of x) said)) a in
     let d = subst (λ (es : List Event). IsRun header (after_event r line (event_of event)) es more) (sym (ap events_of grown ∙ events_push events event)) b in
     subst (λ (x : Running). IsRun header x (events_of longer) more) (sym is) d
 

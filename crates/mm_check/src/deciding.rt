@@ -51,7 +51,13 @@ impl Deciding {
     }
 
     // Follows the event of this index.
-    fn next(&mut self, alloc: Global, header: &Header, events: &[Event], index: usize) -> Result<(), Memory>
+    fn next(
+        &mut self,
+        alloc: Global,
+        header: &Header,
+        events: &[Event],
+        index: usize,
+    ) -> Result<(), Memory>
         requires within { index < length events.now }
         requires few { length events.now ≤ 20000 }
         requires stands { Stands header.now (events_of (take index events.now)) self.old }
@@ -94,7 +100,12 @@ impl Deciding {
     {
         let secured = first_secured(alloc, header.variant, events)?;
         let premise = self.premise(secured);
-        put_end(alloc, &mut self.lines, self.expecting.committed(), self.expecting.issued())?;
+        put_end(
+            alloc,
+            &mut self.lines,
+            self.expecting.committed(),
+            self.expecting.issued(),
+        )?;
         let Deciding { lines, .. } = self;
         Ok(Decided { premise, lines })
     }

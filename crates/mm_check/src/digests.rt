@@ -34,7 +34,11 @@ fn lower(shared: Option<Pair>, first: u32, second: u32) -> Option<Pair>
     ensures { pair_of result ≡ lower (pair_of shared) first second }
 {
     match shared {
-        Some(pair) => if first < pair.first { Some(Pair { first, second }) } else { Some(pair) },
+        Some(pair) => if first < pair.first {
+            Some(Pair { first, second })
+        } else {
+            Some(pair)
+        },
         None => Some(Pair { first, second }),
     }
 }
@@ -45,7 +49,11 @@ fn zero_then(found: Option<u32>, digest: &Digest, number: u32) -> Option<u32>
 {
     match found {
         Some(first) => Some(first),
-        None => if *digest == zero() { Some(number) } else { None },
+        None => if *digest == zero() {
+            Some(number)
+        } else {
+            None
+        },
     }
 }
 

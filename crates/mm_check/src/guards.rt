@@ -129,7 +129,9 @@ fn some_meddle(guards: &BTreeSet<[u8; 32]>, meddles: &Meddles) -> bool
     ensures { result ≡ list_any (λ m. contains (slice_cmp nat_cmp) guards.now m.value.bytes) (meddles_of meddles.now) }
 {
     let count = meddles.count as usize;
-    meddles.items[..count].iter().any(|meddle| brings(guards, meddle))
+    meddles.items[..count]
+        .iter()
+        .any(|meddle| brings(guards, meddle))
 }
 
 /// Whether others extend the register by a value of the set.
@@ -161,7 +163,11 @@ fn first_among(guards: &BTreeSet<[u8; 32]>, events: &[Event]) -> Option<u32>
 
 /// The first event at which others extend the register by the guard of a batch that the run asks. In Basic nothing is
 /// asked of them.
-pub(crate) fn first_secured(alloc: Global, variant: Variant, events: &[Event]) -> Result<Option<u32>, Memory>
+pub(crate) fn first_secured(
+    alloc: Global,
+    variant: Variant,
+    events: &[Event],
+) -> Result<Option<u32>, Memory>
     requires { length events.now ≤ 20000 }
     ensures { IfOk result (λ found. found ≡ secured_by variant world_barrier (events_of events.now)) }
 {

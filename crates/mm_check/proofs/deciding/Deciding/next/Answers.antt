@@ -28,5 +28,5 @@ returns c =
     (record { expecting = c.event.new.self; numbers = c.list_all.new.self; forged = c.forged_then-self.result; lines = c.put_reply.new.lines })
     c.in_ok-heard.heard c.requires.within c.index-events-index.is c.requires.stands heard after c.event.ensures.grows
     (subst (λ (l : List (List ℕ)). Lists (fold listed (numbered (world_of header) before) l) c.list_all.new.self) c.as_slice.ensures.value
-      (lists (numbered (world_of header) before) c.requires.stands.lists))
+    (lists (numbered (world_of header) before) c.requires.stands.lists))
     c.in_ok-put_reply.ensures c.forged_then-self.ensures
