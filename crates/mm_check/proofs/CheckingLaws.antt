@@ -11,17 +11,16 @@ use Rattle.mm_schedule.specs.Events.{Event}
 use Rattle.mm_schedule.specs.Grammar.{event_at}
 use Rattle.mm_schedule.specs.Headers.{header_at}
 use Rattle.mm_run.specs.Held.{world_of}
-use Rattle.mm_play.specs.declared.player.Refused.{Refused}
 use Rattle.mm_play.specs.declared.player.Refused.TheVariants.{Bad, Much}
-use Rattle.mm_play.specs.Play.{Told, told, stopped, line_limit, refusal_at, answered, closed, ended, goes_on, run, run_of}
+use Rattle.mm_play.specs.Play.{Told, told, stopped, line_limit, refusal_at, answered, closed, ended, goes_on, run}
 use Rattle.mm_play.proofs.Runs.{not_ok, ok_same}
 use Rattle.mm_replay.specs.Schedule.{is_too_much}
-use Rattle.mm_check.specs.Checking.{Read, first_read, after_read, Compared, first_compared, after_compared, Stage, AtHeader, InEvents, InReplies, headed, read_event, read_line, compare_line, check_answer, check_closing, most_recorded, section_line}
+use Rattle.mm_check.specs.Checking.{Read, first_read, after_read, Compared, first_compared, after_compared, Stage, AtHeader, InEvents, InReplies, headed, read_event, read_line, check_answer, check_closing, most_recorded, section_line}
 use Rattle.std.specs.Io.KnownBytes.{Appends}
 use Rattle.mm_play.specs.Plays.{ForWhole, Settles, Plays, IsBlamed, is_write_fault}
 use Rattle.mm_play.proofs.Telling.{for_whole}
 use Rattle.mm_check.specs.Checks.{IsChecked, AreTested, check_lines, check_run, JudgesBy, Judges, ChecksBy, Checks}
-use Rattle.mm_check.specs.Verdicts.{AreVerdicts, AreVerdictsOn, Concludes, run_lines}
+use Rattle.mm_check.specs.Verdicts.{AreVerdicts, Concludes, run_lines}
 use Rattle.mm_check.specs.declared.verdicts.Verdicts.{Verdicts}
 use Rattle.mm_check.proofs.ComparingLaws.{with_end, verdicts_on}
 

@@ -1,5 +1,5 @@
 -- A list of messages is clear where no two of its numbers share a digest and no digest is zero.
-use Rattle.std.proofs.Common.{◌≡◌, ◌∙◌, ℕ, ◌+◌, ◌<◌, Bool, true, false, cond, List, [], ◌∷◌, ◌++◌, length, Option, None, Some, refl, sym, ap, subst, arith, inl, inr, ◌⊎◌, append_assoc}
+use Rattle.std.proofs.Common.{◌≡◌, ◌∙◌, ℕ, ◌+◌, Bool, true, false, cond, List, [], ◌∷◌, ◌++◌, Option, None, Some, refl, sym, ap, subst, arith, inl, inr, ◌⊎◌}
 use Rattle.std.specs.List.{fold, list_any, Contains}
 use Rattle.std.specs.Option.{option_map}
 use Rattle.std.specs.Str.{bytes_eq}
@@ -17,7 +17,7 @@ use Rattle.mm_schedule.specs.Events.{Event}
 use Rattle.mm_run.specs.Folds.{outcome_of, first_issued}
 use Rattle.mm_run.specs.Premises.{event_messages, moves_of, messages_from, run_messages}
 use Rattle.mm_expect.specs.Numbered.{messages_if, messages_where, numbered_event}
-use Rattle.mm_check.specs.Listing.{first_where, listed, digests_of, both_more, shared_with, shared_in, is_zero, zero_in}
+use Rattle.mm_check.specs.Listing.{first_where, listed, digests_of, shared_with, shared_in, is_zero, zero_in}
 use Rattle.mm_check.specs.Numbering.{numbered_from, numbered}
 
 -- each element of the one list is in the other

@@ -7,8 +7,8 @@ use Rattle.mm_schedule.specs.declared.header.Header.{Header}
 use Rattle.mm_schedule.specs.Events.{Event}
 use Rattle.mm_run.specs.Held.{world_of}
 use Rattle.mm_check.specs.Numbering.{Decides, expected_lines}
-use Rattle.mm_check.specs.Checking.{Compared, is_line, differs_then, after_compared, first_compared}
-use Rattle.mm_check.specs.Verdicts.{difference_from, first_difference, end_difference, agreement_of, AreVerdicts, AreVerdictsOn}
+use Rattle.mm_check.specs.Checking.{Compared, is_line, differs_then, after_compared}
+use Rattle.mm_check.specs.Verdicts.{difference_from, end_difference, agreement_of, AreVerdicts, AreVerdictsOn}
 use Rattle.mm_check.specs.declared.verdicts.Verdicts.{Verdicts}
 
 abbrev pub with_end : List ℕ → List ℕ

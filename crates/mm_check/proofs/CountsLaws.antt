@@ -1,5 +1,5 @@
 -- The numbers in code after one more digest.
-use Rattle.std.proofs.Common.{◌≡◌, ◌∙◌, ℕ, ◌+◌, cond, List, [], ◌∷◌, ◌++◌, length, Option, None, Some, refl, sym, ap, subst, arith, length-append}
+use Rattle.std.proofs.Common.{◌≡◌, ◌∙◌, ℕ, ◌+◌, cond, List, [], ◌∷◌, ◌++◌, length, Option, None, Some, sym, ap, arith, length-append}
 use Rattle.std.specs.BTreeMap as tree
 use Rattle.std.specs.Cmp.Lexicographic.{slice_cmp}
 use Rattle.std.specs.Ordering.{nat_cmp, is_eq}
@@ -8,7 +8,6 @@ use Rattle.std.proofs.lemmas.Map.Text.{is_eq-slice_cmp}
 use Rattle.mm_check.specs.Listing.{lower, zero_then, shared_in, zero_in}
 use Rattle.mm_check.specs.Lists.{pair_of, Counts}
 use Rattle.mm_check.specs.declared.digests.Digests.{Digests}
-use Rattle.mm_check.specs.declared.digests.Pair.{Pair}
 use Rattle.mm_check.proofs.ListingLaws.{bytes_eq-flip, finds-known, finds-new, shared-known, shared-new, zero_in-push}
 
 abbrev number_at : Digests → List ℕ → Option ℕ

@@ -29,7 +29,7 @@ use Rattle.mm_run.specs.Folds.{Followed, followed, outcome_of, first_issued, exp
 use Rattle.mm_run.specs.Held.{world_key, world_barrier, world_of}
 use Rattle.mm_run.specs.Laws.{continued}
 use Rattle.mm_model.specs.Messages.{AreNoGuards}
-use Rattle.mm_run.specs.Premises.{foreign_of, foreign_values, asked_batches, IsGenuineEvent, AreGenuine, IsGenuineRun, IsClearRun, AreApart, run_messages}
+use Rattle.mm_run.specs.Premises.{foreign_of, foreign_values, asked_batches, IsGenuineEvent, AreGenuine, AreApart}
 use Rattle.mm_run.proofs.GoingOn.{goes_on}
 use Rattle.mm_expect.specs.Hears.{Hears, Tells}
 use Rattle.mm_expect.specs.Numbered.{numbered_event}

@@ -1,10 +1,9 @@
 -- Two lists of lines compared line by line.
-use Rattle.std.proofs.Common.{◌≡◌, ◌∙◌, ℕ, zero, suc, ◌+◌, ◌<◌, ◌≤◌, Bool, true, false, cond, List, [], ◌∷◌, length, drop, Option, None, Some, refl, sym, ap, subst, arith}
+use Rattle.std.proofs.Common.{◌≡◌, ◌∙◌, ℕ, zero, suc, ◌+◌, ◌<◌, ◌≤◌, Bool, true, false, cond, List, [], ◌∷◌, length, drop, Option, None, Some, refl, sym, ap, arith}
 use Rattle.std.specs.List.{slice_get}
 use Rattle.std.specs.Str.{bytes_eq}
 use Rattle.std.proofs.lemmas.List.{drop_all}
 use Rattle.mm_check.specs.Verdicts.{difference_from, first_difference, agreement_of, is_found}
-use Rattle.mm_check.specs.declared.verdicts.Agreement.{Agreement}
 use Rattle.mm_check.specs.declared.verdicts.Agreement.TheVariants.{Agree, Differ}
 
 drop_none : (k : ℕ) → (let e : List (List ℕ) = [] in drop k e ≡ [])

@@ -1,5 +1,5 @@
 -- An event has few messages.
-use Rattle.std.proofs.Common.{◌≡◌, ◌∙◌, ℕ, ◌+◌, ◌*◌, ◌≤◌, Bool, true, false, cond, List, [], ◌∷◌, ◌++◌, length, map, take, Option, None, Some, refl, sym, ap, subst, arith, length-append}
+use Rattle.std.proofs.Common.{ℕ, ◌+◌, ◌*◌, ◌≤◌, Bool, true, false, cond, List, [], ◌∷◌, ◌++◌, length, map, Option, None, Some, arith, length-append}
 use Rattle.std.specs.Prelude.{◌==◌}
 use Rattle.std.specs.List.{fold, filter, list_any}
 use Rattle.std.specs.Str.{bytes_eq}
@@ -18,7 +18,7 @@ use Rattle.mm_model.specs.Chains.{guard}
 use Rattle.mm_model.specs.Instance.{Instance}
 use Rattle.mm_model.specs.History.{History, Move, Commit, Foreign, Placed, Reset, Close, Power as PowerMove, moved, first_history}
 use Rattle.mm_model.specs.Long.{is_long}
-use Rattle.mm_model.specs.Messages.{moving_messages, move_messages, point_messages, form_messages, offer_messages}
+use Rattle.mm_model.specs.Messages.{moving_messages, form_messages, offer_messages}
 use Rattle.mm_model.specs.Steps.{Step, Reads, Changes, Writes, ask_steps, checkpoint_steps}
 use Rattle.mm_call.specs.Asked.{right_messages}
 use Rattle.mm_call.specs.Courses.{End, Done, Fails, Fate, Walked, made_move, step_moves, after_step, walk}

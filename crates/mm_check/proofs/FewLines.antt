@@ -1,5 +1,5 @@
 -- An event is answered by few lines.
-use Rattle.std.proofs.Common.{◌≡◌, ◌∙◌, ℕ, ◌+◌, ◌-◌, ◌*◌, ◌≤◌, Bool, true, false, cond, List, [], ◌∷◌, ◌++◌, length, Option, None, Some, Result, Ok, Err, refl, sym, ap, arith, length-append, nat_lt}
+use Rattle.std.proofs.Common.{◌≡◌, ℕ, ◌+◌, ◌-◌, ◌*◌, ◌≤◌, Bool, true, false, List, [], ◌∷◌, length, Option, None, Some, Result, Ok, Err, refl, ap, arith, length-append, nat_lt}
 use Rattle.std.specs.Prelude.{◌||◌, if◌then◌else◌}
 use Rattle.std.specs.List.{list_any}
 use Rattle.std.proofs.lemmas.Bool.Decides.{nat_tests}
@@ -22,14 +22,13 @@ use Rattle.mm_model.specs.Steps.{ask_steps}
 use Rattle.mm_schedule.specs.declared.reply.Reply.TheVariants as reply
 use Rattle.mm_schedule.specs.declared.reply.Cause.TheVariants as cause
 use Rattle.mm_call.specs.Levels.{by_lists, all_made}
-use Rattle.mm_call.specs.Called.{Called, ended_by, position_of, kept_at, seen_at, called}
+use Rattle.mm_call.specs.Called.{ended_by, position_of, kept_at, seen_at, called}
 use Rattle.mm_call.specs.Checkpoints.{Closing, Closes, HasNone, NoSegment, LostPower, Stops, checkpointed}
 use Rattle.mm_schedule.specs.Events.{Event, Ask, Checkpoint, Power, Extend}
 use Rattle.mm_schedule.specs.Replies.{told_lines, lines_of, end_line}
-use Rattle.mm_schedule.specs.declared.reply.Reply.{Reply}
 use Rattle.mm_schedule.specs.declared.reply.Way.{Way}
 use Rattle.mm_run.specs.Offered.{offered_bytes}
-use Rattle.mm_run.specs.Folds.{way_of, course_of, reply_of, broken_reply, stopped_reply, closing_reply, uncalled, outcome_by, asked, outcome_of, followed, first_issued, expected}
+use Rattle.mm_run.specs.Folds.{way_of, course_of, reply_of, broken_reply, closing_reply, uncalled, outcome_by, asked, outcome_of, followed, first_issued, expected}
 use Rattle.mm_check.specs.Numbering.{lines_of_all, expected_lines}
 
 told_length : (again : Bool) (before : ℕ) (outputs : List (List ℕ)) → length (told_lines again before outputs) ≡ length outputs

@@ -1,5 +1,5 @@
 -- One premise alone is told of a run.
-use Rattle.std.proofs.Common.{◌≡◌, ◌∙◌, ℕ, zero, suc, ◌+◌, ◌<◌, ◌≤◌, Bool, true, false, cond, List, [], ◌∷◌, ◌++◌, length, map, Option, None, Some, refl, sym, ap, subst, arith, inl, inr, ◌⊎◌, append_assoc, length-append}
+use Rattle.std.proofs.Common.{◌≡◌, ◌∙◌, ℕ, ◌+◌, ◌<◌, Bool, true, false, cond, List, [], ◌∷◌, ◌++◌, length, Option, None, Some, refl, sym, ap, subst, arith, inl, inr, ◌⊎◌}
 use Rattle.std.specs.Prelude.{◌||◌}
 use Rattle.std.specs.List.{fold, list_any, Contains}
 use Rattle.std.specs.Option.{option_map}
@@ -14,15 +14,15 @@ use Rattle.mm_module.specs.Batch.{Batch}
 use Rattle.mm_model.specs.Chains.{guard, own_values}
 use Rattle.mm_model.specs.Instance.{Instance}
 use Rattle.mm_model.specs.History.{History, Move, moved, first_history}
-use Rattle.mm_model.specs.Messages.{IsClear, AreNoGuards, move_messages}
+use Rattle.mm_model.specs.Messages.{IsClear, move_messages}
 use Rattle.mm_call.specs.Asked.{moves_messages}
 use Rattle.mm_call.specs.Levels.{by_lists}
 use Rattle.mm_schedule.specs.Events.{Event}
-use Rattle.mm_run.specs.Folds.{Followed, followed, outcome_of, first_issued, expected}
-use Rattle.mm_run.specs.Premises.{event_messages, moves_of, messages_from, run_messages, foreign_of, foreign_values, asked_batches, AreApart, IsClearRun, IsGenuineEvent, AreGenuine, IsGenuineRun}
-use Rattle.mm_expect.specs.Numbered.{messages_if, messages_where, numbered_event}
-use Rattle.mm_check.specs.Listing.{first_where, listed, digests_of, both_more, shared_with, shared_in, is_zero, zero_in}
-use Rattle.mm_check.specs.Numbering.{numbered_from, numbered, is_secured, secured_in, IsForgedAt, Decides}
+use Rattle.mm_run.specs.Folds.{Followed, followed, outcome_of, first_issued}
+use Rattle.mm_run.specs.Premises.{event_messages, moves_of, messages_from, run_messages, foreign_of, foreign_values, asked_batches, AreApart, IsGenuineEvent, AreGenuine, IsGenuineRun}
+use Rattle.mm_expect.specs.Numbered.{messages_where, numbered_event}
+use Rattle.mm_check.specs.Listing.{first_where, listed, digests_of, shared_with, shared_in, is_zero, zero_in}
+use Rattle.mm_check.specs.Numbering.{numbered_from, numbered, is_secured, IsForgedAt, Decides}
 use Rattle.mm_check.specs.declared.verdicts.Premise.{Premise}
 use Rattle.mm_check.specs.declared.verdicts.Premise.TheVariants.{Held, Shared, Zero, Secured, Forged}
 use Rattle.std.proofs.lemmas.Bool.{cases_lt}

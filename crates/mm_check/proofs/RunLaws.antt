@@ -1,5 +1,5 @@
 -- The run of the events that are read.
-use Rattle.std.proofs.Common.{◌≡◌, ◌∙◌, ℕ, ◌+◌, ◌<◌, ◌≤◌, nat_le, Bool, true, false, List, [], ◌∷◌, ◌++◌, length, map, refl, sym, ap, subst, arith, append-nil, length-append}
+use Rattle.std.proofs.Common.{◌≡◌, ◌∙◌, ℕ, ◌<◌, nat_le, Bool, true, false, List, [], ◌∷◌, ◌++◌, length, map, refl, sym, ap, subst, arith, append-nil, length-append}
 use Rattle.std.specs.Prelude.{◌||◌}
 use Rattle.std.proofs.lemmas.Bool.Decides.{nat_tests}
 use Rattle.mm_schedule.specs.declared.header.Header.{Header}
@@ -9,11 +9,9 @@ use Rattle.mm_schedule.specs.Replies.{lines_of, end_line}
 use Rattle.mm_schedule.specs.declared.reply.Reply.{Reply}
 use Rattle.mm_model.specs.Moves.{Digests}
 use Rattle.mm_call.specs.Levels.{by_digests}
-use Rattle.mm_run.specs.Folds.{Outcome, Followed, followed, outcome_of, first_issued, first_digests, replies_by_digests}
+use Rattle.mm_run.specs.Folds.{Outcome, Followed, outcome_of, first_issued, first_digests, replies_by_digests}
 use Rattle.mm_run.specs.Held.{world_of}
-use Rattle.mm_run.specs.Laws.{continued}
 use Rattle.mm_run.proofs.GoingOn.{goes_on}
-use Rattle.mm_replay.specs.declared.report.Report.{Report}
 use Rattle.mm_replay.specs.Schedule.{Running, begun, is_too_much, outcome_in, after_event, most_events}
 use Rattle.mm_check.specs.Guards.{events_of}
 use Rattle.mm_check.specs.Numbering.{lines_of_all, expected_lines}

@@ -1,5 +1,5 @@
 -- A recorded run ends: each answered line leaves fewer.
-use Rattle.std.specs.Prelude.{◌≡◌, ℕ, ◌+◌, ◌-◌, ◌<◌, ◌^◌, Bool, true, false, ◌||◌, nat_le, List, [], Option, None, Some, Result, Ok, Err, if◌then◌else◌}
+use Rattle.std.specs.Prelude.{◌≡◌, ℕ, ◌+◌, ◌<◌, ◌^◌, Bool, true, false, ◌||◌, nat_le, List, [], Option, None, Some, Result, Ok, Err, if◌then◌else◌}
 use Rattle.std.specs.Str.{bytes_eq}
 use Rattle.std.proofs.Common.{refl, ap, subst, arith}
 use Rattle.std.proofs.lemmas.Bool.Decides.{nat_tests}
@@ -9,7 +9,7 @@ use Rattle.mm_schedule.specs.Grammar.{event_at}
 use Rattle.mm_play.specs.declared.player.Refused.{Refused}
 use Rattle.mm_play.specs.declared.player.Refused.TheVariants.{Bad, Much}
 use Rattle.mm_replay.specs.Schedule.{is_too_much, most_events}
-use Rattle.mm_check.specs.Checking.{Read, first_read, after_read, Compared, first_compared, after_compared, Stage, AtHeader, InEvents, InReplies, headed, read_event, read_line, compare_line, check_answer, check_left, most_recorded, section_line}
+use Rattle.mm_check.specs.Checking.{Read, first_read, after_read, Compared, first_compared, after_compared, Stage, AtHeader, InEvents, InReplies, headed, read_event, check_answer, check_left, most_recorded, section_line}
 
 no_answer : (why : Refused) (reply : List ℕ) (next : Stage) → (let r : Result (List ℕ × Stage) Refused = Err why in r ≡ Ok (reply, next)) → ⊥
 no_answer why reply next h = cc

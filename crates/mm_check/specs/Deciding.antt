@@ -1,7 +1,5 @@
 -- What the code that decides holds behind some first events.
-use Rattle.std.specs.Prelude.{◌≡◌, ℕ, ◌+◌, ◌≤◌, Bool, true, false, List, length, Option, None, Some, Vec}
-use Rattle.mm_digest.specs.declared.variant.Variant.{Variant}
-use Rattle.mm_digest.specs.declared.variant.Variant.TheVariants.{Basic, Opt}
+use Rattle.std.specs.Prelude.{◌≡◌, ℕ, ◌+◌, ◌≤◌, Bool, true, false, List, length, Option, None, Some}
 use Rattle.mm_model.specs.Instance.{Instance}
 use Rattle.mm_schedule.specs.declared.header.Header.{Header}
 use Rattle.mm_schedule.specs.Events.{Event}
@@ -10,7 +8,7 @@ use Rattle.mm_run.specs.Held.{world_of}
 use Rattle.mm_run.specs.Premises.{IsGenuineRun}
 use Rattle.mm_expect.specs.Traced.{IsAfter}
 use Rattle.mm_check.specs.Lists.{Lists}
-use Rattle.mm_check.specs.Numbering.{numbered, lines_of_all, secured_in, IsForgedAt, Decides, expected_lines}
+use Rattle.mm_check.specs.Numbering.{numbered, lines_of_all, IsForgedAt, Decides, expected_lines}
 use Rattle.mm_check.specs.declared.deciding.Deciding.{Deciding}
 use Rattle.mm_check.specs.declared.deciding.Decided.{Decided}
 use Rattle.mm_check.specs.declared.verdicts.Premise.{Premise}

@@ -1,9 +1,8 @@
-use Rattle.std.proofs.Common.{List, ap, subst, sym, ◌∙◌, ℕ, take, get_or}
+use Rattle.std.proofs.Common.{take}
 use Rattle.mm_model.specs.Chains.{own_values}
 use Rattle.mm_run.specs.Held.{world_barrier}
-use Rattle.mm_run.specs.Premises.{batches_of, asked_batches}
-use Rattle.mm_schedule.specs.Events.{event_of}
-use Rattle.mm_check.specs.Guards.{events_of, HasAll}
+use Rattle.mm_run.specs.Premises.{asked_batches}
+use Rattle.mm_check.specs.Guards.{events_of}
 use Rattle.mm_check.proofs.GuardLaws.{guards_more_at}
 use Rattle.mm_check.proofs.guards.guards_of.Goals as goal
 

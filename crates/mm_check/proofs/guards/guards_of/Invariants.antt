@@ -1,4 +1,4 @@
-use Rattle.std.proofs.Common.{List, take}
+use Rattle.std.proofs.Common.{take}
 use Rattle.mm_model.specs.Chains.{own_values}
 use Rattle.mm_run.specs.Held.{world_barrier}
 use Rattle.mm_run.specs.Premises.{asked_batches}

@@ -1,4 +1,3 @@
-use Rattle.std.proofs.Common.{List, ap, subst, sym, ◌∙◌, ℕ}
 use Rattle.mm_check.proofs.LineLaws.{lines_more}
 use Rattle.mm_check.proofs.lines.put_reply.Goals as goal
 

@@ -1,4 +1,4 @@
-use Rattle.std.proofs.Common.{◌≡◌, ℕ, List, length, take, sym, ap, subst, arith}
+use Rattle.std.proofs.Common.{ℕ, List, length, take, ap, subst, arith}
 use Rattle.std.specs.List.{fold}
 use Rattle.mm_run.specs.Held.{world_of}
 use Rattle.mm_check.specs.Guards.{events_of}

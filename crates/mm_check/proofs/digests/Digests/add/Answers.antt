@@ -1,10 +1,10 @@
-use Rattle.std.proofs.Common.{◌≡◌, ◌∙◌, ℕ, List, length, sym, ap, refl, Option, Some}
+use Rattle.std.proofs.Common.{◌∙◌, ℕ, List, sym, ap, refl}
 use Rattle.std.specs.BTreeMap.{get}
 use Rattle.std.specs.Cmp.Lexicographic.{slice_cmp}
 use Rattle.std.specs.Option.{option_copied}
 use Rattle.std.specs.Ordering.{nat_cmp}
-use Rattle.mm_check.specs.Lists.{Counts, pair_of}
-use Rattle.mm_check.proofs.CountsLaws.{Adds, counts-known, counts-new}
+use Rattle.mm_check.specs.Lists.{pair_of}
+use Rattle.mm_check.proofs.CountsLaws.{counts-known, counts-new}
 use Rattle.mm_check.proofs.digests.Digests.add.Goals as goal
 use Rattle.mm_check.proofs.digests.Digests.add.Goals.{in-Some, in-None+in_ok-put-in-None}
 
