@@ -31,10 +31,11 @@ use Rattle.mm_run.specs.Laws.{continued}
 use Rattle.mm_model.specs.Messages.{AreNoGuards}
 use Rattle.mm_run.specs.Premises.{foreign_of, foreign_values, asked_batches, IsGenuineEvent, AreGenuine, AreApart}
 use Rattle.mm_run.proofs.GoingOn.{goes_on}
-use Rattle.mm_expect.specs.Hears.{Hears, Tells}
+use Rattle.mm_expect.specs.Hears.{Hears}
+use Rattle.mm_expect.specs.Naming.{IsDecided}
 use Rattle.mm_expect.specs.Numbered.{numbered_event}
-use Rattle.mm_expect.specs.Traced.{IsAfter}
-use Rattle.mm_expect.specs.declared.heard.Heard.{Heard}
+use Rattle.mm_expect.specs.Traced.{Traced, IsAfter}
+use Rattle.mm_expect.specs.declared.expecting.Heard.{Heard}
 use Rattle.mm_check.specs.Listing.{listed, digests_of, shared_in, zero_in, first_where}
 use Rattle.mm_check.specs.Lists.{Lists, pair_of}
 use Rattle.mm_check.specs.Numbering.{numbered_from, numbered, is_secured, secured_in, lines_of_all, expected_lines, IsForgedAt, Decides}
@@ -44,6 +45,23 @@ use Rattle.mm_check.proofs.GuardLaws.{events_more}
 use Rattle.mm_check.proofs.ClearLaws.{clear_run}
 use Rattle.mm_check.specs.Deciding.{IsFirstForged, Stands, forged_then, premise_by}
 use Rattle.mm_check.specs.declared.deciding.Deciding.{Deciding}
+
+-- what is heard of an event behind those that were followed so far
+pub record IsHeard (i : Instance) (before : Followed History) (event : Event) (heard : Heard) : Type 0 where
+  pub reply : heard.reply ≡ (outcome_of i (by_lists i) before.state before.issued event).reply
+  pub messages : heard.messages.items ≡ numbered_event i before.state before.issued event
+  pub genuine : IsDecided heard.is_genuine (IsGenuineEvent i before.state before.issued event)
+
+pub heard_after : (header : Header) (es : List Event) (it : Traced) (e : Event) (heard : Heard) → IsAfter header es it
+    → Hears (world_of it.header) it.history it.issued e heard
+    → IsDecided heard.is_genuine (IsGenuineEvent (world_of header) (expected (world_of header) es).state (expected (world_of header) es).issued e)
+    → IsHeard (world_of header) (expected (world_of header) es) e heard
+heard_after header es it e heard after hears genuine =
+    let f = expected (world_of header) es in
+    let a = subst (λ (h : Header). Hears (world_of h) it.history it.issued e heard) after.header_is hears in
+    let b = subst (λ (y : History). Hears (world_of header) y it.issued e heard) after.history_is a in
+    let c = subst (λ (s : List (List ℕ)). Hears (world_of header) f.state s e heard) after.issued_is b in
+    record { reply = c.reply; messages = c.messages; genuine = genuine }
 
 -- what stands behind one event more
 after_one : (i : Instance) (es : List Event) (e : Event)
@@ -100,14 +118,14 @@ still_forged i es e n h = record {
 }
 
 forged-push : (i : Instance) (es : List Event) (e : Event) (first : Option ℕ) (is_genuine : Bool) → IsFirstForged i es first
-    → Tells is_genuine (IsGenuineEvent i (expected i es).state (expected i es).issued e)
+    → IsDecided is_genuine (IsGenuineEvent i (expected i es).state (expected i es).issued e)
     → IsFirstForged i (es ++ e ∷ []) (forged_then first is_genuine (length es + 1))
 forged-push i es e (Some n) is_genuine h t = still_forged i es e n h
 forged-push i es e None true h t = genuine_push i es e first_history (first_issued i) h t
 forged-push i es e None false h t = record { before = es; event = e; after = []; split = refl; place = refl; genuine = h; forged = t }
 
 pub stands_next : (header : Header) (es : List Event) (e : Event) (old new : Deciding) (heard : Heard) → Stands header es old
-    → Hears (world_of header) (expected (world_of header) es) e heard → IsAfter header (es ++ e ∷ []) new.expecting
+    → IsHeard (world_of header) (expected (world_of header) es) e heard → IsAfter header (es ++ e ∷ []) new.expecting
     → length new.expecting.issued ≤ length old.expecting.issued + 1
     → Lists (fold listed (numbered (world_of header) es) heard.messages.items) new.numbers
     → new.lines.items ≡ old.lines.items ++ lines_of heard.reply → new.forged ≡ forged_then old.forged heard.is_genuine (length es + 1)
@@ -208,7 +226,7 @@ stands_first header it message after lists is lines forged =
     let i = world_of header in
     record {
       after = after;
-      few = omega (arith, ap length after.issued);
+      few = omega (arith, ap length after.issued_is);
       lists = subst (λ (m : List ℕ). Lists (m ∷ []) it.numbers) (is ∙ sym (start_by header.variant (meaning_of header.«module»))) lists;
       lines = lines;
       forged = subst (λ (o : Option ℕ). IsFirstForged i [] o) (sym forged) tt;
@@ -222,8 +240,8 @@ pub lines_end : (header : Header) (es : List Event) (it : Deciding) (committed i
 lines_end header es it committed issued lines h n k is =
     let f = expected (world_of header) es in
     is ∙ ap (λ (l : List (List ℕ)). l ++ end_line committed issued ∷ []) h.lines
-    ∙ ap (λ (m : ℕ). lines_of_all f.replies ++ end_line m issued ∷ []) (n ∙ ap (λ (y : History). total_of y.batches) h.after.history)
-    ∙ ap (λ (m : ℕ). lines_of_all f.replies ++ end_line (total_of f.state.batches) m ∷ []) (k ∙ ap length h.after.issued)
+    ∙ ap (λ (m : ℕ). lines_of_all f.replies ++ end_line m issued ∷ []) (n ∙ ap (λ (y : History). total_of y.batches) h.after.history_is)
+    ∙ ap (λ (m : ℕ). lines_of_all f.replies ++ end_line (total_of f.state.batches) m ∷ []) (k ∙ ap length h.after.issued_is)
 
 -- there is room for an event's messages, and for its snapshot
 
@@ -231,7 +249,7 @@ few_taken : (es : List CodeEvent) (index : ℕ) → length es ≤ 20000 → leng
 few_taken es index few = omega (arith, few, length-take index es)
 
 pub room_for : (header : Header) (es : List CodeEvent) (index : ℕ) (event : CodeEvent) (it : Deciding) (heard : Heard) → length es ≤ 20000
-    → Stands header (events_of (take index es)) it → Hears (world_of header) (expected (world_of header) (events_of (take index es))) (event_of event) heard
+    → Stands header (events_of (take index es)) it → IsHeard (world_of header) (expected (world_of header) (events_of (take index es))) (event_of event) heard
     → it.numbers.digests.count + length heard.messages.items < 4294967295
 room_for header es index event it heard few h hears =
     let i = world_of header in
@@ -253,7 +271,7 @@ issues_few header es index it few h = omega (arith, h.few, few_taken es index fe
 -- the event of this index was followed
 pub stands_after : (header : Header) (es : List CodeEvent) (index : ℕ) (event : CodeEvent) (old new : Deciding) (heard : Heard) → index < length es → event ≡ get_or es index event
     → Stands header (events_of (take index es)) old
-    → Hears (world_of header) (expected (world_of header) (events_of (take index es))) (event_of event) heard
+    → IsHeard (world_of header) (expected (world_of header) (events_of (take index es))) (event_of event) heard
     → IsAfter header (events_of (take index es) ++ event_of event ∷ []) new.expecting
     → length new.expecting.issued ≤ length old.expecting.issued + 1
     → Lists (fold listed (numbered (world_of header) (events_of (take index es))) heard.messages.items) new.numbers

@@ -1,3 +1,4 @@
 pub mod Numbered
 pub mod Hears
 pub mod Traced
+pub mod Naming

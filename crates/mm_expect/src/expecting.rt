@@ -1,12 +1,22 @@
 //! The fold by lists.
 
-ghost use Rattle.std.specs.Prelude.{◌≡◌, ◌+◌, ◌-◌, ◌^◌, ◌<◌, ◌≤◌, ◌++◌, [], ◌∷◌, List, length, IfOk, OnOk};
+ghost use Rattle.std.specs.Prelude.{◌≡◌, ◌+◌, ◌^◌, ◌<◌, ◌≤◌, ◌++◌, [], ◌∷◌, List, length, IfOk, OnOk};
 
-use crate::heard::Heard;
-use mm_base::Memory;
-use mm_schedule::{Event, Header};
+use mm_base::{Bytes, Memory};
+use mm_schedule::{Event, Header, Reply};
 use std::alloc::Global;
 use std::marker::Model;
+
+/// What an event comes to by lists.
+#[derive(Drop)]
+pub struct Heard {
+    /// The reply that is expected.
+    pub reply: Reply,
+    /// The messages of the event, in the order of their numbers; one may have come before.
+    pub messages: Vec<Bytes>,
+    /// Whether the offer names a position, if it is right.
+    pub is_genuine: bool,
+}
 
 /// Where the expected run of a schedule stands.
 #[derive(Drop)]
@@ -18,6 +28,7 @@ impl Model for Expecting {
     ghost use Rattle.std.specs.Prelude.{[]};
     ghost use Rattle.mm_expect.specs.Traced.{Traced};
     ghost use Rattle.mm_model.specs.History.{first_history};
+
     ghost Value = { Traced };
 
     ghost view = { λ it. record { header = it.header; history = first_history; issued = [] } };
@@ -30,26 +41,29 @@ impl Expecting {
     ghost use Rattle.mm_schedule.specs.Replies.{IsPrintable};
     ghost use Rattle.mm_run.specs.Folds.{expected};
     ghost use Rattle.mm_run.specs.Held.{world_of};
+    ghost use Rattle.mm_run.specs.Premises.{IsGenuineEvent};
     ghost use Rattle.mm_expect.specs.Hears.{Hears};
-    ghost use Rattle.mm_expect.specs.Traced.{IsAfter};
+    ghost use Rattle.mm_expect.specs.Naming.{IsDecided};
+    ghost use Rattle.mm_expect.specs.Traced.{IsAfter, StandsLater, first_traced};
     ghost use Rattle.mm_model.specs.History.{total_of};
 
     /// A run at its first event.
     pub fn begin(_alloc: Global, _header: &Header) -> Result<Expecting, Memory>
-        ensures { IfOk result (λ it. IsAfter _header.now [] it) }
+        ensures first { IfOk result (λ it. it ≡ first_traced _header.now) }
+        ensures after { IfOk result (IsAfter _header.now []) }
     {
         Err(Memory)
     }
 
     /// What the next event comes to.
     pub fn event(&mut self, event: &Event) -> Result<Heard, Memory>
-        requires { length self.old.issued < 2 ^ 32 - 1 }
-        ensures heard { (header : ghost_header.Header) (before : List events.Event) → IsAfter header before self.old
-            → IfOk result (λ heard. Hears (world_of header) (expected (world_of header) before) (event_of event.now) heard) }
-        ensures after { (header : ghost_header.Header) (before : List events.Event) → IsAfter header before self.old
-            → OnOk result (IsAfter header (before ++ event_of event.now ∷ []) self.new) }
+        ensures hears { IfOk result (Hears (world_of self.old.header) self.old.history self.old.issued (event_of event.now)) }
+        ensures after { OnOk result (StandsLater self.old (event_of event.now) self.new) }
+        ensures genuine { (header : ghost_header.Header) (before : List events.Event) → IsAfter header before self.old
+            → IfOk result (λ heard. IsDecided heard.is_genuine (IsGenuineEvent (world_of header)
+            (expected (world_of header) before).state (expected (world_of header) before).issued (event_of event.now))) }
         ensures printable { IfOk result (λ heard. IsPrintable heard.reply) }
-        ensures grows { length self.new.issued ≤ length self.old.issued + 1 }
+        ensures grows { OnOk result (length self.new.issued ≤ length self.old.issued + 1) }
     {
         let _ = &self.header;
         Err(Memory)
@@ -65,6 +79,7 @@ impl Expecting {
 
     /// How many snapshots were issued.
     pub fn issued(&self) -> u32
+        requires { length self.now.issued < 2 ^ 32 }
         ensures { result ≡ length self.now.issued }
     {
         let _ = &self.header;

@@ -2,7 +2,5 @@
 #![tactic(auto)]
 
 mod expecting;
-mod heard;
 
-pub use expecting::Expecting;
-pub use heard::Heard;
+pub use expecting::{Expecting, Heard};

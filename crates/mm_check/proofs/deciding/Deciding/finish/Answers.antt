@@ -1,10 +1,15 @@
-use Rattle.std.proofs.Common.{sym, subst}
+use Rattle.std.proofs.Common.{sym, subst, arith}
+use Rattle.std.proofs.lemmas.List.{length-map}
+use Rattle.mm_schedule.specs.Events.{event_of}
 use Rattle.mm_run.specs.Held.{world_of}
 use Rattle.mm_check.specs.Guards.{events_of}
 use Rattle.mm_check.specs.Numbering.{Decides}
 use Rattle.mm_check.specs.declared.verdicts.Premise.{Premise}
 use Rattle.mm_check.proofs.DecidingLaws.{decided, lines_end}
 use Rattle.mm_check.proofs.deciding.Deciding.finish.Goals as goal
+
+pub issued-requires : goal.issued-requires
+issued-requires c = omega (arith, c.requires.stands.few, c.requires.few, length-map c.args.events.now event_of)
 
 pub returns : goal.returns
 returns c =
