@@ -53,15 +53,20 @@ pub record IsHeard (i : Instance) (before : Followed History) (event : Event) (h
   pub genuine : IsDecided heard.is_genuine (IsGenuineEvent i before.state before.issued event)
 
 pub heard_after : (header : Header) (es : List Event) (it : Traced) (e : Event) (heard : Heard) → IsAfter header es it
-    → Hears (world_of it.header) it.history it.issued e heard
-    → IsDecided heard.is_genuine (IsGenuineEvent (world_of header) (expected (world_of header) es).state (expected (world_of header) es).issued e)
+    → Hears (world_of it.header) it.history it.issued e heard → IsDecided heard.is_genuine (IsGenuineEvent (world_of header) it.history it.issued e)
     → IsHeard (world_of header) (expected (world_of header) es) e heard
 heard_after header es it e heard after hears genuine =
-    let f = expected (world_of header) es in
+    let i = world_of header in
+    let f = expected i es in
     let a = subst (λ (h : Header). Hears (world_of h) it.history it.issued e heard) after.header_is hears in
-    let b = subst (λ (y : History). Hears (world_of header) y it.issued e heard) after.history_is a in
-    let c = subst (λ (s : List (List ℕ)). Hears (world_of header) f.state s e heard) after.issued_is b in
-    record { reply = c.reply; messages = c.messages; genuine = genuine }
+    let b = subst (λ (y : History). Hears i y it.issued e heard) after.history_is a in
+    let c = subst (λ (s : List (List ℕ)). Hears i f.state s e heard) after.issued_is b in
+    let g = subst (λ (y : History). IsDecided heard.is_genuine (IsGenuineEvent i y it.issued e)) after.history_is genuine in
+    record {
+      reply = c.reply;
+      messages = c.messages;
+      genuine = subst (λ (s : List (List ℕ)). IsDecided heard.is_genuine (IsGenuineEvent i f.state s e)) after.issued_is g;
+    }
 
 -- what stands behind one event more
 after_one : (i : Instance) (es : List Event) (e : Event)

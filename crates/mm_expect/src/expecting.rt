@@ -59,9 +59,8 @@ impl Expecting {
     pub fn event(&mut self, event: &Event) -> Result<Heard, Memory>
         ensures hears { IfOk result (Hears (world_of self.old.header) self.old.history self.old.issued (event_of event.now)) }
         ensures after { OnOk result (StandsLater self.old (event_of event.now) self.new) }
-        ensures genuine { (header : ghost_header.Header) (before : List events.Event) → IsAfter header before self.old
-            → IfOk result (λ heard. IsDecided heard.is_genuine (IsGenuineEvent (world_of header)
-            (expected (world_of header) before).state (expected (world_of header) before).issued (event_of event.now))) }
+        ensures genuine { IfOk result (λ heard. (header : ghost_header.Header) (before : List events.Event) → IsAfter header before self.old
+            → IsDecided heard.is_genuine (IsGenuineEvent (world_of header) self.old.history self.old.issued (event_of event.now))) }
         ensures printable { IfOk result (λ heard. IsPrintable heard.reply) }
         ensures grows { OnOk result (length self.new.issued ≤ length self.old.issued + 1) }
     {
