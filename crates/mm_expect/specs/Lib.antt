@@ -1,4 +1,16 @@
 pub mod Numbered
-pub mod Hears
+pub mod Kept
+pub mod Marks
+pub mod Recorded
+pub mod Settled
+pub mod Walking
+pub mod Calls
+pub mod Closings
+pub mod Asked
+pub mod OfferedBytes
+pub mod Coming
 pub mod Traced
+pub mod Hears
 pub mod Naming
+pub mod Genuine
+pub mod Judged

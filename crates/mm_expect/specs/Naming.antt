@@ -1,7 +1,95 @@
--- Whether a statement holds.
-use Rattle.std.specs.Prelude.{Bool, true, false}
+-- Whether what a snapshot says names a position of a history, as a test from end to end.
+use Rattle.std.specs.Prelude.{◌≡◌, ℕ, ◌-◌, ◌==◌, Bool, true, false, ◌&&◌, ◌||◌, not, List, [], ◌∷◌, ◌++◌, length, map, drop, Option, None, Some, if◌then◌else◌, nat_le, nat_lt}
+use Rattle.std.specs.Str.{bytes_eq}
+use Rattle.std.specs.Option.{option_map}
+use Rattle.mm_digest.specs.declared.variant.Variant.{Variant}
+use Rattle.mm_digest.specs.declared.variant.Variant.TheVariants.{Basic, Opt}
+use Rattle.mm_digest.specs.Messages.{zero_bytes}
+use Rattle.mm_module.specs.Batch.{Batch, size_of}
+use Rattle.mm_module.specs.Meaning.{Meaning, state_after}
+use Rattle.mm_seal.specs.declared.snapshot.Place.{Place}
+use Rattle.mm_seal.specs.declared.snapshot.Place.TheVariants.{Basic as InBasic, Opt as InOpt}
+use Rattle.mm_seal.specs.Snapshot.{Content}
+use Rattle.mm_model.specs.Chains.{summary_of, register_of, own_values}
+use Rattle.mm_model.specs.Instance.{Instance, basic, opt}
+use Rattle.mm_model.specs.History.{Entry, History, requests_of, joined}
+use Rattle.mm_model.specs.Life.{is_empty, has_value, same_batch}
+use Rattle.mm_model.specs.Places.{anchor_after, Names}
 
 -- the statement holds, or doesn't
 abbrev pub IsDecided : Bool → Type 0 → Type 0
 IsDecided true P = P
 IsDecided false P = P → ⊥
+
+-- the first batches with so many requests, if there are such
+abbrev pub first_with : ℕ → List Batch → Option (List Batch)
+first_with position [] = if position == 0 then Some [] else None
+first_with position (b ∷ batches) =
+    if position == 0 then Some []
+    else if nat_le (size_of b) position then option_map (λ front. b ∷ front) (first_with (position - size_of b) batches)
+    else None
+
+-- the batches are these
+abbrev pub same_batches : List Batch → List Batch → Bool
+same_batches [] [] = true
+same_batches [] (c ∷ cs) = false
+same_batches (b ∷ bs) [] = false
+same_batches (b ∷ bs) (c ∷ cs) = same_batch b c && same_batches bs cs
+
+-- a place of Opt: at the anchor after these segments
+abbrev pub is_at : Instance → List Batch → (anchor extension : List ℕ) → (before : List (List Entry)) → Bool
+is_at i named anchor extension before =
+    not (has_value (joined before)) && (length named == length (joined before))
+    && (bytes_eq anchor (anchor_after i before) && bytes_eq extension zero_bytes)
+
+-- behind these segments, in the next one: it starts behind their entries
+abbrev pub is_behind : Instance → List Batch → (anchor extension : List ℕ) → (before : List (List Entry)) → Bool
+is_behind i named anchor extension before =
+    nat_lt (length (joined before)) (length named)
+    && (bytes_eq anchor (anchor_after i before)
+    && bytes_eq extension (register_of (own_values i.barrier (drop (length (joined before)) named))))
+
+-- and within it, unless it is the last and no batch is in an open one
+abbrev pub is_within : History → List Batch → (before : List (List Entry)) → List Entry → (later : List (List Entry)) → Bool
+is_within y named before segment later =
+    nat_le (length named - length (joined before)) (length segment) || (is_empty later && is_empty y.current)
+
+-- in the open segment, whose batches are the last of all
+abbrev pub is_inside : Instance → History → List Batch → (anchor extension : List ℕ) → Bool
+is_inside i y named anchor extension =
+    let start = length y.batches - length y.current in
+    same_batches (drop start y.batches) y.current && nat_lt start (length named)
+    && (bytes_eq anchor (anchor_after i y.closed)
+    && bytes_eq extension (register_of (own_values i.barrier (drop start named))))
+
+-- some place, from these segments on
+abbrev pub some_place : Instance → History → List Batch → (anchor extension : List ℕ) → (before rest : List (List Entry)) → Bool
+some_place i y named anchor extension before [] = is_at i named anchor extension before || is_inside i y named anchor extension
+some_place i y named anchor extension before (segment ∷ rest) =
+    is_at i named anchor extension before
+    || ((is_behind i named anchor extension before && is_within y named before segment rest)
+    || some_place i y named anchor extension (before ++ segment ∷ []) rest)
+
+abbrev pub is_place : Variant → Instance → History → List Batch → Place → Bool
+is_place Basic i y named (InBasic s) = bytes_eq s.bytes (summary_of i.meaning.id named)
+is_place Basic i y named (InOpt a e) = false
+is_place Opt i y named (InBasic s) = false
+is_place Opt i y named (InOpt a e) = some_place i y named a.bytes e.bytes [] y.closed
+
+abbrev pub is_named_at : Instance → History → Content → Option (List Batch) → Bool
+is_named_at i y content None = false
+is_named_at i y content (Some named) =
+    bytes_eq content.state (state_after i.meaning (requests_of named)) && is_place i.variant i y named content.place
+
+-- the content names a position of the history
+abbrev pub is_named : Instance → History → Content → Bool
+is_named i y content = is_named_at i y content (first_with content.position y.batches)
+
+-- So it is decided, in either variant.
+abbrev pub BasicNamesAreDecided : Type 0
+BasicNamesAreDecided = (meaning : Meaning) (key : List ℕ) (y : History) (content : Content) →
+    IsDecided (is_named (basic meaning key) y content) (Names (basic meaning key) y content)
+
+abbrev pub OptNamesAreDecided : Type 0
+OptNamesAreDecided = (meaning : Meaning) (key barrier : List ℕ) (y : History) (content : Content) →
+    IsDecided (is_named (opt meaning key barrier) y content) (Names (opt meaning key barrier) y content)

@@ -1,9 +1,33 @@
 //! The fold by lists.
 
-ghost use Rattle.std.specs.Prelude.{◌≡◌, ◌+◌, ◌^◌, ◌<◌, ◌≤◌, ◌++◌, [], ◌∷◌, List, length, IfOk, OnOk};
+ghost use Rattle.std.specs.Prelude.{◌≡◌, ◌++◌, false, IfOk, OnOk, option_to_list};
+ghost use Rattle.mm_module.specs.Batches.{batch_of};
+ghost use Rattle.mm_model.specs.Long.{is_long};
+ghost use Rattle.mm_call.specs.Asked.{right_messages};
+ghost use Rattle.mm_call.specs.Ended.{is_broken};
+ghost use Rattle.mm_call.specs.Found.{right_content};
+ghost use Rattle.mm_schedule.specs.Events.{Ask, Checkpoint, Power, Extend, meddles_of, event_of};
+ghost use Rattle.mm_run.specs.Folds.{after_stop};
+ghost use Rattle.mm_run.specs.Held.{world_key};
+ghost use Rattle.mm_expect.specs.Coming.{Calls, ComesTo, moves_if};
+ghost use Rattle.mm_expect.specs.Recorded.{Went, instance_of};
 
+use crate::calls::Closing;
+use crate::chronicle::Chronicle;
+use crate::course::Course;
+use crate::keys::key;
+use crate::kept::normal;
+use crate::messages::list_place;
+use crate::offered::offered;
+use crate::offers::{is_genuine, right_body};
+use crate::replies::{Said, closing_said, quiet, said_of, way};
 use mm_base::{Bytes, Memory};
-use mm_schedule::{Event, Header, Reply};
+use mm_call::Ended;
+use mm_digest::{Digest, HmacKey};
+use mm_model::is_long;
+use mm_module::Batch;
+use mm_platform::{Meddle, Stop};
+use mm_schedule::{Cause, Event, Header, Meddles, Offer, Reply};
 use std::alloc::Global;
 use std::marker::Model;
 
@@ -14,74 +38,310 @@ pub struct Heard {
     pub reply: Reply,
     /// The messages of the event, in the order of their numbers; one may have come before.
     pub messages: Vec<Bytes>,
-    /// Whether the offer names a position, if it is right.
+    /// Whether the offer, where it is right, names a position of the history before the event.
     pub is_genuine: bool,
 }
 
-/// Where the expected run of a schedule stands.
+/// A schedule followed by lists, which contracts see as the header, the history and the issued snapshots.
 #[derive(Drop)]
 pub struct Expecting {
-    header: Header,
+    alloc: Global,
+    key: HmacKey,
+    chronicle: Chronicle,
+    issued: Vec<Bytes>,
 }
 
 impl Model for Expecting {
-    ghost use Rattle.std.specs.Prelude.{[]};
+    ghost use Rattle.std.specs.Prelude.{◌≡◌};
+    ghost use Rattle.mm_run.specs.Held.{world_key};
     ghost use Rattle.mm_expect.specs.Traced.{Traced};
-    ghost use Rattle.mm_model.specs.History.{first_history};
 
     ghost Value = { Traced };
 
-    ghost view = { λ it. record { header = it.header; history = first_history; issued = [] } };
+    ghost view = { λ s. record {
+      header = record { variant = s.chronicle.variant; «module» = s.chronicle.«module» };
+      history = s.chronicle.history;
+      issued = s.issued.items;
+    } };
+
+    ghost invariant = { λ s. s.key ≡ world_key };
+}
+
+// The meddles that count.
+fn listed(meddles: &Meddles) -> &[Meddle]
+    ensures { result.now ≡ meddles_of meddles.now }
+{
+    let (front, _) = meddles.items.split_at(meddles.count as usize);
+    front
+}
+
+// Lists the messages of what is asked, where the offer is right.
+fn list_asked(
+    chronicle: &Chronicle,
+    key: &HmacKey,
+    bytes: &[u8],
+    batch: Batch<'_>,
+    messages: &mut Vec<Bytes>,
+) -> Result<(), Memory>
+    requires { key.now ≡ world_key }
+    ensures { OnOk result (messages.new.items ≡ messages.old.items ++ right_messages (instance_of chronicle.now) (batch_of batch.entry)
+        (right_content (instance_of chronicle.now) bytes.now)) }
+{
+    match right_body(chronicle, key, bytes) {
+        None => Ok(()),
+        Some(body) => list_place(
+            chronicle.alloc,
+            &chronicle.barrier,
+            &body.place,
+            batch,
+            messages,
+        ),
+    }
+}
+
+// Power is lost where a call is cut that is broken off, and comes back.
+fn restore(chronicle: &mut Chronicle, stop: Stop, is_broken: bool)
+    ensures { Went chronicle.old chronicle.new (moves_if is_broken (after_stop stop)) }
+{
+    if let Stop::Cut(_) = stop
+        && is_broken
+    {
+        chronicle.empty();
+    }
+}
+
+// A call that offers these bytes: what is said, and its messages.
+fn call(
+    chronicle: &mut Chronicle,
+    key: &HmacKey,
+    course: &Course<'_>,
+    bytes: &[u8],
+    batch: Batch<'_>,
+    messages: &mut Vec<Bytes>,
+) -> Result<Said, Memory>
+    requires key { key.now ≡ world_key }
+    requires short { is_long (batch_of batch) ≡ false }
+    ensures { IfOk result (Calls chronicle.old chronicle.new course.now.stop course.now.meddles.now bytes.now (batch_of batch.entry)
+        messages.old.items messages.new.items) }
+{
+    list_asked(chronicle, key, bytes, batch, messages)?;
+    chronicle.forget_messages();
+    let ended = chronicle.ask(key, course, bytes, batch)?;
+    chronicle.hand_messages(messages)?;
+    let is_broken = is_broken(&ended);
+    restore(chronicle, course.stop, is_broken);
+    Ok(said_of(way(course.stop), ended))
+}
+
+// Whether a device's fault broke a call off.
+fn is_broken(ended: &Ended) -> bool
+    ensures { result ≡ is_broken ended.now }
+{
+    match ended {
+        Ended::Broken { .. } => true,
+        Ended::Answered(_) | Ended::Refused(_) => false,
+    }
+}
+
+// An event that asks for a batch of what is offered.
+fn ask(
+    chronicle: &mut Chronicle,
+    key: &HmacKey,
+    issued: &[Bytes],
+    offer: &Offer,
+    course: &Course<'_>,
+    batch: Batch<'_>,
+    messages: &mut Vec<Bytes>,
+) -> Result<Said, Memory>
+    requires key { key.now ≡ world_key }
+    ensures { IfOk result (ComesTo chronicle.old chronicle.new issued.now
+        (Ask course.now.meddles.now course.now.stop offer.now (batch_of batch.entry)) messages.old.items messages.new.items) }
+{
+    match offered(chronicle.alloc, issued, offer)? {
+        None => Ok(quiet(Reply::No(Cause::Snapshot))),
+        Some(found) => {
+            if is_long(&batch) {
+                return Ok(quiet(Reply::No(Cause::Long)));
+            }
+            call(chronicle, key, course, found.bytes(), normal(batch), messages)
+        }
+    }
+}
+
+// An event that closes the open segment.
+fn checkpoint(
+    chronicle: &mut Chronicle,
+    issued: &[Bytes],
+    course: &Course<'_>,
+    messages: &mut Vec<Bytes>,
+) -> Result<Said, Memory>
+    ensures { IfOk result (ComesTo chronicle.old chronicle.new issued.now
+        (Checkpoint course.now.meddles.now course.now.stop) messages.old.items messages.new.items) }
+{
+    chronicle.forget_messages();
+    let closing = chronicle.checkpoint(course)?;
+    chronicle.hand_messages(messages)?;
+    let is_broken = closing.stops();
+    restore(chronicle, course.stop, is_broken);
+    Ok(quiet(closing_said(way(course.stop), closing)))
+}
+
+// Power is lost and comes back.
+fn power(chronicle: &mut Chronicle, issued: &[Bytes], messages: &mut Vec<Bytes>) -> Said
+    ensures { ComesTo chronicle.old chronicle.new issued.now Power messages.old.items messages.new.items result }
+{
+    chronicle.empty();
+    quiet(Reply::Power)
+}
+
+// Others extend the register.
+fn extend(
+    chronicle: &mut Chronicle,
+    issued: &[Bytes],
+    value: &Digest,
+    messages: &mut Vec<Bytes>,
+) -> Result<Said, Memory>
+    ensures { IfOk result (ComesTo chronicle.old chronicle.new issued.now (Extend value.now.bytes) messages.old.items messages.new.items) }
+{
+    chronicle.forget_messages();
+    chronicle.bring(value)?;
+    chronicle.hand_messages(messages)?;
+    Ok(quiet(Reply::Extended))
+}
+
+// One event.
+fn follow(
+    chronicle: &mut Chronicle,
+    key: &HmacKey,
+    issued: &[Bytes],
+    event: &Event,
+    messages: &mut Vec<Bytes>,
+) -> Result<Said, Memory>
+    requires { key.now ≡ world_key }
+    ensures { IfOk result (ComesTo chronicle.old chronicle.new issued.now (event_of event.now) messages.old.items messages.new.items) }
+{
+    match event {
+        Event::Ask {
+            meddles,
+            stop,
+            offer,
+            request,
+        } => {
+            let course = Course {
+                stop: *stop,
+                meddles: listed(meddles),
+            };
+            let batch = Batch::One(request.as_slice());
+            ask(chronicle, key, issued, offer, &course, batch, messages)
+        }
+        Event::Batch {
+            meddles,
+            stop,
+            offer,
+            text,
+        } => {
+            let course = Course {
+                stop: *stop,
+                meddles: listed(meddles),
+            };
+            let batch = Batch::Many(text.as_slice());
+            ask(chronicle, key, issued, offer, &course, batch, messages)
+        }
+        Event::Checkpoint { meddles, stop } => {
+            let course = Course {
+                stop: *stop,
+                meddles: listed(meddles),
+            };
+            checkpoint(chronicle, issued, &course, messages)
+        }
+        Event::Power => Ok(power(chronicle, issued, messages)),
+        Event::Extend { value } => extend(chronicle, issued, value, messages),
+    }
+}
+
+// Keeps the snapshot that was handed out, if one was.
+fn keep(issued: &mut Vec<Bytes>, snapshot: Option<Bytes>) -> Result<(), Memory>
+    ensures { OnOk result (issued.new.items ≡ issued.old.items ++ option_to_list snapshot) }
+{
+    if let Some(snapshot) = snapshot {
+        issued.push(snapshot)?;
+    }
+    Ok(())
 }
 
 impl Expecting {
-    ghost use Rattle.mm_schedule.specs.declared.header.Header as ghost_header;
-    ghost use Rattle.mm_schedule.specs.Events as events;
+    ghost use Rattle.std.specs.Prelude.{◌≡◌, ◌<◌, ◌≤◌, ◌+◌, ◌^◌, [], length, IfOk, OnOk};
+    ghost use Rattle.mm_model.specs.History.{total_of};
     ghost use Rattle.mm_schedule.specs.Events.{event_of};
     ghost use Rattle.mm_schedule.specs.Replies.{IsPrintable};
-    ghost use Rattle.mm_run.specs.Folds.{expected};
     ghost use Rattle.mm_run.specs.Held.{world_of};
-    ghost use Rattle.mm_run.specs.Premises.{IsGenuineEvent};
+    ghost use Rattle.mm_expect.specs.Traced.{IsAfter, StandsLater, first_traced, after_event};
     ghost use Rattle.mm_expect.specs.Hears.{Hears};
-    ghost use Rattle.mm_expect.specs.Naming.{IsDecided};
-    ghost use Rattle.mm_expect.specs.Traced.{IsAfter, StandsLater, first_traced};
-    ghost use Rattle.mm_model.specs.History.{total_of};
+    ghost use Rattle.mm_expect.specs.Judged.{DecidesLater};
 
-    /// A run at its first event.
-    pub fn begin(_alloc: Global, _header: &Header) -> Result<Expecting, Memory>
-        ensures first { IfOk result (λ it. it ≡ first_traced _header.now) }
-        ensures after { IfOk result (IsAfter _header.now []) }
+    /// A schedule with this header, before its first event.
+    pub fn begin(alloc: Global, header: &Header) -> Result<Expecting, Memory>
+        ensures first { IfOk result (λ it. it ≡ first_traced header.now) }
+        ensures after { IfOk result (IsAfter header.now []) }
     {
-        Err(Memory)
+        let key = HmacKey::new(&key());
+        let chronicle = Chronicle::new(alloc, header.variant, header.module)?;
+        let snapshot = chronicle.snapshot(&key)?;
+        let mut issued = Vec::new(alloc);
+        issued.push(snapshot)?;
+        Ok(Expecting {
+            alloc,
+            key,
+            chronicle,
+            issued,
+        })
     }
 
-    /// What the next event comes to.
+    /// Follows one event. After want of memory nothing is said of what stands.
     pub fn event(&mut self, event: &Event) -> Result<Heard, Memory>
+        ensures state { OnOk result (self.new ≡ after_event self.old (event_of event.now)) }
         ensures hears { IfOk result (Hears (world_of self.old.header) self.old.history self.old.issued (event_of event.now)) }
         ensures after { OnOk result (StandsLater self.old (event_of event.now) self.new) }
-        ensures genuine { IfOk result (λ heard. (header : ghost_header.Header) (before : List events.Event) → IsAfter header before self.old
-            → IsDecided heard.is_genuine (IsGenuineEvent (world_of header) self.old.history self.old.issued (event_of event.now))) }
+        ensures genuine { IfOk result (λ heard. DecidesLater self.old (event_of event.now) heard.is_genuine) }
+
+        // The reply can be printed, and at most one snapshot is issued.
         ensures printable { IfOk result (λ heard. IsPrintable heard.reply) }
         ensures grows { OnOk result (length self.new.issued ≤ length self.old.issued + 1) }
     {
-        let _ = &self.header;
-        Err(Memory)
+        let is_genuine = is_genuine(
+            &self.chronicle,
+            &self.key,
+            self.issued.as_slice(),
+            event,
+        )?;
+        let mut messages = Vec::new(self.alloc);
+        let Said { reply, snapshot } = follow(
+            &mut self.chronicle,
+            &self.key,
+            self.issued.as_slice(),
+            event,
+            &mut messages,
+        )?;
+        keep(&mut self.issued, snapshot)?;
+        Ok(Heard {
+            reply,
+            messages,
+            is_genuine,
+        })
     }
 
-    /// How many requests were committed.
+    /// How many requests are committed.
     pub fn committed(&self) -> u64
         ensures { result ≡ total_of self.now.history.batches }
     {
-        let _ = &self.header;
-        0
+        self.chronicle.total()
     }
 
-    /// How many snapshots were issued.
+    /// How many snapshots were issued, the first of them included.
     pub fn issued(&self) -> u32
         requires { length self.now.issued < 2 ^ 32 }
         ensures { result ≡ length self.now.issued }
     {
-        let _ = &self.header;
-        0
+        self.issued.len() as u32
     }
 }

@@ -1,6 +1,23 @@
-//! The fold by lists in code: what is expected of a schedule, event after event.
+//! What is expected of a schedule, event by event: the fold by lists, which knows no digest, followed in code.
 #![tactic(auto)]
 
+mod answering;
+mod calls;
+mod chronicle;
+mod course;
 mod expecting;
+mod judging;
+mod kept;
+mod keys;
+mod lists;
+mod marks;
+mod messages;
+mod naming;
+mod offered;
+mod offers;
+mod replies;
 
 pub use expecting::{Expecting, Heard};
+
+#[cfg(test)]
+mod tests;

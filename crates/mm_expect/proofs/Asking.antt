@@ -1,0 +1,428 @@
+-- A call by lists, step by step.
+use Rattle.std.proofs.Common.{◌≡◌, ℕ, ◌+◌, ◌<◌, ◌≤◌, ◌^◌, Bool, true, false, List, [], ◌∷◌, ◌++◌, map, Option, None, Some, Result, Ok, Err, refl, sym, ap, ◌∙◌, subst, arith, append_assoc}
+use Rattle.std.specs.Prelude.{if◌then◌else◌, nat_eq, IfOk}
+use Rattle.std.proofs.lemmas.List.{append-nil}
+use Rattle.std.proofs.lemmas.Bool.Decides.{Decides-eqb}
+use Rattle.mm_digest.specs.declared.variant.Variant.{Variant}
+use Rattle.mm_digest.specs.declared.variant.Variant.TheVariants.{Basic, Opt}
+use Rattle.mm_platform.specs.declared.fault.StepFault.{StepFault}
+use Rattle.mm_platform.specs.declared.plan.Meddle.{Meddle}
+use Rattle.mm_platform.specs.declared.plan.Stop.{Stop}
+use Rattle.mm_module.specs.Batch.{Batch, size_of}
+use Rattle.mm_module.proofs.BatchLaws.{size_of-pos}
+use Rattle.mm_model.specs.Instance.{Instance}
+use Rattle.mm_model.specs.History.{History, Move, Commit, Foreign, Placed, Reset, Close, Power, moved, total_of}
+use Rattle.mm_model.specs.Judge.{is_last}
+use Rattle.mm_model.specs.Steps.{Step, Reads, Changes, Writes, ask_steps}
+use Rattle.mm_model.specs.declared.refusal.Refusal.{Refusal}
+use Rattle.mm_model.specs.Life.{same_batch}
+use Rattle.mm_model.proofs.Batches.{same_batch-Decides}
+use Rattle.mm_model.proofs.MovedDigests.{total-push}
+use Rattle.mm_call.specs.Answers.{answer_on}
+use Rattle.mm_call.specs.Levels.{by_lists, all_made}
+use Rattle.mm_call.specs.Found.{Found, found_in, found_at, is_fresh}
+use Rattle.mm_call.specs.Courses.{End, Done, Fails, Fate, Walked, made_move, step_moves, after_step, walk, seen_in, commits, planned}
+use Rattle.mm_call.specs.Called.{Ending, Answers, Refuses, Breaks, Called, reading_steps, kept_at, position_of, ended_by, called, called_with, seen_at}
+use Rattle.mm_call.specs.declared.ended.Ended.{Ended}
+use Rattle.mm_call.specs.declared.ended.Ended.TheVariants.{Answered, Refused, Broken}
+use Rattle.mm_call.proofs.Moving.{committed_in, same_batches, more_batches}
+use Rattle.mm_call.proofs.Walks.{Commits, nothing, batch, finished, committed-append, committed-foreign, foreign_first, commits-none}
+use Rattle.mm_run.specs.Folds.{plan_of, course_of}
+use Rattle.mm_expect.specs.Recorded.{Recorded, Went, instance_of, instance_with}
+use Rattle.mm_expect.specs.Walking.{Walks}
+use Rattle.mm_expect.specs.Calls.{again_in, reached, Admits, changing_steps, changing_from, changes_on, ChangesBy, ending_of, new_ending, GoesOnNew, CallsBy}
+use Rattle.mm_expect.proofs.Walking.{went_then}
+
+is_last_of : (front : List Batch) (b : Batch) → is_last (front ++ b ∷ []) b ≡ true
+is_last_of [] b = (same_batch-Decides b b).1 refl
+is_last_of (c ∷ []) b = (same_batch-Decides b b).1 refl
+is_last_of (c ∷ d ∷ front) b = is_last_of (d ∷ front) b
+
+-- what the steps of a new batch commit
+
+abbrev IsQuiet : Step → Type 0
+IsQuiet step = (made : Bool) (values : List (List ℕ)) → committed_in (step_moves step made values) ≡ []
+
+quiet_reads : IsQuiet Reads
+quiet_reads made values = committed-foreign values
+
+quiet_reset : IsQuiet (Changes Reset)
+quiet_reset true values = foreign_first values (Reset ∷ [])
+quiet_reset false values = foreign_first values []
+
+quiet_placed : (b : Batch) → IsQuiet (Changes (Placed b))
+quiet_placed b true values = foreign_first values (Placed b ∷ [])
+quiet_placed b false values = foreign_first values []
+
+quiet_step : (step : Step) (values : List (List ℕ)) (ends : End) (rest : Walked) (b : Batch) (fresh : Bool) → IsQuiet step
+    → Commits b fresh rest → Commits b fresh (after_step step values ends rest)
+quiet_step step values Done rest b fresh quiet (nothing e unless) =
+    nothing (committed-append (step_moves step true values) rest.moves ∙ ap (λ v. v ++ committed_in rest.moves) (quiet true values) ∙ e) unless
+quiet_step step values Done rest b fresh quiet (batch e is) =
+    batch (committed-append (step_moves step true values) rest.moves ∙ ap (λ v. v ++ committed_in rest.moves) (quiet true values) ∙ e) is
+quiet_step step values (Fails fault made) rest b fresh quiet c = nothing (quiet made values) (λ e. cc)
+
+last_step : (step : Step) (values : List (List ℕ)) (ends : End) (b : Batch)
+    → committed_in (step_moves step true values) ≡ b ∷ [] → committed_in (step_moves step false values) ≡ []
+    → Commits b true (after_step step values ends finished)
+last_step step values Done b one none =
+    batch (committed-append (step_moves step true values) [] ∙ ap (λ v. v ++ []) one) refl
+last_step step values (Fails fault true) b one none = batch one refl
+last_step step values (Fails fault false) b one none = nothing none (λ e. cc)
+
+written_one : (b : Batch) (values : List (List ℕ)) → committed_in (Commit b ∷ map Foreign values) ≡ b ∷ []
+written_one b values = ap (λ v. b ∷ v) (committed-foreign values)
+
+changing_commits : (fates : ℕ → Fate) (variant : Variant) (flag : Bool) (b : Batch)
+    → Commits b true (walk fates (changing_from variant) (changing_steps variant flag b))
+changing_commits fates Basic flag b =
+    last_step (Writes (Commit b)) (fates 2).brings (fates 2).ends b (written_one b (fates 2).brings) (committed-foreign (fates 2).brings)
+changing_commits fates Opt true b =
+    last_step (Changes (Commit b)) (fates 3).brings (fates 3).ends b
+    (foreign_first (fates 3).brings (Commit b ∷ [])) (foreign_first (fates 3).brings [])
+changing_commits fates Opt false b =
+    quiet_step (Changes Reset) (fates 3).brings (fates 3).ends (walk fates 4 (Changes (Placed b) ∷ Writes (Commit b) ∷ [])) b true quiet_reset
+    (quiet_step (Changes (Placed b)) (fates 4).brings (fates 4).ends (walk fates 5 (Writes (Commit b) ∷ [])) b true (quiet_placed b)
+    (last_step (Writes (Commit b)) (fates 5).brings (fates 5).ends b (written_one b (fates 5).brings) (committed-foreign (fates 5).brings)))
+
+commits-some : (moves : List Move) (b : Batch) → committed_in moves ≡ b ∷ [] → commits moves ≡ true
+commits-some [] b e = cc
+commits-some (Commit c ∷ moves) b e = refl
+commits-some (Foreign v ∷ moves) b e = commits-some moves b e
+commits-some (Placed c ∷ moves) b e = commits-some moves b e
+commits-some (Reset ∷ moves) b e = commits-some moves b e
+commits-some (Close ∷ moves) b e = commits-some moves b e
+commits-some (Power ∷ moves) b e = commits-some moves b e
+
+commits-append : (xs ys : List Move) → committed_in xs ≡ [] → commits (xs ++ ys) ≡ commits ys
+commits-append [] ys e = refl
+commits-append (Commit c ∷ xs) ys e = cc
+commits-append (Foreign v ∷ xs) ys e = commits-append xs ys e
+commits-append (Placed c ∷ xs) ys e = commits-append xs ys e
+commits-append (Reset ∷ xs) ys e = commits-append xs ys e
+commits-append (Close ∷ xs) ys e = commits-append xs ys e
+commits-append (Power ∷ xs) ys e = commits-append xs ys e
+
+-- the batches once a new batch was walked through
+whole_batches : (old new : Recorded) (walked : Walked) (b : Batch) → Commits b true walked → walked.broken ≡ None → Went old new walked.moves
+    → new.history.batches ≡ old.history.batches ++ b ∷ []
+whole_batches old new walked b (nothing none unless) whole went = let no : true ≡ false = unless whole in cc
+whole_batches old new walked b (batch one is) whole went =
+    ap (λ (y : History). y.batches) went.history ∙ more_batches (instance_of old) walked.moves old.history b one
+
+pub new_last : (old new : Recorded) (stop : Stop) (meddles : List Meddle) (b : Batch) → ChangesBy old new stop meddles b None
+    → is_last new.history.batches b ≡ true
+new_last old new stop meddles b w =
+    let grown = whole_batches old new (changes_on old stop meddles b) b
+    (changing_commits (planned (plan_of stop meddles)) old.variant old.history.is_open b) (sym w.broken) w.went in
+    ap (λ (bs : List Batch). is_last bs b) grown ∙ is_last_of old.history.batches b
+
+pub new_few : (old new : Recorded) (stop : Stop) (meddles : List Meddle) (b : Batch) → ChangesBy old new stop meddles b None
+    → Admits old.history b false → total_of new.history.batches ≤ 2 ^ 48
+new_few old new stop meddles b w admits =
+    let grown = whole_batches old new (changes_on old stop meddles b) b
+    (changing_commits (planned (plan_of stop meddles)) old.variant old.history.is_open b) (sym w.broken) w.went in
+    subst (λ n. n ≤ 2 ^ 48) (sym (ap total_of grown ∙ total-push old.history.batches b)) admits.fits
+
+-- whether the total rose tells whether the batch was committed
+kept_when : (same : Bool) (before total size : ℕ) (commit : Bool) → nat_eq total before ≡ same → (commit ≡ true → total ≡ before + size) → 0 < size
+    → (commit ≡ false → total ≡ before) → (if same then None else Some total) ≡ kept_at commit total
+kept_when true before total size true e up pos stay =
+    let a : total ≡ before = (Decides-eqb total before).0 e in absurd (omega (arith, a, up refl, pos))
+kept_when true before total size false e up pos stay = refl
+kept_when false before total size true e up pos stay = refl
+kept_when false before total size false e up pos stay = let a : nat_eq total before ≡ true = (Decides-eqb total before).1 (stay refl) in cc
+
+kept_by : (old new : Recorded) (walked : Walked) (b : Batch) → Commits b true walked → Went old new walked.moves
+    → (if nat_eq (total_of new.history.batches) (total_of old.history.batches) then None else Some (total_of new.history.batches))
+    ≡ kept_at (commits walked.moves) (total_of new.history.batches)
+kept_by old new walked b (nothing none unless) went =
+    let i = instance_of old in
+    let same : total_of new.history.batches ≡ total_of old.history.batches =
+    ap (λ (y : History). total_of y.batches) went.history ∙ ap total_of (same_batches i walked.moves old.history none) in
+    kept_when _ (total_of old.history.batches) (total_of new.history.batches) (size_of b) (commits walked.moves) refl
+    (λ e. let no : commits walked.moves ≡ false = commits-none walked.moves none in cc) (size_of-pos b) (λ e. same)
+kept_by old new walked b (batch one is) went =
+    let i = instance_of old in
+    let more : total_of new.history.batches ≡ total_of old.history.batches + size_of b =
+    ap (λ (y : History). total_of y.batches) went.history ∙ ap total_of (more_batches i walked.moves old.history b one)
+    ∙ total-push old.history.batches b in
+    kept_when _ (total_of old.history.batches) (total_of new.history.batches) (size_of b) (commits walked.moves) refl
+    (λ e. more) (size_of-pos b) (λ e. let yes : commits walked.moves ≡ true = commits-some walked.moves b one in cc)
+
+pub new_answered : (old new : Recorded) (stop : Stop) (meddles : List Meddle) (b : Batch) (ended : Ended) → ChangesBy old new stop meddles b None
+    → ended ≡ Answered (answer_on (instance_of new) new.history b false) → GoesOnNew old new stop meddles b ended
+new_answered old new stop meddles b ended w is = record {
+  went = w.went;
+  ends = ap ending_of is ∙ ap (new_ending new b (changes_on old stop meddles b).moves) w.broken;
+}
+
+pub new_broken : (old new : Recorded) (stop : Stop) (meddles : List Meddle) (b : Batch) (fault : StepFault) (kept : Option ℕ)
+    → ChangesBy old new stop meddles b (Some fault)
+    → kept ≡ (if nat_eq (total_of new.history.batches) (total_of old.history.batches) then None else Some (total_of new.history.batches))
+    → GoesOnNew old new stop meddles b (Broken fault kept)
+new_broken old new stop meddles b fault kept w is = record {
+  went = w.went;
+  ends = ap (Breaks fault) (is ∙ kept_by old new (changes_on old stop meddles b) b
+      (changing_commits (planned (plan_of stop meddles)) old.variant old.history.is_open b) w.went)
+      ∙ ap (new_ending new b (changes_on old stop meddles b).moves) w.broken;
+}
+
+-- the reading steps, and those behind them
+
+-- the second walk goes on from the first, which wasn't broken off
+pub record Then (first second whole : Walked) : Type 0 where
+  pub moves : whole.moves ≡ first.moves ++ second.moves
+  pub broken : whole.broken ≡ second.broken
+
+after_broken : (step : Step) (values : List (List ℕ)) (ends : End) (r s : Walked) (fault : StepFault)
+    → (after_step step values ends r).broken ≡ Some fault → (r.broken ≡ Some fault → s ≡ r)
+    → after_step step values ends s ≡ after_step step values ends r
+after_broken step values Done r s fault e same = ap (after_step step values Done) (same e)
+after_broken step values (Fails f made) r s fault e same = refl
+
+after_whole : (step : Step) (values : List (List ℕ)) (ends : End) (r m s : Walked)
+    → (after_step step values ends r).broken ≡ None → (r.broken ≡ None → Then r m s)
+    → Then (after_step step values ends r) m (after_step step values ends s)
+after_whole step values Done r m s e goes = record {
+  moves = ap (λ v. step_moves step true values ++ v) (goes e).moves ∙ sym (append_assoc (step_moves step true values) r.moves m.moves);
+  broken = (goes e).broken;
+}
+after_whole step values (Fails f made) r m s e goes = cc
+
+after_seen : (values : List (List ℕ)) (ends : End) (r : Walked) (xs : List Move) → (after_step Reads values ends r).broken ≡ None
+    → (r.broken ≡ None → r.moves ≡ xs) → (after_step Reads values ends r).moves ≡ map Foreign values ++ xs
+after_seen values Done r xs e same = ap (λ v. map Foreign values ++ v) (same e)
+after_seen values (Fails f made) r xs e same = cc
+
+after_quiet : (values : List (List ℕ)) (ends : End) (r : Walked) → committed_in r.moves ≡ [] → committed_in (after_step Reads values ends r).moves ≡ []
+after_quiet values Done r none = foreign_first values r.moves ∙ none
+after_quiet values (Fails f made) r none = committed-foreign values
+
+module _ (fates : ℕ → Fate) where
+  pub read_broken : (variant : Variant) (rest : List Step) (fault : StepFault) → (walk fates 1 (reading_steps variant)).broken ≡ Some fault
+      → walk fates 1 (reading_steps variant ++ rest) ≡ walk fates 1 (reading_steps variant)
+  read_broken Basic rest fault e = after_broken Reads (fates 1).brings (fates 1).ends finished (walk fates 2 rest) fault e (λ no. cc)
+  read_broken Opt rest fault e =
+      after_broken Reads (fates 1).brings (fates 1).ends (after_step Reads (fates 2).brings (fates 2).ends finished)
+      (after_step Reads (fates 2).brings (fates 2).ends (walk fates 3 rest)) fault e
+      (λ f. after_broken Reads (fates 2).brings (fates 2).ends finished (walk fates 3 rest) fault f (λ no. cc))
+
+  pub read_whole : (variant : Variant) (rest : List Step) → (walk fates 1 (reading_steps variant)).broken ≡ None
+      → Then (walk fates 1 (reading_steps variant)) (walk fates (changing_from variant) rest) (walk fates 1 (reading_steps variant ++ rest))
+  read_whole Basic rest e =
+      after_whole Reads (fates 1).brings (fates 1).ends finished (walk fates 2 rest) (walk fates 2 rest) e (λ w. record { moves = refl; broken = refl })
+  read_whole Opt rest e =
+      after_whole Reads (fates 1).brings (fates 1).ends (after_step Reads (fates 2).brings (fates 2).ends finished) (walk fates 3 rest)
+      (after_step Reads (fates 2).brings (fates 2).ends (walk fates 3 rest)) e
+      (λ f. after_whole Reads (fates 2).brings (fates 2).ends finished (walk fates 3 rest) (walk fates 3 rest) f (λ w. record { moves = refl; broken = refl }))
+
+  pub read_seen : (variant : Variant) → (walk fates 1 (reading_steps variant)).broken ≡ None
+      → (walk fates 1 (reading_steps variant)).moves ≡ seen_in fates (reading_steps variant) 1
+  read_seen Basic e = after_seen (fates 1).brings (fates 1).ends finished [] e (λ w. refl)
+  read_seen Opt e =
+      after_seen (fates 1).brings (fates 1).ends (after_step Reads (fates 2).brings (fates 2).ends finished) (map Foreign (fates 2).brings ++ []) e
+      (λ f. after_seen (fates 2).brings (fates 2).ends finished [] f (λ w. refl))
+
+  read_quiet : (variant : Variant) → committed_in (walk fates 1 (reading_steps variant)).moves ≡ []
+  read_quiet Basic = after_quiet (fates 1).brings (fates 1).ends finished refl
+  read_quiet Opt = after_quiet (fates 1).brings (fates 1).ends (after_step Reads (fates 2).brings (fates 2).ends finished)
+      (after_quiet (fates 2).brings (fates 2).ends finished refl)
+
+-- the steps of a call: the reading ones, and those behind them
+steps_are : (variant : Variant) (is_open fresh : Bool) (b : Batch)
+    → ask_steps variant is_open fresh b ≡ reading_steps variant ++ (if fresh then changing_steps variant is_open b else [])
+steps_are Basic is_open true b = refl
+steps_are Basic is_open false b = refl
+steps_are Opt true true b = refl
+steps_are Opt false true b = refl
+steps_are Opt true false b = refl
+steps_are Opt false false b = refl
+
+unlack : (found : Result Found Refusal) → found_in found false ≡ found
+unlack (Ok f) = refl
+unlack (Err why) = refl
+
+again_err : (x : Result Found Refusal) (why : Refusal) → Err why ≡ again_in x → x ≡ Err why
+again_err (Ok f) why e = cc
+again_err (Err w) why e = let same : why ≡ w = cc in ap (λ (v : Refusal). Err v) (sym same)
+
+again_ok : (x : Result Found Refusal) (again : Bool) → Ok again ≡ again_in x → (f : Found) × (x ≡ Ok f) × (f.again ≡ again)
+again_ok (Ok f) again e = let same : again ≡ f.again = cc in (f, refl, sym same)
+again_ok (Err w) again e = cc
+
+module _ (a : Recorded) (stop : Stop) (meddles : List Meddle) (bytes : List ℕ) (b : Batch) where
+  abbrev at : Instance
+  at = instance_of a
+
+  abbrev fates : ℕ → Fate
+  fates = planned (plan_of stop meddles)
+
+  abbrev reading : Walked
+  reading = walk fates 1 (reading_steps a.variant)
+
+  abbrev seen : History
+  seen = seen_at at (by_lists at) a.history (course_of stop meddles)
+
+  abbrev found : Result Found Refusal
+  found = found_at at (by_lists at) seen b bytes
+
+  abbrev walked : Result Found Refusal → Walked
+  walked f = walk fates 1 (ask_steps a.variant a.history.is_open (is_fresh f) b)
+
+  abbrev all : Called History
+  all = called at (by_lists at) a.history (course_of stop meddles) bytes b
+
+  by_parts : (n : Recorded) (ended : Ended) (f : Result Found Refusal) (moves : List Move) (broken : Option StepFault) → found_in found false ≡ f
+      → (walked f).moves ≡ moves → (walked f).broken ≡ broken → Went a n moves
+      → ending_of ended ≡ ended_by (by_lists at) seen (all_made (by_lists at) a.history moves) b f moves broken → CallsBy a n all ended
+  by_parts n ended f moves broken is m br went ends =
+      let C : Result Found Refusal → Type 0 = λ g. CallsBy a n (called_with at (by_lists at) a.history seen (course_of stop meddles) b g) ended in
+      subst C (sym is)
+      (record {
+        went = subst (Went a n) (sym m) went;
+        ends = ends
+            ∙ ap (λ (v : List Move). ended_by (by_lists at) seen (all_made (by_lists at) a.history v) b f v broken) (sym m)
+            ∙ ap (λ (v : Option StepFault). ended_by (by_lists at) seen (all_made (by_lists at) a.history (walked f).moves) b f (walked f).moves v) (sym br);
+      })
+
+  pub ask_broken : (n : Recorded) (fault : StepFault) → Walks a n reading (Some fault) → CallsBy a n all (Broken fault None)
+  ask_broken n fault w =
+      let f = found_in found false in
+      let rest : List Step = (if is_fresh f then changing_steps a.variant a.history.is_open b else []) in
+      let same : walked f ≡ reading = ap (walk fates 1) (steps_are a.variant a.history.is_open (is_fresh f) b)
+      ∙ read_broken fates a.variant rest fault (sym w.broken) in
+      by_parts n (Broken fault None) f reading.moves (Some fault) refl (ap (λ (v : Walked). v.moves) same)
+      (ap (λ (v : Walked). v.broken) same ∙ sym w.broken) w.went
+      (ap (λ (k : Bool). Breaks fault (kept_at k (position_of (by_lists at) seen (all_made (by_lists at) a.history reading.moves) b f)))
+      (sym (commits-none reading.moves (read_quiet fates a.variant))))
+
+  -- what is found where the chronicle stands is what the call finds
+  found_there : (n : Recorded) → Walks a n reading None → found_at (instance_of n) (by_lists (instance_of n)) n.history b bytes ≡ found
+  found_there n w =
+      let same : instance_of n ≡ at = λ j. instance_with (w.went.variant j) (w.went.«module» j) in
+      ap (λ (k : Instance). found_at k (by_lists k) n.history b bytes) same
+      ∙ ap (λ (h : History). found_at at (by_lists at) h b bytes)
+      (w.went.history ∙ ap (all_made (by_lists at) a.history) (read_seen fates a.variant (sym w.broken)))
+
+  -- nothing comes behind the reading steps
+  read_only : (f : Result Found Refusal) → reading.broken ≡ None → is_fresh f ≡ false → Then reading finished (walked f)
+  read_only f whole e =
+      let T : List Step → Type 0 = λ s. Then reading finished (walk fates 1 s) in
+      subst T (sym (steps_are a.variant a.history.is_open (is_fresh f) b ∙ ap (λ (k : Bool). reading_steps a.variant
+      ++ (if k then changing_steps a.variant a.history.is_open b else [])) e))
+      (read_whole fates a.variant [] whole)
+
+  pub ask_refused : (n : Recorded) (why : Refusal) → Walks a n reading None
+      → Err why ≡ again_in (found_at (instance_of n) (by_lists (instance_of n)) n.history b bytes) → CallsBy a n all (Refused why)
+  ask_refused n why w e =
+      let is : found ≡ Err why = again_err found why (e ∙ ap again_in (found_there n w)) in
+      let t = read_only (Err why) (sym w.broken) refl in
+      by_parts n (Refused why) (Err why) reading.moves None (unlack found ∙ is) (t.moves ∙ append-nil reading.moves) t.broken w.went refl
+
+  answered_with : (n : Recorded) (again : Bool) → Walks a n reading None
+      → answer_on (instance_of n) n.history b again ≡ answer_on at (all_made (by_lists at) a.history reading.moves) b again
+  answered_with n again w =
+      let same : instance_of n ≡ at = λ j. instance_with (w.went.variant j) (w.went.«module» j) in
+      ap (λ (k : Instance). answer_on k n.history b again) same ∙ ap (λ (h : History). answer_on at h b again) w.went.history
+
+  pub ask_again : (n : Recorded) (ended : Ended) → Walks a n reading None
+      → Ok true ≡ again_in (found_at (instance_of n) (by_lists (instance_of n)) n.history b bytes)
+      → ended ≡ Answered (answer_on (instance_of n) n.history b true) → CallsBy a n all ended
+  ask_again n ended w e is_answer =
+      let f = again_ok found true (e ∙ ap again_in (found_there n w)) in
+      let t = read_only (Ok f.0) (sym w.broken) (ap (λ (k : Bool). if k then false else true) f.2) in
+      by_parts n ended (Ok f.0) reading.moves None (unlack found ∙ f.1) (t.moves ∙ append-nil reading.moves) t.broken w.went
+      (ap ending_of is_answer ∙ ap Answers (answered_with n true w
+      ∙ ap (answer_on at (all_made (by_lists at) a.history reading.moves) b) (sym f.2)))
+
+  -- the ending of a new batch, behind the reading steps
+  ends_new : (n m : Recorded) (f : Found) (moves : List Move) (broken : Option StepFault) → f.again ≡ false → Walks a n reading None
+      → Went n m moves
+      → new_ending m b moves broken
+      ≡ ended_by (by_lists at) seen (all_made (by_lists at) a.history (reading.moves ++ moves)) b (Ok f) (reading.moves ++ moves) broken
+  ends_new n m f moves None new w went =
+      let both = went_then a n m reading.moves moves w.went went in
+      let same : instance_of m ≡ at = λ j. instance_with (both.variant j) (both.«module» j) in
+      ap Answers (ap (λ (k : Instance). answer_on k m.history b false) same ∙ ap (λ (h : History). answer_on at h b false) both.history
+      ∙ ap (answer_on at (all_made (by_lists at) a.history (reading.moves ++ moves)) b) (sym new))
+  ends_new n m f moves (Some fault) new w went =
+      let both = went_then a n m reading.moves moves w.went went in
+      ap (Breaks fault)
+      (ap (λ (k : Bool). kept_at k (total_of m.history.batches)) (sym (commits-append reading.moves moves (read_quiet fates a.variant)))
+      ∙ ap (λ (h : History). kept_at (commits (reading.moves ++ moves)) (total_of h.batches)) both.history)
+
+  foreign_open : (values : List (List ℕ)) (moves : List Move) (y : History) (flag : Bool)
+      → ((z : History) → z.is_open ≡ y.is_open → (all_made (by_lists at) z moves).is_open ≡ y.is_open)
+      → (all_made (by_lists at) y (map Foreign values ++ moves)).is_open ≡ y.is_open
+  foreign_open [] moves y flag more = more y refl
+  foreign_open (v ∷ values) moves y flag more = foreign_open values moves (moved at y (Foreign v)) flag more
+
+  step_open : (values : List (List ℕ)) (ends : End) (r : Walked) (y : History)
+      → ((z : History) → z.is_open ≡ y.is_open → (all_made (by_lists at) z r.moves).is_open ≡ y.is_open)
+      → (all_made (by_lists at) y (after_step Reads values ends r).moves).is_open ≡ y.is_open
+  step_open values Done r y more = foreign_open values r.moves y true more
+  step_open values (Fails f made) r y more =
+      ap (λ (v : List Move). (all_made (by_lists at) y v).is_open) (sym (append-nil (map Foreign values))) ∙ foreign_open values [] y true (λ z e. e)
+
+  read_open : (variant : Variant) (y : History) → (all_made (by_lists at) y (walk fates 1 (reading_steps variant)).moves).is_open ≡ y.is_open
+  read_open Basic y = step_open (fates 1).brings (fates 1).ends finished y (λ z e. e)
+  read_open Opt y =
+      step_open (fates 1).brings (fates 1).ends (after_step Reads (fates 2).brings (fates 2).ends finished) y
+      (λ z e. step_open (fates 2).brings (fates 2).ends finished z (λ u f. f) ∙ e)
+
+  pub ask_new : (n m : Recorded) (ended : Ended) → Walks a n reading None
+      → Ok false ≡ again_in (found_at (instance_of n) (by_lists (instance_of n)) n.history b bytes)
+      → GoesOnNew n m stop meddles b ended → CallsBy a m all ended
+  ask_new n m ended w e goes =
+      let f = again_ok found false (e ∙ ap again_in (found_there n w)) in
+      let more : Walked = walk fates (changing_from a.variant) (changing_steps a.variant a.history.is_open b) in
+      let opens : n.history.is_open ≡ a.history.is_open = ap (λ (y : History). y.is_open) w.went.history ∙ read_open a.variant a.history in
+      let same : changes_on n stop meddles b ≡ more =
+      ap (λ (v : Variant). walk fates (changing_from v) (changing_steps v n.history.is_open b)) w.went.variant
+      ∙ ap (λ (o : Bool). walk fates (changing_from a.variant) (changing_steps a.variant o b)) opens in
+      let went : Went n m more.moves = subst (λ (v : Walked). Went n m v.moves) same goes.went in
+      let ends : ending_of ended ≡ new_ending m b more.moves more.broken = goes.ends ∙ ap (λ (v : Walked). new_ending m b v.moves v.broken) same in
+      let fresh : is_fresh (Ok f.0) ≡ true = ap (λ (k : Bool). if k then false else true) f.2 in
+      let t : Then reading more (walked (Ok f.0)) =
+      (let T : List Step → Type 0 = λ s. Then reading more (walk fates 1 s) in
+      subst T (sym (steps_are a.variant a.history.is_open (is_fresh (Ok f.0)) b ∙ ap (λ (k : Bool). reading_steps a.variant
+      ++ (if k then changing_steps a.variant a.history.is_open b else [])) fresh))
+      (read_whole fates a.variant (changing_steps a.variant a.history.is_open b) (sym w.broken))) in
+      by_parts m ended (Ok f.0) (reading.moves ++ more.moves) more.broken (unlack found ∙ f.1) t.moves t.broken
+      (went_then a n m reading.moves more.moves w.went went) (ends ∙ ends_new n m f.0 more.moves more.broken f.2 w went)
+
+  pub ask_new_in : {E : Type 0} (n m : Recorded) (r : Result Ended E) → Walks a n reading None
+      → Ok false ≡ again_in (found_at (instance_of n) (by_lists (instance_of n)) n.history b bytes)
+      → IfOk r (GoesOnNew n m stop meddles b) → IfOk r (CallsBy a m all)
+  ask_new_in n m (Ok ended) w e goes = ask_new n m ended w e goes
+  ask_new_in n m (Err why) w e goes = tt
+
+pub unbroken : (fault : Option StepFault) → ((f : StepFault) → fault ≡ Some f → ⊥) → fault ≡ None
+unbroken None h = refl
+unbroken (Some f) h = absurd (h f refl)
+
+pub kept_same : (total before now was : ℕ) → now ≡ total → was ≡ before → now ≡ was → None ≡ (if nat_eq total before then None else Some total)
+kept_same total before now was n w e =
+    sym (ap (λ (b : Bool). if b then None else Some total) ((Decides-eqb total before).1 (sym n ∙ e ∙ w)))
+
+not_true : (b : Bool) → (b ≡ true → ⊥) → b ≡ false
+not_true true h = absurd (h refl)
+not_true false h = refl
+
+pub kept_other : (total before now was : ℕ) → now ≡ total → was ≡ before → (now ≡ was → ⊥) → Some now ≡ (if nat_eq total before then None else Some total)
+kept_other total before now was n w e =
+    ap (λ (t : ℕ). Some t) n
+    ∙ sym (ap (λ (b : Bool). if b then None else Some total) (not_true (nat_eq total before) (λ t. e (n ∙ (Decides-eqb total before).0 t ∙ sym w))))
+
+pub last_pushed : (front : List Batch) (b : Batch) → is_last (front ++ b ∷ []) b ≡ true
+last_pushed front b = is_last_of front b
+
+seen_quiet : (fates : ℕ → Fate) (steps : List Step) (n : ℕ) → committed_in (seen_in fates steps n) ≡ []
+seen_quiet fates [] n = refl
+seen_quiet fates (step ∷ steps) n = foreign_first (fates n).brings (seen_in fates steps (n + 1)) ∙ seen_quiet fates steps (n + 1)
+
+-- what others put into the register commits nothing
+pub foreign_batches : (i : Instance) (fates : ℕ → Fate) (steps : List Step) (n : ℕ) (y : History)
+    → (all_made (by_lists i) y (seen_in fates steps n)).batches ≡ y.batches
+foreign_batches i fates steps n y = same_batches i (seen_in fates steps n) y (seen_quiet fates steps n)

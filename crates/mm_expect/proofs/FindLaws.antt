@@ -1,0 +1,119 @@
+-- What is found of an offer.
+use Rattle.std.proofs.Common.{◌≡◌, ℕ, ◌+◌, ◌≤◌, ◌^◌, Bool, true, false, ◌&&◌, List, Result, Ok, Err, refl, sym, ap, ◌∙◌, subst, arith}
+use Rattle.std.specs.Prelude.{if◌then◌else◌, nat_eq, nat_le, IfOk}
+use Rattle.std.specs.Str.{bytes_eq}
+use Rattle.std.proofs.lemmas.Bool.{and_parts, leb-true}
+use Rattle.std.proofs.lemmas.Bool.Decides.{Decides-eqb}
+use Rattle.mm_digest.specs.declared.variant.Variant.{Variant}
+use Rattle.mm_module.specs.Batch.{Batch, size_of}
+use Rattle.mm_module.specs.Meaning.{Meaning}
+use Rattle.mm_seal.specs.declared.snapshot.PartsFault.{PartsFault}
+use Rattle.mm_seal.specs.declared.snapshot.PartsFault.TheVariants.{Form, Kind}
+use Rattle.mm_seal.specs.Snapshot.{Content, Snapshot, tag_of}
+use Rattle.mm_seal.specs.Parts.{parts_of}
+use Rattle.mm_model.specs.Instance.{Instance}
+use Rattle.mm_model.specs.History.{History, total_of}
+use Rattle.mm_model.specs.Life.{Life, Live, Spoiled, Lost as LostLife, life_by, life_of, is_lost}
+use Rattle.mm_model.specs.Judge.{is_last, judged, judge}
+use Rattle.mm_model.specs.declared.verdict.Verdict.{Verdict}
+use Rattle.mm_model.specs.declared.verdict.Verdict.TheVariants.{Fresh, Again, Lost, Stale}
+use Rattle.mm_model.specs.declared.refusal.Refusal.{Refusal}
+use Rattle.mm_model.specs.declared.refusal.Refusal.TheVariants as refusal
+use Rattle.mm_call.specs.Order.{admitted, weighed, examined}
+use Rattle.mm_call.specs.Levels.{by_lists}
+use Rattle.mm_call.specs.Found.{Found, found_with, found_from, found_at}
+use Rattle.mm_call.proofs.Finding.{admitted_tells, weighed_tells, found_with_tells}
+use Rattle.mm_expect.specs.Calls.{again_in, reached, Admits}
+
+pub lost_when : (is_open is_bare is_own is_marred : Bool) → is_lost (life_by is_open is_bare is_own is_marred) ≡ (is_open && is_bare)
+lost_when true true own marred = refl
+lost_when true false true false = refl
+lost_when true false true true = refl
+lost_when true false false marred = refl
+lost_when false bare own false = refl
+lost_when false bare own true = refl
+
+again_with : (offered : Content) (r : Result Bool Refusal) → again_in (found_with offered r) ≡ r
+again_with offered (Ok again) = refl
+again_with offered (Err why) = refl
+
+module _ (i : Instance) (y : History) (b : Batch) (bytes : List ℕ) where
+  pub found_lost : is_lost (life_of i.variant y) ≡ true → Err refusal.Lost ≡ again_in (found_at i (by_lists i) y b bytes)
+  found_lost lost =
+      sym (ap (λ (l : Bool). again_in (if l then Err refusal.Lost else found_from i (by_lists i) y b (parts_of i.variant i.meaning.id bytes))) lost)
+
+  found_parts : (parts : Result Snapshot PartsFault) → is_lost (life_of i.variant y) ≡ false → parts_of i.variant i.meaning.id bytes ≡ parts
+      → again_in (found_at i (by_lists i) y b bytes) ≡ again_in (found_from i (by_lists i) y b parts)
+  found_parts parts kept is =
+      ap (λ (l : Bool). again_in (if l then Err refusal.Lost else found_from i (by_lists i) y b (parts_of i.variant i.meaning.id bytes))) kept
+      ∙ ap (λ (p : Result Snapshot PartsFault). again_in (found_from i (by_lists i) y b p)) is
+
+  pub found_fault : (fault : PartsFault) (why : Refusal) → is_lost (life_of i.variant y) ≡ false → parts_of i.variant i.meaning.id bytes ≡ Err fault
+      → again_in (found_from i (by_lists i) y b (Err fault)) ≡ Err why → Err why ≡ again_in (found_at i (by_lists i) y b bytes)
+  found_fault fault why kept is e = sym (found_parts (Err fault) kept is ∙ e)
+
+  pub found_examined : (snapshot : Snapshot) (r : Result Bool Refusal) → is_lost (life_of i.variant y) ≡ false
+      → parts_of i.variant i.meaning.id bytes ≡ Ok snapshot
+      → r ≡ examined i.meaning i.key snapshot b (judge i.variant y snapshot.content.position b)
+      → r ≡ again_in (found_at i (by_lists i) y b bytes)
+  found_examined snapshot r kept is e =
+      e ∙ sym (again_with snapshot.content (examined i.meaning i.key snapshot b (judge i.variant y snapshot.content.position b)))
+      ∙ sym (found_parts (Ok snapshot) kept is)
+
+admitted_live : (life : Life) (here repeat fits again : Bool) → admitted (judged life here repeat) fits ≡ Ok again
+    → (again ≡ false → here ≡ true) × (again ≡ true → repeat ≡ true)
+admitted_live Live here repeat fits again e = admitted_tells here repeat fits again e
+admitted_live Spoiled here repeat fits again e = cc
+admitted_live LostLife here repeat fits again e = cc
+
+fits_when : (again : Bool) (position total size : ℕ) (last : Bool) → position + size ≤ 2 ^ 48
+    → (again ≡ false → nat_eq position total ≡ true) → (again ≡ true → (nat_eq (position + size) total && last) ≡ true)
+    → reached again total size ≤ 2 ^ 48
+fits_when true position total size last fits here repeat =
+    let at : position + size ≡ total = (Decides-eqb (position + size) total).0 (and_parts (nat_eq (position + size) total) last (repeat refl)).0 in
+    subst (λ n. n ≤ 2 ^ 48) at fits
+fits_when false position total size last fits here repeat =
+    let at : position ≡ total = (Decides-eqb position total).0 (here refl) in
+    subst (λ n. n + size ≤ 2 ^ 48) at fits
+
+pub admits_when : (i : Instance) (y : History) (b : Batch) (snapshot : Snapshot) (again : Bool)
+    → examined i.meaning i.key snapshot b (judge i.variant y snapshot.content.position b) ≡ Ok again
+    → snapshot.content.position + size_of b ≤ 2 ^ 48 → Admits y b again
+admits_when i y b snapshot again e fits =
+    let w = weighed_tells (i.meaning.is_spelled snapshot.content.state) (bytes_eq snapshot.tag (tag_of i.key snapshot.content)) _ _ again e in
+    let here = nat_eq snapshot.content.position (total_of y.batches) in
+    let repeat = nat_eq (snapshot.content.position + size_of b) (total_of y.batches) && is_last y.batches b in
+    let a = admitted_live (life_of i.variant y) here repeat (nat_le (snapshot.content.position + size_of b) (2 ^ 48)) again w.2 in
+    record {
+      fits = fits_when again snapshot.content.position (total_of y.batches) (size_of b) (is_last y.batches b) fits a.0 a.1;
+      repeats = λ is. (and_parts (nat_eq (snapshot.content.position + size_of b) (total_of y.batches)) (is_last y.batches b) (a.1 is)).1;
+    }
+
+admitted_yes : (v : Verdict) (fits again : Bool) → admitted v fits ≡ Ok again → fits ≡ true
+admitted_yes Fresh true again e = refl
+admitted_yes Fresh false again e = cc
+admitted_yes Again true again e = refl
+admitted_yes Again false again e = cc
+admitted_yes Lost fits again e = cc
+admitted_yes Stale fits again e = cc
+
+admitted_fits : (v : Verdict) (n : ℕ) (again : Bool) → admitted v (nat_le n (2 ^ 48)) ≡ Ok again → n ≤ 2 ^ 48
+admitted_fits v n again e = leb-true n (2 ^ 48) (admitted_yes v (nat_le n (2 ^ 48)) again e)
+
+-- what is found admits the batch
+from_admits : (i : Instance) (y : History) (b : Batch) (parts : Result Snapshot PartsFault) (f : Found)
+    → found_from i (by_lists i) y b parts ≡ Ok f → Admits y b f.again
+from_admits i y b (Err Form) f e = cc
+from_admits i y b (Err Kind) f e = cc
+from_admits i y b (Ok snapshot) f e =
+    let t = found_with_tells snapshot.content (examined i.meaning i.key snapshot b (judge i.variant y snapshot.content.position b)) f e in
+    let w = weighed_tells (i.meaning.is_spelled snapshot.content.state) (bytes_eq snapshot.tag (tag_of i.key snapshot.content)) _ _ f.again t.1 in
+    admits_when i y b snapshot f.again t.1 (admitted_fits (judge i.variant y snapshot.content.position b) (snapshot.content.position + size_of b) f.again w.2)
+
+unless_lost : (lost : Bool) (found : Result Found Refusal) (f : Found) → (if lost then Err refusal.Lost else found) ≡ Ok f → found ≡ Ok f
+unless_lost true found f e = cc
+unless_lost false found f e = e
+
+pub admits_found : (i : Instance) (y : History) (b : Batch) (bytes : List ℕ) (f : Found) → found_at i (by_lists i) y b bytes ≡ Ok f → Admits y b f.again
+admits_found i y b bytes f e =
+    from_admits i y b (parts_of i.variant i.meaning.id bytes) f (unless_lost (is_lost (life_of i.variant y)) _ f e)

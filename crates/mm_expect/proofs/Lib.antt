@@ -1,0 +1,15 @@
+pub mod KeptLaws
+pub mod MarkLaws
+pub mod Settling
+pub mod Walking
+pub mod FindLaws
+pub mod Asking
+pub mod Flipping
+pub mod CheckLaws
+pub mod ComingLaws
+pub mod AfterLaws
+pub mod PrintLaws
+pub mod FewLaws
+pub mod NameLaws
+pub mod GenuineLaws
+pub mod JudgeLaws

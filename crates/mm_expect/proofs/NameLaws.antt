@@ -1,0 +1,335 @@
+-- The test whether a content names a position of a history decides it.
+use Rattle.std.proofs.Common.{◌≡◌, ℕ, ◌+◌, ◌-◌, ◌<◌, ◌≤◌, ◌^◌, Bool, true, false, ◌&&◌, ◌||◌, List, [], ◌∷◌, ◌++◌, length, map, drop, take, Option, None, Some, Result, Ok, Err, refl, sym, ap, ◌∙◌, subst, inl, inr, ◌⊎◌, arith, append_assoc, length-append, le-leb}
+use Rattle.std.specs.Prelude.{if◌then◌else◌, not, ◌==◌, nat_le, nat_lt, slice_get}
+use Rattle.std.specs.Str.{bytes_eq}
+use Rattle.std.specs.List.{AllByRecursion}
+use Rattle.std.specs.Option.{option_map}
+use Rattle.std.specs.Bool.{Decides}
+use Rattle.std.proofs.lemmas.Bool.Decides.{Decides-eqb, Decides-and, Decides-or, Decides-like, Decides-ltb}
+use Rattle.std.proofs.lemmas.Bool.{and_parts, and_from}
+use Rattle.std.proofs.lemmas.List.{append-nil, take-append-drop, length-take, drop-append-le, take-append-le}
+use Rattle.std.proofs.Common.{length-drop}
+use Rattle.mm_model.proofs.Segments.{not_empty}
+use Rattle.std.proofs.Math.Seq.{drop-append_seam, take-append_seam}
+use Rattle.std.proofs.lemmas.Slice.Eq.{bytes_eq-Decides}
+use Rattle.mm_digest.specs.declared.variant.Variant.TheVariants.{Basic, Opt}
+use Rattle.mm_digest.specs.Messages.{zero_bytes}
+use Rattle.mm_module.specs.Batch.{Batch, size_of}
+use Rattle.mm_module.specs.Meaning.{Meaning, state_after}
+use Rattle.mm_module.proofs.BatchLaws.{size_of-pos}
+use Rattle.mm_seal.specs.declared.snapshot.Place.{Place}
+use Rattle.mm_seal.specs.declared.snapshot.Place.TheVariants.{Basic as InBasic, Opt as InOpt}
+use Rattle.mm_seal.specs.Snapshot.{Content}
+use Rattle.mm_seal.proofs.Reading.{le_tells}
+use Rattle.mm_model.specs.Chains.{summary_of, register_of, own_values}
+use Rattle.mm_model.specs.Instance.{Instance, basic, opt}
+use Rattle.mm_model.specs.History.{Entry, History, requests_of, total_of, joined}
+use Rattle.mm_model.specs.Life.{is_empty, has_value, same_batch}
+use Rattle.mm_model.specs.Places.{AtAnchor, InClosed, InCurrent, IsPoint, at_anchor, in_closed, in_current, IsPlaceOf, Names, anchor_after}
+use Rattle.mm_model.proofs.Batches.{same_batch-Decides, total-cons, total-nil, same_fronts}
+use Rattle.mm_expect.specs.Naming.{IsDecided, first_with, same_batches, is_at, is_behind, is_within, is_inside, some_place, is_place, is_named_at, is_named, BasicNamesAreDecided, OptNamesAreDecided}
+
+pub decided : {P : Type 0} (r : Bool) → Decides r P → IsDecided r P
+decided true d = d.0 refl
+decided false d = λ p. let clash : false ≡ true = d.1 p in absurd (cc)
+
+le-Decides : (m n : ℕ) → Decides (nat_le m n) (m ≤ n)
+le-Decides m n = (le_tells m n, le-leb m n)
+
+not_zero : (t : Bool) (p : ℕ) → 0 < p → (p == 0) ≡ t → t ≡ false
+not_zero false p lt e = refl
+not_zero true p lt e = absurd (omega (arith, lt, (Decides-eqb p 0).0 e))
+
+-- The first batches with so many requests.
+
+first_then : (zero fits : Bool) (position : ℕ) (b : Batch) (batches named : List Batch) → (position == 0) ≡ zero → nat_le (size_of b) position ≡ fits
+    → (more : Option (List Batch)) → first_with (position - size_of b) batches ≡ more
+    → ((front : List Batch) → first_with (position - size_of b) batches ≡ Some front → (rest : List Batch) × ((batches ≡ front ++ rest) × (position - size_of b ≡ total_of front)))
+    → (if zero then Some [] else if fits then option_map (λ (front : List Batch). b ∷ front) more else None) ≡ Some named
+    → (rest : List Batch) × ((b ∷ batches ≡ named ++ rest) × (position ≡ total_of named))
+first_then true fits position b batches named z f more m tells e =
+    let none : [] ≡ named = cc in (b ∷ batches, (ap (λ (bs : List Batch). bs ++ b ∷ batches) none, (Decides-eqb position 0).0 z ∙ ap total_of none))
+first_then false false position b batches named z f more m tells e = absurd (cc)
+first_then false true position b batches named z f None m tells e = absurd (cc)
+first_then false true position b batches named z f (Some front) m tells e =
+    let t = tells front m in
+    let same : b ∷ front ≡ named = cc in
+    let fits : size_of b ≤ position = (le-Decides (size_of b) position).0 f in
+    let whole : position ≡ total_of (b ∷ front) = omega (arith, t.1.1, fits, total-cons b front) in
+    (t.0, (ap (λ (bs : List Batch). b ∷ bs) t.1.0 ∙ ap (λ (bs : List Batch). bs ++ t.0) same, whole ∙ ap total_of same))
+
+first_tells : (position : ℕ) (batches named : List Batch) → first_with position batches ≡ Some named → (rest : List Batch) × ((batches ≡ named ++ rest) × (position ≡ total_of named))
+first_tells position [] named e =
+    elim (position == 0) as (λ t. (position == 0) ≡ t → (if t then Some [] else None) ≡ Some named → (rest : List Batch) × (([] ≡ named ++ rest) × (position ≡ total_of named))) [
+      | true ↦ λ z f. let none : [] ≡ named = cc in ([], (none ∙ sym (append-nil named), (Decides-eqb position 0).0 z ∙ ap total_of none))
+      | false ↦ λ z f. absurd (cc)
+    ] refl e
+first_tells position (b ∷ batches) named e =
+    first_then (position == 0) (nat_le (size_of b) position) position b batches named refl refl (first_with (position - size_of b) batches) refl (first_tells (position - size_of b) batches) e
+
+first_is : (named rest : List Batch) → first_with (total_of named) (named ++ rest) ≡ Some named
+first_is [] [] = refl
+first_is [] (b ∷ rest) = refl
+first_is (b ∷ named) rest =
+    let p : ℕ = total_of (b ∷ named) in
+    let cons = total-cons b named in
+    let some : (p == 0) ≡ false = not_zero (p == 0) p (omega (arith, cons, size_of-pos b)) refl in
+    let fits : nat_le (size_of b) p ≡ true = (le-Decides (size_of b) p).1 (omega (arith, cons)) in
+    let left : p - size_of b ≡ total_of named = omega (arith, cons) in
+    ap (λ (z : Bool). if z then Some [] else if nat_le (size_of b) p then option_map (λ (front : List Batch). b ∷ front) (first_with (p - size_of b) (named ++ rest)) else None) some
+    ∙ ap (λ (f : Bool). if f then option_map (λ (front : List Batch). b ∷ front) (first_with (p - size_of b) (named ++ rest)) else None) fits
+    ∙ ap (λ (q : ℕ). option_map (λ (front : List Batch). b ∷ front) (first_with q (named ++ rest))) left
+    ∙ ap (option_map (λ (front : List Batch). b ∷ front)) (first_is named rest)
+
+-- Lists of batches.
+
+same-Decides : (bs cs : List Batch) → Decides (same_batches bs cs) (bs ≡ cs)
+same-Decides [] [] = (λ e. refl, λ e. refl)
+same-Decides [] (c ∷ cs) = (λ e. absurd (cc), λ e. absurd (cc))
+same-Decides (b ∷ bs) [] = (λ e. absurd (cc), λ e. absurd (cc))
+same-Decides (b ∷ bs) (c ∷ cs) =
+    Decides-like (same_batch b c && same_batches bs cs)
+    (λ (p : (b ≡ c) × (bs ≡ cs)). let h : b ≡ c = p.0 in let t : bs ≡ cs = p.1 in cc)
+    (λ (e : b ∷ bs ≡ c ∷ cs). let h : b ≡ c = cc in let t : bs ≡ cs = cc in (h, t))
+    (Decides-and (same_batch b c) (same_batches bs cs) (same_batch-Decides b c) (same-Decides bs cs))
+
+empty-Decides : {A : Type 0} (xs : List A) → Decides (is_empty xs) (xs ≡ [])
+empty-Decides [] = (λ e. refl, λ e. refl)
+empty-Decides (x ∷ xs) = (λ e. absurd (cc), λ e. absurd (cc))
+
+some_taken : {A : Type 0} (xs : List A) → 0 < length xs → is_empty xs ≡ false
+some_taken [] lt = absurd (omega (arith, lt))
+some_taken (x ∷ xs) lt = refl
+
+not-Decides : (b : Bool) → Decides (not b) (b ≡ false)
+not-Decides true = (λ e. absurd (cc), λ e. absurd (cc))
+not-Decides false = (λ e. refl, λ e. refl)
+
+-- A place, from some segments on, as a statement by the same recursion.
+
+module _ (i : Instance) (y : History) (named : List Batch) (a e : List ℕ) where
+  record IsAt (before : List (List Entry)) : Type 0 where
+    clean : has_value (joined before) ≡ false
+    counted : length named ≡ length (joined before)
+    anchor : a ≡ anchor_after i before
+    extension : e ≡ zero_bytes
+
+  record IsBehind (start : ℕ) (before : List (List Entry)) : Type 0 where
+    starts : start < length named
+    anchor : a ≡ anchor_after i before
+    extension : e ≡ register_of (own_values i.barrier (drop start named))
+
+  abbrev IsWithin : List (List Entry) → List Entry → List (List Entry) → Type 0
+  IsWithin before segment later = (length named - length (joined before) ≤ length segment) ⊎ ((later ≡ []) × (y.current ≡ []))
+
+  record IsInside (start : ℕ) : Type 0 where
+    last : drop start y.batches ≡ y.current
+    behind : IsBehind start y.closed
+
+  abbrev Places : List (List Entry) → List (List Entry) → Type 0
+  Places before [] = IsAt before ⊎ IsInside (length y.batches - length y.current)
+  Places before (segment ∷ rest) =
+      IsAt before ⊎ ((IsBehind (length (joined before)) before × IsWithin before segment rest) ⊎ Places (before ++ segment ∷ []) rest)
+
+  at-Decides : (before : List (List Entry)) → Decides (is_at i named a e before) (IsAt before)
+  at-Decides before =
+      Decides-like (is_at i named a e before)
+      (λ (p : ((has_value (joined before) ≡ false) × (length named ≡ length (joined before))) × ((a ≡ anchor_after i before) × (e ≡ zero_bytes))).
+      record { clean = p.0.0; counted = p.0.1; anchor = p.1.0; extension = p.1.1 })
+      (λ (p : IsAt before). ((p.clean, p.counted), (p.anchor, p.extension)))
+      (Decides-and (not (has_value (joined before)) && (length named == length (joined before))) (bytes_eq a (anchor_after i before) && bytes_eq e zero_bytes)
+      (Decides-and (not (has_value (joined before))) (length named == length (joined before)) (not-Decides (has_value (joined before))) (Decides-eqb (length named) (length (joined before))))
+      (Decides-and (bytes_eq a (anchor_after i before)) (bytes_eq e zero_bytes) (bytes_eq-Decides a (anchor_after i before)) (bytes_eq-Decides e zero_bytes)))
+
+  behind-Decides : (start : ℕ) (before : List (List Entry)) →
+      Decides (nat_lt start (length named) && (bytes_eq a (anchor_after i before) && bytes_eq e (register_of (own_values i.barrier (drop start named))))) (IsBehind start before)
+  behind-Decides start before =
+      let there : List ℕ = register_of (own_values i.barrier (drop start named)) in
+      Decides-like (nat_lt start (length named) && (bytes_eq a (anchor_after i before) && bytes_eq e there))
+      (λ (p : (start < length named) × ((a ≡ anchor_after i before) × (e ≡ there))). record { starts = p.0; anchor = p.1.0; extension = p.1.1 })
+      (λ (p : IsBehind start before). (p.starts, (p.anchor, p.extension)))
+      (Decides-and (nat_lt start (length named)) (bytes_eq a (anchor_after i before) && bytes_eq e there) (Decides-ltb start (length named))
+      (Decides-and (bytes_eq a (anchor_after i before)) (bytes_eq e there) (bytes_eq-Decides a (anchor_after i before)) (bytes_eq-Decides e there)))
+
+  within-Decides : (before : List (List Entry)) (segment : List Entry) (later : List (List Entry)) → Decides (is_within y named before segment later) (IsWithin before segment later)
+  within-Decides before segment later =
+      Decides-or (nat_le (length named - length (joined before)) (length segment)) (is_empty later && is_empty y.current)
+      (le-Decides (length named - length (joined before)) (length segment))
+      (Decides-and (is_empty later) (is_empty y.current) (empty-Decides later) (empty-Decides y.current))
+
+  inside-Decides : Decides (is_inside i y named a e) (IsInside (length y.batches - length y.current))
+  inside-Decides =
+      let start : ℕ = length y.batches - length y.current in
+      let test : Bool = bytes_eq a (anchor_after i y.closed) && bytes_eq e (register_of (own_values i.barrier (drop start named))) in
+      Decides-like (is_inside i y named a e)
+      (λ (p : ((drop start y.batches ≡ y.current) × (start < length named)) × ((a ≡ anchor_after i y.closed) × (e ≡ register_of (own_values i.barrier (drop start named))))).
+      record { last = p.0.0; behind = record { starts = p.0.1; anchor = p.1.0; extension = p.1.1 } })
+      (λ (p : IsInside start). ((p.last, p.behind.starts), (p.behind.anchor, p.behind.extension)))
+      (Decides-and (same_batches (drop start y.batches) y.current && nat_lt start (length named)) test
+      (Decides-and (same_batches (drop start y.batches) y.current) (nat_lt start (length named)) (same-Decides (drop start y.batches) y.current) (Decides-ltb start (length named)))
+      (Decides-and (bytes_eq a (anchor_after i y.closed)) (bytes_eq e (register_of (own_values i.barrier (drop start named)))) (bytes_eq-Decides a (anchor_after i y.closed))
+      (bytes_eq-Decides e (register_of (own_values i.barrier (drop start named))))))
+
+  places-Decides : (before rest : List (List Entry)) → Decides (some_place i y named a e before rest) (Places before rest)
+  places-Decides before [] = Decides-or (is_at i named a e before) (is_inside i y named a e) (at-Decides before) inside-Decides
+  places-Decides before (segment ∷ rest) =
+      Decides-or (is_at i named a e before) ((is_behind i named a e before && is_within y named before segment rest) || some_place i y named a e (before ++ segment ∷ []) rest)
+      (at-Decides before)
+      (Decides-or (is_behind i named a e before && is_within y named before segment rest) (some_place i y named a e (before ++ segment ∷ []) rest)
+      (Decides-and (is_behind i named a e before) (is_within y named before segment rest) (behind-Decides (length (joined before)) before) (within-Decides before segment rest))
+      (places-Decides (before ++ segment ∷ []) rest))
+
+  -- from the statement to a place
+
+  point_at : (before rest : List (List Entry)) → y.closed ≡ before ++ rest → IsAt before → IsPoint i y named a e
+  point_at before rest is p = at_anchor (record {
+    before = before; later = rest; split = is; clean = p.clean; counted = p.counted; anchor_is = p.anchor; extension_is = p.extension;
+  })
+
+  point_closed : (before : List (List Entry)) (segment : List Entry) (rest : List (List Entry)) → y.closed ≡ before ++ segment ∷ rest → IsBehind (length (joined before)) before → IsWithin before segment rest → IsPoint i y named a e
+  point_closed before segment rest is p within =
+      let start : ℕ = length (joined before) in
+      let parts : take start named ++ drop start named ≡ named = take-append-drop start named in
+      let sized : length (take start named) ≡ start = omega (arith, length-take start named, p.starts) in
+      let taken : length (drop start named) ≡ length named - start = length-drop start named in
+      in_closed (record {
+        before = before;
+        segment = segment;
+        later = rest;
+        done = take start named;
+        taken = drop start named;
+        split = is;
+        named_is = sym parts;
+        counted = sized;
+        begun = some_taken (drop start named) (omega (arith, taken, p.starts));
+        within = elim within [
+          | inl le ↦ inl (omega (arith, taken, le))
+          | inr ends ↦ inr ends
+        ];
+        anchor_is = p.anchor;
+        extension_is = p.extension;
+      })
+
+  point_current : (rest : List Batch) → y.batches ≡ named ++ rest → IsInside (length y.batches - length y.current) → IsPoint i y named a e
+  point_current rest first p =
+      let start : ℕ = length y.batches - length y.current in
+      let q = p.behind in
+      let within : start ≤ length named = omega (arith, q.starts) in
+      let current : y.current ≡ drop start named ++ rest = sym p.last ∙ ap (drop start) first ∙ drop-append-le start named rest within in
+      let done : take start y.batches ≡ take start named = ap (take start) first ∙ take-append-le start named rest within in
+      in_current (record {
+        done = take start named;
+        taken = drop start named;
+        more = rest;
+        split = current;
+        start = sym (take-append-drop start y.batches) ∙ ap (λ (bs : List Batch). take start y.batches ++ bs) p.last ∙ ap (λ (bs : List Batch). bs ++ y.current) done;
+        named_is = sym (take-append-drop start named);
+        begun = some_taken (drop start named) (omega (arith, length-drop start named, q.starts));
+        anchor_is = q.anchor;
+        extension_is = q.extension;
+      })
+
+  places_tell : (rest_batches : List Batch) → y.batches ≡ named ++ rest_batches → (before rest : List (List Entry)) → y.closed ≡ before ++ rest → Places before rest → IsPoint i y named a e
+  places_tell more first before [] is (inl here) = point_at before [] is here
+  places_tell more first before [] is (inr inside) = point_current more first inside
+  places_tell more first before (segment ∷ rest) is (inl here) = point_at before (segment ∷ rest) is here
+  places_tell more first before (segment ∷ rest) is (inr (inl p)) = point_closed before segment rest is p.0 p.1
+  places_tell more first before (segment ∷ rest) is (inr (inr later)) =
+      places_tell more first (before ++ segment ∷ []) rest (is ∙ sym (append_assoc before (segment ∷ []) rest)) later
+
+  -- and back
+
+  places_here : (before later : List (List Entry)) → IsAt before → Places before later
+  places_here before [] p = inl p
+  places_here before (s ∷ later) p = inl p
+
+  places_at : (x before later : List (List Entry)) → IsAt (before ++ x) → Places before (x ++ later)
+  places_at [] before later p = places_here before later (subst IsAt (append-nil before) p)
+  places_at (s ∷ x) before later p = inr (inr (places_at x (before ++ s ∷ []) later (subst IsAt (sym (append_assoc before (s ∷ []) x)) p)))
+
+  places_closed : (x before : List (List Entry)) (segment : List Entry) (later : List (List Entry)) → IsBehind (length (joined (before ++ x))) (before ++ x) → IsWithin (before ++ x) segment later → Places before (x ++ segment ∷ later)
+  places_closed [] before segment later p within =
+      let P : List (List Entry) → Type 0 = λ x. IsBehind (length (joined x)) x × IsWithin x segment later in
+      let here : P before = subst P (append-nil before) (p, within) in
+      inr (inl here)
+  places_closed (s ∷ x) before segment later p within =
+      let P : List (List Entry) → Type 0 = λ z. IsBehind (length (joined z)) z × IsWithin z segment later in
+      let there : P ((before ++ s ∷ []) ++ x) = subst P (sym (append_assoc before (s ∷ []) x)) (p, within) in
+      inr (inr (places_closed x (before ++ s ∷ []) segment later there.0 there.1))
+
+  places_inside : (x before : List (List Entry)) → IsInside (length y.batches - length y.current) → Places before x
+  places_inside [] before p = inr p
+  places_inside (s ∷ x) before p = inr (inr (places_inside x (before ++ s ∷ []) p))
+
+  place_found : IsPoint i y named a e → Places [] y.closed
+  place_found (at_anchor p) =
+      subst (Places []) (sym p.split)
+      (places_at p.before [] p.later (record { clean = p.clean; counted = p.counted; anchor = p.anchor_is; extension = p.extension_is }))
+  place_found (in_closed p) =
+      let start : ℕ = length (joined p.before) in
+      let counts : length named ≡ start + length p.taken = ap length p.named_is ∙ length-append p.done p.taken ∙ ap (λ (n : ℕ). n + length p.taken) p.counted in
+      let taken : drop start named ≡ p.taken =
+      ap (drop start) p.named_is ∙ ap (λ (n : ℕ). drop n (p.done ++ p.taken)) (sym p.counted) ∙ drop-append_seam p.done p.taken in
+      let some = not_empty p.taken p.begun in
+      subst (Places []) (sym p.split)
+      (places_closed p.before [] p.segment p.later
+      (record { starts = omega (arith, counts, some); anchor = p.anchor_is; extension = p.extension_is ∙ ap (λ (bs : List Batch). register_of (own_values i.barrier bs)) (sym taken) })
+      (elim p.within [
+        | inl le ↦ inl (omega (arith, counts, le))
+        | inr ends ↦ inr ends
+      ]))
+  place_found (in_current p) =
+      let counts : length y.batches ≡ length p.done + length y.current = ap length p.start ∙ length-append p.done y.current in
+      let start : length y.batches - length y.current ≡ length p.done = omega (arith, counts) in
+      let last : drop (length p.done) y.batches ≡ y.current = ap (drop (length p.done)) p.start ∙ drop-append_seam p.done y.current in
+      let taken : drop (length p.done) named ≡ p.taken = ap (drop (length p.done)) p.named_is ∙ drop-append_seam p.done p.taken in
+      let sizes : length named ≡ length p.done + length p.taken = ap length p.named_is ∙ length-append p.done p.taken in
+      let some = not_empty p.taken p.begun in
+      places_inside y.closed [] (subst IsInside (sym start) (record {
+        last = last;
+        behind = record { starts = omega (arith, sizes, some); anchor = p.anchor_is; extension = p.extension_is ∙ ap (λ (bs : List Batch). register_of (own_values i.barrier bs)) (sym taken) };
+      }))
+
+  point-Decides : (rest : List Batch) → y.batches ≡ named ++ rest → Decides (some_place i y named a e [] y.closed) (IsPoint i y named a e)
+  point-Decides rest first =
+      Decides-like (some_place i y named a e [] y.closed) (places_tell rest first [] y.closed refl) place_found (places-Decides [] y.closed)
+
+-- The test of a whole content.
+
+basic_place : (meaning : Meaning) (key : List ℕ) (y : History) (named : List Batch) (place : Place) → Decides (is_place Basic (basic meaning key) y named place) (IsPlaceOf Basic (basic meaning key) y named place)
+basic_place meaning key y named (InBasic s) = bytes_eq-Decides s.bytes (summary_of meaning.id named)
+basic_place meaning key y named (InOpt a e) = (λ t. absurd (cc), λ p. absurd p)
+
+opt_place : (meaning : Meaning) (key barrier : List ℕ) (y : History) (named rest : List Batch) (place : Place) → y.batches ≡ named ++ rest → Decides (is_place Opt (opt meaning key barrier) y named place) (IsPlaceOf Opt (opt meaning key barrier) y named place)
+opt_place meaning key barrier y named rest (InBasic s) first = (λ t. absurd (cc), λ p. absurd p)
+opt_place meaning key barrier y named rest (InOpt a e) first = point-Decides (opt meaning key barrier) y named a.bytes e.bytes rest first
+
+names_by : (i : Instance) (y : History) (content : Content) → ((named rest : List Batch) → y.batches ≡ named ++ rest → Decides (is_place i.variant i y named content.place) (IsPlaceOf i.variant i y named content.place))
+    → (found : Option (List Batch)) → first_with content.position y.batches ≡ found → Decides (is_named_at i y content found) (Names i y content)
+names_by i y content places None e = (
+  λ t. absurd (cc),
+  λ n.
+      let there : first_with content.position y.batches ≡ Some n.named =
+      ap (λ (p : ℕ). first_with p y.batches) n.position ∙ ap (first_with (total_of n.named)) n.first ∙ first_is n.named n.rest in
+      absurd (cc),
+)
+names_by i y content places (Some named) e =
+    let t = first_tells content.position y.batches named e in
+    let state : List ℕ = state_after i.meaning (requests_of named) in
+    let both = Decides-and (bytes_eq content.state state) (is_place i.variant i y named content.place) (bytes_eq-Decides content.state state) (places named t.0 t.1.0) in
+    (
+      λ yes. let p = both.0 yes in record { named = named; rest = t.0; first = t.1.0; position = t.1.1; state = p.0; place = p.1 },
+      λ n.
+          let same : n.named ≡ named = same_fronts n.named named n.rest t.0 (sym n.first ∙ t.1.0) (sym n.position ∙ t.1.1) in
+          both.1 (subst (λ (bs : List Batch). (content.state ≡ state_after i.meaning (requests_of bs)) × IsPlaceOf i.variant i y bs content.place) same (n.state, n.place)),
+    )
+
+pub basic_decided : BasicNamesAreDecided
+basic_decided meaning key y content =
+    let i : Instance = basic meaning key in
+    decided (is_named i y content) (names_by i y content (λ named rest first. basic_place meaning key y named content.place) (first_with content.position y.batches) refl)
+
+pub opt_decided : OptNamesAreDecided
+opt_decided meaning key barrier y content =
+    let i : Instance = opt meaning key barrier in
+    decided (is_named i y content) (names_by i y content (λ named rest first. opt_place meaning key barrier y named rest content.place first) (first_with content.position y.batches) refl)

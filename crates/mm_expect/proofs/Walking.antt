@@ -1,0 +1,165 @@
+-- A chronicle goes on by moves, one after another.
+use Rattle.std.proofs.Common.{◌≡◌, ℕ, ◌+◌, ◌<◌, ◌≤◌, Bool, true, false, List, [], ◌∷◌, ◌++◌, length, map, take, get_or, filter, cond, Option, None, Some, refl, sym, ap, ◌∙◌, subst, append_assoc}
+use Rattle.std.specs.Prelude.{◌==◌, if◌then◌else◌, Result, Ok, Err, OnOk, IfOk}
+use Rattle.std.proofs.lemmas.List.{append-nil, map-append, take_all}
+use Rattle.std.proofs.lemmas.List.Elements.{filter_more}
+use Rattle.std.proofs.lemmas.Bool.Decides.{Decides-eqb}
+use Rattle.mm_platform.specs.declared.fault.StepFault.{StepFault}
+use Rattle.mm_platform.specs.declared.fault.StepFault.TheVariants.{Failed}
+use Rattle.mm_platform.specs.declared.plan.Meddle.{Meddle}
+use Rattle.mm_platform.specs.declared.plan.Stop.{Stop}
+use Rattle.mm_platform.specs.declared.plan.Stop.TheVariants.{Quiet, Cut, Drop, Fail}
+use Rattle.mm_platform.specs.Standing.{due}
+use Rattle.mm_platform.specs.Steps.{fault_at, is_made_at}
+use Rattle.mm_digest.specs.declared.variant.Variant.{Variant}
+use Rattle.mm_modules.specs.declared.any.AnyModule.{AnyModule}
+use Rattle.mm_model.specs.Instance.{Instance}
+use Rattle.mm_model.specs.History.{History, Move, Foreign, moved}
+use Rattle.mm_model.specs.Steps.{Step}
+use Rattle.mm_call.specs.Levels.{by_lists, all_made}
+use Rattle.mm_call.specs.Courses.{End, Done, Fails, Fate, Walked, made_move, step_moves, after_step, walk, planned, end_of}
+use Rattle.mm_call.proofs.Walks.{made-append}
+use Rattle.mm_run.specs.Folds.{plan_of}
+use Rattle.mm_expect.specs.Numbered.{messages_if, messages_where}
+use Rattle.mm_expect.specs.Recorded.{Recorded, Went, instance_of, instance_with}
+use Rattle.mm_expect.specs.declared.course.Move as code
+use Rattle.mm_expect.specs.declared.course.Step as code_step
+use Rattle.mm_expect.specs.declared.course.Step.TheVariants.{Changes}
+use Rattle.mm_expect.specs.Walking.{move_of, step_of, steps_of, Walks}
+
+pub messages_where-append : (closing : Bool) (i : Instance) (xs ys : List Move) (y : History)
+    → messages_where closing i y (xs ++ ys) ≡ messages_where closing i y xs ++ messages_where closing i (all_made (by_lists i) y xs) ys
+messages_where-append closing i [] ys y = refl
+messages_where-append closing i (x ∷ xs) ys y =
+    ap (λ v. messages_if closing i y x ++ v) (messages_where-append closing i xs ys (moved i y x))
+    ∙ sym (append_assoc (messages_if closing i y x) _ _)
+
+pub went_none : (r : Recorded) → Went r r []
+went_none r = record {
+  variant = refl;
+  «module» = refl;
+  history = refl;
+  extending = sym (append-nil r.extending);
+  closing = sym (append-nil r.closing);
+}
+
+same_instance : (a b : Recorded) (moves : List Move) → Went a b moves → instance_of b ≡ instance_of a
+same_instance a b moves w = λ j. instance_with (w.variant j) (w.«module» j)
+
+-- what was listed by the first moves, and then by more
+then_listed : (closing : Bool) (i k : Instance) (y z : History) (xs ys : List Move) (front middle after : List (List ℕ)) → k ≡ i
+    → z ≡ all_made (by_lists i) y xs → middle ≡ front ++ messages_where closing i y xs
+    → after ≡ middle ++ messages_where closing k z ys → after ≡ front ++ messages_where closing i y (xs ++ ys)
+then_listed closing i k y z xs ys front middle after same is first second =
+    second ∙ ap (λ v. v ++ messages_where closing k z ys) first
+    ∙ append_assoc front (messages_where closing i y xs) (messages_where closing k z ys)
+    ∙ ap (λ v. front ++ (messages_where closing i y xs ++ v))
+    (ap (λ (h : Instance). messages_where closing h z ys) same ∙ ap (λ (h : History). messages_where closing i h ys) is)
+    ∙ ap (λ v. front ++ v) (sym (messages_where-append closing i xs ys y))
+
+pub went_then : (a b c : Recorded) (xs ys : List Move) → Went a b xs → Went b c ys → Went a c (xs ++ ys)
+went_then a b c xs ys first second =
+    let same = same_instance a b xs first in record {
+      variant = second.variant ∙ first.variant;
+      «module» = second.«module» ∙ first.«module»;
+      history = second.history ∙ ap (λ (i : Instance). all_made (by_lists i) b.history ys) same
+          ∙ ap (λ (y : History). all_made (by_lists (instance_of a)) y ys) first.history
+          ∙ sym (made-append (by_lists (instance_of a)) xs ys a.history);
+      extending = then_listed false (instance_of a) (instance_of b) a.history b.history xs ys a.extending b.extending c.extending same
+          first.history first.extending second.extending;
+      closing = then_listed true (instance_of a) (instance_of b) a.history b.history xs ys a.closing b.closing c.closing same
+          first.history first.closing second.closing;
+    }
+
+not_true : (b : Bool) → (b ≡ true → ⊥) → b ≡ false
+not_true true h = absurd (h refl)
+not_true false h = refl
+
+added : (xs : List (List ℕ)) (v : List ℕ) (flag : Bool) → map Foreign (xs ++ (if flag then v ∷ [] else [])) ≡ map Foreign xs ++ (if flag then Foreign v ∷ [] else [])
+added xs v true = map-append Foreign xs (v ∷ [])
+added xs v false = map-append Foreign xs []
+
+kept_value : (m : Meddle) (flag : Bool) → map (λ (x : Meddle). x.value.bytes) (cond flag (m ∷ []) []) ≡ (if flag then m.value.bytes ∷ [] else [])
+kept_value m true = refl
+kept_value m false = refl
+
+-- the values that are due, one more meddle looked at
+due_taken : (step : ℕ) (meddles : List Meddle) (i : ℕ) (d : Meddle) (flag : Bool) → i < length meddles → ((get_or meddles i d).step == step) ≡ flag
+    → map Foreign (due step (take (i + 1) meddles)) ≡ map Foreign (due step (take i meddles)) ++ (if flag then Foreign (get_or meddles i d).value.bytes ∷ [] else [])
+due_taken step meddles i d flag l e =
+    let m : Meddle = get_or meddles i d in
+    let p : Meddle → Bool = λ x. x.step == step in
+    let v : Meddle → List ℕ = λ x. x.value.bytes in
+    let front : List Meddle = filter p (take i meddles) in
+    ap (λ (ms : List Meddle). map Foreign (map v ms))
+    (filter_more p meddles i d l ∙ ap (λ (b : Bool). front ++ cond b (m ∷ []) []) e)
+    ∙ ap (map Foreign) (map-append v front (cond flag (m ∷ []) []) ∙ ap (λ (vs : List (List ℕ)). map v front ++ vs) (kept_value m flag))
+    ∙ added (map v front) m.value.bytes flag
+
+pub bring_one : (a b c : Recorded) (step : ℕ) (meddles : List Meddle) (i : ℕ) (d : Meddle) → i < length meddles
+    → (get_or meddles i d).step ≡ step → Went a b (map Foreign (due step (take i meddles))) → Went b c (Foreign (get_or meddles i d).value.bytes ∷ [])
+    → Went a c (map Foreign (due step (take (i + 1) meddles)))
+bring_one a b c step meddles i d l e first second =
+    subst (Went a c) (sym (due_taken step meddles i d true l ((Decides-eqb (get_or meddles i d).step step).1 e))) (went_then a b c _ _ first second)
+
+pub bring_none : (a b : Recorded) (step : ℕ) (meddles : List Meddle) (i : ℕ) (d : Meddle) → i < length meddles
+    → ((get_or meddles i d).step ≡ step → ⊥) → Went a b (map Foreign (due step (take i meddles)))
+    → Went a b (map Foreign (due step (take (i + 1) meddles)))
+bring_none a b step meddles i d l e first =
+    subst (Went a b) (sym (due_taken step meddles i d false l (not_true ((get_or meddles i d).step == step) (λ t. e ((Decides-eqb (get_or meddles i d).step step).0 t))) ∙ append-nil _)) first
+
+-- the values that are due, when all meddles were looked at
+pub bring_all : (a b : Recorded) (step : ℕ) (meddles : List Meddle) (i : ℕ) → length meddles ≤ i
+    → Went a b (map Foreign (due step (take i meddles))) → Went a b (map Foreign (due step meddles))
+bring_all a b step meddles i l w = subst (λ (ms : List Meddle). Went a b (map Foreign (due step ms))) (take_all i meddles l) w
+
+-- a step that answers no fault has its effect
+made_at : (at step : ℕ) (flag done : Bool) → (at == step) ≡ flag → (if flag then Some Failed else None) ≡ None → (if flag then done else true) ≡ true
+made_at at step true done e none = cc
+made_at at step false done e none = refl
+
+pub made_where_whole : (stop : Stop) (step : ℕ) → fault_at stop step ≡ None → is_made_at stop step ≡ true
+made_where_whole Quiet step none = refl
+made_where_whole (Cut at) step none = refl
+made_where_whole (Drop at) step none = refl
+made_where_whole (Fail at done) step none = made_at at step (at == step) done refl none
+
+module _ (a b c : Recorded) (stop : Stop) (meddles : List Meddle) (n : ℕ) (step : Step) (later : List Step) where
+  abbrev fates : ℕ → Fate
+  fates = planned (plan_of stop meddles)
+
+  pub walks_whole : (fault : Option StepFault) → fault_at stop n ≡ None → Went a b (step_moves step (is_made_at stop n) (due n meddles))
+      → Walks b c (walk fates (n + 1) later) fault → Walks a c (walk fates n (step ∷ later)) fault
+  walks_whole fault whole first more =
+      let W : Option StepFault → Type 0 = λ f. Walks a c (after_step step (due n meddles) (end_of f (is_made_at stop n)) (walk fates (n + 1) later)) fault in
+      subst W (sym whole)
+      (record {
+        went = went_then a b c (step_moves step true (due n meddles)) (walk fates (n + 1) later).moves
+            (subst (λ (m : Bool). Went a b (step_moves step m (due n meddles))) (made_where_whole stop n whole) first) more.went;
+        broken = more.broken;
+      })
+
+  pub walks_broken : (fault : StepFault) → fault_at stop n ≡ Some fault → Went a c (step_moves step (is_made_at stop n) (due n meddles))
+      → Walks a c (walk fates n (step ∷ later)) (Some fault)
+  walks_broken fault breaks first =
+      let W : Option StepFault → Type 0 = λ f. Walks a c (after_step step (due n meddles) (end_of f (is_made_at stop n)) (walk fates (n + 1) later)) (Some fault) in
+      subst W (sym breaks) (record { went = first; broken = refl })
+
+pub changes_then : {E : Type 0} (r : Result (Unit {0}) E) (a b c : Recorded) (action : code.Move) (made : Bool) (values : List (List ℕ)) (step : code_step.Step)
+    → step ≡ Changes action → OnOk r (Went b c (made_move made (move_of action))) → Went a b (map Foreign values)
+    → OnOk r (Went a c (step_moves (step_of step) made values))
+changes_then (Err e) a b c action made values step is second first = tt
+changes_then (Ok x) a b c action made values step is second first =
+    subst (λ (s : code_step.Step). Went a c (step_moves (step_of s) made values)) (sym is)
+    (went_then a b c (map Foreign values) (made_move made (move_of action)) first second)
+
+pub walks_on : {E : Type 0} (r : Result (Option StepFault) E) (a b c : Recorded) (stop : Stop) (meddles : List Meddle) (n : ℕ) (step : code_step.Step)
+    (later all : List code_step.Step) → all ≡ step ∷ later → fault_at stop n ≡ None → (made : Bool) → made ≡ is_made_at stop n
+    → Went a b (step_moves (step_of step) made (due n meddles))
+    → IfOk r (Walks b c (walk (planned (plan_of stop meddles)) (n + 1) (steps_of later)))
+    → IfOk r (Walks a c (walk (planned (plan_of stop meddles)) n (steps_of all)))
+walks_on (Err e) a b c stop meddles n step later all is whole made m first more = tt
+walks_on (Ok fault) a b c stop meddles n step later all is whole made m first more =
+    subst (λ (s : List code_step.Step). Walks a c (walk (planned (plan_of stop meddles)) n (steps_of s)) fault) (sym is)
+    (walks_whole a b c stop meddles n (step_of step) (steps_of later) fault whole
+    (subst (λ (x : Bool). Went a b (step_moves (step_of step) x (due n meddles))) m first) more)

@@ -1,0 +1,75 @@
+-- What a call comes to, as a chronicle goes on by it.
+use Rattle.std.specs.Prelude.{◌≡◌, ℕ, ◌+◌, ◌≤◌, ◌^◌, Bool, true, false, List, [], ◌∷◌, Option, None, Some, Result, Ok, Err}
+use Rattle.mm_digest.specs.declared.variant.Variant.{Variant}
+use Rattle.mm_digest.specs.declared.variant.Variant.TheVariants.{Basic, Opt}
+use Rattle.mm_platform.specs.declared.fault.StepFault.{StepFault}
+use Rattle.mm_platform.specs.declared.plan.Meddle.{Meddle}
+use Rattle.mm_platform.specs.declared.plan.Stop.{Stop}
+use Rattle.mm_module.specs.Batch.{Batch, size_of}
+use Rattle.mm_model.specs.History.{History, Move, Commit, Placed, Reset, total_of}
+use Rattle.mm_model.specs.Judge.{is_last}
+use Rattle.mm_model.specs.Steps.{Step, Changes, Writes}
+use Rattle.mm_model.specs.declared.refusal.Refusal.{Refusal}
+use Rattle.mm_call.specs.Answers.{answer_on}
+use Rattle.mm_call.specs.Courses.{Walked, planned, walk, commits}
+use Rattle.mm_call.specs.Called.{Ending, Answers, Refuses, Breaks, Called, kept_at}
+use Rattle.mm_call.specs.Found.{Found}
+use Rattle.mm_call.specs.declared.ended.Ended.{Ended}
+use Rattle.mm_call.specs.declared.ended.Ended.TheVariants.{Answered, Refused, Broken}
+use Rattle.mm_run.specs.Folds.{plan_of}
+use Rattle.mm_expect.specs.Recorded.{Recorded, Went, instance_of}
+use Rattle.mm_expect.specs.Walking.{Walks}
+
+-- a refusal, or whether the batch is a repeat
+abbrev pub again_in : Result Found Refusal → Result Bool Refusal
+again_in (Ok found) = Ok found.again
+again_in (Err why) = Err why
+
+-- how many requests are committed once the batch is
+abbrev pub reached : Bool → ℕ → ℕ → ℕ
+reached true total size = total
+reached false total size = total + size
+
+-- There are positions left for the batch; and one that is a repeat is the last.
+pub record Admits (y : History) (b : Batch) (again : Bool) : Type 0 where
+  pub fits : reached again (total_of y.batches) (size_of b) ≤ 2 ^ 48
+  pub repeats : again ≡ true → is_last y.batches b ≡ true
+
+-- the steps behind the reading ones, of a call whose batch is a new one
+abbrev pub changing_steps : Variant → Bool → Batch → List Step
+changing_steps Basic is_open b = Writes (Commit b) ∷ []
+changing_steps Opt true b = Changes (Commit b) ∷ []
+changing_steps Opt false b = Changes Reset ∷ Changes (Placed b) ∷ Writes (Commit b) ∷ []
+
+-- the number of the first of them
+abbrev pub changing_from : Variant → ℕ
+changing_from Basic = 2
+changing_from Opt = 3
+
+abbrev pub changes_on : Recorded → Stop → List Meddle → Batch → Walked
+changes_on old stop meddles b =
+    walk (planned (plan_of stop meddles)) (changing_from old.variant) (changing_steps old.variant old.history.is_open b)
+
+-- The chronicle went on by the steps behind the reading ones.
+abbrev pub ChangesBy : Recorded → Recorded → Stop → List Meddle → Batch → Option StepFault → Type 0
+ChangesBy old new stop meddles b fault = Walks old new (changes_on old stop meddles b) fault
+
+abbrev pub ending_of : Ended → Ending
+ending_of (Answered answer) = Answers answer
+ending_of (Refused why) = Refuses why
+ending_of (Broken fault commits) = Breaks fault commits
+
+-- how a call of a new batch ends, once its steps behind the reading ones were walked
+abbrev pub new_ending : Recorded → Batch → List Move → Option StepFault → Ending
+new_ending new b moves None = Answers (answer_on (instance_of new) new.history b false)
+new_ending new b moves (Some fault) = Breaks fault (kept_at (commits moves) (total_of new.history.batches))
+
+-- The rest of a call of a new batch.
+pub record GoesOnNew (old new : Recorded) (stop : Stop) (meddles : List Meddle) (b : Batch) (ended : Ended) : Type 0 where
+  pub went : Went old new (changes_on old stop meddles b).moves
+  pub ends : ending_of ended ≡ new_ending new b (changes_on old stop meddles b).moves (changes_on old stop meddles b).broken
+
+-- The chronicle went on by a call, which ended so.
+pub record CallsBy (old new : Recorded) (o : Called History) (ended : Ended) : Type 0 where
+  pub went : Went old new o.moves
+  pub ends : ending_of ended ≡ o.ending

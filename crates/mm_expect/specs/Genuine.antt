@@ -1,0 +1,33 @@
+-- Whether an offer is genuine, by whether what it says names a position.
+use Rattle.std.specs.Prelude.{◌≡◌, ℕ, ◌≤◌, ◌^◌, Bool, List, Some, None, slice_get}
+use Rattle.std.specs.List.{AllByRecursion}
+use Rattle.mm_module.specs.Meaning.{Meaning, IsLawful}
+use Rattle.mm_seal.specs.Snapshot.{Content}
+use Rattle.mm_model.specs.Instance.{Instance, basic, opt}
+use Rattle.mm_model.specs.History.{History, total_of}
+use Rattle.mm_model.specs.Places.{Names}
+use Rattle.mm_model.specs.Standing.{IsGenuine}
+use Rattle.mm_call.specs.Found.{right_content}
+use Rattle.mm_run.specs.Laws.{IsIssued}
+use Rattle.mm_expect.specs.Naming.{IsDecided}
+
+-- An offer that isn't right is genuine; a right one exactly where what it says names a position.
+pub record OffersAreDecided (i : Instance) : Type 0 where
+  pub not_right : (y : History) (bytes : List ℕ) → right_content i bytes ≡ None → IsGenuine i y bytes
+  pub right : (y : History) (bytes : List ℕ) (content : Content) (yes : Bool) → right_content i bytes ≡ Some content →
+      IsDecided yes (Names i y content) → IsDecided yes (IsGenuine i y bytes)
+
+-- An issued snapshot is genuine, where each issued one names a position.
+abbrev pub IssuedAreGenuine : Instance → Type 0
+IssuedAreGenuine i = (y : History) (issued : List (List ℕ)) (number : ℕ) (bytes : List ℕ) →
+    IsLawful i.meaning → total_of y.batches ≤ 2 ^ 48 → AllByRecursion (IsIssued i y) issued →
+    slice_get issued number ≡ Some bytes → IsGenuine i y bytes
+
+abbrev pub EachOfferIsDecided : Type 0
+EachOfferIsDecided = (i : Instance) → OffersAreDecided i
+
+abbrev pub BasicIssuedAreGenuine : Type 0
+BasicIssuedAreGenuine = (meaning : Meaning) (key : List ℕ) → IssuedAreGenuine (basic meaning key)
+
+abbrev pub OptIssuedAreGenuine : Type 0
+OptIssuedAreGenuine = (meaning : Meaning) (key barrier : List ℕ) → IssuedAreGenuine (opt meaning key barrier)

@@ -1,0 +1,25 @@
+-- Owned batches and entries, as the lists of a history.
+use Rattle.std.specs.Prelude.{Bool, List, Vec, map}
+use Rattle.mm_module.specs.Batch as ghost_batch
+use Rattle.mm_model.specs.History.{Entry, Own, Value, History}
+use Rattle.mm_expect.specs.declared.kept.KeptBatch.{KeptBatch}
+use Rattle.mm_expect.specs.declared.kept.KeptBatch.TheVariants.{One, Many}
+use Rattle.mm_expect.specs.declared.kept.KeptEntry.{KeptEntry}
+use Rattle.mm_expect.specs.declared.kept.KeptEntry.TheVariants as kept
+
+abbrev pub kept_batch : KeptBatch → ghost_batch.Batch
+kept_batch (One request) = ghost_batch.One request
+kept_batch (Many text) = ghost_batch.Many text
+
+abbrev pub kept_batches : List KeptBatch → List ghost_batch.Batch
+kept_batches batches = map kept_batch batches
+
+abbrev pub kept_entry : KeptEntry → Entry
+kept_entry (kept.Own batch) = Own (kept_batch batch)
+kept_entry (kept.Value value) = Value value.bytes
+
+abbrev pub kept_entries : List KeptEntry → List Entry
+kept_entries entries = map kept_entry entries
+
+abbrev pub kept_segments : {A : Type 0} → List (Vec KeptEntry A) → List (List Entry)
+kept_segments {A} segments = map (λ (segment : Vec KeptEntry A). kept_entries segment.items) segments

@@ -1,0 +1,73 @@
+-- A chronicle as contracts see it.
+use Rattle.std.specs.Prelude.{◌≡◌, ℕ, Bool, true, false, List, [], ◌∷◌, ◌++◌}
+use Rattle.mm_digest.specs.declared.variant.Variant.{Variant}
+use Rattle.mm_digest.specs.declared.variant.Variant.TheVariants.{Basic, Opt}
+use Rattle.mm_digest.specs.Messages.{zero_bytes, extended_message, anchored_message}
+use Rattle.mm_module.specs.Batch.{Batch, members_of}
+use Rattle.mm_module.specs.Meaning.{state_from, state_after}
+use Rattle.mm_modules.specs.declared.any.AnyModule.{AnyModule}
+use Rattle.mm_modules.specs.Modules.{meaning_of}
+use Rattle.mm_model.specs.Instance.{Instance}
+use Rattle.mm_model.specs.History.{History, Move, requests_of, first_history}
+use Rattle.mm_call.specs.Levels.{by_lists, all_made}
+use Rattle.mm_run.specs.Held.{world_key, world_barrier}
+use Rattle.mm_expect.specs.Numbered.{messages_where}
+
+-- a variant and a module, and a history of them; and the messages of the moves since they were last taken out: of those
+-- that extend the register, and of those that close a segment
+pub record Recorded : Type 0 where
+  pub variant : Variant
+  pub «module» : AnyModule
+  pub history : History
+  pub extending : List (List ℕ)
+  pub closing : List (List ℕ)
+
+-- Basic has no barrier
+abbrev pub barrier_of : Variant → List ℕ
+barrier_of Basic = zero_bytes
+barrier_of Opt = world_barrier
+
+-- the instance of a variant and a module in each world
+abbrev pub instance_with : Variant → AnyModule → Instance
+instance_with variant «module» = record {
+  variant = variant;
+  meaning = meaning_of «module»;
+  key = world_key;
+  barrier = barrier_of variant;
+}
+
+abbrev pub instance_of : Recorded → Instance
+instance_of r = instance_with r.variant r.«module»
+
+-- the first one of a variant and a module
+abbrev pub first_recorded : Variant → AnyModule → Recorded
+first_recorded variant «module» = record {
+  variant = variant;
+  «module» = «module»;
+  history = first_history;
+  extending = [];
+  closing = [];
+}
+
+-- The chronicle went on by these moves, and their messages are put behind those that it has.
+pub record Went (old new : Recorded) (moves : List Move) : Type 0 where
+  pub variant : new.variant ≡ old.variant
+  pub «module» : new.«module» ≡ old.«module»
+  pub history : new.history ≡ all_made (by_lists (instance_of old)) old.history moves
+  pub extending : new.extending ≡ old.extending ++ messages_where false (instance_of old) old.history moves
+  pub closing : new.closing ≡ old.closing ++ messages_where true (instance_of old) old.history moves
+
+-- the messages by which the register takes in a value: none in Basic, which has no register
+abbrev pub extension_messages : Variant → List ℕ → List ℕ → List (List ℕ)
+extension_messages Basic register value = []
+extension_messages Opt register value = extended_message register value ∷ []
+
+-- the message by which a segment is closed: none in Basic, which has no segments
+abbrev pub closing_messages : Variant → List ℕ → List ℕ → List (List ℕ)
+closing_messages Basic cell register = []
+closing_messages Opt cell register = anchored_message cell register ∷ []
+
+-- the module's state once the batch is run behind the history
+abbrev pub state_after_batch : Recorded → Batch → List ℕ
+state_after_batch r b =
+    state_from (meaning_of r.«module») (state_after (meaning_of r.«module») (requests_of r.history.batches)) (members_of b)

@@ -1,0 +1,82 @@
+//! What a call answers.
+
+ghost use Rattle.std.specs.Prelude.{◌≡◌};
+
+use crate::chronicle::Chronicle;
+use mm_base::{Bytes, Memory};
+use mm_call::{Ended, Ran, run_batch};
+use mm_digest::{HmacKey, Variant, zero};
+use mm_model::BatchAnswer;
+use mm_module::{Batch, Module};
+use mm_seal::{Body, Place, seal_under};
+
+impl Chronicle {
+    ghost use Rattle.std.specs.Prelude.{◌≡◌, ◌≤◌, ◌^◌, true, false, IfOk};
+    ghost use Rattle.mm_module.specs.Batches.{batch_of};
+    ghost use Rattle.mm_model.specs.History.{total_of};
+    ghost use Rattle.mm_model.specs.Judge.{is_last};
+    ghost use Rattle.mm_model.specs.Long.{is_long};
+    ghost use Rattle.mm_model.specs.Places.{issued_place};
+    ghost use Rattle.mm_model.specs.Standing.{issued_bytes};
+    ghost use Rattle.mm_call.specs.Answers.{answer_on};
+    ghost use Rattle.mm_call.specs.declared.ended.Ended.TheVariants.{Answered};
+    ghost use Rattle.mm_run.specs.Held.{world_key};
+    ghost use Rattle.mm_expect.specs.Recorded.{instance_of};
+
+    // Where the snapshot of an answer stands.
+    fn place_now(&self) -> Place
+        ensures { result ≡ issued_place self.now.variant self.now.history.is_open (instance_of self.now) self.now.history }
+    {
+        match self.variant {
+            Variant::Basic => Place::Basic(self.marks.cell),
+            Variant::Opt => {
+                let anchor = self.marks.cell;
+                let extension = if self.lists.is_open() {
+                    self.marks.own
+                } else {
+                    zero()
+                };
+                Place::Opt { anchor, extension }
+            }
+        }
+    }
+
+    /// The snapshot of an answer.
+    pub(crate) fn snapshot(&self, key: &HmacKey) -> Result<Bytes, Memory>
+        requires key { key.now ≡ world_key }
+        requires few { total_of self.now.history.batches ≤ 2 ^ 48 }
+        ensures { IfOk result (λ bytes. bytes ≡ issued_bytes (instance_of self.now) self.now.history) }
+    {
+        let body = Body {
+            module: self.module.id(),
+            place: self.place_now(),
+            position: self.marks.total,
+            state: self.state.as_slice(),
+        };
+        seal_under(self.alloc, key, &body)
+    }
+
+    /// The answer to the last batch, by whether it is a repeat.
+    pub(crate) fn answer(
+        &self,
+        key: &HmacKey,
+        batch: Batch<'_>,
+        again: bool,
+    ) -> Result<Ended, Memory>
+        requires key { key.now ≡ world_key }
+        requires few { total_of self.now.history.batches ≤ 2 ^ 48 }
+        requires short { is_long (batch_of batch) ≡ false }
+        requires last { is_last self.now.history.batches (batch_of batch) ≡ true }
+        ensures { IfOk result (λ ended. ended ≡ Answered (answer_on (instance_of self.now) self.now.history (batch_of batch.entry) again)) }
+    {
+        let Ran { outputs, .. } =
+            run_batch(self.alloc, &self.module, self.before.as_slice(), batch)?;
+        let snapshot = self.snapshot(key)?;
+        Ok(Ended::Answered(BatchAnswer {
+            again,
+            position: self.marks.total,
+            outputs,
+            snapshot,
+        }))
+    }
+}

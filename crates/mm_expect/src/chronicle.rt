@@ -1,0 +1,263 @@
+//! A history with what it comes to.
+
+ghost use Rattle.std.specs.Prelude.{◌≡◌};
+
+use crate::keys::barrier;
+use crate::lists::Lists;
+use crate::marks::{Marks, guard};
+use crate::messages::{anchored_message, joined};
+use mm_base::{Bytes, Memory};
+use mm_call::{Ran, run_batch};
+use mm_digest::{Digest, Variant, zero};
+use mm_module::{Batch, Module};
+use mm_modules::AnyModule;
+use std::alloc::Global;
+use std::marker::Model;
+use std::mem;
+
+/// A history as lists, and beside it what would take long to find again. Contracts see the variant, the module and the
+/// history, and the messages of the moves since they were last taken out.
+#[derive(Drop)]
+pub(crate) struct Chronicle {
+    pub(crate) alloc: Global,
+    pub(crate) variant: Variant,
+    pub(crate) module: AnyModule,
+    pub(crate) barrier: [u8; 32],
+    pub(crate) lists: Lists,
+    pub(crate) marks: Marks,
+    /// The module's state.
+    pub(crate) state: Bytes,
+    /// The module's state before the last batch.
+    pub(crate) before: Bytes,
+    pub(crate) extending: Vec<Bytes>,
+    pub(crate) closing: Vec<Bytes>,
+}
+
+impl Model for Chronicle {
+    ghost use Rattle.mm_expect.specs.Recorded.{Recorded};
+    ghost use Rattle.mm_expect.specs.Settled.{IsSettled};
+
+    ghost Value = { Recorded };
+
+    ghost view = { λ s. record {
+      variant = s.variant;
+      «module» = s.«module»;
+      history = s.lists;
+      extending = s.extending.items;
+      closing = s.closing.items;
+    } };
+
+    ghost invariant = { λ s. IsSettled s.variant s.«module» s.barrier s.lists s.marks s.state s.before };
+}
+
+impl Chronicle {
+    ghost use Rattle.std.specs.Prelude.{◌≡◌, ◌++◌, ◌+◌, ◌<◌, ◌^◌, [], ◌∷◌, true, false, IfOk, OnOk};
+    ghost use Rattle.mm_digest.specs.declared.variant.Variant.TheVariants.{Basic, Opt};
+    ghost use Rattle.mm_module.specs.Batch.{size_of};
+    ghost use Rattle.mm_module.specs.Batches.{batch_of};
+    ghost use Rattle.mm_model.specs.Chains.{guard};
+    ghost use Rattle.mm_model.specs.Long.{is_long};
+    ghost use Rattle.mm_model.specs.History.{Move, Commit, Foreign, Placed, Reset, Close, Power, committed, register_value_of, cell_digest_of, total_of};
+    ghost use Rattle.mm_expect.specs.Recorded.{first_recorded, Went, instance_of, extension_messages, closing_messages, state_after_batch};
+
+    /// The first history of a variant and a module.
+    pub(crate) fn new(alloc: Global, variant: Variant, module: AnyModule) -> Result<Chronicle, Memory>
+        ensures { IfOk result (λ it. it ≡ first_recorded variant «module») }
+    {
+        let state = module.first_state(alloc)?;
+        let before = module.first_state(alloc)?;
+        let barrier = match variant {
+            Variant::Basic => zero().bytes,
+            Variant::Opt => barrier(),
+        };
+        Ok(Chronicle {
+            alloc,
+            variant,
+            module,
+            barrier,
+            lists: Lists::new(alloc),
+            marks: Marks::first(variant, module.id()),
+            state,
+            before,
+            extending: Vec::new(alloc),
+            closing: Vec::new(alloc),
+        })
+    }
+
+    /// Forgets the messages.
+    pub(crate) fn forget_messages(&mut self)
+        ensures { self.new ≡ record self.old { extending = []; closing = [] } }
+    {
+        self.extending.clear();
+        self.closing.clear();
+    }
+
+    /// Moves the messages behind these: those that extend the register, and then those that close a segment.
+    pub(crate) fn hand_messages(&mut self, messages: &mut Vec<Bytes>) -> Result<(), Memory>
+        ensures history { self.new.history ≡ self.old.history }
+        ensures variant { self.new.variant ≡ self.old.variant }
+        ensures module { self.new.«module» ≡ self.old.«module» }
+        ensures messages { OnOk result (messages.new.items ≡ messages.old.items ++ (self.old.extending ++ self.old.closing)) }
+    {
+        messages.append(&mut self.extending)?;
+        messages.append(&mut self.closing)?;
+        Ok(())
+    }
+
+    // Lists the message by which the register takes in a value: none in Basic, which has no register.
+    fn tell_extension(&mut self, value: &Digest) -> Result<(), Memory>
+        ensures { OnOk result (self.new ≡ record self.old { extending = self.old.extending
+            ++ extension_messages self.old.variant (register_value_of (instance_of self.old) self.old.history) value.now.bytes }) }
+    {
+        if let Variant::Opt = self.variant {
+            let message = joined(self.alloc, &self.marks.register.bytes, &value.bytes)?;
+            self.extending.push(message)?;
+        }
+        Ok(())
+    }
+
+    /// Others put a value into the register.
+    pub(crate) fn bring(&mut self, value: &Digest) -> Result<(), Memory>
+        ensures { OnOk result (Went self.old self.new (Foreign value.now.bytes ∷ [])) }
+    {
+        self.tell_extension(value)?;
+        self.lists.take_in(value)?;
+        self.marks = self.marks.with_value(value);
+        Ok(())
+    }
+
+    /// The core puts the guard of a batch into the register, which isn't committed yet.
+    pub(crate) fn place(&mut self, batch: Batch<'_>) -> Result<(), Memory>
+        ensures { OnOk result (Went self.old self.new (Placed (batch_of batch.entry) ∷ [])) }
+    {
+        let value = guard(&self.barrier, batch);
+        self.bring(&value)
+    }
+
+    /// The register is emptied: by the core, or as power is lost.
+    pub(crate) fn empty(&mut self)
+        ensures reset { Went self.old self.new (Reset ∷ []) }
+        ensures power { Went self.old self.new (Power ∷ []) }
+    {
+        self.lists.empty();
+        self.marks = self.marks.emptied(self.lists.is_clear());
+    }
+
+    // Lists the message by which a segment is closed: none in Basic, which has no segments.
+    fn tell_closing(&mut self) -> Result<(), Memory>
+        ensures { OnOk result (self.new ≡ record self.old { closing = self.old.closing
+            ++ closing_messages self.old.variant (cell_digest_of (instance_of self.old) self.old.variant self.old.history)
+            (register_value_of (instance_of self.old) self.old.history) }) }
+    {
+        if let Variant::Opt = self.variant {
+            let message = anchored_message(self.alloc, &self.marks.cell, &self.marks.register)?;
+            self.closing.push(message)?;
+        }
+        Ok(())
+    }
+
+    /// The open segment is closed.
+    pub(crate) fn close(&mut self) -> Result<(), Memory>
+        ensures { OnOk result (Went self.old self.new (Close ∷ [])) }
+    {
+        self.tell_closing()?;
+        let has_value = self.lists.has_value();
+        let is_bare = self.lists.is_bare();
+        self.lists.close()?;
+        self.marks = self.marks.closed(self.variant, has_value, is_bare);
+        Ok(())
+    }
+
+    /// A batch is committed.
+    pub(crate) fn commit(&mut self, batch: Batch<'_>) -> Result<(), Memory>
+        requires { is_long (batch_of batch) ≡ false }
+        ensures { OnOk result (Went self.old self.new (Commit (batch_of batch.entry) ∷ [])) }
+    {
+        let Ran { state, .. } = run_batch(self.alloc, &self.module, self.state.as_slice(), batch)?;
+        let size = batch.len() as u64;
+        if size > u64::MAX - self.marks.total {
+            return Err(Memory);
+        }
+        match self.variant {
+            Variant::Basic => self.link(batch, size, state),
+            Variant::Opt => {
+                if self.lists.is_open() {
+                    self.grow(batch, size, state)
+                } else {
+                    self.begin_segment(batch, size, state)
+                }
+            }
+        }
+    }
+
+    // Basic: a batch of this size is committed, after which the module has this state.
+    fn link(&mut self, batch: Batch<'_>, size: u64, state: Bytes) -> Result<(), Memory>
+        requires variant { self.old.variant ≡ Basic }
+        requires short { is_long (batch_of batch) ≡ false }
+        requires size { size ≡ size_of (batch_of batch) }
+        requires fits { total_of self.old.history.batches + size < 2 ^ 64 }
+        requires state { state ≡ state_after_batch self.old (batch_of batch) }
+        ensures { OnOk result (Went self.old self.new (Commit (batch_of batch.entry) ∷ [])) }
+    {
+        self.lists.add(batch)?;
+        self.marks = self.marks.linked(batch, size);
+        self.before = mem::replace(&mut self.state, state);
+        Ok(())
+    }
+
+    // Opt, inside a segment: likewise.
+    fn grow(&mut self, batch: Batch<'_>, size: u64, state: Bytes) -> Result<(), Memory>
+        requires variant { self.old.variant ≡ Opt }
+        requires inside { self.old.history.is_open ≡ true }
+        requires short { is_long (batch_of batch) ≡ false }
+        requires size { size ≡ size_of (batch_of batch) }
+        requires fits { total_of self.old.history.batches + size < 2 ^ 64 }
+        requires state { state ≡ state_after_batch self.old (batch_of batch) }
+        ensures { OnOk result (Went self.old self.new (Commit (batch_of batch.entry) ∷ [])) }
+    {
+        let value = guard(&self.barrier, batch);
+        self.tell_extension(&value)?;
+        self.add_inside(batch, size, state, &value)
+    }
+
+    // The same, whose message is listed, by the batch's guard.
+    fn add_inside(
+        &mut self,
+        batch: Batch<'_>,
+        size: u64,
+        state: Bytes,
+        value: &Digest,
+    ) -> Result<(), Memory>
+        requires variant { self.old.variant ≡ Opt }
+        requires short { is_long (batch_of batch) ≡ false }
+        requires size { size ≡ size_of (batch_of batch) }
+        requires fits { total_of self.old.history.batches + size < 2 ^ 64 }
+        requires state { state ≡ state_after_batch self.old (batch_of batch) }
+        requires guards { value.now.bytes ≡ guard (instance_of self.old).barrier (batch_of batch) }
+        ensures { OnOk result (self.new ≡ record self.old { history = committed Opt true self.old.history (batch_of batch.entry) }) }
+    {
+        self.lists.add_inside(batch)?;
+        self.marks = self.marks.grown(size, value);
+        self.before = mem::replace(&mut self.state, state);
+        Ok(())
+    }
+
+    // Opt, with no segment open: likewise.
+    fn begin_segment(&mut self, batch: Batch<'_>, size: u64, state: Bytes) -> Result<(), Memory>
+        requires variant { self.old.variant ≡ Opt }
+        requires outside { self.old.history.is_open ≡ false }
+        requires short { is_long (batch_of batch) ≡ false }
+        requires size { size ≡ size_of (batch_of batch) }
+        requires fits { total_of self.old.history.batches + size < 2 ^ 64 }
+        requires state { state ≡ state_after_batch self.old (batch_of batch) }
+        ensures { OnOk result (Went self.old self.new (Commit (batch_of batch.entry) ∷ [])) }
+    {
+        let value = guard(&self.barrier, batch);
+        let is_alone = self.lists.is_alone();
+        self.lists.open(batch)?;
+        let register = self.lists.register(&self.barrier);
+        self.marks = self.marks.opened(size, &value, register, is_alone);
+        self.before = mem::replace(&mut self.state, state);
+        Ok(())
+    }
+}

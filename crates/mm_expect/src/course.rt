@@ -1,0 +1,145 @@
+//! The course that a schedule plans for a call.
+
+ghost use Rattle.std.specs.Prelude.{◌≡◌};
+ghost use Rattle.mm_platform.specs.Steps.{fault_at, is_made_at};
+
+use crate::chronicle::Chronicle;
+use mm_base::Memory;
+use mm_module::Batch;
+use mm_platform::{Meddle, StepFault, Stop};
+
+/// Where a call is stopped, and what others put into the register before its steps.
+#[derive(Clone, Copy)]
+pub(crate) struct Course<'a> {
+    pub(crate) stop: Stop,
+    pub(crate) meddles: &'a [Meddle],
+}
+
+/// What a step of the core does to a history.
+#[derive(Clone, Copy)]
+pub(crate) enum Move<'a> {
+    Commit(Batch<'a>),
+    Place(Batch<'a>),
+    Reset,
+    Close,
+}
+
+/// A device step: it reads, or changes the register, or writes the cell.
+#[derive(Clone, Copy)]
+pub(crate) enum Step<'a> {
+    Reads,
+    Changes(Move<'a>),
+    Writes(Move<'a>),
+}
+
+// The fault that the step of this number answers.
+fn fault_at(stop: Stop, step: u8) -> Option<StepFault>
+    ensures { result ≡ fault_at stop step }
+{
+    match stop {
+        Stop::Quiet => None,
+        Stop::Cut(at) | Stop::Drop(at) => (at == step).then_some(StepFault::Off),
+        Stop::Fail { step: at, .. } => (at == step).then_some(StepFault::Failed),
+    }
+}
+
+/// Whether the step of this number has its effect.
+pub(crate) fn is_made_at(stop: Stop, step: u8) -> bool
+    ensures { result ≡ is_made_at stop step }
+{
+    match stop {
+        Stop::Quiet | Stop::Cut(_) | Stop::Drop(_) => true,
+        Stop::Fail { step: at, done } => at != step || done,
+    }
+}
+
+impl Chronicle {
+    ghost use Rattle.std.specs.Prelude.{◌≡◌, ◌+◌, ◌<◌, [], ◌∷◌, map, false, length, IfOk, OnOk};
+    ghost use Rattle.mm_model.specs.History.{Foreign};
+    ghost use Rattle.mm_platform.specs.Standing.{due};
+    ghost use Rattle.mm_call.specs.Courses.{planned, walk, made_move, step_moves};
+    ghost use Rattle.mm_run.specs.Folds.{plan_of};
+    ghost use Rattle.mm_expect.specs.Recorded.{Went};
+    ghost use Rattle.mm_expect.specs.Walking.{move_of, step_of, steps_of, IsShort, IsShortStep, AreShort, Walks};
+
+    // A move of the core is made.
+    fn make(&mut self, action: &Move<'_>) -> Result<(), Memory>
+        requires { IsShort action.now }
+        ensures { OnOk result (Went self.old self.new (move_of action.now ∷ [])) }
+    {
+        match *action {
+            Move::Commit(batch) => self.commit(batch),
+            Move::Place(batch) => self.place(batch),
+            Move::Reset => {
+                self.empty();
+                Ok(())
+            }
+            Move::Close => self.close(),
+        }
+    }
+
+    // A move is made where its step has its effect.
+    fn make_if(&mut self, is_made: bool, action: &Move<'_>) -> Result<(), Memory>
+        requires { IsShort action.now }
+        ensures { OnOk result (Went self.old self.new (made_move is_made (move_of action.now))) }
+    {
+        if is_made { self.make(action) } else { Ok(()) }
+    }
+
+    // What others put into the register just before the step of this number.
+    fn bring_due(&mut self, course: &Course<'_>, step: u8) -> Result<(), Memory>
+        ensures { OnOk result (Went self.old self.new (map Foreign (due step course.now.meddles.now))) }
+    {
+        'meddles: for meddle in course.meddles {
+            if meddle.step == step {
+                self.bring(&meddle.value)?;
+            }
+        }
+        Ok(())
+    }
+
+    // One device step, by whether it has its effect.
+    fn step(
+        &mut self,
+        course: &Course<'_>,
+        number: u8,
+        step: &Step<'_>,
+        is_made: bool,
+    ) -> Result<(), Memory>
+        requires { IsShortStep step.now }
+        ensures { OnOk result (Went self.old self.new (step_moves (step_of step.now) is_made (due number course.now.meddles.now))) }
+    {
+        match step {
+            Step::Reads => self.bring_due(course, number),
+            Step::Changes(action) => {
+                self.bring_due(course, number)?;
+                self.make_if(is_made, action)
+            }
+            Step::Writes(action) => {
+                self.make_if(is_made, action)?;
+                self.bring_due(course, number)
+            }
+        }
+    }
+
+    /// The steps of a call, one after another, from the step of this number on: the fault by which the call is broken off.
+    pub(crate) fn walk(
+        &mut self,
+        course: &Course<'_>,
+        number: u8,
+        steps: &[Step<'_>],
+    ) -> Result<Option<StepFault>, Memory>
+        requires short { AreShort steps.now }
+        requires few { number + length steps.now < 256 }
+        ensures { IfOk result (Walks self.old self.new (walk (planned (plan_of course.now.stop course.now.meddles.now)) number (steps_of steps.now))) }
+    {
+        let Some((step, later)) = steps.split_first() else {
+            return Ok(None);
+        };
+        self.step(course, number, step, is_made_at(course.stop, number))?;
+        match fault_at(course.stop, number) {
+            Some(fault) => Ok(Some(fault)),
+            None => self.walk(course, number + 1, later),
+        }
+    }
+}

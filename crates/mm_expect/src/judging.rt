@@ -1,0 +1,132 @@
+//! What is found of an offer.
+
+ghost use Rattle.std.specs.Prelude.{◌≡◌};
+
+use crate::chronicle::Chronicle;
+use mm_call::examine;
+use mm_digest::{HmacKey, Variant};
+use mm_model::{Refusal, Verdict};
+use mm_module::{Batch, Module};
+use mm_seal::{PartsFault, parts};
+
+impl Chronicle {
+    ghost use Rattle.std.specs.Prelude.{◌≡◌, false, IfOk};
+    ghost use Rattle.mm_digest.specs.declared.variant.Variant.TheVariants.{Basic, Opt};
+    ghost use Rattle.mm_module.specs.Batches.{batch_of};
+    ghost use Rattle.mm_model.specs.History.{joined, total_of};
+    ghost use Rattle.mm_model.specs.Judge.{judge};
+    ghost use Rattle.mm_model.specs.Life.{has_value, are_own, life_of, is_lost};
+    ghost use Rattle.mm_model.specs.Long.{is_long};
+    ghost use Rattle.mm_call.specs.Found.{found_at};
+    ghost use Rattle.mm_call.specs.Levels.{by_lists};
+    ghost use Rattle.mm_run.specs.Held.{world_key};
+    ghost use Rattle.mm_expect.specs.Recorded.{instance_of};
+    ghost use Rattle.mm_expect.specs.Calls.{again_in, Admits};
+
+    /// How many requests are committed.
+    pub(crate) fn total(&self) -> u64
+        ensures { result ≡ total_of self.now.history.batches }
+    {
+        self.marks.total
+    }
+
+    // Whether the register's items are those of the open segment.
+    fn is_own(&self) -> bool
+        ensures { result ≡ are_own self.now.history.items self.now.history.current }
+    {
+        self.marks.is_own
+    }
+
+    // Whether a closed segment holds a value that stands for no batch.
+    fn is_marred(&self) -> bool
+        ensures { result ≡ has_value (joined self.now.history.closed) }
+    {
+        self.marks.is_marred
+    }
+
+    /// Whether power was lost inside an open segment.
+    #[tactic(auto, using(crate::proofs::FindLaws::lost_when))]
+    pub(crate) fn is_lost(&self) -> bool
+        ensures { result ≡ is_lost (life_of self.now.variant self.now.history) }
+    {
+        match self.variant {
+            Variant::Basic => false,
+            Variant::Opt => self.lists.is_open() && self.lists.is_bare(),
+        }
+    }
+
+    // The verdict on a position and a batch.
+    fn judge(&self, position: u64, batch: Batch<'_>) -> Verdict
+        ensures { result ≡ judge self.now.variant self.now.history position (batch_of batch.entry) }
+    {
+        match self.variant {
+            Variant::Basic => self.judge_live(position, batch),
+            Variant::Opt => self.judge_opt(position, batch),
+        }
+    }
+
+    // Opt: the verdict by the life of the history.
+    fn judge_opt(&self, position: u64, batch: Batch<'_>) -> Verdict
+        ensures { result ≡ judge Opt self.now.history position (batch_of batch.entry) }
+    {
+        if self.lists.is_open() {
+            if self.lists.is_bare() {
+                return Verdict::Lost;
+            }
+            if !self.is_own() {
+                return Verdict::Stale;
+            }
+        }
+        if self.is_marred() {
+            return Verdict::Stale;
+        }
+        self.judge_live(position, batch)
+    }
+
+    // The verdict where the history goes on.
+    fn judge_live(&self, position: u64, batch: Batch<'_>) -> Verdict
+        ensures { result ≡ judge Basic self.now.history position (batch_of batch.entry) }
+    {
+        let total = self.total();
+        if position == total {
+            return Verdict::Fresh;
+        }
+        let Some(before) = total.checked_sub(batch.len() as u64) else {
+            return Verdict::Stale;
+        };
+        if before != position {
+            return Verdict::Stale;
+        }
+        if self.lists.ends_with(batch) {
+            Verdict::Again
+        } else {
+            Verdict::Stale
+        }
+    }
+
+    /// What a call finds: a refusal, or whether the batch is a repeat. Takes no memory.
+    pub(crate) fn find(
+        &self,
+        key: &HmacKey,
+        bytes: &[u8],
+        batch: Batch<'_>,
+    ) -> Result<bool, Refusal>
+        requires key { key.now ≡ world_key }
+        requires short { is_long (batch_of batch) ≡ false }
+        ensures found { result ≡ again_in (found_at (instance_of self.now) (by_lists (instance_of self.now)) self.now.history
+            (batch_of batch.entry) bytes.now) }
+        ensures admits { IfOk result (Admits self.now.history (batch_of batch.entry)) }
+    {
+        if self.is_lost() {
+            return Err(Refusal::Lost);
+        }
+        match parts(bytes, self.variant, self.module.id()) {
+            Err(PartsFault::Form) => Err(Refusal::Form),
+            Err(PartsFault::Kind) => Err(Refusal::Kind),
+            Ok(offered) => {
+                let verdict = self.judge(offered.body().position, batch);
+                examine(&self.module, key, &offered, batch, verdict)
+            }
+        }
+    }
+}

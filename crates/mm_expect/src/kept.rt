@@ -1,0 +1,158 @@
+//! Batches and entries of a history, owned.
+
+ghost use Rattle.std.specs.Prelude.{◌≡◌, map, IfOk};
+ghost use Rattle.mm_module.specs.Batch.{has_tab, normal};
+ghost use Rattle.mm_module.specs.Batches.{batch_of};
+ghost use Rattle.mm_model.specs.Life.{same_batch, has_value};
+ghost use Rattle.mm_model.specs.Judge.{is_last};
+ghost use Rattle.mm_expect.specs.Kept.{kept_batch, kept_batches, kept_entry, kept_entries};
+
+use mm_base::{Bytes, Memory};
+use mm_digest::Digest;
+use mm_module::Batch;
+use std::alloc::Global;
+
+/// A batch: one request, or the text of several with its TABs.
+#[derive(Debug, Drop)]
+pub(crate) enum KeptBatch {
+    One(Bytes),
+    Many(Bytes),
+}
+
+/// What a register took in: a committed batch, or a value that stands for none.
+#[derive(Debug, Drop)]
+pub(crate) enum KeptEntry {
+    Own(KeptBatch),
+    Value(Digest),
+}
+
+// Whether some byte is a TAB.
+fn has_tab(text: &[u8]) -> bool
+    ensures { result ≡ has_tab text.now }
+{
+    text.iter().any(|byte| *byte == b'\t')
+}
+
+/// The batch with these members that its members fix: a text with no TAB is one request.
+pub(crate) fn normal(batch: Batch<'_>) -> Batch<'_>
+    ensures { batch_of result ≡ normal (batch_of batch.entry) }
+{
+    match batch {
+        Batch::One(request) => Batch::One(request),
+        Batch::Many(text) => {
+            if has_tab(text) {
+                Batch::Many(text)
+            } else {
+                Batch::One(text)
+            }
+        }
+    }
+}
+
+impl KeptBatch {
+    /// An own copy.
+    pub(crate) fn copy_of(alloc: Global, batch: Batch<'_>) -> Result<KeptBatch, Memory>
+        ensures { IfOk result (λ kept. kept_batch kept ≡ batch_of batch.entry) }
+    {
+        match batch {
+            Batch::One(request) => {
+                let copy = Bytes::copy_of(alloc, request)?;
+                Ok(KeptBatch::One(copy))
+            }
+            Batch::Many(text) => {
+                let copy = Bytes::copy_of(alloc, text)?;
+                Ok(KeptBatch::Many(copy))
+            }
+        }
+    }
+
+    fn copy(&self, alloc: Global) -> Result<KeptBatch, Memory>
+        ensures { IfOk result (λ kept. kept_batch kept ≡ kept_batch self.now) }
+    {
+        match self {
+            KeptBatch::One(request) => {
+                let copy = Bytes::copy_of(alloc, request.as_slice())?;
+                Ok(KeptBatch::One(copy))
+            }
+            KeptBatch::Many(text) => {
+                let copy = Bytes::copy_of(alloc, text.as_slice())?;
+                Ok(KeptBatch::Many(copy))
+            }
+        }
+    }
+
+    /// The batch, lent.
+    pub(crate) fn lent(&self) -> Batch<'_>
+        ensures { batch_of result ≡ kept_batch self.now }
+    {
+        match self {
+            KeptBatch::One(request) => Batch::One(request.as_slice()),
+            KeptBatch::Many(text) => Batch::Many(text.as_slice()),
+        }
+    }
+
+    /// Whether this is that batch.
+    fn is_that(&self, batch: Batch<'_>) -> bool
+        ensures { result ≡ same_batch (kept_batch self.now) (batch_of batch.entry) }
+    {
+        match self {
+            KeptBatch::One(request) => match batch {
+                Batch::One(second) => request.as_slice() == second,
+                Batch::Many(_) => false,
+            },
+            KeptBatch::Many(text) => match batch {
+                Batch::One(_) => false,
+                Batch::Many(second) => text.as_slice() == second,
+            },
+        }
+    }
+}
+
+impl KeptEntry {
+    fn copy(&self, alloc: Global) -> Result<KeptEntry, Memory>
+        ensures { IfOk result (λ kept. kept_entry kept ≡ kept_entry self.now) }
+    {
+        match self {
+            KeptEntry::Own(batch) => {
+                let copy = batch.copy(alloc)?;
+                Ok(KeptEntry::Own(copy))
+            }
+            KeptEntry::Value(value) => Ok(KeptEntry::Value(*value)),
+        }
+    }
+}
+
+/// A copy of entries.
+pub(crate) fn copy_entries(alloc: Global, entries: &[KeptEntry]) -> Result<Vec<KeptEntry>, Memory>
+    ensures { IfOk result (λ copies. kept_entries copies.items ≡ kept_entries entries.now) }
+{
+    let mut copies = Vec::new(alloc);
+    'entries: for entry in entries {
+        let copy = entry.copy(alloc)?;
+        copies.push(copy)?;
+    }
+    Ok(copies)
+}
+
+/// Whether some entry is a value that stands for no batch.
+pub(crate) fn some_value(entries: &[KeptEntry]) -> bool
+    ensures { result ≡ has_value (kept_entries entries.now) }
+{
+    'entries: for entry in entries {
+        if let KeptEntry::Value(_) = entry {
+            return true;
+        }
+    }
+    false
+}
+
+/// Whether the last of the batches is this one.
+pub(crate) fn last_is(batches: &[KeptBatch], batch: Batch<'_>) -> bool
+    ensures { result ≡ is_last (kept_batches batches.now) (batch_of batch.entry) }
+{
+    let count = batches.len();
+    if count == 0 {
+        return false;
+    }
+    batches[count - 1].is_that(batch)
+}

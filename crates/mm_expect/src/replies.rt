@@ -1,0 +1,112 @@
+//! The reply that a call gets in a schedule.
+
+ghost use Rattle.std.specs.Prelude.{◌≡◌, ◌∷◌, [], None, option_to_list};
+ghost use Rattle.mm_call.specs.Called.{Answers};
+ghost use Rattle.mm_schedule.specs.declared.reply.Way.TheVariants.{Fault};
+ghost use Rattle.mm_run.specs.Folds.{way_of, cause_of, reply_of, snapshots_of, closing_reply};
+ghost use Rattle.mm_expect.specs.Calls.{ending_of};
+ghost use Rattle.mm_expect.specs.Closings.{closing_as};
+
+use crate::calls::Closing;
+use mm_base::Bytes;
+use mm_call::Ended;
+use mm_model::{BatchAnswer, Refusal};
+use mm_platform::Stop;
+use mm_schedule::{Cause, Reply, Way};
+
+/// How a call is broken off.
+pub(crate) fn way(stop: Stop) -> Way
+    ensures { result ≡ way_of stop }
+{
+    match stop {
+        Stop::Cut(_) => Way::Cut,
+        Stop::Drop(_) => Way::Drop,
+        Stop::Quiet | Stop::Fail { .. } => Way::Fault,
+    }
+}
+
+// The cause that a reply names.
+fn cause(refusal: Refusal) -> Cause
+    ensures { result ≡ cause_of refusal }
+{
+    match refusal {
+        Refusal::Lost => Cause::Lost,
+        Refusal::Form => Cause::Form,
+        Refusal::Kind => Cause::Kind,
+        Refusal::State => Cause::State,
+        Refusal::Tag => Cause::Tag,
+        Refusal::Stale => Cause::Stale,
+        Refusal::Full => Cause::Full,
+        Refusal::Memory | Refusal::Long | Refusal::Device(_) | Refusal::Blank | Refusal::Cell =>
+            Cause::Long,
+    }
+}
+
+/// A reply, and the snapshot that is handed out with it.
+#[derive(Drop)]
+pub(crate) struct Said {
+    pub(crate) reply: Reply,
+    pub(crate) snapshot: Option<Bytes>,
+}
+
+// The reply that tells an answer.
+fn told(answer: BatchAnswer) -> Said
+    ensures reply { result.reply ≡ reply_of Fault (Answers answer) }
+    ensures snapshot { option_to_list result.snapshot ≡ answer.snapshot ∷ [] }
+{
+    let BatchAnswer {
+        again,
+        position,
+        outputs,
+        snapshot,
+    } = answer;
+    let size = outputs.len() as u64;
+    Said {
+        reply: Reply::Told {
+            again,
+            before: position.saturating_sub(size),
+            outputs,
+        },
+        snapshot: Some(snapshot),
+    }
+}
+
+/// What is said of a call that ended so, and that was to be broken off in this way.
+pub(crate) fn said_of(way: Way, ended: Ended) -> Said
+    ensures reply { result.reply ≡ reply_of way (ending_of ended) }
+    ensures snapshot { option_to_list result.snapshot ≡ snapshots_of (ending_of ended) }
+{
+    match ended {
+        Ended::Answered(answer) => told(answer),
+        Ended::Refused(refusal) => quiet(Reply::No(cause(refusal))),
+        Ended::Broken {
+            commits: Some(position),
+            ..
+        } => quiet(Reply::Kept { way, position }),
+        Ended::Broken { commits: None, .. } => quiet(Reply::Nothing { way }),
+    }
+}
+
+/// A reply alone.
+pub(crate) fn quiet(reply: Reply) -> Said
+    ensures { result ≡ record { reply = reply; snapshot = None } }
+{
+    Said {
+        reply,
+        snapshot: None,
+    }
+}
+
+/// What is said of a checkpoint that ended so, and that was to be broken off in this way.
+pub(crate) fn closing_said(way: Way, closing: Closing) -> Reply
+    ensures { result ≡ closing_reply way (closing_as closing) }
+{
+    match closing {
+        Closing::Closes => Reply::Checkpointed,
+        Closing::HasNone => Reply::No(Cause::Kind),
+        Closing::NoSegment => Reply::No(Cause::Segment),
+        Closing::LostPower => Reply::No(Cause::Lost),
+        Closing::Stops { closed: true, .. } => Reply::Closed { way },
+        Closing::Stops { closed: false, .. } => Reply::Nothing { way },
+    }
+}
