@@ -1,0 +1,291 @@
+-- One event more, and what is told at the end.
+use Rattle.std.proofs.Common.{◌≡◌, ◌∙◌, ℕ, ◌+◌, ◌≤◌, ◌<◌, take, get_or, Bool, true, false, cond, map, inl, inr, List, [], ◌∷◌, ◌++◌, length, Option, None, Some, refl, sym, ap, subst, arith, append_assoc, append-nil, length-append}
+use Rattle.std.specs.List.{fold, list_any, Contains}
+use Rattle.std.specs.Option.{option_map}
+use Rattle.std.specs.Str.{bytes_eq}
+use Rattle.std.proofs.lemmas.List.Elements.{Contains-append_cases}
+use Rattle.std.proofs.lemmas.List.Folds.{list_any_at}
+use Rattle.std.proofs.lemmas.Slice.Eq.{bytes_eq-Decides}
+use Rattle.std.specs.Prelude.{◌||◌}
+use Rattle.std.proofs.lemmas.List.Sums.{fold-append}
+use Rattle.mm_digest.specs.declared.variant.Variant.{Variant}
+use Rattle.mm_digest.specs.declared.variant.Variant.TheVariants.{Basic, Opt}
+use Rattle.mm_digest.specs.Messages.{start_message, variant_byte}
+use Rattle.sha2.specs.Sha256.{sha256}
+use Rattle.std.proofs.lemmas.List.{length-map, length-take}
+use Rattle.mm_schedule.specs.declared.event.Event.{Event as CodeEvent}
+use Rattle.mm_module.specs.Meaning.{Meaning}
+use Rattle.mm_modules.specs.Modules.{meaning_of}
+use Rattle.mm_model.specs.Chains.{guard, own_values}
+use Rattle.mm_model.specs.Instance.{Instance}
+use Rattle.mm_model.specs.History.{History, first_history, total_of}
+use Rattle.mm_schedule.specs.declared.header.Header.{Header}
+use Rattle.mm_schedule.specs.declared.reply.Reply.{Reply}
+use Rattle.mm_schedule.specs.Events.{Event, event_of}
+use Rattle.mm_schedule.specs.Replies.{lines_of, end_line}
+use Rattle.mm_call.specs.Levels.{by_lists}
+use Rattle.mm_call.specs.Standing.{instance_by}
+use Rattle.mm_run.specs.Folds.{Followed, followed, outcome_of, first_issued, expected}
+use Rattle.mm_run.specs.Held.{world_key, world_barrier, world_of}
+use Rattle.mm_run.specs.Laws.{continued}
+use Rattle.mm_model.specs.Messages.{AreNoGuards}
+use Rattle.mm_run.specs.Premises.{foreign_of, foreign_values, asked_batches, IsGenuineEvent, AreGenuine, AreApart}
+use Rattle.mm_run.proofs.GoingOn.{goes_on}
+use Rattle.mm_expect.specs.Hears.{Hears}
+use Rattle.mm_expect.specs.Naming.{IsDecided}
+use Rattle.mm_expect.specs.Numbered.{numbered_event}
+use Rattle.mm_expect.specs.Traced.{Traced, IsAfter}
+use Rattle.mm_expect.specs.declared.expecting.Heard.{Heard}
+use Rattle.mm_check.specs.Listing.{listed, digests_of, shared_in, zero_in, first_where}
+use Rattle.mm_check.specs.Lists.{Lists, pair_of}
+use Rattle.mm_check.specs.Numbering.{numbered_from, numbered, is_secured, secured_in, lines_of_all, expected_lines, IsForgedAt, Decides}
+use Rattle.mm_check.specs.Guards.{events_of, secured_by}
+use Rattle.mm_check.proofs.FewLaws.{heard_few, numbered_few}
+use Rattle.mm_check.proofs.GuardLaws.{events_more}
+use Rattle.mm_check.proofs.ClearLaws.{clear_run}
+use Rattle.mm_check.specs.Deciding.{IsFirstForged, Stands, forged_then, premise_by}
+use Rattle.mm_check.specs.declared.deciding.Deciding.{Deciding}
+
+-- what is heard of an event behind those that were followed so far
+pub record IsHeard (i : Instance) (before : Followed History) (event : Event) (heard : Heard) : Type 0 where
+  pub reply : heard.reply ≡ (outcome_of i (by_lists i) before.state before.issued event).reply
+  pub messages : heard.messages.items ≡ numbered_event i before.state before.issued event
+  pub genuine : IsDecided heard.is_genuine (IsGenuineEvent i before.state before.issued event)
+
+pub heard_after : (header : Header) (es : List Event) (it : Traced) (e : Event) (heard : Heard) → IsAfter header es it
+    → Hears (world_of it.header) it.history it.issued e heard → IsDecided heard.is_genuine (IsGenuineEvent (world_of header) it.history it.issued e)
+    → IsHeard (world_of header) (expected (world_of header) es) e heard
+heard_after header es it e heard after hears genuine =
+    let i = world_of header in
+    let f = expected i es in
+    let a = subst (λ (h : Header). Hears (world_of h) it.history it.issued e heard) after.header_is hears in
+    let b = subst (λ (y : History). Hears i y it.issued e heard) after.history_is a in
+    let c = subst (λ (s : List (List ℕ)). Hears i f.state s e heard) after.issued_is b in
+    let g = subst (λ (y : History). IsDecided heard.is_genuine (IsGenuineEvent i y it.issued e)) after.history_is genuine in
+    record {
+      reply = c.reply;
+      messages = c.messages;
+      genuine = subst (λ (s : List (List ℕ)). IsDecided heard.is_genuine (IsGenuineEvent i f.state s e)) after.issued_is g;
+    }
+
+-- what stands behind one event more
+after_one : (i : Instance) (es : List Event) (e : Event)
+    → (let f : Followed History = expected i es in
+    expected i (es ++ e ∷ []) ≡ continued f (followed i (by_lists i) f.state f.issued (e ∷ [])))
+after_one i es e = goes_on i (by_lists i) es (e ∷ []) first_history (first_issued i)
+
+from_push : (i : Instance) (es : List Event) (e : Event) (y : History) (issued : List (List ℕ))
+    → (let f : Followed History = followed i (by_lists i) y issued es in
+    numbered_from i y issued (es ++ e ∷ []) ≡ numbered_from i y issued es ++ numbered_event i f.state f.issued e)
+from_push i [] e y issued = append-nil (numbered_event i y issued e)
+from_push i (x ∷ es) e y issued =
+    let o = outcome_of i (by_lists i) y issued x in
+    let here = numbered_event i y issued x in
+    ap (λ (l : List (List ℕ)). here ++ l) (from_push i es e o.state o.issued) ∙ sym (append_assoc here _ _)
+
+pub numbered-push : (i : Instance) (es : List Event) (e : Event)
+    → (let f : Followed History = expected i es in
+    numbered i (es ++ e ∷ []) ≡ fold listed (numbered i es) (numbered_event i f.state f.issued e))
+numbered-push i es e =
+    let start = start_message i.variant i.meaning.id ∷ [] in
+    ap (λ (l : List (List ℕ)). fold listed start l) (from_push i es e first_history (first_issued i))
+    ∙ fold-append listed start (numbered_from i first_history (first_issued i) es) (numbered_event i (expected i es).state (expected i es).issued e)
+
+pub lines_of_all-append : (xs ys : List Reply) → lines_of_all (xs ++ ys) ≡ lines_of_all xs ++ lines_of_all ys
+lines_of_all-append [] ys = refl
+lines_of_all-append (x ∷ xs) ys = ap (λ (l : List (List ℕ)). lines_of x ++ l) (lines_of_all-append xs ys) ∙ sym (append_assoc (lines_of x) (lines_of_all xs) (lines_of_all ys))
+
+lines-push : (i : Instance) (es : List Event) (e : Event)
+    → (let f : Followed History = expected i es in
+    lines_of_all (expected i (es ++ e ∷ [])).replies ≡ lines_of_all f.replies ++ lines_of (outcome_of i (by_lists i) f.state f.issued e).reply)
+lines-push i es e =
+    let f = expected i es in
+    let said = (outcome_of i (by_lists i) f.state f.issued e).reply in
+    ap (λ (g : Followed History). lines_of_all g.replies) (after_one i es e) ∙ lines_of_all-append f.replies (said ∷ [])
+    ∙ ap (λ (l : List (List ℕ)). lines_of_all f.replies ++ l) (append-nil (lines_of said))
+
+genuine_push : (i : Instance) (es : List Event) (e : Event) (y : History) (issued : List (List ℕ))
+    → (let f : Followed History = followed i (by_lists i) y issued es in
+    AreGenuine i y issued es → IsGenuineEvent i f.state f.issued e → AreGenuine i y issued (es ++ e ∷ []))
+genuine_push i [] e y issued all here = (here, tt)
+genuine_push i (x ∷ es) e y issued all here =
+    let o = outcome_of i (by_lists i) y issued x in (all.0, genuine_push i es e o.state o.issued all.1 here)
+
+still_forged : (i : Instance) (es : List Event) (e : Event) (n : ℕ) → IsForgedAt i es n → IsForgedAt i (es ++ e ∷ []) n
+still_forged i es e n h = record {
+  before = h.before;
+  event = h.event;
+  after = h.after ++ e ∷ [];
+  split = ap (λ (l : List Event). l ++ e ∷ []) h.split ∙ append_assoc h.before (h.event ∷ h.after) (e ∷ []);
+  place = h.place;
+  genuine = h.genuine;
+  forged = h.forged;
+}
+
+forged-push : (i : Instance) (es : List Event) (e : Event) (first : Option ℕ) (is_genuine : Bool) → IsFirstForged i es first
+    → IsDecided is_genuine (IsGenuineEvent i (expected i es).state (expected i es).issued e)
+    → IsFirstForged i (es ++ e ∷ []) (forged_then first is_genuine (length es + 1))
+forged-push i es e (Some n) is_genuine h t = still_forged i es e n h
+forged-push i es e None true h t = genuine_push i es e first_history (first_issued i) h t
+forged-push i es e None false h t = record { before = es; event = e; after = []; split = refl; place = refl; genuine = h; forged = t }
+
+pub stands_next : (header : Header) (es : List Event) (e : Event) (old new : Deciding) (heard : Heard) → Stands header es old
+    → IsHeard (world_of header) (expected (world_of header) es) e heard → IsAfter header (es ++ e ∷ []) new.expecting
+    → length new.expecting.issued ≤ length old.expecting.issued + 1
+    → Lists (fold listed (numbered (world_of header) es) heard.messages.items) new.numbers
+    → new.lines.items ≡ old.lines.items ++ lines_of heard.reply → new.forged ≡ forged_then old.forged heard.is_genuine (length es + 1)
+    → Stands header (es ++ e ∷ []) new
+stands_next header es e old new heard h hears after few lists lines forged =
+    let i = world_of header in
+    record {
+      after = after;
+      few = omega (arith, few, h.few, length-append es (e ∷ []));
+      lists = subst (λ (l : List (List ℕ)). Lists l new.numbers)
+          (ap (λ (l : List (List ℕ)). fold listed (numbered i es) l) hears.messages ∙ sym (numbered-push i es e)) lists;
+      lines = lines ∙ ap (λ (l : List (List ℕ)). l ++ lines_of heard.reply) h.lines
+          ∙ ap (λ (r : Reply). lines_of_all (expected i es).replies ++ lines_of r) hears.reply ∙ sym (lines-push i es e);
+      forged = subst (λ (o : Option ℕ). IsFirstForged i (es ++ e ∷ []) o) (sym forged)
+          (forged-push i es e old.forged heard.is_genuine h.forged hears.genuine);
+    }
+
+-- what is told at the end
+
+none_more : (o : Option ℕ) → option_map (λ n. n + 1) o ≡ None → o ≡ None
+none_more None h = refl
+none_more (Some n) h = absurd (cc)
+
+first_none : (here : Bool) (o : Option ℕ) → (let w : Option ℕ = cond here (Some 1) (option_map (λ n. n + 1) o) in w ≡ None) → (here ≡ false) × (o ≡ None)
+first_none true o h = absurd (cc)
+first_none false o h = (refl, none_more o h)
+
+true_false : (b : Bool) → b ≡ true → b ≡ false → ⊥
+true_false b t f = cc
+
+any_in : {A : Type 0} (p : A → Bool) (xs : List A) (x : A) → Contains xs x → p x ≡ true → list_any p xs ≡ true
+any_in p xs x h e = list_any_at p xs h.0 x h.1 (ap p h.2 ∙ e)
+
+any_map : {A B : Type 0} (p : B → Bool) (f : A → B) (xs : List A) → list_any p (map f xs) ≡ list_any (λ x. p (f x)) xs
+any_map p f [] = refl
+any_map p f (x ∷ xs) = ap (λ (b : Bool). p (f x) || b) (any_map p f xs)
+
+-- no event brings a guard
+foreign_apart : (guards : List (List ℕ)) (es : List Event) (d : List ℕ) → first_where (is_secured guards) es ≡ None → Contains (foreign_values es) d
+    → list_any (bytes_eq d) guards ≡ true → ⊥
+foreign_apart guards [] d none h is = let few = h.1 in absurd (omega arith)
+foreign_apart guards (e ∷ es) d none h is =
+    let parts = first_none (is_secured guards e) (first_where (is_secured guards) es) none in
+    elim (Contains-append_cases (foreign_of e) (foreign_values es) d h) [
+      | inl here ↦ true_false (is_secured guards e) (any_in (λ v. list_any (bytes_eq v) guards) (foreign_of e) d here is) parts.0
+      | inr later ↦ foreign_apart guards es d parts.1 later is
+    ]
+
+no_guards : (barrier : List ℕ) (es : List Event) → first_where (is_secured (own_values barrier (asked_batches es))) es ≡ None
+    → AreNoGuards barrier (foreign_values es) (asked_batches es)
+no_guards barrier es none d b hd hb same =
+    foreign_apart (own_values barrier (asked_batches es)) es d none hd
+    (any_map (bytes_eq d) (guard barrier) (asked_batches es) ∙ any_in (λ c. bytes_eq d (guard barrier c)) (asked_batches es) b hb ((bytes_eq-Decides d (guard barrier b)).1 same))
+
+apart_by : (variant : Variant) (meaning : Meaning) (es : List Event) → secured_by variant world_barrier es ≡ None
+    → (let i : Instance = instance_by variant meaning world_key world_barrier in AreApart i.variant i es)
+apart_by Basic meaning es none = tt
+apart_by Opt meaning es none = no_guards world_barrier es none
+
+secured_told : (variant : Variant) (meaning : Meaning) (es : List Event) (n : ℕ) → secured_by variant world_barrier es ≡ Some n
+    → (let i : Instance = instance_by variant meaning world_key world_barrier in (i.variant ≡ Opt) × (secured_in i es ≡ Some n))
+secured_told Basic meaning es n is = absurd (cc)
+secured_told Opt meaning es n is = (refl, is)
+
+decided_by : (variant : Variant) (meaning : Meaning) (es : List Event) (pair : Option (ℕ × ℕ)) (zero secured forged : Option ℕ)
+    → (let i : Instance = instance_by variant meaning world_key world_barrier in
+    pair ≡ shared_in (digests_of (numbered i es)) → zero ≡ zero_in (digests_of (numbered i es)) → secured ≡ secured_by variant world_barrier es
+    → IsFirstForged i es forged → Decides i es (premise_by pair zero secured forged))
+decided_by variant meaning es (Some pair) zero secured forged p z s f = sym p
+decided_by variant meaning es None (Some message) secured forged p z s f = (sym p, sym z)
+decided_by variant meaning es None None (Some event) forged p z s f =
+    let i = instance_by variant meaning world_key world_barrier in
+    let told = secured_told variant meaning es event (sym s) in
+    (clear_run i es (sym p) (sym z), told.0, told.1)
+decided_by variant meaning es None None None (Some event) p z s f =
+    let i = instance_by variant meaning world_key world_barrier in
+    (record { clear = clear_run i es (sym p) (sym z); apart = apart_by variant meaning es (sym s) }, f)
+decided_by variant meaning es None None None None p z s f =
+    let i = instance_by variant meaning world_key world_barrier in
+    (record { clear = clear_run i es (sym p) (sym z); apart = apart_by variant meaning es (sym s) }, f)
+
+pub decided : (header : Header) (es : List Event) (it : Deciding) (secured : Option ℕ) → Stands header es it → secured ≡ secured_by header.variant world_barrier es
+    → Decides (world_of header) es (premise_by (pair_of it.numbers.digests.shared) it.numbers.digests.zero secured it.forged)
+decided header es it secured h s =
+    decided_by header.variant (meaning_of header.«module») es (pair_of it.numbers.digests.shared) it.numbers.digests.zero secured it.forged
+    h.lists.counts.shared h.lists.counts.zero s h.forged
+
+-- at the first event
+
+start_by : (variant : Variant) (meaning : Meaning)
+    → (let i : Instance = instance_by variant meaning world_key world_barrier in start_message i.variant i.meaning.id ≡ 0 ∷ variant_byte variant ∷ meaning.id ∷ [])
+start_by Basic meaning = refl
+start_by Opt meaning = refl
+
+pub stands_first : (header : Header) (it : Deciding) (message : List ℕ) → IsAfter header [] it.expecting → Lists (listed [] message) it.numbers
+    → message ≡ 0 ∷ variant_byte header.variant ∷ (meaning_of header.«module»).id ∷ [] → it.lines.items ≡ [] → it.forged ≡ None → Stands header [] it
+stands_first header it message after lists is lines forged =
+    let i = world_of header in
+    record {
+      after = after;
+      few = omega (arith, ap length after.issued_is);
+      lists = subst (λ (m : List ℕ). Lists (m ∷ []) it.numbers) (is ∙ sym (start_by header.variant (meaning_of header.«module»))) lists;
+      lines = lines;
+      forged = subst (λ (o : Option ℕ). IsFirstForged i [] o) (sym forged) tt;
+    }
+
+-- at the last one
+
+pub lines_end : (header : Header) (es : List Event) (it : Deciding) (committed issued : ℕ) (lines : List (List ℕ)) → Stands header es it
+    → committed ≡ total_of it.expecting.history.batches → issued ≡ length it.expecting.issued
+    → lines ≡ it.lines.items ++ end_line committed issued ∷ [] → lines ≡ expected_lines (world_of header) es
+lines_end header es it committed issued lines h n k is =
+    let f = expected (world_of header) es in
+    is ∙ ap (λ (l : List (List ℕ)). l ++ end_line committed issued ∷ []) h.lines
+    ∙ ap (λ (m : ℕ). lines_of_all f.replies ++ end_line m issued ∷ []) (n ∙ ap (λ (y : History). total_of y.batches) h.after.history_is)
+    ∙ ap (λ (m : ℕ). lines_of_all f.replies ++ end_line (total_of f.state.batches) m ∷ []) (k ∙ ap length h.after.issued_is)
+
+-- there is room for an event's messages, and for its snapshot
+
+few_taken : (es : List CodeEvent) (index : ℕ) → length es ≤ 20000 → length (take index es) ≤ 20000
+few_taken es index few = omega (arith, few, length-take index es)
+
+pub room_for : (header : Header) (es : List CodeEvent) (index : ℕ) (event : CodeEvent) (it : Deciding) (heard : Heard) → length es ≤ 20000
+    → Stands header (events_of (take index es)) it → IsHeard (world_of header) (expected (world_of header) (events_of (take index es))) (event_of event) heard
+    → it.numbers.digests.count + length heard.messages.items < 4294967295
+room_for header es index event it heard few h hears =
+    let i = world_of header in
+    let f = expected i (events_of (take index es)) in
+    omega (
+      arith,
+      few_taken es index few,
+      h.lists.counts.count,
+      length-map (numbered i (events_of (take index es))) sha256,
+      numbered_few i (take index es),
+      ap length hears.messages,
+      heard_few i f.state f.issued event,
+    )
+
+pub issues_few : (header : Header) (es : List CodeEvent) (index : ℕ) (it : Deciding) → length es ≤ 20000 → Stands header (events_of (take index es)) it
+    → length it.expecting.issued < 4294967295
+issues_few header es index it few h = omega (arith, h.few, few_taken es index few, length-map (take index es) event_of)
+
+-- the event of this index was followed
+pub stands_after : (header : Header) (es : List CodeEvent) (index : ℕ) (event : CodeEvent) (old new : Deciding) (heard : Heard) → index < length es → event ≡ get_or es index event
+    → Stands header (events_of (take index es)) old
+    → IsHeard (world_of header) (expected (world_of header) (events_of (take index es))) (event_of event) heard
+    → IsAfter header (events_of (take index es) ++ event_of event ∷ []) new.expecting
+    → length new.expecting.issued ≤ length old.expecting.issued + 1
+    → Lists (fold listed (numbered (world_of header) (events_of (take index es))) heard.messages.items) new.numbers
+    → new.lines.items ≡ old.lines.items ++ lines_of heard.reply → new.forged ≡ forged_then old.forged heard.is_genuine (index + 1)
+    → Stands header (events_of (take (index + 1) es)) new
+stands_after header es index event old new heard within is h hears after few lists lines forged =
+    let before = events_of (take index es) in
+    let count : index ≡ length before = omega (arith, within, length-map (take index es) event_of, length-take index es) in
+    subst (λ (l : List Event). Stands header l new)
+    (ap (λ (e : CodeEvent). before ++ event_of e ∷ []) is ∙ sym (events_more es index event within))
+    (stands_next header before (event_of event) old new heard h hears after few lists lines
+    (forged ∙ ap (λ (n : ℕ). forged_then old.forged heard.is_genuine (n + 1)) count))

@@ -1,0 +1,234 @@
+-- An event has few messages.
+use Rattle.std.proofs.Common.{ℕ, ◌+◌, ◌*◌, ◌≤◌, Bool, true, false, cond, List, [], ◌∷◌, ◌++◌, length, map, Option, None, Some, arith, length-append}
+use Rattle.std.specs.Prelude.{◌==◌}
+use Rattle.std.specs.List.{fold, filter, list_any}
+use Rattle.std.specs.Str.{bytes_eq}
+use Rattle.std.proofs.lemmas.List.{length-map, length-take}
+use Rattle.mm_digest.specs.declared.variant.Variant.{Variant}
+use Rattle.mm_digest.specs.declared.variant.Variant.TheVariants.{Basic, Opt}
+use Rattle.mm_digest.specs.Messages.{zero_bytes, anchored_message, anchored_of, start_message}
+use Rattle.mm_module.specs.Batch.{Batch, normal}
+use Rattle.mm_platform.specs.declared.plan.Meddle.{Meddle}
+use Rattle.mm_platform.specs.declared.plan.Stop.{Stop}
+use Rattle.mm_platform.specs.Standing.{due}
+use Rattle.mm_seal.specs.declared.snapshot.Place.{Place}
+use Rattle.mm_seal.specs.declared.snapshot.Place.TheVariants.{Basic as InBasic, Opt as InOpt}
+use Rattle.mm_seal.specs.Snapshot.{Content}
+use Rattle.mm_model.specs.Chains.{guard}
+use Rattle.mm_model.specs.Instance.{Instance}
+use Rattle.mm_model.specs.History.{History, Move, Commit, Foreign, Placed, Reset, Close, Power as PowerMove, moved, first_history}
+use Rattle.mm_model.specs.Long.{is_long}
+use Rattle.mm_model.specs.Messages.{moving_messages, form_messages, offer_messages}
+use Rattle.mm_model.specs.Steps.{Step, Reads, Changes, Writes, ask_steps, checkpoint_steps}
+use Rattle.mm_call.specs.Asked.{right_messages}
+use Rattle.mm_call.specs.Courses.{End, Done, Fails, Fate, Walked, made_move, step_moves, after_step, walk}
+use Rattle.mm_call.specs.Found.{right_content}
+use Rattle.mm_call.specs.Levels.{by_lists}
+use Rattle.mm_schedule.specs.declared.event.Event.{Event as CodeEvent}
+use Rattle.mm_schedule.specs.declared.event.Event.TheVariants as code
+use Rattle.mm_schedule.specs.declared.event.Meddles.{Meddles}
+use Rattle.mm_schedule.specs.Events.{Event, Ask, Checkpoint, Power, Extend, event_of, meddles_of}
+use Rattle.mm_run.specs.Offered.{offered_bytes}
+use Rattle.mm_run.specs.Folds.{course_of, outcome_of, first_issued}
+use Rattle.mm_run.specs.Premises.{ask_moves, moves_of, asking_messages, event_messages}
+use Rattle.mm_expect.specs.Numbered.{messages_if, messages_where, numbered_event}
+use Rattle.mm_check.specs.Listing.{listed}
+use Rattle.mm_check.specs.Numbering.{numbered_from, numbered}
+use Rattle.mm_check.specs.Guards.{events_of}
+
+-- the values before a step
+
+filter_one : {A : Type 0} (here : Bool) (x : A) (xs rest : List A) → length rest ≤ length xs → length (cond here (x ∷ rest) rest) ≤ length (x ∷ xs)
+filter_one true x xs rest h = omega arith
+filter_one false x xs rest h = omega arith
+
+filter_few : {A : Type 0} (p : A → Bool) (xs : List A) → length (filter p xs) ≤ length xs
+filter_few p [] = omega arith
+filter_few p (x ∷ xs) = filter_one (p x) x xs (filter p xs) (filter_few p xs)
+
+due_few : (n : ℕ) (meddles : List Meddle) → length meddles ≤ 8 → length (due n meddles) ≤ 8
+due_few n meddles few =
+    omega (arith, few, length-map (filter (λ (m : Meddle). m.step == n) meddles) (λ (m : Meddle). m.value.bytes), filter_few (λ (m : Meddle). m.step == n) meddles)
+
+-- the moves of a walk
+
+made_few : (made : Bool) (m : Move) → length (made_move made m) ≤ 1
+made_few true m = omega arith
+made_few false m = omega arith
+
+step_few : (step : Step) (made : Bool) (values : List (List ℕ)) → length values ≤ 8 → length (step_moves step made values) ≤ 9
+step_few Reads made values h = omega (arith, h, length-map values Foreign)
+step_few (Changes m) made values h = omega (arith, h, length-map values Foreign, made_few made m, length-append (map Foreign values) (made_move made m))
+step_few (Writes m) made values h = omega (arith, h, length-map values Foreign, made_few made m, length-append (made_move made m) (map Foreign values))
+
+ends_few : (step : Step) (values : List (List ℕ)) (ends : End) (rest : Walked) (steps : List Step) → length values ≤ 8 → length rest.moves ≤ 9 * length steps
+    → length (after_step step values ends rest).moves ≤ 9 * length (step ∷ steps)
+ends_few step values Done rest steps h k = omega (arith, h, k, step_few step true values h, length-append (step_moves step true values) rest.moves)
+ends_few step values (Fails fault made) rest steps h k = omega (arith, h, k, step_few step made values h)
+
+walk_few : (fates : ℕ → Fate) → ((n : ℕ) → length (fates n).brings ≤ 8) → (steps : List Step) (n : ℕ) → length (walk fates n steps).moves ≤ 9 * length steps
+walk_few fates h [] n = omega arith
+walk_few fates h (step ∷ steps) n = ends_few step (fates n).brings (fates n).ends (walk fates (n + 1) steps) steps (h n) (walk_few fates h steps (n + 1))
+
+ask_few : (variant : Variant) (flag fresh : Bool) (b : Batch) → length (ask_steps variant flag fresh b) ≤ 5
+ask_few Basic flag true b = omega arith
+ask_few Basic flag false b = omega arith
+ask_few Opt true true b = omega arith
+ask_few Opt false true b = omega arith
+ask_few Opt true false b = omega arith
+ask_few Opt false false b = omega arith
+
+close_few : (variant : Variant) (flag zero : Bool) → length (checkpoint_steps variant flag zero) ≤ 5
+close_few Basic flag zero = omega arith
+close_few Opt false zero = omega arith
+close_few Opt true true = omega arith
+close_few Opt true false = omega arith
+
+walked_few : (stop : Stop) (meddles : List Meddle) (steps : List Step) → length meddles ≤ 8 → length steps ≤ 5 → length (walk (course_of stop meddles).fates 1 steps).moves ≤ 45
+walked_few stop meddles steps few h = omega (arith, h, walk_few (course_of stop meddles).fates (λ n. due_few n meddles few) steps 1)
+
+-- an event with few meddles
+abbrev pub FewMeddles : Event → Type 0
+FewMeddles (Ask meddles stop offer b) = length meddles ≤ 8
+FewMeddles (Checkpoint meddles stop) = length meddles ≤ 8
+FewMeddles Power = Unit {0}
+FewMeddles (Extend value) = Unit {0}
+
+long_few : (long : Bool) (moves : List Move) → length moves ≤ 45 → length (cond long [] moves) ≤ 45
+long_few true moves h = omega arith
+long_few false moves h = h
+
+asked_few : (i : Instance) (y : History) (meddles : List Meddle) (stop : Stop) (bytes : Option (List ℕ)) (b : Batch) → length meddles ≤ 8
+    → length (ask_moves i y meddles stop bytes b) ≤ 45
+asked_few i y meddles stop None b few = omega arith
+asked_few i y meddles stop (Some bytes) b few =
+    long_few (is_long b) _ (walked_few stop meddles (ask_steps i.variant y.is_open _ (normal b)) few (ask_few i.variant y.is_open _ (normal b)))
+
+moves_few : (i : Instance) (y : History) (issued : List (List ℕ)) (event : Event) → FewMeddles event → length (moves_of i y issued event) ≤ 45
+moves_few i y issued (Ask meddles stop offer b) few = asked_few i y meddles stop (offered_bytes issued offer) b few
+moves_few i y issued (Checkpoint meddles stop) few = walked_few stop meddles (checkpoint_steps i.variant y.is_open _) few (close_few i.variant y.is_open _)
+moves_few i y issued Power few = omega arith
+moves_few i y issued (Extend value) few = omega arith
+
+-- their messages
+
+move_few : (variant : Variant) (flag : Bool) (i : Instance) (y : History) (m : Move) → length (moving_messages variant flag i y m) ≤ 1
+move_few Basic flag i y m = omega arith
+move_few Opt true i y (Commit b) = omega arith
+move_few Opt false i y (Commit b) = omega arith
+move_few Opt true i y (Foreign d) = omega arith
+move_few Opt false i y (Foreign d) = omega arith
+move_few Opt true i y (Placed b) = omega arith
+move_few Opt false i y (Placed b) = omega arith
+move_few Opt true i y Reset = omega arith
+move_few Opt false i y Reset = omega arith
+move_few Opt true i y Close = omega arith
+move_few Opt false i y Close = omega arith
+move_few Opt true i y PowerMove = omega arith
+move_few Opt false i y PowerMove = omega arith
+
+if_few : (closing : Bool) (i : Instance) (y : History) (m : Move) → length (messages_if closing i y m) ≤ 1
+if_few true i y Close = move_few i.variant y.is_open i y Close
+if_few true i y (Commit b) = omega arith
+if_few true i y (Foreign d) = omega arith
+if_few true i y (Placed b) = omega arith
+if_few true i y Reset = omega arith
+if_few true i y PowerMove = omega arith
+if_few false i y Close = omega arith
+if_few false i y (Commit b) = move_few i.variant y.is_open i y (Commit b)
+if_few false i y (Foreign d) = move_few i.variant y.is_open i y (Foreign d)
+if_few false i y (Placed b) = move_few i.variant y.is_open i y (Placed b)
+if_few false i y Reset = move_few i.variant y.is_open i y Reset
+if_few false i y PowerMove = move_few i.variant y.is_open i y PowerMove
+
+where_few : (closing : Bool) (i : Instance) (y : History) (moves : List Move) → length (messages_where closing i y moves) ≤ length moves
+where_few closing i y [] = omega arith
+where_few closing i y (m ∷ moves) =
+    omega (
+      arith,
+      if_few closing i y m,
+      where_few closing i (moved i y m) moves,
+      length-append (messages_if closing i y m) (messages_where closing i (moved i y m) moves),
+    )
+
+second_few : (none : Bool) (a e v : List ℕ) → length (form_messages a e v ++ cond none [] (anchored_message a e ∷ form_messages (anchored_of a e) zero_bytes v)) ≤ 5
+second_few true a e v = omega arith
+second_few false a e v = omega arith
+
+offer_few : (i : Instance) (place : Place) (b : Batch) → length (offer_messages i place b) ≤ 6
+offer_few i (InBasic s) b = omega arith
+offer_few i (InOpt a e) b = omega (arith, second_few (bytes_eq e.bytes zero_bytes) a.bytes e.bytes (guard i.barrier b))
+
+right_few : (i : Instance) (b : Batch) (content : Option Content) → length (right_messages i b content) ≤ 6
+right_few i b None = omega arith
+right_few i b (Some content) = offer_few i content.place b
+
+short_few : (long : Bool) (xs : List (List ℕ)) → length xs ≤ 6 → length (cond long [] xs) ≤ 6
+short_few true xs h = omega arith
+short_few false xs h = h
+
+asking_few : (i : Instance) (bytes : Option (List ℕ)) (b : Batch) → length (asking_messages i bytes b) ≤ 6
+asking_few i None b = omega arith
+asking_few i (Some bytes) b = short_few (is_long b) (right_messages i (normal b) (right_content i bytes)) (right_few i (normal b) (right_content i bytes))
+
+asks_few : (i : Instance) (issued : List (List ℕ)) (event : Event) → length (event_messages i issued event) ≤ 6
+asks_few i issued (Ask meddles stop offer b) = asking_few i (offered_bytes issued offer) b
+asks_few i issued (Checkpoint meddles stop) = omega arith
+asks_few i issued Power = omega arith
+asks_few i issued (Extend value) = omega arith
+
+event_few : (i : Instance) (y : History) (issued : List (List ℕ)) (event : Event) → FewMeddles event → length (numbered_event i y issued event) ≤ 96
+event_few i y issued event few =
+    let moves = moves_of i y issued event in
+    let asks = event_messages i issued event in
+    omega (
+      arith,
+      asks_few i issued event,
+      moves_few i y issued event few,
+      where_few false i y moves,
+      where_few true i y moves,
+      length-append (messages_where false i y moves) (messages_where true i y moves),
+      length-append asks (messages_where false i y moves ++ messages_where true i y moves),
+    )
+
+-- an event of the code has at most eight meddles
+
+counted_few : (meddles : Meddles) → length (meddles_of meddles) ≤ 8
+counted_few meddles = let few = meddles.few in omega (arith, few, length-take meddles.count meddles.items)
+
+code_few : (event : CodeEvent) → FewMeddles (event_of event)
+code_few (code.Ask meddles stop offer request) = counted_few meddles
+code_few (code.Batch meddles stop offer text) = counted_few meddles
+code_few (code.Checkpoint meddles stop) = counted_few meddles
+code_few code.Power = tt
+code_few (code.Extend value) = tt
+
+pub heard_few : (i : Instance) (y : History) (issued : List (List ℕ)) (event : CodeEvent) → length (numbered_event i y issued (event_of event)) ≤ 96
+heard_few i y issued event = event_few i y issued (event_of event) (code_few event)
+
+from_few : (i : Instance) (y : History) (issued : List (List ℕ)) (events : List CodeEvent) → length (numbered_from i y issued (events_of events)) ≤ 96 * length events
+from_few i y issued [] = omega arith
+from_few i y issued (event ∷ events) =
+    let o = outcome_of i (by_lists i) y issued (event_of event) in
+    omega (
+      arith,
+      heard_few i y issued event,
+      from_few i o.state o.issued events,
+      length-append (numbered_event i y issued (event_of event)) (numbered_from i o.state o.issued (events_of events)),
+    )
+
+listed_one : (has : Bool) (seen : List (List ℕ)) (x : List ℕ) → length (cond has seen (seen ++ x ∷ [])) ≤ length seen + 1
+listed_one true seen x = omega arith
+listed_one false seen x = omega (arith, length-append seen (x ∷ []))
+
+listed_few : (ms seen : List (List ℕ)) → length (fold listed seen ms) ≤ length seen + length ms
+listed_few [] seen = omega arith
+listed_few (x ∷ ms) seen = omega (arith, listed_few ms (listed seen x), listed_one (list_any (bytes_eq x) seen) seen x)
+
+pub numbered_few : (i : Instance) (events : List CodeEvent) → length (numbered i (events_of events)) ≤ 1 + 96 * length events
+numbered_few i events =
+    omega (
+      arith,
+      listed_few (numbered_from i first_history (first_issued i) (events_of events)) (start_message i.variant i.meaning.id ∷ []),
+      from_few i first_history (first_issued i) events,
+    )

@@ -1,0 +1,114 @@
+-- An event is answered by few lines.
+use Rattle.std.proofs.Common.{◌≡◌, ℕ, ◌+◌, ◌-◌, ◌*◌, ◌≤◌, Bool, true, false, List, [], ◌∷◌, length, Option, None, Some, Result, Ok, Err, refl, ap, arith, length-append, nat_lt}
+use Rattle.std.specs.Prelude.{◌||◌, if◌then◌else◌}
+use Rattle.std.specs.List.{list_any}
+use Rattle.std.proofs.lemmas.Bool.Decides.{nat_tests}
+use Rattle.std.proofs.lemmas.List.{length-drop}
+use Rattle.mm_module.specs.Batch.{Batch, text_of, size_of, normal}
+use Rattle.mm_module.specs.Meaning.{outputs_from}
+use Rattle.mm_module.proofs.BatchLaws.{members_of-normal}
+use Rattle.mm_module.proofs.RunLaws.{length-outputs_from}
+use Rattle.mm_platform.specs.declared.fault.StepFault.{StepFault}
+use Rattle.mm_platform.specs.declared.plan.Meddle.{Meddle}
+use Rattle.mm_platform.specs.declared.plan.Stop.{Stop}
+use Rattle.mm_model.specs.Instance.{Instance}
+use Rattle.mm_model.specs.History.{History, Move, requests_of, total_of, first_history}
+use Rattle.mm_model.specs.Long.{is_lf, is_long}
+use Rattle.mm_model.specs.declared.refusal.Refusal.{Refusal}
+use Rattle.mm_call.specs.Answers.{last_outputs}
+use Rattle.mm_call.specs.Courses.{Course, Walked, walk, commits}
+use Rattle.mm_call.specs.Found.{Found, found_at, found_in, is_fresh}
+use Rattle.mm_model.specs.Steps.{ask_steps}
+use Rattle.mm_schedule.specs.declared.reply.Reply.TheVariants as reply
+use Rattle.mm_schedule.specs.declared.reply.Cause.TheVariants as cause
+use Rattle.mm_call.specs.Levels.{by_lists, all_made}
+use Rattle.mm_call.specs.Called.{ended_by, position_of, kept_at, seen_at, called}
+use Rattle.mm_call.specs.Checkpoints.{Closing, Closes, HasNone, NoSegment, LostPower, Stops, checkpointed}
+use Rattle.mm_schedule.specs.Events.{Event, Ask, Checkpoint, Power, Extend}
+use Rattle.mm_schedule.specs.Replies.{told_lines, lines_of, end_line}
+use Rattle.mm_schedule.specs.declared.reply.Way.{Way}
+use Rattle.mm_run.specs.Offered.{offered_bytes}
+use Rattle.mm_run.specs.Folds.{way_of, course_of, reply_of, broken_reply, closing_reply, uncalled, outcome_by, asked, outcome_of, followed, first_issued, expected}
+use Rattle.mm_check.specs.Numbering.{lines_of_all, expected_lines}
+
+told_length : (again : Bool) (before : ℕ) (outputs : List (List ℕ)) → length (told_lines again before outputs) ≡ length outputs
+told_length again before [] = refl
+told_length again before (o ∷ outputs) = omega (arith, told_length again (before + 1) outputs)
+
+last_few : (i : Instance) (y : History) (n : ℕ) → length (last_outputs i.meaning y n) ≤ n
+last_few i y n =
+    let outs = outputs_from i.meaning i.meaning.first (requests_of y.batches) in
+    omega (arith, length-drop (total_of y.batches - n) outs, length-outputs_from i.meaning i.meaning.first (requests_of y.batches))
+
+last_false : (a b c : Bool) → (a || b || c) ≡ false → c ≡ false
+last_false true b c e = absurd (cc)
+last_false false true c e = absurd (cc)
+last_false false false c e = e
+
+le_of : (n : ℕ) → nat_lt 64 n ≡ false → n ≤ 64
+le_of n h = grind (arith, nat_tests)
+
+short_size : (b : Batch) → is_long b ≡ false → size_of (normal b) ≤ 64
+short_size b e =
+    let f : nat_lt 64 (size_of b) ≡ false = last_false (nat_lt 4096 (length (text_of b))) (list_any is_lf (text_of b)) (nat_lt 64 (size_of b)) e in
+    let few : size_of b ≤ 64 = le_of (size_of b) f in
+    omega (arith, few, ap (λ (m : List (List ℕ)). length m) (members_of-normal b))
+
+broken_few : (how : Way) (kept : Option ℕ) → length (lines_of (broken_reply how kept)) ≤ 64
+broken_few how None = omega arith
+broken_few how (Some position) = omega arith
+
+ended_few : (i : Instance) (seen y : History) (how : Way) (b : Batch) (found : Result Found Refusal) (moves : List Move) (broken : Option StepFault) → size_of b ≤ 64
+    → length (lines_of (reply_of how (ended_by (by_lists i) seen y b found moves broken))) ≤ 64
+ended_few i seen y how b (Err why) moves (Some fault) h = broken_few how (kept_at (commits moves) (position_of (by_lists i) seen y b (Err why)))
+ended_few i seen y how b (Ok it) moves (Some fault) h = broken_few how (kept_at (commits moves) (position_of (by_lists i) seen y b (Ok it)))
+ended_few i seen y how b (Err why) moves None h = omega arith
+ended_few i seen y how b (Ok it) moves None h =
+    omega (arith, h, last_few i y (size_of b), told_length it.again (total_of y.batches - length (last_outputs i.meaning y (size_of b))) (last_outputs i.meaning y (size_of b)))
+
+called_few : (i : Instance) (y : History) (how : Way) (c : Course) (bytes : List ℕ) (b : Batch) → size_of b ≤ 64
+    → length (lines_of (reply_of how (called i (by_lists i) y c bytes b).ending)) ≤ 64
+called_few i y how c bytes b h =
+    let seen : History = seen_at i (by_lists i) y c in
+    let found : Result Found Refusal = found_in (found_at i (by_lists i) seen b bytes) c.lacks in
+    let w : Walked = walk c.fates 1 (ask_steps i.variant y.is_open (is_fresh found) b) in
+    ended_few i seen (all_made (by_lists i) y w.moves) how b found w.moves w.broken h
+
+long_few : (i : Instance) (y : History) (issued : List (List ℕ)) (meddles : List Meddle) (stop : Stop) (bytes : List ℕ) (b : Batch) (long : Bool) → is_long b ≡ long
+    → length (lines_of (if long then uncalled y issued (reply.No cause.Long) else outcome_by (by_lists i) stop issued (called i (by_lists i) y (course_of stop meddles) bytes (normal b))).reply) ≤ 64
+long_few i y issued meddles stop bytes b true e = omega arith
+long_few i y issued meddles stop bytes b false e = called_few i y (way_of stop) (course_of stop meddles) bytes (normal b) (short_size b e)
+
+asked_few : (i : Instance) (y : History) (issued : List (List ℕ)) (meddles : List Meddle) (stop : Stop) (bytes : Option (List ℕ)) (b : Batch)
+    → length (lines_of (asked i (by_lists i) y issued meddles stop bytes b).reply) ≤ 64
+asked_few i y issued meddles stop None b = omega arith
+asked_few i y issued meddles stop (Some bytes) b = long_few i y issued meddles stop bytes b (is_long b) refl
+
+closing_few : (how : Way) (closing : Closing) → length (lines_of (closing_reply how closing)) ≤ 64
+closing_few how Closes = omega arith
+closing_few how HasNone = omega arith
+closing_few how NoSegment = omega arith
+closing_few how LostPower = omega arith
+closing_few how (Stops fault true) = omega arith
+closing_few how (Stops fault false) = omega arith
+
+event_lines_few : (i : Instance) (y : History) (issued : List (List ℕ)) (event : Event) → length (lines_of (outcome_of i (by_lists i) y issued event).reply) ≤ 64
+event_lines_few i y issued (Ask meddles stop offer b) = asked_few i y issued meddles stop (offered_bytes issued offer) b
+event_lines_few i y issued (Checkpoint meddles stop) = closing_few (way_of stop) (checkpointed i (by_lists i) y (course_of stop meddles)).ending
+event_lines_few i y issued Power = omega arith
+event_lines_few i y issued (Extend value) = omega arith
+
+replies_few : (i : Instance) (events : List Event) (y : History) (issued : List (List ℕ)) → length (lines_of_all (followed i (by_lists i) y issued events).replies) ≤ 64 * length events
+replies_few i [] y issued = omega arith
+replies_few i (event ∷ events) y issued =
+    let o = outcome_of i (by_lists i) y issued event in
+    omega (
+      arith,
+      event_lines_few i y issued event,
+      replies_few i events o.state o.issued,
+      length-append (lines_of o.reply) (lines_of_all (followed i (by_lists i) o.state o.issued events).replies),
+    )
+
+pub expected_few : (i : Instance) (events : List Event) → length (expected_lines i events) ≤ 64 * length events + 1
+expected_few i events =
+    omega (arith, replies_few i events first_history (first_issued i), length-append (lines_of_all (expected i events).replies) (end_line (total_of (expected i events).state.batches) (length (expected i events).issued) ∷ []))

@@ -1,0 +1,14 @@
+pub mod ListingLaws
+pub mod CountsLaws
+pub mod SetLaws
+pub mod GuardLaws
+pub mod LineLaws
+pub mod ClearLaws
+pub mod FewLaws
+pub mod DecidingLaws
+pub mod FewLines
+pub mod ComparingLaws
+pub mod CheckingLaws
+pub mod DifferenceLaws
+pub mod RunLaws
+pub mod FixedLaws

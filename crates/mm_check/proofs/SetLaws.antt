@@ -1,0 +1,43 @@
+-- Keys of bytes in a set.
+use Rattle.std.proofs.Common.{◌≡◌, ◌∙◌, ℕ, Bool, true, false, List, [], ◌∷◌, refl, sym, ap}
+use Rattle.std.specs.Prelude.{◌||◌, Vec}
+use Rattle.std.specs.declared.cmp.Ordering.TheVariants.{Less, Equal, Greater}
+use Rattle.std.specs.declared.cmp.Ordering.{Ordering}
+use Rattle.std.specs.BTreeSet.{insert_key}
+use Rattle.std.specs.Cmp.Lexicographic.{slice_cmp}
+use Rattle.std.specs.List.{list_any}
+use Rattle.std.specs.Ordering.{nat_cmp, is_eq, match_ordering}
+use Rattle.std.specs.Str.{bytes_eq}
+use Rattle.std.proofs.lemmas.Map.Lookups.{exact_bytes}
+use Rattle.std.proofs.lemmas.Map.Text.{is_eq-slice_cmp}
+use Rattle.mm_check.specs.Lists.{has_message}
+
+pub has_compared : {A : Type 0} (m : List ℕ) (keys : List (Vec ℕ A)) → list_any (λ (k : Vec ℕ A). is_eq (slice_cmp nat_cmp m k.items)) keys ≡ has_message keys m
+has_compared m [] = refl
+has_compared m (k ∷ keys) = ap (λ (b : Bool). b || list_any (λ k. is_eq (slice_cmp nat_cmp m k.items)) keys) (is_eq-slice_cmp m k.items)
+    ∙ ap (λ (b : Bool). bytes_eq m k.items || b) (has_compared m keys)
+
+or_same : (a r : Bool) → (a || r) ≡ (a || (a || r))
+or_same true r = refl
+or_same false r = refl
+
+or_swap : (a b r : Bool) → (a || (b || r)) ≡ (b || (a || r))
+or_swap true true r = refl
+or_swap true false r = refl
+or_swap false true r = refl
+or_swap false false r = refl
+
+has_step : {A : Type 0} (m : List ℕ) (key x : Vec ℕ A) (keys rest : List (Vec ℕ A)) (o : Ordering) → slice_cmp nat_cmp key.items x.items ≡ o
+    → has_message rest m ≡ (bytes_eq m key.items || has_message keys m)
+    → has_message (match_ordering o (key ∷ x ∷ keys) (x ∷ keys) (x ∷ rest)) m ≡ (bytes_eq m key.items || has_message (x ∷ keys) m)
+has_step m key x keys rest Less e h = refl
+has_step m key x keys rest Equal e h =
+    or_same (bytes_eq m x.items) (has_message keys m) ∙ ap (λ (l : List ℕ). bytes_eq m l || has_message (x ∷ keys) m) (sym (exact_bytes key.items x.items e))
+has_step m key x keys rest Greater e h =
+    ap (λ (b : Bool). bytes_eq m x.items || b) h ∙ or_swap (bytes_eq m x.items) (bytes_eq m key.items) (has_message keys m)
+
+pub has_inserted : {A : Type 0} (m : List ℕ) (key : Vec ℕ A) (keys : List (Vec ℕ A))
+    → has_message (insert_key (λ (x y : Vec ℕ A). slice_cmp nat_cmp x.items y.items) keys key) m ≡ (bytes_eq m key.items || has_message keys m)
+has_inserted m key [] = refl
+has_inserted {A} m key (x ∷ keys) =
+    has_step m key x keys (insert_key (λ (x y : Vec ℕ A). slice_cmp nat_cmp x.items y.items) keys key) (slice_cmp nat_cmp key.items x.items) refl (has_inserted m key keys)

@@ -1,0 +1,24 @@
+use Rattle.std.proofs.Common.{◌∙◌, length, ap, refl, arith}
+use Rattle.std.specs.List.{slice_get}
+use Rattle.std.proofs.lemmas.Option.{slice_get_read}
+use Rattle.mm_check.specs.Verdicts.{is_found}
+use Rattle.mm_check.proofs.DifferenceLaws.{same_more, differs_here, surplus}
+use Rattle.mm_check.proofs.difference.difference.Goals as goal
+
+pub returns-then-not-is_at : goal.returns-then-not-is_at
+returns-then-not-is_at c =
+    let line = c.index-expected-index.result in
+    differs_here c.args.tested.now c.args.expected.now c.lines.index line c.is_at.result c.lines.invariant
+    (slice_get_read c.args.expected.now (length c.args.expected.now) c.lines.index line refl c.lines-test.true c.index-expected-index.is)
+    (c.is_at.ensures ∙ ap (is_found (slice_get c.args.tested.now c.lines.index)) c.as_slice.ensures.value) c.if-not-is_at.true
+
+pub lines-preserved : goal.lines-preserved
+lines-preserved c =
+    let line = c.index-expected-index.result in
+    same_more c.args.tested.now c.args.expected.now c.lines.index line c.is_at.result c.lines.invariant
+    (slice_get_read c.args.expected.now (length c.args.expected.now) c.lines.index line refl c.lines-test.true c.index-expected-index.is)
+    (c.is_at.ensures ∙ ap (is_found (slice_get c.args.tested.now c.lines.index)) c.as_slice.ensures.value) c.if-not-is_at.false
+
+pub returns-then-tested-expected : goal.returns-then-tested-expected
+returns-then-tested-expected c =
+    surplus c.args.tested.now c.args.expected.now c.lines.index c.lines.invariant c.lines-test.false (omega arith) (omega arith)

@@ -1,0 +1,107 @@
+-- A recorded run line by line: the header, the events, and at will the line `replies` and the recorded lines.
+use Rattle.std.specs.Prelude.{ℕ, ◌+◌, ◌-◌, Bool, true, false, nat_le, List, [], ◌∷◌, ◌++◌, codes, Option, None, Some, Result, Ok, Err, if◌then◌else◌}
+use Rattle.std.specs.List.{slice_get}
+use Rattle.std.specs.Str.{bytes_eq}
+use Rattle.mm_schedule.specs.declared.header.Header.{Header}
+use Rattle.mm_schedule.specs.Events.{Event}
+use Rattle.mm_schedule.specs.Grammar.{event_at}
+use Rattle.mm_schedule.specs.Replies.{lines_of}
+use Rattle.mm_run.specs.Held.{world_of}
+use Rattle.mm_play.specs.declared.player.Refused.{Refused}
+use Rattle.mm_play.specs.declared.player.Refused.TheVariants.{Bad, Much}
+use Rattle.mm_replay.specs.Schedule.{Running, begun, is_too_much, outcome_in, after_event, most_events}
+use Rattle.mm_check.specs.Numbering.{expected_lines}
+
+-- the line between the events and the recorded lines
+abbrev pub section_line : List ℕ
+section_line = codes "replies"
+
+-- the most recorded lines: as many as the most events are answered by, with the last line
+abbrev pub most_recorded : ℕ
+most_recorded = 1280001
+
+-- what was read: where the run itself stands, its events, and the lines that it writes, each with its LF
+pub record Read : Type 0 where
+  pub header : Header
+  pub running : Running
+  pub events : List Event
+  pub told : List (List ℕ)
+
+abbrev pub first_read : Header → Read
+first_read header = record { header = header; running = begun header; events = []; told = [] }
+
+abbrev pub after_read : Read → List ℕ → Event → Read
+after_read r line event = record {
+  header = r.header;
+  running = after_event r.running line event;
+  events = r.events ++ event ∷ [];
+  told = r.told ++ lines_of (outcome_in r.running event).reply;
+}
+
+-- the header and the events, how many recorded lines were compared, and the number of the first that differs
+pub record Compared : Type 0 where
+  pub header : Header
+  pub events : List Event
+  pub count : ℕ
+  pub differs : Option ℕ
+
+abbrev pub first_compared : Read → Compared
+first_compared r = record { header = r.header; events = r.events; count = 0; differs = None }
+
+-- the recorded line is this one, which has its LF
+abbrev pub is_line : List ℕ → Option (List ℕ) → Bool
+is_line line None = false
+is_line line (Some expected) = bytes_eq (line ++ 10 ∷ []) expected
+
+-- the first difference, once the line of this number was found the same or not
+abbrev pub differs_then : Option ℕ → Bool → ℕ → Option ℕ
+differs_then (Some first) is_same number = Some first
+differs_then None true number = None
+differs_then None false number = Some number
+
+abbrev pub after_compared : Compared → List ℕ → Compared
+after_compared c line = record {
+  header = c.header;
+  events = c.events;
+  count = c.count + 1;
+  differs = differs_then c.differs (is_line line (slice_get (expected_lines (world_of c.header) c.events) c.count)) (c.count + 1);
+}
+
+-- before the header; among the events; among the recorded lines
+pub data Stage : Type 0 where
+  AtHeader : Stage
+  InEvents : Read → Stage
+  InReplies : Compared → Stage
+
+abbrev pub headed : Option Header → Result (List ℕ × Stage) Refused
+headed None = Err Bad
+headed (Some header) = Ok ([], InEvents (first_read header))
+
+abbrev pub read_event : Read → List ℕ → Option Event → Result (List ℕ × Stage) Refused
+read_event r line None = Err Bad
+read_event r line (Some event) = if is_too_much r.running line then Err Much else Ok ([], InEvents (after_read r line event))
+
+-- a line among the events
+abbrev pub read_line : Read → List ℕ → Result (List ℕ × Stage) Refused
+read_line r line = if bytes_eq line section_line then Ok ([], InReplies (first_compared r)) else read_event r line (event_at line)
+
+abbrev pub compare_line : Compared → List ℕ → Result (List ℕ × Stage) Refused
+compare_line c line = if nat_le most_recorded c.count then Err Much else Ok ([], InReplies (after_compared c line))
+
+-- what a line is answered: nothing is written, or it is refused. By what the header line names
+abbrev pub check_answer : (List ℕ → Option Header) → Stage → List ℕ → Result (List ℕ × Stage) Refused
+check_answer heading AtHeader line = headed (heading line)
+check_answer heading (InEvents r) line = read_line r line
+check_answer heading (InReplies c) line = compare_line c line
+
+-- the input may end behind the header
+abbrev pub check_closing : Stage → Option (List ℕ)
+check_closing AtHeader = None
+check_closing (InEvents r) = Some []
+check_closing (InReplies c) = Some []
+
+-- how many more lines can be answered
+abbrev pub check_left : Stage → ℕ
+check_left AtHeader = most_events + most_recorded + 2
+check_left (InEvents r) = (most_events - r.running.events) + (most_recorded + 1)
+check_left (InReplies c) = most_recorded - c.count

@@ -1,0 +1,82 @@
+-- The check of a recorded run: what it says of the lines of an input.
+use Rattle.std.specs.Prelude.{◌≡◌, ℕ, List, [], ◌∷◌, ◌++◌, map, Option, Some, Result, Ok, Err, ◌⊎◌}
+use Rattle.std.specs.Io.KnownBytes.{Appends, Consumes, IsAtEnd}
+use Rattle.mm_base.specs.Input.{lines_of}
+use Rattle.mm_base.specs.declared.replay_fault.ReplayFault.{ReplayFault}
+use Rattle.mm_base.specs.declared.replay_fault.ReplayFault.TheVariants.{Memory, ReadFault, WriteFault, BadLine, LineLong, TooMuch}
+use Rattle.mm_schedule.specs.declared.header.Header.{Header}
+use Rattle.mm_schedule.specs.Events.{Event}
+use Rattle.mm_schedule.specs.Grammar.{event_at}
+use Rattle.mm_schedule.specs.Headers.{header_at}
+use Rattle.mm_run.specs.Held.{world_of}
+use Rattle.mm_play.specs.Play.{Told, run, run_of}
+use Rattle.mm_play.specs.Plays.{ForWhole}
+use Rattle.mm_play.specs.Takes.{IsFrontOf}
+use Rattle.mm_check.specs.Checking.{Stage, AtHeader, check_answer, check_closing, section_line}
+use Rattle.mm_check.specs.Verdicts.{AreVerdicts, run_lines, verdicts_text}
+use Rattle.mm_check.specs.declared.verdicts.Verdicts.{Verdicts}
+
+-- the lines that are tested, each with its LF: those recorded behind the line `replies`, or without it those of the run
+abbrev pub AreTested : Header → List Event → List (List ℕ) → List (List ℕ) → Type 0
+AreTested header events section tested =
+    ((section ≡ []) × (tested ≡ run_lines (world_of header) events))
+    ⊎ ((recorded : List (List ℕ)) × (section ≡ section_line ∷ recorded) × (tested ≡ map (λ line. line ++ 10 ∷ []) recorded))
+
+-- The lines are a header, events and perhaps recorded lines; and these are the verdicts on them.
+pub record IsChecked (lines : List (List ℕ)) (it : Verdicts) : Type 0 where
+  pub first : List ℕ
+  pub others : List (List ℕ)
+  pub section : List (List ℕ)
+  pub header : Header
+  pub events : List Event
+  pub tested : List (List ℕ)
+  pub split : lines ≡ first ∷ (others ++ section)
+  pub headed : header_at first ≡ Some header
+  pub read : map event_at others ≡ map Some events
+  pub tests : AreTested header events section tested
+  pub verdicts : AreVerdicts header events tested it
+
+-- the run over whole lines, and over a whole input
+abbrev pub check_lines : List (List ℕ) → Told Stage
+check_lines lines = run (check_answer header_at) 1 AtHeader lines
+
+abbrev pub check_run : List ℕ → Told Stage
+check_run input = run_of (check_answer header_at) check_closing AtHeader input
+
+-- How the answer fits the bytes that were taken.
+abbrev pub JudgesBy : Option (List ℕ) → List ℕ → Result Verdicts ReplayFault → Type 0
+-- the input was taken to its end, and these are the verdicts on its lines
+JudgesBy left taken (Ok verdicts) = IsAtEnd left × IsChecked (lines_of taken) verdicts
+-- the source failed: no whole line that was taken is refused
+JudgesBy left taken (Err ReadFault) = (after : Stage) × ((check_lines (lines_of taken)).outcome ≡ Ok after)
+JudgesBy left taken (Err WriteFault) = ⊥
+JudgesBy left taken (Err Memory) = Unit {0}
+-- else the run over the lines stops so
+JudgesBy left taken (Err (BadLine number)) = ForWhole left taken (λ input. (check_run input).outcome ≡ Err (BadLine number))
+JudgesBy left taken (Err (LineLong number)) = ForWhole left taken (λ input. (check_run input).outcome ≡ Err (LineLong number))
+JudgesBy left taken (Err TooMuch) = ForWhole left taken (λ input. (check_run input).outcome ≡ Err TooMuch)
+
+pub record Judges (left left' : Option (List ℕ)) (result : Result Verdicts ReplayFault) : Type 0 where
+  pub taken : List ℕ
+  pub consumed : Consumes left left' taken
+  pub settled : JudgesBy left' taken result
+
+-- How the answer fits the bytes that were taken and those that were written: only after Ok, and where the output failed,
+-- is anything written.
+abbrev pub ChecksBy : Option (List ℕ) → List ℕ → List ℕ → Result Verdicts ReplayFault → Type 0
+ChecksBy left taken sent (Ok verdicts) = IsAtEnd left × IsChecked (lines_of taken) verdicts × (sent ≡ verdicts_text verdicts)
+ChecksBy left taken sent (Err WriteFault) =
+    (verdicts : Verdicts) × IsAtEnd left × IsChecked (lines_of taken) verdicts × IsFrontOf sent (verdicts_text verdicts)
+ChecksBy left taken sent (Err ReadFault) = (sent ≡ []) × ((after : Stage) × ((check_lines (lines_of taken)).outcome ≡ Ok after))
+ChecksBy left taken sent (Err Memory) = sent ≡ []
+ChecksBy left taken sent (Err (BadLine number)) = (sent ≡ []) × ForWhole left taken (λ input. (check_run input).outcome ≡ Err (BadLine number))
+ChecksBy left taken sent (Err (LineLong number)) = (sent ≡ []) × ForWhole left taken (λ input. (check_run input).outcome ≡ Err (LineLong number))
+ChecksBy left taken sent (Err TooMuch) = (sent ≡ []) × ForWhole left taken (λ input. (check_run input).outcome ≡ Err TooMuch)
+
+-- A check took these bytes of the input and wrote those.
+pub record Checks (left left' received received' : Option (List ℕ)) (result : Result Verdicts ReplayFault) : Type 0 where
+  pub taken : List ℕ
+  pub sent : List ℕ
+  pub consumed : Consumes left left' taken
+  pub appended : Appends received received' sent
+  pub settled : ChecksBy left' taken sent result

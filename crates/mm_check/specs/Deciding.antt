@@ -1,0 +1,47 @@
+-- What the code that decides holds behind some first events.
+use Rattle.std.specs.Prelude.{◌≡◌, ℕ, ◌+◌, ◌≤◌, Bool, true, false, List, length, Option, None, Some}
+use Rattle.mm_model.specs.Instance.{Instance}
+use Rattle.mm_schedule.specs.declared.header.Header.{Header}
+use Rattle.mm_schedule.specs.Events.{Event}
+use Rattle.mm_run.specs.Folds.{expected}
+use Rattle.mm_run.specs.Held.{world_of}
+use Rattle.mm_run.specs.Premises.{IsGenuineRun}
+use Rattle.mm_expect.specs.Traced.{IsAfter}
+use Rattle.mm_check.specs.Lists.{Lists}
+use Rattle.mm_check.specs.Numbering.{numbered, lines_of_all, IsForgedAt, Decides, expected_lines}
+use Rattle.mm_check.specs.declared.deciding.Deciding.{Deciding}
+use Rattle.mm_check.specs.declared.deciding.Decided.{Decided}
+use Rattle.mm_check.specs.declared.verdicts.Premise.{Premise}
+use Rattle.mm_check.specs.declared.verdicts.Premise.TheVariants.{Held, Shared, Zero, Secured, Forged}
+
+-- the first event that isn't genuine, if there is one
+abbrev pub IsFirstForged : Instance → List Event → Option ℕ → Type 0
+IsFirstForged i events None = IsGenuineRun i events
+IsFirstForged i events (Some number) = IsForgedAt i events number
+
+-- It stands behind these events.
+pub record Stands (header : Header) (events : List Event) (it : Deciding) : Type 0 where
+  pub after : IsAfter header events it.expecting
+  pub few : length it.expecting.issued ≤ length events + 1
+  pub lists : Lists (numbered (world_of header) events) it.numbers
+  pub lines : it.lines.items ≡ lines_of_all (expected (world_of header) events).replies
+  pub forged : IsFirstForged (world_of header) events it.forged
+
+-- the first forged event, once an event of this number was found genuine or not
+abbrev pub forged_then : Option ℕ → Bool → ℕ → Option ℕ
+forged_then (Some first) is_genuine number = Some first
+forged_then None true number = None
+forged_then None false number = Some number
+
+-- what is told of the premises: the first that applies
+abbrev pub premise_by : Option (ℕ × ℕ) → Option ℕ → Option ℕ → Option ℕ → Premise
+premise_by (Some pair) zero secured forged = Shared pair.0 pair.1
+premise_by None (Some message) secured forged = Zero message
+premise_by None None (Some event) forged = Secured event
+premise_by None None None (Some event) = Forged event
+premise_by None None None None = Held
+
+-- what these events come to
+pub record IsDecided (header : Header) (events : List Event) (it : Decided) : Type 0 where
+  pub premise : Decides (world_of header) events it.premise
+  pub lines : it.lines.items ≡ expected_lines (world_of header) events

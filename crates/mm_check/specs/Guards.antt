@@ -1,0 +1,38 @@
+-- The guards of batches in code.
+use Rattle.std.specs.Prelude.{◌≡◌, ℕ, List, [], ◌∷◌, map, Option, None, Some, if◌then◌else◌}
+use Rattle.std.specs.BTreeSet.{BTreeSet, contains}
+use Rattle.std.specs.Cmp.Lexicographic.{slice_cmp}
+use Rattle.std.specs.List.{list_any}
+use Rattle.std.specs.Ordering.{nat_cmp}
+use Rattle.std.specs.Str.{bytes_eq}
+use Rattle.mm_digest.specs.declared.digest.Digest.{Digest}
+use Rattle.mm_digest.specs.declared.variant.Variant.{Variant}
+use Rattle.mm_digest.specs.declared.variant.Variant.TheVariants.{Basic, Opt}
+use Rattle.mm_model.specs.Chains.{own_values}
+use Rattle.mm_run.specs.Premises.{asked_batches}
+use Rattle.mm_check.specs.Listing.{first_where}
+use Rattle.mm_check.specs.Numbering.{is_secured}
+use Rattle.mm_module.specs.Batch.{Batch, normal}
+use Rattle.mm_model.specs.Long.{is_long}
+use Rattle.mm_schedule.specs.declared.event.Event.{Event as CodeEvent}
+use Rattle.mm_schedule.specs.Events.{Event, event_of}
+
+abbrev pub events_of : List CodeEvent → List Event
+events_of events = map event_of events
+
+-- the batch, if it isn't too long
+abbrev pub unless_long : Batch → List Batch
+unless_long b = if is_long b then [] else normal b ∷ []
+
+abbrev pub digests_in : Option Digest → List (List ℕ)
+digests_in None = []
+digests_in (Some digest) = digest.bytes ∷ []
+
+-- the set has these digests and no other
+abbrev pub HasAll : List (List ℕ) → BTreeSet (List ℕ) → Type 0
+HasAll digests set = (d : List ℕ) → contains (slice_cmp nat_cmp) set d ≡ list_any (bytes_eq d) digests
+
+-- the first event at which others bring a guard, by the barrier: in Basic they aren't asked about
+abbrev pub secured_by : Variant → List ℕ → List Event → Option ℕ
+secured_by Basic barrier events = None
+secured_by Opt barrier events = first_where (is_secured (own_values barrier (asked_batches events))) events

@@ -1,0 +1,77 @@
+-- The premises of the headline for a run of events, as they are told: by the numbers of messages and of events.
+use Rattle.std.specs.Prelude.{◌≡◌, ℕ, ◌+◌, Bool, List, [], ◌∷◌, ◌++◌, length, Option, None, Some}
+use Rattle.std.specs.List.{fold, list_any}
+use Rattle.std.specs.Str.{bytes_eq}
+use Rattle.mm_digest.specs.declared.variant.Variant.TheVariants.{Opt}
+use Rattle.mm_digest.specs.Messages.{start_message}
+use Rattle.mm_model.specs.Chains.{own_values}
+use Rattle.mm_model.specs.Instance.{Instance}
+use Rattle.mm_model.specs.History.{History, first_history}
+use Rattle.mm_model.specs.Messages.{IsClear}
+use Rattle.mm_schedule.specs.Events.{Event}
+use Rattle.mm_schedule.specs.Replies.{lines_of, end_line}
+use Rattle.mm_schedule.specs.declared.reply.Reply.{Reply}
+use Rattle.mm_call.specs.Levels.{by_lists}
+use Rattle.mm_model.specs.History.{total_of}
+use Rattle.mm_run.specs.Folds.{Followed, outcome_of, first_issued, expected}
+use Rattle.mm_run.specs.Premises.{foreign_of, asked_batches, run_messages, IsClearRun, IsGenuineEvent, IsGenuineRun}
+use Rattle.mm_expect.specs.Numbered.{numbered_event}
+use Rattle.mm_check.specs.Listing.{first_where, listed, digests_of, shared_in, zero_in}
+use Rattle.mm_check.specs.declared.verdicts.Premise.{Premise}
+use Rattle.mm_check.specs.declared.verdicts.Premise.TheVariants.{Held, Shared, Zero, Secured, Forged}
+
+-- the messages of events from a history on in the order of their numbers, those that come again too
+abbrev pub numbered_from : Instance → History → List (List ℕ) → List Event → List (List ℕ)
+numbered_from i y issued [] = []
+numbered_from i y issued (event ∷ events) =
+    let o = outcome_of i (by_lists i) y issued event in
+    numbered_event i y issued event ++ numbered_from i o.state o.issued events
+
+-- the messages of a run, each once: a message has the number of its place, from 1
+abbrev pub numbered : Instance → List Event → List (List ℕ)
+numbered i events = fold listed (start_message i.variant i.meaning.id ∷ []) (numbered_from i first_history (first_issued i) events)
+
+-- others extend the register by a value that is one of these guards
+abbrev pub is_secured : List (List ℕ) → Event → Bool
+is_secured guards event = list_any (λ v. list_any (bytes_eq v) guards) (foreign_of event)
+
+-- the number, from 1, of the first event at which they do so by the guard of a batch that the run asks
+abbrev pub secured_in : Instance → List Event → Option ℕ
+secured_in i events = first_where (is_secured (own_values i.barrier (asked_batches events))) events
+
+-- The event of this number is the first whose offer is right and names no position.
+pub record IsForgedAt (i : Instance) (events : List Event) (number : ℕ) : Type 0 where
+  pub before : List Event
+  pub event : Event
+  pub after : List Event
+  pub split : events ≡ before ++ event ∷ after
+  pub place : number ≡ length before + 1
+  pub genuine : IsGenuineRun i before
+  pub forged : IsGenuineEvent i (expected i before).state (expected i before).issued event → ⊥
+
+-- What is told of the premises. They hold; or two messages share a digest, the lowest numbers; or else a digest is zero,
+-- the first one; or else others extend the register by the guard of a batch, at the first such event; or else a right
+-- offer names no position, at the first such event.
+abbrev pub Decides : Instance → List Event → Premise → Type 0
+Decides i events Held = IsClearRun i events × IsGenuineRun i events
+Decides i events (Shared first second) = shared_in (digests_of (numbered i events)) ≡ Some (first, second)
+Decides i events (Zero message) = (shared_in (digests_of (numbered i events)) ≡ None) × (zero_in (digests_of (numbered i events)) ≡ Some message)
+Decides i events (Secured event) = IsClear (run_messages i events) × (i.variant ≡ Opt) × (secured_in i events ≡ Some event)
+Decides i events (Forged event) = IsClearRun i events × IsForgedAt i events event
+
+-- the lines of replies, each with its LF
+abbrev pub lines_of_all : List Reply → List (List ℕ)
+lines_of_all [] = []
+lines_of_all (reply ∷ replies) = lines_of reply ++ lines_of_all replies
+
+-- the lines of a run that was followed, with its last line, by how many requests were committed
+abbrev pub lines_with : {S : Type 0} → Followed S → ℕ → List (List ℕ)
+lines_with f committed = lines_of_all f.replies ++ end_line committed (length f.issued) ∷ []
+
+-- the lines that are expected
+abbrev pub expected_lines : Instance → List Event → List (List ℕ)
+expected_lines i events = lines_with (expected i events) (total_of (expected i events).state.batches)
+
+-- one premise alone is told of a run
+abbrev pub PremiseIsFixed : Type 0
+PremiseIsFixed = (i : Instance) (events : List Event) (p q : Premise) → Decides i events p → Decides i events q → p ≡ q

@@ -1,0 +1,73 @@
+//! A recorded run, from its header to its last line.
+
+ghost use Rattle.std.specs.Prelude.{◌≡◌, ℕ, List, Some, Ok};
+ghost use Rattle.mm_play.specs.Play.{run_of};
+ghost use Rattle.mm_play.specs.Plays.{IsBlamed, IsUnrefused, is_read_fault, is_write_fault};
+ghost use Rattle.mm_schedule.specs.Headers.{header_at};
+ghost use Rattle.mm_check.specs.Checking.{Stage, AtHeader, check_answer, check_closing};
+ghost use Rattle.mm_check.specs.Checks.{Checks, Judges};
+
+use crate::nowhere::Nowhere;
+use crate::player::CheckPlayer;
+use crate::texts::verdicts_text;
+use crate::verdicts::Verdicts;
+use mm_base::{ReplayFault, Sink, Source, write_all};
+use mm_play::play;
+use std::alloc::Global;
+
+/// Reads a recorded run to its end, and tells the verdicts on it.
+fn judge<S: Source>(alloc: Global, input: &mut S) -> Result<Verdicts, ReplayFault>
+    ensures judges { Judges (S.left input.old) (S.left input.new) result }
+    ensures read { IsBlamed (is_read_fault result) (S.faults input.old) (S.faults input.new) }
+
+    // A recorded run within the grammar and the limits is not refused.
+    ensures complete { (bytes : List ℕ) → (next : Stage) → S.left input.old ≡ Some bytes
+        → (run_of (check_answer header_at) check_closing AtHeader bytes).outcome ≡ Ok next → IsUnrefused result }
+{
+    let mut player = CheckPlayer::new();
+    let mut nowhere = Nowhere {};
+    match play(alloc, &mut player, input, &mut nowhere) {
+        Ok(()) => match player.finish(alloc) {
+            Ok(verdicts) => Ok(verdicts),
+            Err(_) => Err(ReplayFault::Memory),
+        },
+        Err(fault) => Err(fault),
+    }
+}
+
+/// Checks a recorded run: a schedule and, at will, the line `replies` and the reply lines that were recorded.
+///
+/// The first line written tells the premises of the headline: `held`, or the first of `shared I J`, `zero I`, `secured I`
+/// and `forged I` that applies, by the numbers of messages and of events, from 1. The second line is `agree` where the
+/// recorded lines are those that are expected, or `differ I` by the first that isn't, is missing or is too many. Without
+/// the section the lines that the run itself gives are tested. Both lines are written once the input was read to its end.
+///
+/// `LineLong` comes exactly where a line has more than 8,400 bytes, `BadLine` where a line before the section is outside
+/// the grammar, has no LF, or is missing, and `TooMuch` where it is event 20,001, where the event lines and the snapshots
+/// issued have more than 268,435,456 bytes, or at recorded line 1,280,002: tried in this order. Nothing is written then.
+pub fn check<S: Source, K: Sink>(
+    alloc: Global,
+    input: &mut S,
+    out: &mut K,
+) -> Result<Verdicts, ReplayFault>
+    ensures checks { Checks (S.left input.old) (S.left input.new) (K.received out.old) (K.received out.new) result }
+    ensures read { IsBlamed (is_read_fault result) (S.faults input.old) (S.faults input.new) }
+    ensures wrote { IsBlamed (is_write_fault result) (K.faults out.old) (K.faults out.new) }
+
+    // A recorded run within the grammar and the limits is not refused.
+    ensures complete { (bytes : List ℕ) → (next : Stage) → S.left input.old ≡ Some bytes
+        → (run_of (check_answer header_at) check_closing AtHeader bytes).outcome ≡ Ok next → IsUnrefused result }
+{
+    let verdicts = match judge(alloc, input) {
+        Ok(verdicts) => verdicts,
+        Err(fault) => return Err(fault),
+    };
+    let text = match verdicts_text(alloc, &verdicts) {
+        Ok(text) => text,
+        Err(_) => return Err(ReplayFault::Memory),
+    };
+    match write_all(out, text.as_slice()) {
+        Ok(()) => Ok(verdicts),
+        Err(_) => Err(ReplayFault::WriteFault),
+    }
+}

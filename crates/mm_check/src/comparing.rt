@@ -1,0 +1,120 @@
+//! Recorded lines, compared with those that are expected.
+
+ghost use Rattle.std.specs.Prelude.{◌≡◌, option_copied, IfOk};
+ghost use Rattle.mm_check.specs.Checking.{Compared, compare_line, differs_then, first_compared, is_line};
+ghost use Rattle.mm_check.specs.Verdicts.{AreVerdictsOn, agreement_of};
+ghost use Rattle.mm_check.specs.Steps.{ComparesLine};
+
+use crate::reading::Reading;
+use crate::verdicts::{Agreement, Premise, Verdicts};
+use mm_base::{Bytes, Memory};
+use mm_play::{Refused, TakeFault};
+use mm_schedule::{Event, Header};
+use std::alloc::Global;
+use std::marker::Model;
+
+/// The most recorded lines: as many as the most events are answered by, with the last line.
+const MOST_RECORDED: u32 = 1_280_001;
+
+/// What the events come to, and how the recorded lines compare so far.
+#[derive(Drop)]
+pub(crate) struct Comparing {
+    header: Header,
+    events: Vec<Event>,
+    premise: Premise,
+    /// The lines that are expected, each with its LF.
+    expected: Vec<Bytes>,
+    /// How many recorded lines were compared.
+    count: u32,
+    /// The number of the first that differs.
+    differs: Option<u32>,
+}
+
+impl Model for Comparing {
+    ghost use Rattle.mm_check.specs.Guards.{events_of};
+    ghost use Rattle.mm_check.specs.Checking.{Compared};
+    ghost use Rattle.mm_check.specs.Verdicts.{IsComparing};
+
+    ghost Value = { Compared };
+
+    ghost view = { λ it. record { header = it.header; events = events_of it.events.items; count = it.count; differs = it.differs } };
+
+    ghost invariant = { λ it. IsComparing it.header (events_of it.events.items) it.premise it.expected.items it.count };
+}
+
+/// Whether a recorded line, which stands without its LF, is this one.
+fn is_same(alloc: Global, line: &[u8], expected: Option<&Bytes>) -> Result<bool, Memory>
+    ensures { IfOk result (λ same. same ≡ is_line line.now (option_copied expected.entry)) }
+{
+    let expected = match expected {
+        Some(expected) => expected,
+        None => return Ok(false),
+    };
+    let mut whole = Bytes::copy_of(alloc, line)?;
+    whole.push(b'\n')?;
+    Ok(whole.as_slice() == expected.as_slice())
+}
+
+/// The number of the first difference, once the line of this number was found the same or not.
+fn differs_then(differs: Option<u32>, is_same: bool, number: u32) -> Option<u32>
+    ensures { result ≡ differs_then differs is_same number }
+{
+    match differs {
+        Some(first) => Some(first),
+        None => if is_same { None } else { Some(number) },
+    }
+}
+
+/// The agreement by the number of the first difference.
+fn agreement_of(differs: Option<u32>) -> Agreement
+    ensures { result ≡ agreement_of differs }
+{
+    match differs {
+        Some(line) => Agreement::Differ { line },
+        None => Agreement::Agree,
+    }
+}
+
+impl Comparing {
+    /// At the first recorded line.
+    pub fn begin(alloc: Global, reading: Reading) -> Result<Comparing, Memory>
+        ensures { IfOk result (λ it. it ≡ first_compared reading) }
+    {
+        let (header, events, decided) = reading.decide(alloc)?;
+        Ok(Comparing {
+            header,
+            events,
+            premise: decided.premise,
+            expected: decided.lines,
+            count: 0,
+            differs: None,
+        })
+    }
+
+    /// Behind a recorded line.
+    pub fn take(mut self, alloc: Global, line: &[u8]) -> Result<Comparing, TakeFault>
+        ensures { ComparesLine (compare_line self line.now) result }
+    {
+        if self.count >= MOST_RECORDED {
+            return Err(TakeFault::Refused(Refused::Much));
+        }
+        let same = match is_same(alloc, line, self.expected.get(self.count as usize)) {
+            Ok(same) => same,
+            Err(_) => return Err(TakeFault::Memory),
+        };
+        self.differs = differs_then(self.differs, same, self.count + 1);
+        self.count += 1;
+        Ok(self)
+    }
+
+    /// The verdicts at the end of the recorded lines.
+    pub fn finish(&self) -> Verdicts
+        ensures { AreVerdictsOn self.now result }
+    {
+        let is_whole = self.expected.len() <= self.count as usize;
+        Verdicts {
+            premise: self.premise,
+            agreement: agreement_of(differs_then(self.differs, is_whole, self.count + 1)),
+        }
+    }
+}

@@ -1,0 +1,134 @@
+//! The premises and the expected lines of a list of events.
+
+ghost use Rattle.std.specs.Prelude.{◌≡◌, ◌+◌, ◌<◌, ◌≤◌, [], length, take, IfOk, OnOk};
+ghost use Rattle.mm_check.specs.Guards.{events_of};
+ghost use Rattle.mm_check.specs.Lists.{pair_of};
+ghost use Rattle.mm_check.specs.Deciding.{Stands, IsDecided, premise_by, forged_then};
+
+use crate::guards::first_secured;
+use crate::lines::{put_end, put_reply};
+use crate::messages::Numbers;
+use crate::verdicts::Premise;
+use mm_base::{Bytes, Memory};
+use mm_expect::Expecting;
+use mm_module::Module;
+use mm_schedule::{Event, Header};
+use std::alloc::Global;
+
+/// What some first events come to.
+#[derive(Drop)]
+pub(crate) struct Deciding {
+    expecting: Expecting,
+    numbers: Numbers,
+    /// The first event whose offer is right and names no position.
+    forged: Option<u32>,
+    /// The lines of the replies that are expected, each with its LF.
+    lines: Vec<Bytes>,
+}
+
+/// What a list of events comes to.
+#[derive(Drop)]
+pub(crate) struct Decided {
+    pub premise: Premise,
+    /// The lines that are expected, each with its LF, the last line included.
+    pub lines: Vec<Bytes>,
+}
+
+impl Deciding {
+    /// At the first event.
+    fn begin(alloc: Global, header: &Header) -> Result<Deciding, Memory>
+        ensures { IfOk result (λ it. Stands header.now [] it) }
+    {
+        let expecting = Expecting::begin(alloc, header)?;
+        let mut numbers = Numbers::new(alloc);
+        numbers.list(alloc, &[0, header.variant.byte(), header.module.id()])?;
+        Ok(Deciding {
+            expecting,
+            numbers,
+            forged: None,
+            lines: Vec::new(alloc),
+        })
+    }
+
+    // Follows the event of this index.
+    fn next(
+        &mut self,
+        alloc: Global,
+        header: &Header,
+        events: &[Event],
+        index: usize,
+    ) -> Result<(), Memory>
+        requires within { index < length events.now }
+        requires few { length events.now ≤ 20000 }
+        requires stands { Stands header.now (events_of (take index events.now)) self.old }
+        ensures { OnOk result (Stands header.now (events_of (take (index + 1) events.now)) self.new) }
+    {
+        let heard = self.expecting.event(&events[index])?;
+        self.numbers.list_all(alloc, heard.messages.as_slice())?;
+        put_reply(alloc, &mut self.lines, &heard.reply)?;
+        self.forged = forged_then(self.forged, heard.is_genuine, index as u32 + 1);
+        Ok(())
+    }
+
+    // What is told of the premises, by the first event at which others bring a guard.
+    fn premise(&self, secured: Option<u32>) -> Premise
+        ensures { result ≡ premise_by (pair_of self.now.numbers.digests.shared) self.now.numbers.digests.zero secured self.now.forged }
+    {
+        if let Some(pair) = self.numbers.digests.shared {
+            return Premise::Shared {
+                first: pair.first,
+                second: pair.second,
+            };
+        }
+        if let Some(message) = self.numbers.digests.zero {
+            return Premise::Zero { message };
+        }
+        if let Some(event) = secured {
+            return Premise::Secured { event };
+        }
+        match self.forged {
+            Some(event) => Premise::Forged { event },
+            None => Premise::Held,
+        }
+    }
+
+    // What all events come to.
+    fn finish(mut self, alloc: Global, header: &Header, events: &[Event]) -> Result<Decided, Memory>
+        requires few { length events.now ≤ 20000 }
+        requires stands { Stands header.now (events_of events.now) self }
+        ensures { IfOk result (IsDecided header.now (events_of events.now)) }
+    {
+        let secured = first_secured(alloc, header.variant, events)?;
+        let premise = self.premise(secured);
+        put_end(
+            alloc,
+            &mut self.lines,
+            self.expecting.committed(),
+            self.expecting.issued(),
+        )?;
+        let Deciding { lines, .. } = self;
+        Ok(Decided { premise, lines })
+    }
+}
+
+/// The first event that isn't genuine, once one of this number was found genuine or not.
+fn forged_then(forged: Option<u32>, is_genuine: bool, number: u32) -> Option<u32>
+    ensures { result ≡ forged_then forged is_genuine number }
+{
+    match forged {
+        Some(first) => Some(first),
+        None => if is_genuine { None } else { Some(number) },
+    }
+}
+
+/// What these events come to: what is told of the premises, and the lines that are expected.
+pub(crate) fn decide(alloc: Global, header: &Header, events: &[Event]) -> Result<Decided, Memory>
+    requires { length events.now ≤ 20000 }
+    ensures { IfOk result (IsDecided header.now (events_of events.now)) }
+{
+    let mut deciding = Deciding::begin(alloc, header)?;
+    'events: for index in 0..events.len() {
+        deciding.next(alloc, header, events, index)?;
+    }
+    deciding.finish(alloc, header, events)
+}

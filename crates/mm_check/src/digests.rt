@@ -1,0 +1,101 @@
+//! The digests of messages by their numbers.
+
+ghost use Rattle.std.specs.Prelude.{◌≡◌, ◌+◌, ◌-◌, ◌<◌, ◌≤◌, ◌^◌, ◌++◌, [], ◌∷◌, ℕ, List, Option, OnOk, if◌then◌else◌};
+ghost use Rattle.std.specs.BTreeMap.{get};
+ghost use Rattle.std.specs.Cmp.Lexicographic.{slice_cmp};
+ghost use Rattle.std.specs.Ordering.{nat_cmp, is_eq};
+ghost use Rattle.mm_check.specs.Listing.{lower, zero_then};
+ghost use Rattle.mm_check.specs.Lists.{pair_of, Counts};
+
+use mm_base::Memory;
+use mm_digest::{Digest, zero};
+use std::alloc::Global;
+use std::collections::BTreeMap;
+
+/// Two numbers of messages.
+#[derive(Clone, Copy, Debug, PartialEq, Eq)]
+pub(crate) struct Pair {
+    pub first: u32,
+    pub second: u32,
+}
+
+/// The digests listed so far, by the number of the first message of each; how many messages there are; the first two that
+/// share a digest; and the first whose digest is zero.
+#[derive(Drop)]
+pub(crate) struct Digests {
+    firsts: BTreeMap<[u8; 32], u32>,
+    pub count: u32,
+    pub shared: Option<Pair>,
+    pub zero: Option<u32>,
+}
+
+/// The pair after a message of this number, where the first one of its digest has that number.
+fn lower(shared: Option<Pair>, first: u32, second: u32) -> Option<Pair>
+    ensures { pair_of result ≡ lower (pair_of shared) first second }
+{
+    match shared {
+        Some(pair) => if first < pair.first {
+            Some(Pair { first, second })
+        } else {
+            Some(pair)
+        },
+        None => Some(Pair { first, second }),
+    }
+}
+
+/// The number of the first zero, once this digest has come with this number.
+fn zero_then(found: Option<u32>, digest: &Digest, number: u32) -> Option<u32>
+    ensures { result ≡ zero_then found digest.now.bytes number }
+{
+    match found {
+        Some(first) => Some(first),
+        None => if *digest == zero() {
+            Some(number)
+        } else {
+            None
+        },
+    }
+}
+
+/// Notes this number at a digest.
+fn put(firsts: &mut BTreeMap<[u8; 32], u32>, digest: [u8; 32], number: u32) -> Result<(), Memory>
+    ensures { OnOk result ((d : List ℕ) → get (slice_cmp nat_cmp) firsts.new d
+        ≡ (if is_eq (slice_cmp nat_cmp digest d) then Some number else get (slice_cmp nat_cmp) firsts.old d)) }
+{
+    match firsts.insert(digest, number) {
+        Ok(_) => Ok(()),
+        Err(_) => Err(Memory),
+    }
+}
+
+impl Digests {
+    /// None so far. Takes no memory.
+    pub fn new(alloc: Global) -> Digests
+        ensures { Counts [] result }
+    {
+        Digests {
+            firsts: BTreeMap::new(alloc),
+            count: 0,
+            shared: None,
+            zero: None,
+        }
+    }
+
+    /// One more message, with this digest.
+    pub fn add(&mut self, digest: Digest) -> Result<(), Memory>
+        requires { self.old.count < 2 ^ 32 - 1 }
+        ensures rises { self.new.count ≤ self.old.count + 1 }
+        ensures counts { (digests : List (List ℕ)) → Counts digests self.old → OnOk result (Counts (digests ++ digest.bytes ∷ []) self.new) }
+    {
+        let number = self.count + 1;
+        match self.firsts.get(&digest.bytes) {
+            Some(first) => self.shared = lower(self.shared, *first, number),
+            None => {
+                put(&mut self.firsts, digest.bytes, number)?;
+            }
+        }
+        self.zero = zero_then(self.zero, &digest, number);
+        self.count = number;
+        Ok(())
+    }
+}

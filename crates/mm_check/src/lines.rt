@@ -1,0 +1,59 @@
+//! The lines of replies.
+
+ghost use Rattle.std.specs.Prelude.{◌≡◌, ◌<◌, ◌++◌, ◌∷◌, [], Some, OnOk, IfOk, length, take, slice_get};
+ghost use Rattle.mm_schedule.specs.Replies.{IsPrintable, end_line, lines_of};
+
+use mm_base::{Bytes, Memory};
+use mm_schedule::{Reply, print_end, print_line, reply_lines};
+use std::alloc::Global;
+
+/// The most bytes of a line of a reply, its LF included.
+const LINE_ROOM: usize = 4200;
+
+/// The line of a reply with this index, its LF included.
+fn line_of(alloc: Global, reply: &Reply, index: usize) -> Result<Bytes, Memory>
+    requires index { index < length (lines_of reply.now) }
+    requires printable { IsPrintable reply.now }
+    ensures { IfOk result (λ line. slice_get (lines_of reply.now) index ≡ Some line) }
+{
+    let mut room = [0; LINE_ROOM];
+    let length = print_line(reply, index, &mut room);
+    let (front, _) = room.split_at(length);
+    Bytes::copy_of(alloc, front)
+}
+
+/// Puts a line at the end.
+fn put(lines: &mut Vec<Bytes>, line: Bytes) -> Result<(), Memory>
+    ensures { OnOk result (lines.new.items ≡ lines.old.items ++ line ∷ []) }
+{
+    lines.push(line)?;
+    Ok(())
+}
+
+/// Puts the lines of a reply at the end.
+pub(crate) fn put_reply(alloc: Global, lines: &mut Vec<Bytes>, reply: &Reply) -> Result<(), Memory>
+    requires { IsPrintable reply.now }
+    ensures { OnOk result (lines.new.items ≡ lines.old.items ++ lines_of reply.now) }
+{
+    'lines: for index in 0..reply_lines(reply) {
+        let line = line_of(alloc, reply, index)?;
+        put(lines, line)?;
+    }
+    Ok(())
+}
+
+/// Puts the line `end N K` at the end.
+pub(crate) fn put_end(
+    alloc: Global,
+    lines: &mut Vec<Bytes>,
+    committed: u64,
+    issued: u32,
+) -> Result<(), Memory>
+    ensures { OnOk result (lines.new.items ≡ lines.old.items ++ end_line committed issued ∷ []) }
+{
+    let mut room = [0; LINE_ROOM];
+    let length = print_end(committed, issued, &mut room);
+    let (front, _) = room.split_at(length);
+    let line = Bytes::copy_of(alloc, front)?;
+    put(lines, line)
+}

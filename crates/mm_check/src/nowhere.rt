@@ -1,0 +1,19 @@
+//! A sink for a player that writes nothing.
+
+ghost use Rattle.std.specs.Prelude.{None};
+
+use mm_base::{Failed, Sink};
+
+/// A sink that takes every byte and keeps none.
+#[derive(Drop)]
+pub(crate) struct Nowhere {}
+
+impl Sink for Nowhere {
+    ghost received = { λ _. None };
+
+    ghost faults = { λ _. 0 };
+
+    fn give(&mut self, piece: &[u8]) -> Result<usize, Failed> {
+        Ok(piece.len())
+    }
+}

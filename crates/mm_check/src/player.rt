@@ -1,0 +1,131 @@
+//! The lines of a recorded run, one after another.
+
+ghost use Rattle.std.specs.Prelude.{◌≡◌, ◌≢◌, ◌≤◌, length, IfOk};
+ghost use Rattle.mm_schedule.specs.Headers.{header_at};
+ghost use Rattle.mm_check.specs.Checking.{Stage, AtHeader, check_answer, check_closing, check_left, headed, read_line};
+ghost use Rattle.mm_check.specs.Counting.{check_counts_down, check_is_short};
+ghost use Rattle.mm_check.specs.Steps.{phase_of, stage_of, Steps};
+ghost use Rattle.mm_check.specs.Verdicts.{Concludes};
+
+use crate::comparing::Comparing;
+use crate::reading::Reading;
+use crate::verdicts::Verdicts;
+use mm_base::{Memory, Sink, WriteFault};
+use mm_play::{Player, Refused, TakeFault};
+use mm_schedule::read_header;
+use std::alloc::Global;
+use std::marker::Model;
+
+/// Where a recorded run stands behind its header.
+#[derive(Drop)]
+pub(crate) enum Phase {
+    /// Among its events.
+    Events(Reading),
+    /// Among the recorded lines.
+    Replies(Comparing),
+}
+
+/// Reads a recorded run, and writes nothing. There is no phase before the header.
+#[derive(Drop)]
+pub(crate) struct CheckPlayer {
+    phase: Option<Phase>,
+}
+
+impl Model for CheckPlayer {
+    ghost Value = { Stage };
+
+    ghost view = { λ it. stage_of it.phase };
+}
+
+/// Behind the header of this line.
+fn begin(alloc: Global, line: &[u8]) -> Result<Phase, TakeFault>
+    ensures { Steps (headed (header_at line.now)) result }
+{
+    let header = match read_header(line) {
+        Some(header) => header,
+        None => return Err(TakeFault::Refused(Refused::Bad)),
+    };
+    match Reading::begin(alloc, &header) {
+        Ok(reading) => Ok(Phase::Events(reading)),
+        Err(_) => Err(TakeFault::Memory),
+    }
+}
+
+/// Behind a line among the events.
+fn read(alloc: Global, reading: Reading, line: &[u8]) -> Result<Phase, TakeFault>
+    requires { length line.now ≤ 8400 }
+    ensures { Steps (read_line reading line.now) result }
+{
+    if line == b"replies".as_slice() {
+        return match Comparing::begin(alloc, reading) {
+            Ok(comparing) => Ok(Phase::Replies(comparing)),
+            Err(_) => Err(TakeFault::Memory),
+        };
+    }
+    match reading.take(alloc, line) {
+        Ok(reading) => Ok(Phase::Events(reading)),
+        Err(fault) => Err(fault),
+    }
+}
+
+/// Behind the next line.
+fn step(alloc: Global, phase: Option<Phase>, line: &[u8]) -> Result<Phase, TakeFault>
+    requires { length line.now ≤ 8400 }
+    ensures { Steps (check_answer header_at (stage_of phase) line.now) result }
+{
+    match phase {
+        None => begin(alloc, line),
+        Some(Phase::Events(reading)) => read(alloc, reading, line),
+        Some(Phase::Replies(comparing)) => match comparing.take(alloc, line) {
+            Ok(comparing) => Ok(Phase::Replies(comparing)),
+            Err(fault) => Err(fault),
+        },
+    }
+}
+
+impl Player for CheckPlayer {
+    ghost answer = { check_answer header_at };
+
+    ghost closing = { check_closing };
+
+    ghost lines_left = { check_left };
+
+    fn take<K: Sink>(&mut self, alloc: Global, line: &[u8], _out: &mut K) -> Result<(), TakeFault> {
+        let phase = step(alloc, self.phase.take(), line)?;
+        self.phase = Some(phase);
+        Ok(())
+    }
+
+    fn close<K: Sink>(&self, _out: &mut K) -> Result<bool, WriteFault> {
+        match &self.phase {
+            Some(_) => Ok(true),
+            None => Ok(false),
+        }
+    }
+
+    ghost counts_down = { check_counts_down header_at };
+
+    ghost few = { check_is_short };
+}
+
+impl CheckPlayer {
+    /// Before the header.
+    pub fn new() -> CheckPlayer
+        ensures { result ≡ AtHeader }
+    {
+        CheckPlayer { phase: None }
+    }
+
+    /// The verdicts at the end of the input.
+    pub fn finish(self, alloc: Global) -> Result<Verdicts, Memory>
+        requires { self ≢ AtHeader }
+        ensures { IfOk result (Concludes self) }
+    {
+        let CheckPlayer { phase } = self;
+        match phase {
+            None => unreachable!(),
+            Some(Phase::Events(reading)) => reading.finish(alloc),
+            Some(Phase::Replies(comparing)) => Ok(comparing.finish()),
+        }
+    }
+}

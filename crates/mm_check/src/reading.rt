@@ -1,0 +1,127 @@
+//! The events of a recorded run, as they are read.
+
+ghost use Rattle.std.specs.Prelude.{◌≡◌, ◌≤◌, ◌++◌, ◌∷◌, [], length, IfOk, OnOk};
+ghost use Rattle.mm_schedule.specs.Grammar.{event_at};
+ghost use Rattle.mm_schedule.specs.Replies.{IsPrintable, lines_of};
+ghost use Rattle.mm_run.specs.Held.{world_of};
+ghost use Rattle.mm_check.specs.Checking.{Read, first_read, read_event};
+ghost use Rattle.mm_check.specs.Verdicts.{AreVerdicts, run_lines};
+ghost use Rattle.mm_check.specs.Steps.{ReadsEvent, IsEventOf};
+ghost use Rattle.mm_check.specs.Guards.{events_of};
+ghost use Rattle.mm_check.specs.Deciding.{IsDecided};
+
+use crate::deciding::{Decided, decide};
+use crate::difference::difference;
+use crate::lines::{put_end, put_reply};
+use crate::verdicts::Verdicts;
+use mm_base::{Bytes, Memory};
+use mm_play::{Refused, TakeFault};
+use mm_replay::Progress;
+use mm_schedule::{Event, EventFault, Header, Reply, read_event};
+use std::alloc::Global;
+use std::marker::Model;
+
+/// The header and the events read, the run of them, and the lines that it writes, each with its LF.
+#[derive(Drop)]
+pub(crate) struct Reading {
+    header: Header,
+    progress: Progress,
+    events: Vec<Event>,
+    told: Vec<Bytes>,
+}
+
+impl Model for Reading {
+    ghost use Rattle.mm_replay.specs.Progress.{running};
+    ghost use Rattle.mm_check.specs.Guards.{events_of};
+    ghost use Rattle.mm_check.specs.Checking.{Read};
+    ghost use Rattle.mm_check.specs.Verdicts.{IsRun};
+
+    ghost Value = { Read };
+
+    ghost view = { λ it. record { header = it.header; running = running it.progress; events = events_of it.events.items; told = it.told.items } };
+
+    ghost invariant = { λ it. IsRun it.header (running it.progress) (events_of it.events.items) it.told.items };
+}
+
+/// The event of a line.
+fn event_in(alloc: Global, line: &[u8]) -> Result<Event, TakeFault>
+    ensures { IsEventOf (event_at line.now) result }
+{
+    match read_event(alloc, line) {
+        Ok(event) => Ok(event),
+        Err(EventFault::Memory) => Err(TakeFault::Memory),
+        Err(EventFault::Bad) => Err(TakeFault::Refused(Refused::Bad)),
+    }
+}
+
+/// Keeps an event and the lines of its reply.
+fn remember(
+    alloc: Global,
+    events: &mut Vec<Event>,
+    told: &mut Vec<Bytes>,
+    event: Event,
+    reply: &Reply,
+) -> Result<(), Memory>
+    requires { IsPrintable reply.now }
+    ensures events { OnOk result (events.new.items ≡ events.old.items ++ event ∷ []) }
+    ensures told { OnOk result (told.new.items ≡ told.old.items ++ lines_of reply.now) }
+{
+    put_reply(alloc, told, reply)?;
+    events.push(event)?;
+    Ok(())
+}
+
+impl Reading {
+    /// Behind the header.
+    pub fn begin(alloc: Global, header: &Header) -> Result<Reading, Memory>
+        ensures { IfOk result (λ it. it ≡ first_read header.now) }
+    {
+        let progress = Progress::begin(alloc, header)?;
+        Ok(Reading {
+            header: *header,
+            progress,
+            events: Vec::new(alloc),
+            told: Vec::new(alloc),
+        })
+    }
+
+    /// Behind the event of a line.
+    pub fn take(mut self, alloc: Global, line: &[u8]) -> Result<Reading, TakeFault>
+        requires { length line.now ≤ 8400 }
+        ensures { ReadsEvent (read_event self line.now (event_at line.now)) result }
+    {
+        let event = event_in(alloc, line)?;
+        let reply = self.progress.answer(line, &event)?;
+        match remember(alloc, &mut self.events, &mut self.told, event, &reply) {
+            Ok(()) => Ok(self),
+            Err(_) => Err(TakeFault::Memory),
+        }
+    }
+
+    /// What the events come to, for recorded lines to be compared.
+    pub fn decide(self, alloc: Global) -> Result<(Header, Vec<Event>, Decided), Memory>
+        ensures { IfOk result (λ it. (it.0 ≡ self.header) × (events_of it.1.items ≡ self.events) × IsDecided self.header self.events it.2) }
+    {
+        let Reading {
+            header,
+            progress: _progress,
+            events,
+            told: _told,
+        } = self;
+        let decided = decide(alloc, &header, events.as_slice())?;
+        Ok((header, events, decided))
+    }
+
+    /// The verdicts where no lines are recorded: the lines of the run itself are tested.
+    pub fn finish(mut self, alloc: Global) -> Result<Verdicts, Memory>
+        ensures { IfOk result (AreVerdicts self.header self.events (run_lines (world_of self.header) self.events)) }
+    {
+        let decided = decide(alloc, &self.header, self.events.as_slice())?;
+        let report = self.progress.report();
+        put_end(alloc, &mut self.told, report.committed, report.issued)?;
+        Ok(Verdicts {
+            premise: decided.premise,
+            agreement: difference(self.told.as_slice(), decided.lines.as_slice()),
+        })
+    }
+}

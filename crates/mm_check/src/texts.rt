@@ -1,0 +1,56 @@
+//! The lines of the verdicts.
+
+ghost use Rattle.std.specs.Prelude.{◌≡◌, ◌++◌, ◌∷◌, [], codes, IfOk, OnOk};
+ghost use Rattle.std.specs.Fmt.{decimal};
+ghost use Rattle.mm_check.specs.Verdicts.{agreement_text, premise_text, verdicts_text};
+
+use crate::verdicts::{Agreement, Premise, Verdicts};
+use mm_base::{Bytes, Memory, put_decimal};
+use std::alloc::Global;
+
+fn put_numbered(into: &mut Bytes, word: &[u8], number: u32) -> Result<(), Memory>
+    ensures { OnOk result (into.new ≡ into.old ++ word.now ++ decimal number) }
+{
+    into.append(word)?;
+    put_decimal(into, u64::from(number))
+}
+
+fn put_shared(into: &mut Bytes, first: u32, second: u32) -> Result<(), Memory>
+    ensures { OnOk result (into.new ≡ into.old ++ codes "shared " ++ decimal first ++ 32 ∷ [] ++ decimal second) }
+{
+    put_numbered(into, b"shared ", first)?;
+    put_numbered(into, b" ", second)
+}
+
+fn put_premise(into: &mut Bytes, premise: &Premise) -> Result<(), Memory>
+    ensures { OnOk result (into.new ≡ into.old ++ premise_text premise.now) }
+{
+    match premise {
+        Premise::Held => into.append(b"held"),
+        Premise::Shared { first, second } => put_shared(into, *first, *second),
+        Premise::Zero { message } => put_numbered(into, b"zero ", *message),
+        Premise::Secured { event } => put_numbered(into, b"secured ", *event),
+        Premise::Forged { event } => put_numbered(into, b"forged ", *event),
+    }
+}
+
+fn put_agreement(into: &mut Bytes, agreement: &Agreement) -> Result<(), Memory>
+    ensures { OnOk result (into.new ≡ into.old ++ agreement_text agreement.now) }
+{
+    match agreement {
+        Agreement::Agree => into.append(b"agree"),
+        Agreement::Differ { line } => put_numbered(into, b"differ ", *line),
+    }
+}
+
+/// The two lines of the verdicts.
+pub(crate) fn verdicts_text(alloc: Global, it: &Verdicts) -> Result<Bytes, Memory>
+    ensures { IfOk result (λ text. text ≡ verdicts_text it.now) }
+{
+    let mut text = Bytes::new(alloc);
+    put_premise(&mut text, &it.premise)?;
+    text.append(b"\n")?;
+    put_agreement(&mut text, &it.agreement)?;
+    text.append(b"\n")?;
+    Ok(text)
+}
