@@ -442,7 +442,11 @@ done_blamed Run old new status f d =
     let b = run_blames d.looks.fault d.found old.standing d.middle new.standing d.looks.goes.is_made old.kept new.kept old.left new.left
     old.received new.received old.reads new.reads old.writes new.writes status d.looks.goes.ends d.looks.finds d.goes in
     record { platform = b.platform; store = b.store; source = b.source }
-done_blamed Check old new status f d = ended_blamed Check old new Usage status usage_alike d
+done_blamed Check old new status f d = record {
+  platform = unblamed _ _ _ (ap is_platform_fault d.checked.ends ∙ played_platform d.checked.answer) (same_standing old new (f.standing (λ h. h)));
+  store = unblamed _ _ _ (ap is_store_fault d.checked.ends ∙ played_store d.checked.answer) (same_kept old new (f.kept (λ h. h)));
+  source = source_played d.checked.answer status _ _ d.checked.ends d.checked.read;
+}
 done_blamed (Gen it) old new status f d = given_blamed (Gen it) old new _ status d
 done_blamed Help old new status f d = given_blamed Help old new _ status d
 done_blamed (Bulk it) old new status f d =
@@ -498,7 +502,7 @@ output_done (Init header) old new status d =
 output_done Run old new status d =
     output_run d.looks.fault d.found old.standing d.middle new.standing old.kept new.kept old.left new.left
     old.received new.received old.reads new.reads old.writes new.writes status d.looks.finds d.goes
-output_done Check old new status d = output_ended old new Usage status no_usage d
+output_done Check old new status d = output_played d.checked.answer status d.middle new.received _ _ _ d.checked.wrote d.checked.ends d.stops
 output_done (Gen it) old new status d = output_given old new _ status d
 output_done Help old new status d = output_given old new _ status d
 output_done (Bulk it) old new status d = output_told (bulk_told it.count d.1.answer) _ _ _ _ status (bulk_no_write it.count d.1.answer) d.1.tells

@@ -5,6 +5,7 @@ use Rattle.mm_words.specs.Commands.{Spells, help_text}
 use Rattle.mm_words.specs.declared.command.Command.{Command}
 use Rattle.mm_words.specs.declared.command.Command.TheVariants.{Init, Run, Checkpoint, Power, Replay, Check, Gen, Bulk, Receipts, Help}
 use Rattle.mm_app.specs.Bulk.{RunsInBulk}
+use Rattle.mm_app.specs.Checking.{ChecksRunAndStops}
 use Rattle.mm_app.specs.Checkpoint.{Checkpoints}
 use Rattle.mm_app.specs.Outside.{Outside, IsStill}
 use Rattle.mm_app.specs.Power.{LosesPower}
@@ -14,7 +15,7 @@ use Rattle.mm_app.specs.Running.{RunsInstance}
 use Rattle.mm_app.specs.Starting.{StartsInstance, devices}
 use Rattle.mm_app.specs.Telling.{EndsAtOnce, GivesText}
 use Rattle.mm_app.specs.declared.status.Status.{Status}
-use Rattle.mm_app.specs.declared.status.Status.TheVariants.{Memory, Usage}
+use Rattle.mm_app.specs.declared.status.Status.TheVariants.{Memory}
 
 -- What a command does, by what the objects that it is handed tell before and after.
 abbrev pub Does : Command → (old new : Outside) → Status → Type 0
@@ -29,26 +30,25 @@ Does Power old new status =
     LosesPower old.standing new.standing old.received new.received old.writes new.writes status
 Does Replay old new status =
     ReplaysAndStops old.left new.left old.received new.received old.reads new.reads old.writes new.writes status
+Does Check old new status =
+    ChecksRunAndStops old.left new.left old.received new.received old.reads new.reads old.writes new.writes status
 Does (Gen it) old new status = GivesText (schedule_text it.number it.count it.header) old new status
 Does (Bulk it) old new status = IsStill old new × RunsInBulk it old.received new.received old.writes new.writes status
 Does (Receipts key) old new status =
     ChecksReceiptsAndStops key old.left new.left old.received new.received old.reads new.reads old.writes new.writes status
 Does Help old new status = GivesText help_text old new status
--- not built yet
-Does Check old new status = EndsAtOnce old new Usage status
 
 -- The command was done, or memory was wanting before it.
 abbrev pub DoesOrLacks : Command → (old new : Outside) → Status → Type 0
 DoesOrLacks command old new status = Does command old new status ⊎ EndsAtOnce old new Memory status
 
--- the command is built
-abbrev pub IsBuilt : Command → Type 0
-IsBuilt Check = ⊥
-IsBuilt _ = Unit {0}
-
 -- these words spell no such command
 abbrev pub SpellNo : (Command → Type 0) → List (List ℕ) → Type 0
 SpellNo Is words = (command : Command) → Is command → Spells command words → ⊥
+
+-- they spell none at all
+abbrev pub SpellNone : List (List ℕ) → Type 0
+SpellNone words = (command : Command) → Spells command words → ⊥
 
 -- the commands that use the platform
 abbrev pub UsesPlatform : Command → Type 0
@@ -68,6 +68,7 @@ UsesStore _ = ⊥
 abbrev pub Reads : Command → Type 0
 Reads Run = Unit {0}
 Reads Replay = Unit {0}
+Reads Check = Unit {0}
 Reads (Receipts key) = Unit {0}
 Reads _ = ⊥
 

@@ -1,5 +1,6 @@
 pub mod Blame
 pub mod Bulk
+pub mod Checking
 pub mod Checkpoint
 pub mod Commands
 pub mod Headline

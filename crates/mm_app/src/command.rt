@@ -1,6 +1,7 @@
 //! What the words of the command line do.
 
 ghost use Rattle.std.specs.Prelude.{◌≡◌, ℕ, List, Some, Ok, map};
+ghost use Rattle.mm_check.specs.Checking as checked;
 ghost use Rattle.mm_play.specs.Play.{run_of};
 ghost use Rattle.mm_play.specs.Plays.{IsBlamed};
 ghost use Rattle.mm_receipts.specs.Checking.{Checking, first_checking, receipts_answer, receipts_closing};
@@ -8,9 +9,9 @@ ghost use Rattle.mm_replay.specs.Schedule.{Stage, AtHeader, schedule_answer, sch
 ghost use Rattle.mm_schedule.specs.Headers.{header_at};
 ghost use Rattle.mm_words.specs.Commands.{IsAllowed, Spells};
 ghost use Rattle.mm_words.specs.declared.command.Command.{Command as Told};
-ghost use Rattle.mm_words.specs.declared.command.Command.TheVariants.{Receipts, Replay};
+ghost use Rattle.mm_words.specs.declared.command.Command.TheVariants.{Check, Receipts, Replay};
 ghost use Rattle.mm_app.specs.Blame.{BlamesOutput, BlamesSource, is_platform_fault, is_store_fault};
-ghost use Rattle.mm_app.specs.Commands.{DoesOrLacks, IsBuilt, Reads, SpellNo, TakesEntropy, UsesPlatform, UsesStore};
+ghost use Rattle.mm_app.specs.Commands.{DoesOrLacks, Reads, SpellNo, SpellNone, TakesEntropy, UsesPlatform, UsesStore};
 ghost use Rattle.mm_app.specs.Headline.{IsOneRun};
 ghost use Rattle.mm_app.specs.Outside.{outside};
 ghost use Rattle.mm_app.specs.Status.{EndsUnrefused};
@@ -18,6 +19,7 @@ ghost use Rattle.mm_app.specs.Telling.{IsRefused};
 ghost use Rattle.mm_app.specs.declared.status.Status.TheVariants.{Usage};
 
 use crate::bulk::run_in_bulk;
+use crate::check::check_run;
 use crate::checkpoint::close_segment;
 use crate::power::lose_power;
 use crate::receipts::check_receipts;
@@ -53,8 +55,9 @@ fn done<P: Platform, T: Store, S: Source, E: Source, K: Sink>(
         → (run_of (schedule_answer header_at) schedule_closing AtHeader bytes).outcome ≡ Ok next → EndsUnrefused result }
     ensures receipts { (key : List ℕ) → command.now ≡ Receipts key → (bytes : List ℕ) → (next : Checking) → S.left input.old ≡ Some bytes
         → (run_of receipts_answer receipts_closing (first_checking key) bytes).outcome ≡ Ok next → EndsUnrefused result }
-    ensures usage { result ≡ Usage → IsBuilt command.now → ⊥ }
-    ensures unbuilt { (IsBuilt command.now → ⊥) → IsRefused (K.received out.old) (K.received out.new) (K.faults out.old) (K.faults out.new) result }
+    ensures check { command.now ≡ Check → (bytes : List ℕ) → (next : checked.Stage) → S.left input.old ≡ Some bytes
+        → (run_of (checked.check_answer header_at) checked.check_closing checked.AtHeader bytes).outcome ≡ Ok next → EndsUnrefused result }
+    ensures usage { result ≡ Usage → ⊥ }
     ensures platform { (UsesPlatform command.now → ⊥) → platform.new ≡ platform.old }
     ensures store { (UsesStore command.now → ⊥) → store.new ≡ store.old }
     ensures input { (Reads command.now → ⊥) → input.new ≡ input.old }
@@ -70,7 +73,7 @@ fn done<P: Platform, T: Store, S: Source, E: Source, K: Sink>(
         Command::Help => written(help_text(), out),
         Command::Init(header) => start_instance(alloc, header, platform, store, entropy, out),
         Command::Run => run_instance(alloc, platform, store, input, out),
-        Command::Check => stopped(Status::Usage, out),
+        Command::Check => check_run(alloc, input, out),
     }
 }
 
@@ -105,13 +108,17 @@ pub fn memoir<P: Platform, T: Store, S: Source, E: Source, K: Sink>(
     ensures receipts { (key : List ℕ) → Spells (Receipts key) (map (λ s. s.now) words.now) → (bytes : List ℕ) → (next : Checking) → S.left input.old ≡ Some bytes
         → (run_of receipts_answer receipts_closing (first_checking key) bytes).outcome ≡ Ok next → EndsUnrefused result }
 
+    // Nor is a recorded run within the grammar and the limits.
+    ensures check { Spells Check (map (λ s. s.now) words.now) → (bytes : List ℕ) → (next : checked.Stage) → S.left input.old ≡ Some bytes
+        → (run_of (checked.check_answer header_at) checked.check_closing checked.AtHeader bytes).outcome ≡ Ok next → EndsUnrefused result }
+
     // The headline: what is written for a schedule is one run of the module on one list of requests.
     ensures headline { Spells Replay (map (λ s. s.now) words.now)
         → IsOneRun (S.left input.old) (S.left input.new) (K.received out.old) (K.received out.new) result }
 
-    // Usage comes exactly where the words spell no command that is built, but for want of memory.
-    ensures usage { result ≡ Usage → SpellNo IsBuilt (map (λ s. s.now) words.now) }
-    ensures none { SpellNo IsBuilt (map (λ s. s.now) words.now)
+    // Usage comes exactly where the words spell no command, but for want of memory.
+    ensures usage { result ≡ Usage → SpellNone (map (λ s. s.now) words.now) }
+    ensures none { SpellNone (map (λ s. s.now) words.now)
         → IsRefused (K.received out.old) (K.received out.new) (K.faults out.old) (K.faults out.new) result }
 
     // A command leaves the objects that it doesn't use as they were.

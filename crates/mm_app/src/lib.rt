@@ -2,6 +2,7 @@
 #![tactic(auto)]
 
 mod bulk;
+mod check;
 mod checkpoint;
 mod command;
 mod power;

@@ -2,7 +2,7 @@ use Rattle.std.proofs.Common.{ap, refl, subst, sym}
 use Rattle.mm_base.specs.Streams.{Sends}
 use Rattle.mm_play.specs.Plays.{IsBlamed}
 use Rattle.mm_words.specs.declared.command.Command.{Command}
-use Rattle.mm_words.specs.declared.command.Command.TheVariants.{Receipts, Replay}
+use Rattle.mm_words.specs.declared.command.Command.TheVariants.{Check, Receipts, Replay}
 use Rattle.mm_words.proofs.OneCommand.{one_command}
 use Rattle.mm_app.specs.Blame.{BlamesSource, is_platform_fault, is_store_fault}
 use Rattle.mm_app.specs.Commands.{DoesOrLacks}
@@ -141,4 +141,16 @@ pub returns-in-Err-Memory-clause-wrote : goal.returns-in-Err-Memory-clause-wrote
 returns-in-Err-Memory-clause-wrote g c = output_stopped _ c.stopped-in-Err-Memory.result _ _ _ _ no_memory c.stopped-in-Err-Memory.ensures.told
 
 pub returns-in-Ok-clause-none : goal.returns-in-Ok-clause-none
-returns-in-Ok-clause-none g c unspelled = c.done.ensures.unbuilt (λ built. unspelled c.in-Ok.command built c.in-Ok.ensures.ok)
+returns-in-Ok-clause-none g c unspelled = absurd (unspelled c.in-Ok.command c.in-Ok.ensures.ok)
+
+pub returns-in-Ok-clause-usage : goal.returns-in-Ok-clause-usage
+returns-in-Ok-clause-usage g c is = absurd (c.done.ensures.usage is)
+
+pub returns-in-Ok-clause-check : goal.returns-in-Ok-clause-check
+returns-in-Ok-clause-check g c spells = c.done.ensures.check (one_command _ c.in-Ok.command Check c.in-Ok.ensures.ok spells)
+
+pub returns-in-Err-Usage-clause-check : goal.returns-in-Err-Usage-clause-check
+returns-in-Err-Usage-clause-check g c spells bytes next left run = absurd (c.in-Err-Usage.ensures.usage (rw c.in-Err-Usage.field-0-is refl) Check spells)
+
+pub returns-in-Err-Memory-clause-check : goal.returns-in-Err-Memory-clause-check
+returns-in-Err-Memory-clause-check g c spells bytes next left run = subst EndsUnrefused (sym c.stopped-in-Err-Memory.ensures.status) tt
