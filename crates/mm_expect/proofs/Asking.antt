@@ -15,7 +15,8 @@ use Rattle.mm_model.specs.History.{History, Move, Commit, Foreign, Placed, Reset
 use Rattle.mm_model.specs.Judge.{is_last}
 use Rattle.mm_model.specs.Steps.{Step, Reads, Changes, Writes, ask_steps}
 use Rattle.mm_model.specs.declared.refusal.Refusal.{Refusal}
-use Rattle.mm_model.proofs.Batches.{is_last_of}
+use Rattle.mm_model.specs.Life.{same_batch}
+use Rattle.mm_model.proofs.Batches.{same_batch-Decides}
 use Rattle.mm_model.proofs.MovedDigests.{total-push}
 use Rattle.mm_call.specs.Answers.{answer_on}
 use Rattle.mm_call.specs.Levels.{by_lists, all_made}
@@ -31,6 +32,11 @@ use Rattle.mm_expect.specs.Recorded.{Recorded, Went, instance_of, instance_with}
 use Rattle.mm_expect.specs.Walking.{Walks}
 use Rattle.mm_expect.specs.Calls.{again_in, reached, Admits, changing_steps, changing_from, changes_on, ChangesBy, ending_of, new_ending, GoesOnNew, CallsBy}
 use Rattle.mm_expect.proofs.Walking.{went_then}
+
+is_last_of : (front : List Batch) (b : Batch) → is_last (front ++ b ∷ []) b ≡ true
+is_last_of [] b = (same_batch-Decides b b).1 refl
+is_last_of (c ∷ []) b = (same_batch-Decides b b).1 refl
+is_last_of (c ∷ d ∷ front) b = is_last_of (d ∷ front) b
 
 -- what the steps of a new batch commit
 
@@ -194,7 +200,7 @@ after_quiet values Done r none = foreign_first values r.moves ∙ none
 after_quiet values (Fails f made) r none = committed-foreign values
 
 module _ (fates : ℕ → Fate) where
-  read_broken : (variant : Variant) (rest : List Step) (fault : StepFault) → (walk fates 1 (reading_steps variant)).broken ≡ Some fault
+  pub read_broken : (variant : Variant) (rest : List Step) (fault : StepFault) → (walk fates 1 (reading_steps variant)).broken ≡ Some fault
       → walk fates 1 (reading_steps variant ++ rest) ≡ walk fates 1 (reading_steps variant)
   read_broken Basic rest fault e = after_broken Reads (fates 1).brings (fates 1).ends finished (walk fates 2 rest) fault e (λ no. cc)
   read_broken Opt rest fault e =
@@ -202,7 +208,7 @@ module _ (fates : ℕ → Fate) where
       (after_step Reads (fates 2).brings (fates 2).ends (walk fates 3 rest)) fault e
       (λ f. after_broken Reads (fates 2).brings (fates 2).ends finished (walk fates 3 rest) fault f (λ no. cc))
 
-  read_whole : (variant : Variant) (rest : List Step) → (walk fates 1 (reading_steps variant)).broken ≡ None
+  pub read_whole : (variant : Variant) (rest : List Step) → (walk fates 1 (reading_steps variant)).broken ≡ None
       → Then (walk fates 1 (reading_steps variant)) (walk fates (changing_from variant) rest) (walk fates 1 (reading_steps variant ++ rest))
   read_whole Basic rest e =
       after_whole Reads (fates 1).brings (fates 1).ends finished (walk fates 2 rest) (walk fates 2 rest) e (λ w. record { moves = refl; broken = refl })
@@ -211,7 +217,7 @@ module _ (fates : ℕ → Fate) where
       (after_step Reads (fates 2).brings (fates 2).ends (walk fates 3 rest)) e
       (λ f. after_whole Reads (fates 2).brings (fates 2).ends finished (walk fates 3 rest) (walk fates 3 rest) f (λ w. record { moves = refl; broken = refl }))
 
-  read_seen : (variant : Variant) → (walk fates 1 (reading_steps variant)).broken ≡ None
+  pub read_seen : (variant : Variant) → (walk fates 1 (reading_steps variant)).broken ≡ None
       → (walk fates 1 (reading_steps variant)).moves ≡ seen_in fates (reading_steps variant) 1
   read_seen Basic e = after_seen (fates 1).brings (fates 1).ends finished [] e (λ w. refl)
   read_seen Opt e =
@@ -371,10 +377,10 @@ module _ (a : Recorded) (stop : Stop) (meddles : List Meddle) (bytes : List ℕ)
   ask_new n m ended w e goes =
       let f = again_ok found false (e ∙ ap again_in (found_there n w)) in
       let more : Walked = walk fates (changing_from a.variant) (changing_steps a.variant a.history.is_open b) in
-      let open : n.history.is_open ≡ a.history.is_open = ap (λ (y : History). y.is_open) w.went.history ∙ read_open a.variant a.history in
+      let opens : n.history.is_open ≡ a.history.is_open = ap (λ (y : History). y.is_open) w.went.history ∙ read_open a.variant a.history in
       let same : changes_on n stop meddles b ≡ more =
       ap (λ (v : Variant). walk fates (changing_from v) (changing_steps v n.history.is_open b)) w.went.variant
-      ∙ ap (λ (o : Bool). walk fates (changing_from a.variant) (changing_steps a.variant o b)) open in
+      ∙ ap (λ (o : Bool). walk fates (changing_from a.variant) (changing_steps a.variant o b)) opens in
       let went : Went n m more.moves = subst (λ (v : Walked). Went n m v.moves) same goes.went in
       let ends : ending_of ended ≡ new_ending m b more.moves more.broken = goes.ends ∙ ap (λ (v : Walked). new_ending m b v.moves v.broken) same in
       let fresh : is_fresh (Ok f.0) ≡ true = ap (λ (k : Bool). if k then false else true) f.2 in
@@ -385,3 +391,38 @@ module _ (a : Recorded) (stop : Stop) (meddles : List Meddle) (bytes : List ℕ)
       (read_whole fates a.variant (changing_steps a.variant a.history.is_open b) (sym w.broken))) in
       by_parts m ended (Ok f.0) (reading.moves ++ more.moves) more.broken (unlack found ∙ f.1) t.moves t.broken
       (went_then a n m reading.moves more.moves w.went went) (ends ∙ ends_new n m f.0 more.moves more.broken f.2 w went)
+
+  pub ask_new_in : {E : Type 0} (n m : Recorded) (r : Result Ended E) → Walks a n reading None
+      → Ok false ≡ again_in (found_at (instance_of n) (by_lists (instance_of n)) n.history b bytes)
+      → IfOk r (GoesOnNew n m stop meddles b) → IfOk r (CallsBy a m all)
+  ask_new_in n m (Ok ended) w e goes = ask_new n m ended w e goes
+  ask_new_in n m (Err why) w e goes = tt
+
+pub unbroken : (fault : Option StepFault) → ((f : StepFault) → fault ≡ Some f → ⊥) → fault ≡ None
+unbroken None h = refl
+unbroken (Some f) h = absurd (h f refl)
+
+pub kept_same : (total before now was : ℕ) → now ≡ total → was ≡ before → now ≡ was → None ≡ (if nat_eq total before then None else Some total)
+kept_same total before now was n w e =
+    sym (ap (λ (b : Bool). if b then None else Some total) ((Decides-eqb total before).1 (sym n ∙ e ∙ w)))
+
+not_true : (b : Bool) → (b ≡ true → ⊥) → b ≡ false
+not_true true h = absurd (h refl)
+not_true false h = refl
+
+pub kept_other : (total before now was : ℕ) → now ≡ total → was ≡ before → (now ≡ was → ⊥) → Some now ≡ (if nat_eq total before then None else Some total)
+kept_other total before now was n w e =
+    ap (λ (t : ℕ). Some t) n
+    ∙ sym (ap (λ (b : Bool). if b then None else Some total) (not_true (nat_eq total before) (λ t. e (n ∙ (Decides-eqb total before).0 t ∙ sym w))))
+
+pub last_pushed : (front : List Batch) (b : Batch) → is_last (front ++ b ∷ []) b ≡ true
+last_pushed front b = is_last_of front b
+
+seen_quiet : (fates : ℕ → Fate) (steps : List Step) (n : ℕ) → committed_in (seen_in fates steps n) ≡ []
+seen_quiet fates [] n = refl
+seen_quiet fates (step ∷ steps) n = foreign_first (fates n).brings (seen_in fates steps (n + 1)) ∙ seen_quiet fates steps (n + 1)
+
+-- what others put into the register commits nothing
+pub foreign_batches : (i : Instance) (fates : ℕ → Fate) (steps : List Step) (n : ℕ) (y : History)
+    → (all_made (by_lists i) y (seen_in fates steps n)).batches ≡ y.batches
+foreign_batches i fates steps n y = same_batches i (seen_in fates steps n) y (seen_quiet fates steps n)

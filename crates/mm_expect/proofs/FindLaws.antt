@@ -2,24 +2,27 @@
 use Rattle.std.proofs.Common.{◌≡◌, ℕ, ◌+◌, ◌≤◌, ◌^◌, Bool, true, false, ◌&&◌, List, Result, Ok, Err, refl, sym, ap, ◌∙◌, subst, arith}
 use Rattle.std.specs.Prelude.{if◌then◌else◌, nat_eq, nat_le, IfOk}
 use Rattle.std.specs.Str.{bytes_eq}
-use Rattle.std.proofs.lemmas.Bool.{and_parts}
+use Rattle.std.proofs.lemmas.Bool.{and_parts, leb-true}
 use Rattle.std.proofs.lemmas.Bool.Decides.{Decides-eqb}
 use Rattle.mm_digest.specs.declared.variant.Variant.{Variant}
 use Rattle.mm_module.specs.Batch.{Batch, size_of}
 use Rattle.mm_module.specs.Meaning.{Meaning}
 use Rattle.mm_seal.specs.declared.snapshot.PartsFault.{PartsFault}
+use Rattle.mm_seal.specs.declared.snapshot.PartsFault.TheVariants.{Form, Kind}
 use Rattle.mm_seal.specs.Snapshot.{Content, Snapshot, tag_of}
 use Rattle.mm_seal.specs.Parts.{parts_of}
 use Rattle.mm_model.specs.Instance.{Instance}
 use Rattle.mm_model.specs.History.{History, total_of}
 use Rattle.mm_model.specs.Life.{Life, Live, Spoiled, Lost as LostLife, life_by, life_of, is_lost}
 use Rattle.mm_model.specs.Judge.{is_last, judged, judge}
+use Rattle.mm_model.specs.declared.verdict.Verdict.{Verdict}
+use Rattle.mm_model.specs.declared.verdict.Verdict.TheVariants.{Fresh, Again, Lost, Stale}
 use Rattle.mm_model.specs.declared.refusal.Refusal.{Refusal}
 use Rattle.mm_model.specs.declared.refusal.Refusal.TheVariants as refusal
 use Rattle.mm_call.specs.Order.{admitted, weighed, examined}
 use Rattle.mm_call.specs.Levels.{by_lists}
 use Rattle.mm_call.specs.Found.{Found, found_with, found_from, found_at}
-use Rattle.mm_call.proofs.Finding.{admitted_tells, weighed_tells}
+use Rattle.mm_call.proofs.Finding.{admitted_tells, weighed_tells, found_with_tells}
 use Rattle.mm_expect.specs.Calls.{again_in, reached, Admits}
 
 pub lost_when : (is_open is_bare is_own is_marred : Bool) → is_lost (life_by is_open is_bare is_own is_marred) ≡ (is_open && is_bare)
@@ -85,3 +88,32 @@ admits_when i y b snapshot again e fits =
       fits = fits_when again snapshot.content.position (total_of y.batches) (size_of b) (is_last y.batches b) fits a.0 a.1;
       repeats = λ is. (and_parts (nat_eq (snapshot.content.position + size_of b) (total_of y.batches)) (is_last y.batches b) (a.1 is)).1;
     }
+
+admitted_yes : (v : Verdict) (fits again : Bool) → admitted v fits ≡ Ok again → fits ≡ true
+admitted_yes Fresh true again e = refl
+admitted_yes Fresh false again e = cc
+admitted_yes Again true again e = refl
+admitted_yes Again false again e = cc
+admitted_yes Lost fits again e = cc
+admitted_yes Stale fits again e = cc
+
+admitted_fits : (v : Verdict) (n : ℕ) (again : Bool) → admitted v (nat_le n (2 ^ 48)) ≡ Ok again → n ≤ 2 ^ 48
+admitted_fits v n again e = leb-true n (2 ^ 48) (admitted_yes v (nat_le n (2 ^ 48)) again e)
+
+-- what is found admits the batch
+from_admits : (i : Instance) (y : History) (b : Batch) (parts : Result Snapshot PartsFault) (f : Found)
+    → found_from i (by_lists i) y b parts ≡ Ok f → Admits y b f.again
+from_admits i y b (Err Form) f e = cc
+from_admits i y b (Err Kind) f e = cc
+from_admits i y b (Ok snapshot) f e =
+    let t = found_with_tells snapshot.content (examined i.meaning i.key snapshot b (judge i.variant y snapshot.content.position b)) f e in
+    let w = weighed_tells (i.meaning.is_spelled snapshot.content.state) (bytes_eq snapshot.tag (tag_of i.key snapshot.content)) _ _ f.again t.1 in
+    admits_when i y b snapshot f.again t.1 (admitted_fits (judge i.variant y snapshot.content.position b) (snapshot.content.position + size_of b) f.again w.2)
+
+unless_lost : (lost : Bool) (found : Result Found Refusal) (f : Found) → (if lost then Err refusal.Lost else found) ≡ Ok f → found ≡ Ok f
+unless_lost true found f e = cc
+unless_lost false found f e = e
+
+pub admits_found : (i : Instance) (y : History) (b : Batch) (bytes : List ℕ) (f : Found) → found_at i (by_lists i) y b bytes ≡ Ok f → Admits y b f.again
+admits_found i y b bytes f e =
+    from_admits i y b (parts_of i.variant i.meaning.id bytes) f (unless_lost (is_lost (life_of i.variant y)) _ f e)

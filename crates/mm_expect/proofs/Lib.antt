@@ -7,3 +7,7 @@ pub mod Asking
 pub mod Flipping
 pub mod NameLaws
 pub mod GenuineLaws
+pub mod CheckLaws
+pub mod ComingLaws
+pub mod AfterLaws
+pub mod PrintLaws

@@ -1,22 +1,32 @@
 -- What the fields of a chronicle keep goes on with its moves.
-use Rattle.std.proofs.Common.{◌≡◌, ℕ, true, false, List, [], ◌∷◌, ◌++◌, length, sym, ap, ◌∙◌, subst}
+use Rattle.std.proofs.Common.{◌≡◌, ◌≤◌, ℕ, Bool, true, false, List, [], ◌∷◌, ◌++◌, length, refl, sym, ap, ◌∙◌, subst}
 use Rattle.std.specs.Prelude.{IsTrue, nat_le}
 use Rattle.std.proofs.lemmas.List.{same_from_push}
 use Rattle.mm_digest.specs.declared.variant.Variant.{Variant}
 use Rattle.mm_digest.specs.declared.variant.Variant.TheVariants.{Basic, Opt}
 use Rattle.mm_module.specs.Batch.{Batch, members_of, size_of}
-use Rattle.mm_module.specs.Meaning.{state_from, state_after}
+use Rattle.mm_base.specs.Limits.{limit_of}
+use Rattle.mm_digest.specs.Messages.{zero_bytes, start_of}
+use Rattle.mm_module.specs.Meaning.{state_from, state_after, outputs_from}
 use Rattle.mm_module.proofs.RunLaws.{state_after-append, state_from-is_spelled}
 use Rattle.mm_modules.specs.declared.any.AnyModule.{AnyModule}
 use Rattle.mm_modules.specs.Modules.{meaning_of}
 use Rattle.mm_modules.specs.ModulesLaws.{any_is_lawful}
-use Rattle.mm_model.specs.Chains.{guard, register_of}
-use Rattle.mm_model.specs.History.{History, Value, requests_of, values_of, renamed, committed}
+use Rattle.mm_model.specs.Chains.{guard, register_of, anchor_of}
+use Rattle.mm_model.specs.History.{History, Value, first_history, requests_of, total_of, cell_digest_of, values_of, renamed, committed}
+use Rattle.mm_model.specs.Judge.{is_last}
+use Rattle.mm_model.specs.Places.{digest_of}
+use Rattle.mm_model.specs.Standing.{issued_bytes}
+use Rattle.mm_model.proofs.Batches.{is_last_tells}
+use Rattle.mm_model.proofs.Forms.{reads_zero}
+use Rattle.mm_call.specs.Answers.{last_outputs, answer_on}
+use Rattle.mm_call.specs.declared.ended.Ended.TheVariants.{Answered}
+use Rattle.mm_call.proofs.Moving.{summary-nil}
 use Rattle.mm_model.specs.Life.{is_empty, has_value}
-use Rattle.mm_call.proofs.Calling.{requests-push}
+use Rattle.mm_call.proofs.Calling.{requests-push, said_last}
 use Rattle.mm_expect.specs.declared.marks.Marks.{Marks}
 use Rattle.mm_expect.specs.Marks.{marks_of, with_value, emptied, closed_by, linked, grown, opened}
-use Rattle.mm_expect.specs.Recorded.{barrier_of, instance_with}
+use Rattle.mm_expect.specs.Recorded.{Recorded, barrier_of, instance_with, instance_of}
 use Rattle.mm_expect.specs.Settled.{IsSettled}
 use Rattle.mm_expect.proofs.MarkLaws.{marks_value, marks_emptied, marks_shut, marks_linked, marks_grown, marks_opened}
 
@@ -120,3 +130,62 @@ module _ (variant : Variant) («module» : AnyModule) (barrier : List ℕ) (y z 
       ∙ ap (λ v. opened (marks_of i y) (size_of b) (guard i.barrier b) v (nat_le (length y.items) 1))
       (reads ∙ ap (λ r. register_of (values_of r z.items)) s.barrier_is ∙ ap (λ (h : History). register_of (values_of i.barrier h.items)) is)
       ∙ sym (marks_opened i y b opt) ∙ ap (marks_of i) (sym is)) run
+
+anchor-nil : (id : ℕ) → start_of Opt id ≡ anchor_of id []
+unfolding anchor_of
+anchor-nil id = refl
+
+cell_first : («module» : AnyModule) (variant : Variant) → start_of variant (meaning_of «module»).id ≡ cell_digest_of (instance_with variant «module») variant first_history
+cell_first «module» Basic = summary-nil (meaning_of «module»).id
+cell_first «module» Opt = anchor-nil (meaning_of «module»).id
+
+no_last : {A : Type 0} (front : List A) (x : A) → [] ≡ front ++ x ∷ [] → ⊥
+no_last [] x e = cc
+no_last (y ∷ front) x e = cc
+
+-- at the first history
+pub settled_first : (variant : Variant) («module» : AnyModule) (barrier : List ℕ) (y : History) (marks : Marks) (state before : List ℕ) (id : ℕ)
+    → barrier ≡ barrier_of variant → y ≡ first_history → id ≡ (meaning_of «module»).id
+    → marks ≡ record { total = 0; cell = digest_of (start_of variant id); own = digest_of zero_bytes; register = digest_of zero_bytes; is_own = true; is_marred = false }
+    → state ≡ (meaning_of «module»).first → before ≡ (meaning_of «module»).first
+    → IsSettled variant «module» barrier y marks state before
+settled_first variant «module» barrier y marks state before id b first ids m s f =
+    let i = instance_with variant «module» in
+    let lawful = any_is_lawful «module» in record {
+      barrier_is = b;
+      marks_is = m ∙ ap (λ n. record { total = 0; cell = digest_of (start_of variant n); own = digest_of zero_bytes; register = digest_of zero_bytes; is_own = true; is_marred = false }) ids
+          ∙ (λ j. record {
+            total = 0;
+            cell = digest_of (cell_first «module» variant j);
+            own = digest_of (sym reads_zero j);
+            register = digest_of (sym reads_zero j);
+            is_own = true;
+            is_marred = false;
+          }) ∙ ap (marks_of i) (sym first);
+      state_is = s ∙ ap (λ (h : History). state_after (meaning_of «module») (requests_of h.batches)) (sym first);
+      before_is = λ front last e. absurd (no_last front last (sym (ap (λ (h : History). h.batches) first) ∙ e));
+      spelled = subst (λ (v : List ℕ). IsTrue ((meaning_of «module»).is_spelled v)) (sym s) lawful.begins;
+      begun = subst (λ (v : List ℕ). IsTrue ((meaning_of «module»).is_spelled v)) (sym f) lawful.begins;
+    }
+
+-- the state is within its limit
+pub fits_limit : («module» : AnyModule) (state given : List ℕ) (id : ℕ) → IsTrue ((meaning_of «module»).is_spelled state) → given ≡ state
+    → id ≡ (meaning_of «module»).id → length given ≤ limit_of id
+fits_limit «module» state given id spelled same ids =
+    subst (λ n. length given ≤ limit_of n) (sym ids)
+    (subst (λ (v : List ℕ). length v ≤ limit_of (meaning_of «module»).id) (sym same) ((any_is_lawful «module»).fits state spelled))
+
+-- what the module says to the last batch, run again
+pub outputs_last : (variant : Variant) («module» : AnyModule) (barrier : List ℕ) (y : History) (marks : Marks) (state before : List ℕ) (b : Batch)
+    → IsSettled variant «module» barrier y marks state before → is_last y.batches b ≡ true
+    → outputs_from (meaning_of «module») before (members_of b) ≡ last_outputs (meaning_of «module») y (size_of b)
+outputs_last variant «module» barrier y marks state before b s last =
+    let h = is_last_tells y.batches b last in
+    ap (λ v. outputs_from (meaning_of «module») v (members_of b)) (s.before_is h.front b h.is)
+    ∙ sym (said_last (meaning_of «module») y.batches h.front b h.is)
+
+pub answered_is : (r : Recorded) (again : Bool) (b : Batch) (position : ℕ) (outputs : List (List ℕ)) (snapshot : List ℕ)
+    → position ≡ total_of r.history.batches → outputs ≡ last_outputs (meaning_of r.«module») r.history (size_of b)
+    → snapshot ≡ issued_bytes (instance_of r) r.history
+    → Answered (record { again = again; position = position; outputs = outputs; snapshot = snapshot }) ≡ Answered (answer_on (instance_of r) r.history b again)
+answered_is r again b position outputs snapshot p o s = λ j. Answered (record { again = again; position = p j; outputs = o j; snapshot = s j })

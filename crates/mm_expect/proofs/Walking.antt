@@ -3,6 +3,7 @@ use Rattle.std.proofs.Common.{◌≡◌, ℕ, ◌+◌, ◌<◌, ◌≤◌, Bool,
 use Rattle.std.specs.Prelude.{◌==◌, if◌then◌else◌, Result, Ok, Err, OnOk, IfOk}
 use Rattle.std.proofs.lemmas.List.{append-nil, map-append, take_all}
 use Rattle.std.proofs.lemmas.List.Elements.{filter_more}
+use Rattle.std.proofs.lemmas.Bool.Decides.{Decides-eqb}
 use Rattle.mm_platform.specs.declared.fault.StepFault.{StepFault}
 use Rattle.mm_platform.specs.declared.fault.StepFault.TheVariants.{Failed}
 use Rattle.mm_platform.specs.declared.plan.Meddle.{Meddle}
@@ -70,6 +71,10 @@ went_then a b c xs ys first second =
           first.history first.closing second.closing;
     }
 
+not_true : (b : Bool) → (b ≡ true → ⊥) → b ≡ false
+not_true true h = absurd (h refl)
+not_true false h = refl
+
 added : (xs : List (List ℕ)) (v : List ℕ) (flag : Bool) → map Foreign (xs ++ (if flag then v ∷ [] else [])) ≡ map Foreign xs ++ (if flag then Foreign v ∷ [] else [])
 added xs v true = map-append Foreign xs (v ∷ [])
 added xs v false = map-append Foreign xs []
@@ -92,16 +97,16 @@ due_taken step meddles i d flag l e =
     ∙ added (map v front) m.value.bytes flag
 
 pub bring_one : (a b c : Recorded) (step : ℕ) (meddles : List Meddle) (i : ℕ) (d : Meddle) → i < length meddles
-    → ((get_or meddles i d).step == step) ≡ true → Went a b (map Foreign (due step (take i meddles))) → Went b c (Foreign (get_or meddles i d).value.bytes ∷ [])
+    → (get_or meddles i d).step ≡ step → Went a b (map Foreign (due step (take i meddles))) → Went b c (Foreign (get_or meddles i d).value.bytes ∷ [])
     → Went a c (map Foreign (due step (take (i + 1) meddles)))
 bring_one a b c step meddles i d l e first second =
-    subst (Went a c) (sym (due_taken step meddles i d true l e)) (went_then a b c _ _ first second)
+    subst (Went a c) (sym (due_taken step meddles i d true l ((Decides-eqb (get_or meddles i d).step step).1 e))) (went_then a b c _ _ first second)
 
 pub bring_none : (a b : Recorded) (step : ℕ) (meddles : List Meddle) (i : ℕ) (d : Meddle) → i < length meddles
-    → ((get_or meddles i d).step == step) ≡ false → Went a b (map Foreign (due step (take i meddles)))
+    → ((get_or meddles i d).step ≡ step → ⊥) → Went a b (map Foreign (due step (take i meddles)))
     → Went a b (map Foreign (due step (take (i + 1) meddles)))
 bring_none a b step meddles i d l e first =
-    subst (Went a b) (sym (due_taken step meddles i d false l e ∙ append-nil _)) first
+    subst (Went a b) (sym (due_taken step meddles i d false l (not_true ((get_or meddles i d).step == step) (λ t. e ((Decides-eqb (get_or meddles i d).step step).0 t))) ∙ append-nil _)) first
 
 -- the values that are due, when all meddles were looked at
 pub bring_all : (a b : Recorded) (step : ℕ) (meddles : List Meddle) (i : ℕ) → length meddles ≤ i

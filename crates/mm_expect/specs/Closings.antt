@@ -1,5 +1,5 @@
 -- What a checkpoint comes to, as a chronicle goes on by it.
-use Rattle.std.specs.Prelude.{◌≡◌, Bool, false, Option, None, Some}
+use Rattle.std.specs.Prelude.{◌≡◌, Bool, true, false, Option, None, Some}
 use Rattle.mm_platform.specs.declared.fault.StepFault.{StepFault}
 use Rattle.mm_model.specs.History.{History}
 use Rattle.mm_call.specs.Checkpoints as ghost_closing
@@ -14,6 +14,14 @@ closing_as HasNone = ghost_closing.HasNone
 closing_as NoSegment = ghost_closing.NoSegment
 closing_as LostPower = ghost_closing.LostPower
 closing_as (Stops fault closed) = ghost_closing.Stops fault closed
+
+-- a device's fault broke it off
+abbrev pub stops : Closing → Bool
+stops Closes = false
+stops HasNone = false
+stops NoSegment = false
+stops LostPower = false
+stops (Stops fault closed) = true
 
 -- The chronicle went on by a checkpoint, which ended so.
 pub record ChecksBy (old new : Recorded) (o : ghost_closing.Checkpointed History) (closing : Closing) : Type 0 where

@@ -10,3 +10,6 @@ pub mod Asked
 pub mod OfferedBytes
 pub mod Naming
 pub mod Genuine
+pub mod Coming
+pub mod Traced
+pub mod Hears

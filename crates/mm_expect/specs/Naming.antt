@@ -14,7 +14,8 @@ use Rattle.mm_model.specs.Chains.{summary_of, register_of, own_values}
 use Rattle.mm_model.specs.Instance.{Instance, basic, opt}
 use Rattle.mm_model.specs.History.{Entry, History, requests_of, joined}
 use Rattle.mm_model.specs.Life.{is_empty, has_value, same_batch}
-use Rattle.mm_model.specs.Places.{anchor_after, Names}
+use Rattle.mm_model.specs.Places.{anchor_after, digest_of, Names}
+use Rattle.mm_expect.specs.declared.naming.Reached.{Reached}
 
 -- the statement holds, or doesn't
 abbrev pub IsDecided : Bool → Type 0 → Type 0
@@ -84,6 +85,14 @@ is_named_at i y content (Some named) =
 -- the content names a position of the history
 abbrev pub is_named : Instance → History → Content → Bool
 is_named i y content = is_named_at i y content (first_with content.position y.batches)
+
+-- How far a walk over the closed segments has come, behind these.
+abbrev pub reached_of : Instance → List (List Entry) → Reached
+reached_of i before = record {
+  anchor = digest_of (anchor_after i before);
+  entries = length (joined before);
+  is_clean = not (has_value (joined before));
+}
 
 -- So it is decided, in either variant.
 abbrev pub BasicNamesAreDecided : Type 0

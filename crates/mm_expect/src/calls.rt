@@ -177,3 +177,18 @@ pub(crate) enum Closing {
     LostPower,
     Stops { fault: StepFault, closed: bool },
 }
+
+impl Closing {
+    ghost use Rattle.std.specs.Prelude.{◌≡◌};
+    ghost use Rattle.mm_expect.specs.Closings.{stops};
+
+    /// Whether a device's fault broke the checkpoint off.
+    pub(crate) fn stops(&self) -> bool
+        ensures { result ≡ stops self.now }
+    {
+        match self {
+            Closing::Stops { .. } => true,
+            Closing::Closes | Closing::HasNone | Closing::NoSegment | Closing::LostPower => false,
+        }
+    }
+}

@@ -5,6 +5,7 @@ mod answering;
 mod calls;
 mod chronicle;
 mod course;
+mod expecting;
 mod judging;
 mod kept;
 mod keys;
@@ -14,3 +15,5 @@ mod messages;
 mod naming;
 mod offered;
 mod replies;
+
+pub use expecting::{Expecting, Heard};

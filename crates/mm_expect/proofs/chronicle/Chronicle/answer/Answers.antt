@@ -1,16 +1,25 @@
-use Rattle.std.proofs.Common.{rules, ◌≡◌, ◌≤◌, ◌^◌, true, false, IfOk, ℕ, ◌+◌, ◌-◌, ◌*◌, ◌<◌, length, ◌/◌, ◌%◌, Bool, nat_eq, nat_lt, List, [], ◌∷◌, ◌++◌, slice_index_or, slice_set, bit_and, bit_or, Fits, w8, w32, w64, Bor, MutBor}
+use Rattle.std.proofs.Common.{◌≡◌, true, sym, ap, ◌∙◌, subst}
+use Rattle.mm_module.specs.Batch.{members_of, size_of}
 use Rattle.mm_module.specs.Batches.{batch_of}
-use Rattle.mm_model.specs.History.{total_of}
+use Rattle.mm_module.specs.Meaning.{outputs_from}
+use Rattle.mm_modules.specs.Modules.{meaning_of}
 use Rattle.mm_model.specs.Judge.{is_last}
-use Rattle.mm_model.specs.Long.{is_long}
-use Rattle.mm_model.specs.Places.{issued_place}
 use Rattle.mm_model.specs.Standing.{issued_bytes}
-use Rattle.mm_call.specs.Answers.{answer_on}
-use Rattle.mm_call.specs.declared.ended.Ended.TheVariants.{Answered}
-use Rattle.mm_run.specs.Held.{world_key}
-use Rattle.mm_expect.specs.Recorded.{instance_of}
+use Rattle.mm_model.specs.History.{total_of}
+use Rattle.mm_call.specs.Answers.{last_outputs}
+use Rattle.mm_expect.specs.declared.marks.Marks.{Marks}
+use Rattle.mm_expect.specs.Recorded.{Recorded, instance_of}
+use Rattle.mm_expect.proofs.Settling.{outputs_last, answered_is}
 use Rattle.mm_expect.proofs.chronicle.Chronicle.answer.Goals as goal
 
--- src/answering.rt:60:5
 pub returns : goal.returns
-returns c = ?
+returns c =
+    let b = batch_of c.args.batch in
+    let last = ap (λ (r : Recorded). is_last r.history.batches b) c.self.view_is ∙ c.requires.last in
+    answered_is c.args.self.now c.args.again b c.self.inside.marks.total c.in_ok-outputs.field-0.outputs c.in_ok-snapshot.snapshot
+    (ap (λ (m : Marks). m.total) c.self.invariant.marks_is ∙ ap (λ (r : Recorded). total_of r.history.batches) c.self.view_is)
+    (c.in_ok-outputs.ensures.outputs ∙ ap (λ v. outputs_from (meaning_of c.self.inside.«module») v (members_of b)) c.as_slice.ensures.value
+    ∙ outputs_last c.self.inside.variant c.self.inside.«module» c.self.inside.barrier c.self.inside.lists c.self.inside.marks c.self.inside.state
+    c.self.inside.before b c.self.invariant last
+    ∙ ap (λ (r : Recorded). last_outputs (meaning_of r.«module») r.history (size_of b)) c.self.view_is)
+    c.in_ok-snapshot.ensures

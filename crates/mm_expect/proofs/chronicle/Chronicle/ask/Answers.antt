@@ -1,24 +1,25 @@
-use Rattle.std.proofs.Common.{rules, ◌≡◌, [], ◌∷◌, true, false, IfOk, ℕ, ◌+◌, ◌-◌, ◌*◌, ◌<◌, ◌≤◌, length, ◌/◌, ◌%◌, Bool, nat_eq, nat_lt, List, ◌++◌, slice_index_or, slice_set, bit_and, bit_or, Fits, w8, w32, w64, Bor, MutBor}
-use Rattle.mm_digest.specs.declared.variant.Variant.TheVariants.{Opt}
-use Rattle.mm_model.specs.Steps.{Reads}
+use Rattle.std.proofs.Common.{sym, ap, ◌∙◌, ◌≡◌, Option, None, Bool, Result, Ok, subst}
+use Rattle.mm_platform.specs.declared.fault.StepFault.{StepFault}
 use Rattle.mm_module.specs.Batches.{batch_of}
-use Rattle.mm_model.specs.Long.{is_long}
-use Rattle.mm_call.specs.Called.{called, reading_steps}
+use Rattle.mm_model.specs.declared.refusal.Refusal.{Refusal}
+use Rattle.mm_call.specs.Called.{reading_steps}
 use Rattle.mm_call.specs.Courses.{planned, walk}
-use Rattle.mm_call.specs.Checkpoints.{checkpointed}
-use Rattle.mm_call.specs.Levels.{by_lists}
-use Rattle.mm_run.specs.Folds.{plan_of, course_of}
-use Rattle.mm_run.specs.Held.{world_key}
-use Rattle.mm_expect.specs.Recorded.{instance_of}
+use Rattle.mm_run.specs.Folds.{plan_of}
 use Rattle.mm_expect.specs.Walking.{Walks}
-use Rattle.mm_expect.specs.Calls.{Admits, CallsBy, GoesOnNew, ChangesBy}
-use Rattle.mm_expect.specs.Closings.{ChecksBy, ShutBy}
+use Rattle.mm_expect.proofs.Asking.{ask_broken, ask_new_in, unbroken}
 use Rattle.mm_expect.proofs.chronicle.Chronicle.ask.Goals as goal
 
--- src/calls.rt:80:13
 pub returns-in-Some : goal.returns-in-Some
-returns-in-Some c = ?
+returns-in-Some c =
+    let So : Option StepFault → Type 0 = λ f. Walks c.args.self.now c.read.new.self
+    (walk (planned (plan_of c.args.course.now.stop c.args.course.now.meddles.now)) 1 (reading_steps c.args.self.now.variant)) f in
+    ask_broken c.args.self.now c.args.course.now.stop c.args.course.now.meddles.now c.args.bytes.now (batch_of c.args.batch) c.read.new.self
+    c.in-Some.fault (subst So c.in-Some.is c.in_ok-fault.ensures)
 
--- src/calls.rt:67:5
 pub returns-in-Ok-false : goal.returns-in-Ok-false
-returns-in-Ok-false c = ?
+returns-in-Ok-false c =
+    let So : Option StepFault → Type 0 = λ f. Walks c.args.self.now c.read.new.self
+    (walk (planned (plan_of c.args.course.now.stop c.args.course.now.meddles.now)) 1 (reading_steps c.args.self.now.variant)) f in
+    ask_new_in c.args.self.now c.args.course.now.stop c.args.course.now.meddles.now c.args.bytes.now (batch_of c.args.batch) c.read.new.self c.ask_new.new.self
+    c.ask_new.result (subst So (unbroken c.in_ok-fault.field-0 c.in_default.not-Some) c.in_ok-fault.ensures)
+    (ap (λ (b : Bool). Ok b) (sym c.in-Ok-false.field-0-test) ∙ sym c.in-Ok-false.is ∙ c.find.ensures.found) c.ask_new.ensures

@@ -1,4 +1,4 @@
-use Rattle.std.proofs.Common.{map, take, ◌+◌}
+use Rattle.std.proofs.Common.{map, take, ◌+◌, []}
 use Rattle.std.proofs.Common.{subst, sym}
 use Rattle.mm_model.specs.History.{Foreign}
 use Rattle.mm_platform.specs.Standing.{due}
@@ -15,10 +15,10 @@ meddles-preserved c =
     elim c.if-meddle-step.branch [
       | then-meddle-step+in_ok-bring w ↦
           subst So (sym w.self-is)
-          (bring_one c.args.self.now c.meddles.self w.bring.new.self c.args.step all n _ c.meddles-test.true
+          (bring_one c.args.self.now c.meddles.self w.bring.new.self c.args.step all n (record { step = 0; value = record { bytes = [] } }) c.meddles-test.true
           w.if-meddle-step.true c.meddles.invariant w.in_ok-bring.ensures)
       | else-meddle-step w ↦
           subst So (sym w.self-is)
-          (bring_none c.args.self.now c.meddles.self c.args.step all n _ c.meddles-test.true
+          (bring_none c.args.self.now c.meddles.self c.args.step all n (record { step = 0; value = record { bytes = [] } }) c.meddles-test.true
           w.if-meddle-step.false c.meddles.invariant)
     ]

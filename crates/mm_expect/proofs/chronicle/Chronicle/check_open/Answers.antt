@@ -1,28 +1,38 @@
-use Rattle.std.proofs.Common.{rules, ◌≡◌, [], ◌∷◌, true, false, IfOk, ℕ, ◌+◌, ◌-◌, ◌*◌, ◌<◌, ◌≤◌, length, ◌/◌, ◌%◌, Bool, nat_eq, nat_lt, List, ◌++◌, slice_index_or, slice_set, bit_and, bit_or, Fits, w8, w32, w64, Bor, MutBor}
+use Rattle.std.proofs.Common.{sym, ap, ◌∙◌, ◌≡◌, Option, None, Some, List, [], ◌∷◌, subst}
 use Rattle.mm_digest.specs.declared.variant.Variant.TheVariants.{Opt}
-use Rattle.mm_model.specs.Steps.{Reads}
-use Rattle.mm_module.specs.Batches.{batch_of}
-use Rattle.mm_model.specs.Long.{is_long}
-use Rattle.mm_call.specs.Called.{called, reading_steps}
+use Rattle.mm_platform.specs.declared.fault.StepFault.{StepFault}
+use Rattle.mm_model.specs.History.{Close}
+use Rattle.mm_model.specs.Steps.{Writes}
+use Rattle.mm_call.specs.Called.{reading_steps}
 use Rattle.mm_call.specs.Courses.{planned, walk}
-use Rattle.mm_call.specs.Checkpoints.{checkpointed}
-use Rattle.mm_call.specs.Levels.{by_lists}
-use Rattle.mm_run.specs.Folds.{plan_of, course_of}
-use Rattle.mm_run.specs.Held.{world_key}
-use Rattle.mm_expect.specs.Recorded.{instance_of}
+use Rattle.mm_run.specs.Folds.{plan_of}
 use Rattle.mm_expect.specs.Walking.{Walks}
-use Rattle.mm_expect.specs.Calls.{Admits, CallsBy, GoesOnNew, ChangesBy}
-use Rattle.mm_expect.specs.Closings.{ChecksBy, ShutBy}
+use Rattle.mm_expect.proofs.Asking.{unbroken}
+use Rattle.mm_expect.proofs.CheckLaws.{check_broken, check_closed, check_stopped}
 use Rattle.mm_expect.proofs.chronicle.Chronicle.check_open.Goals as goal
 
--- src/calls.rt:153:13
 pub returns-in-Some : goal.returns-in-Some
-returns-in-Some c = ?
+returns-in-Some c =
+    let So : Option StepFault → Type 0 = λ f. Walks c.args.self.now c.walk.new.self
+    (walk (planned (plan_of c.args.course.now.stop c.args.course.now.meddles.now)) 1 (reading_steps Opt)) f in
+    check_broken c.args.self.now c.args.course.now.stop c.args.course.now.meddles.now c.requires.variant c.requires.inside c.walk.new.self c.in-Some.fault (subst So c.in-Some.is c.in_ok-fault.ensures)
 
--- src/calls.rt:146:5
 pub returns-in-None : goal.returns-in-None
-returns-in-None c = ?
+returns-in-None c =
+    let So : Option StepFault → Type 0 = λ f. Walks c.args.self.now c.walk.new.self
+    (walk (planned (plan_of c.args.course.now.stop c.args.course.now.meddles.now)) 1 (reading_steps Opt)) f in
+    let To : Option StepFault → Type 0 = λ f. Walks c.walk.new.self c.walk-2.new.self
+    (walk (planned (plan_of c.args.course.now.stop c.args.course.now.meddles.now)) 3 (Writes Close ∷ [])) f in
+    check_closed c.args.self.now c.args.course.now.stop c.args.course.now.meddles.now c.requires.variant c.requires.inside c.walk.new.self c.walk-2.new.self
+    (subst So (unbroken c.in_ok-fault.field-0 c.in_default.not-Some) c.in_ok-fault.ensures) (sym c.is_lost.ensures ∙ c.if-is_lost.false)
+    (subst To c.in-None.is c.in_ok-walk.ensures)
 
--- src/calls.rt:146:5
 pub returns-in-Some-2 : goal.returns-in-Some-2
-returns-in-Some-2 c = ?
+returns-in-Some-2 c =
+    let So : Option StepFault → Type 0 = λ f. Walks c.args.self.now c.walk.new.self
+    (walk (planned (plan_of c.args.course.now.stop c.args.course.now.meddles.now)) 1 (reading_steps Opt)) f in
+    let To : Option StepFault → Type 0 = λ f. Walks c.walk.new.self c.walk-2.new.self
+    (walk (planned (plan_of c.args.course.now.stop c.args.course.now.meddles.now)) 3 (Writes Close ∷ [])) f in
+    check_stopped c.args.self.now c.args.course.now.stop c.args.course.now.meddles.now c.requires.variant c.requires.inside c.walk.new.self c.walk-2.new.self c.in-Some-2.fault c.is_made_at.result
+    (subst So (unbroken c.in_ok-fault.field-0 c.in_default.not-Some) c.in_ok-fault.ensures) (sym c.is_lost.ensures ∙ c.if-is_lost.false)
+    (subst To c.in-Some-2.is c.in_ok-walk.ensures) c.is_made_at.ensures

@@ -1,24 +1,18 @@
-use Rattle.std.proofs.Common.{rules, ◌≡◌, [], ◌∷◌, true, false, IfOk, ℕ, ◌+◌, ◌-◌, ◌*◌, ◌<◌, ◌≤◌, length, ◌/◌, ◌%◌, Bool, nat_eq, nat_lt, List, ◌++◌, slice_index_or, slice_set, bit_and, bit_or, Fits, w8, w32, w64, Bor, MutBor}
-use Rattle.mm_digest.specs.declared.variant.Variant.TheVariants.{Opt}
-use Rattle.mm_model.specs.Steps.{Reads}
-use Rattle.mm_module.specs.Batches.{batch_of}
-use Rattle.mm_model.specs.Long.{is_long}
-use Rattle.mm_call.specs.Called.{called, reading_steps}
-use Rattle.mm_call.specs.Courses.{planned, walk}
-use Rattle.mm_call.specs.Checkpoints.{checkpointed}
-use Rattle.mm_call.specs.Levels.{by_lists}
-use Rattle.mm_run.specs.Folds.{plan_of, course_of}
-use Rattle.mm_run.specs.Held.{world_key}
-use Rattle.mm_expect.specs.Recorded.{instance_of}
-use Rattle.mm_expect.specs.Walking.{Walks}
-use Rattle.mm_expect.specs.Calls.{Admits, CallsBy, GoesOnNew, ChangesBy}
-use Rattle.mm_expect.specs.Closings.{ChecksBy, ShutBy}
+use Rattle.std.proofs.Common.{sym, ap, ◌∙◌, ◌≡◌, refl, true, false}
+use Rattle.mm_digest.specs.declared.variant.Variant.TheVariants.{Basic, Opt}
+use Rattle.mm_expect.specs.declared.calls.Closing.TheVariants.{HasNone, NoSegment}
+use Rattle.mm_expect.specs.Recorded.{Recorded}
+use Rattle.mm_expect.proofs.CheckLaws.{shut_is}
 use Rattle.mm_expect.proofs.chronicle.Chronicle.checkpoint.Goals as goal
 
--- src/calls.rt:116:5
 pub returns-in-Basic : goal.returns-in-Basic
-returns-in-Basic c = ?
+returns-in-Basic c =
+    shut_is c.args.self.now c.check_shut.new.self c.args.course.now.stop c.args.course.now.meddles.now HasNone Basic c.args.self.now.history.is_open
+    c.check_shut.result (ap (λ (r : Recorded). r.variant) (sym c.self.view_is) ∙ c.in-Basic.is) refl (λ lost. refl) (λ lost. refl) c.check_shut.ensures
 
--- src/calls.rt:116:5
 pub returns-else-is_open : goal.returns-else-is_open
-returns-else-is_open c = ?
+returns-else-is_open c =
+    shut_is c.args.self.now c.check_shut-else-is_open.new.self c.args.course.now.stop c.args.course.now.meddles.now NoSegment Opt false
+    c.check_shut-else-is_open.result (ap (λ (r : Recorded). r.variant) (sym c.self.view_is) ∙ c.in-Opt.is)
+    (ap (λ (r : Recorded). r.history.is_open) (sym c.self.view_is) ∙ sym c.is_open.ensures ∙ c.if-is_open.false)
+    (λ lost. refl) (λ lost. refl) c.check_shut-else-is_open.ensures

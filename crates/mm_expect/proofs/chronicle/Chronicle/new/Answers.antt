@@ -1,14 +1,14 @@
-use Rattle.std.proofs.Common.{rules, ◌≡◌, ◌++◌, IfOk, ◌+◌, ◌<◌, ◌^◌, [], ◌∷◌, true, false, OnOk, ℕ, ◌-◌, ◌*◌, ◌≤◌, length, ◌/◌, ◌%◌, Bool, nat_eq, nat_lt, List, slice_index_or, slice_set, bit_and, bit_or, Fits, w8, w32, w64, Bor, MutBor}
-use Rattle.mm_digest.specs.Messages.{anchored_message}
-use Rattle.mm_digest.specs.declared.variant.Variant.TheVariants.{Basic, Opt}
-use Rattle.mm_module.specs.Batch.{size_of}
-use Rattle.mm_module.specs.Batches.{batch_of}
-use Rattle.mm_model.specs.Chains.{guard}
-use Rattle.mm_model.specs.Long.{is_long}
-use Rattle.mm_model.specs.History.{Move, Commit, Foreign, Placed, Reset, Close, Power, committed, register_value_of, cell_digest_of, total_of}
-use Rattle.mm_expect.specs.Recorded.{first_recorded, Went, instance_of, extension_messages, closing_messages, state_after_batch}
+use Rattle.std.proofs.Common.{sym, ap, ◌∙◌, ◌≡◌}
+use Rattle.mm_expect.specs.Recorded.{barrier_of}
+use Rattle.mm_expect.proofs.Settling.{settled_first}
 use Rattle.mm_expect.proofs.chronicle.Chronicle.new.Goals as goal
+use Rattle.mm_expect.proofs.chronicle.Chronicle.new.Goals.{in-Basic, in-Opt}
 
--- src/chronicle.rt:73:9
 pub invariant_of-result : goal.invariant_of-result
-invariant_of-result c = ?
+invariant_of-result c =
+    let barrier_is : c.match-variant.barrier ≡ barrier_of c.args.variant = elim c.match-variant.branch [
+      | in-Basic w ↦ w.barrier-is ∙ w.zero.ensures ∙ ap barrier_of (sym w.in-Basic.is)
+      | in-Opt w ↦ w.barrier-is ∙ w.barrier-barrier.ensures ∙ ap barrier_of (sym w.in-Opt.is)
+    ] in
+    settled_first c.args.variant c.args.«module» c.match-variant.barrier c.new.result c.first.result c.in_ok-state.state c.in_ok-before.before c.id.result
+    barrier_is c.new.ensures c.id.ensures c.first.ensures c.in_ok-state.ensures c.in_ok-before.ensures

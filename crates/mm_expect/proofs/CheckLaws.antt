@@ -1,0 +1,178 @@
+-- A checkpoint by lists, step by step.
+use Rattle.std.proofs.Common.{◌≡◌, ℕ, Bool, true, false, List, [], ◌∷◌, ◌++◌, map, Option, None, Some, Result, Ok, Err, refl, sym, ap, ◌∙◌, subst}
+use Rattle.std.specs.Prelude.{IfOk}
+use Rattle.std.proofs.lemmas.List.{append-nil}
+use Rattle.mm_digest.specs.declared.variant.Variant.{Variant}
+use Rattle.mm_digest.specs.declared.variant.Variant.TheVariants.{Basic, Opt}
+use Rattle.mm_platform.specs.declared.fault.StepFault.{StepFault}
+use Rattle.mm_platform.specs.declared.plan.Meddle.{Meddle}
+use Rattle.mm_platform.specs.declared.plan.Stop.{Stop}
+use Rattle.mm_platform.specs.Steps.{fault_at, is_made_at}
+use Rattle.mm_model.specs.Instance.{Instance}
+use Rattle.mm_model.specs.History.{History, Move, Commit, Foreign, Placed, Reset, Close, Power}
+use Rattle.mm_model.specs.Life.{life_of, is_lost}
+use Rattle.mm_model.specs.Steps.{Step, Reads, Writes, checkpoint_steps}
+use Rattle.mm_call.specs.Levels.{by_lists, all_made}
+use Rattle.mm_call.specs.Courses.{End, Done, Fails, Fate, Walked, made_move, step_moves, after_step, walk, seen_in, closes, planned, end_of}
+use Rattle.mm_call.specs.Called.{reading_steps, seen_at}
+use Rattle.mm_call.specs.Checkpoints as ghost_closing
+use Rattle.mm_call.proofs.Walks.{finished}
+use Rattle.mm_run.specs.Folds.{plan_of, course_of}
+use Rattle.mm_expect.specs.declared.calls.Closing.{Closing}
+use Rattle.mm_expect.specs.declared.calls.Closing.TheVariants.{Closes, HasNone, NoSegment, LostPower, Stops}
+use Rattle.mm_expect.specs.Closings.{closing_as, ChecksBy, ShutBy}
+use Rattle.mm_expect.specs.Recorded.{Recorded, Went, instance_of, instance_with}
+use Rattle.mm_expect.specs.Walking.{Walks}
+use Rattle.mm_expect.proofs.Asking.{Then, read_broken, read_whole, read_seen}
+use Rattle.mm_expect.proofs.Walking.{went_then}
+
+closes-append : (xs ys : List Move) → closes xs ≡ false → closes (xs ++ ys) ≡ closes ys
+closes-append [] ys e = refl
+closes-append (Commit b ∷ xs) ys e = closes-append xs ys e
+closes-append (Foreign v ∷ xs) ys e = closes-append xs ys e
+closes-append (Placed b ∷ xs) ys e = closes-append xs ys e
+closes-append (Reset ∷ xs) ys e = closes-append xs ys e
+closes-append (Close ∷ xs) ys e = cc
+closes-append (Power ∷ xs) ys e = closes-append xs ys e
+
+closes-foreign : (values : List (List ℕ)) → closes (map Foreign values) ≡ false
+closes-foreign [] = refl
+closes-foreign (v ∷ values) = closes-foreign values
+
+reads_close : (values : List (List ℕ)) (ends : End) (r : Walked) → closes r.moves ≡ false → closes (after_step Reads values ends r).moves ≡ false
+reads_close values Done r none = closes-append (map Foreign values) r.moves (closes-foreign values) ∙ none
+reads_close values (Fails f made) r none = closes-foreign values
+
+one_closes : (fates : ℕ → Fate) → closes (walk fates 1 (Reads ∷ [])).moves ≡ false
+one_closes fates = reads_close (fates 1).brings (fates 1).ends finished refl
+
+two_close : (fates : ℕ → Fate) → closes (walk fates 1 (reading_steps Opt)).moves ≡ false
+two_close fates = reads_close (fates 1).brings (fates 1).ends (after_step Reads (fates 2).brings (fates 2).ends finished)
+    (reads_close (fates 2).brings (fates 2).ends finished refl)
+
+-- a checkpoint that reads the cell alone
+
+pub shut_is : {E : Type 0} (a n : Recorded) (stop : Stop) (meddles : List Meddle) (unless : Closing) (variant : Variant) (is_open : Bool) (r : Result Closing E)
+    → a.variant ≡ variant → a.history.is_open ≡ is_open
+    → ((lost : Bool) → checkpoint_steps variant is_open lost ≡ Reads ∷ [])
+    → ((lost : Bool) → ghost_closing.closing_of variant is_open lost ≡ closing_as unless)
+    → IfOk r (ShutBy a n (walk (planned (plan_of stop meddles)) 1 (Reads ∷ [])) unless)
+    → IfOk r (ChecksBy a n (ghost_closing.checkpointed (instance_of a) (by_lists (instance_of a)) a.history (course_of stop meddles)))
+shut_is a n stop meddles unless variant is_open (Err e) va op steps ends shut = tt
+shut_is a n stop meddles unless variant is_open (Ok closing) va op steps ends shut =
+    let i = instance_of a in
+    let fates = planned (plan_of stop meddles) in
+    let lost = is_lost (life_of a.variant (seen_at i (by_lists i) a.history (course_of stop meddles))) in
+    let here = ap (λ (v : Variant). checkpoint_steps v a.history.is_open lost) va ∙ ap (λ (o : Bool). checkpoint_steps variant o lost) op ∙ steps lost in
+    let there = ap (λ (v : Variant). ghost_closing.closing_of v a.history.is_open lost) va ∙ ap (λ (o : Bool). ghost_closing.closing_of variant o lost) op ∙ ends lost in
+    let W : Walked = walk fates 1 (Reads ∷ []) in
+    record {
+      went = subst (λ (s : List Step). Went a n (walk fates 1 s).moves) (sym here) shut.went;
+      ends = shut.ends
+          ∙ ap (λ (k : Bool). ghost_closing.closed_by W.broken k (closing_as unless)) (sym (one_closes fates))
+          ∙ ap (ghost_closing.closed_by W.broken (closes W.moves)) (sym there)
+          ∙ ap (λ (s : List Step). ghost_closing.closed_by (walk fates 1 s).broken (closes (walk fates 1 s).moves)
+          (ghost_closing.closing_of a.variant a.history.is_open lost)) (sym here);
+    }
+
+-- a checkpoint of an open segment
+
+abbrev last_steps : Bool → List Step
+last_steps true = []
+last_steps false = Writes Close ∷ []
+
+last_is : (lost : Bool) → checkpoint_steps Opt true lost ≡ reading_steps Opt ++ last_steps lost
+last_is true = refl
+last_is false = refl
+
+module _ (a : Recorded) (stop : Stop) (meddles : List Meddle) (va : a.variant ≡ Opt) (op : a.history.is_open ≡ true) where
+  abbrev at : Instance
+  at = instance_of a
+
+  abbrev fates : ℕ → Fate
+  fates = planned (plan_of stop meddles)
+
+  abbrev reading : Walked
+  reading = walk fates 1 (reading_steps Opt)
+
+  abbrev lost : Bool
+  lost = is_lost (life_of a.variant (seen_at at (by_lists at) a.history (course_of stop meddles)))
+
+  abbrev all : ghost_closing.Checkpointed History
+  all = ghost_closing.checkpointed at (by_lists at) a.history (course_of stop meddles)
+
+  steps_are : checkpoint_steps a.variant a.history.is_open lost ≡ reading_steps Opt ++ last_steps lost
+  steps_are = ap (λ (v : Variant). checkpoint_steps v a.history.is_open lost) va ∙ ap (λ (o : Bool). checkpoint_steps Opt o lost) op ∙ last_is lost
+
+  by_parts : (n : Recorded) (closing : Closing) (moves : List Move) (broken : Option StepFault)
+      → (walk fates 1 (reading_steps Opt ++ last_steps lost)).moves ≡ moves → (walk fates 1 (reading_steps Opt ++ last_steps lost)).broken ≡ broken
+      → Went a n moves
+      → closing_as closing ≡ ghost_closing.closed_by broken (closes moves) (ghost_closing.closing_of Opt true lost) → ChecksBy a n all closing
+  by_parts n closing moves broken m br went ends =
+      let W = λ (s : List Step). walk fates 1 s in
+      let there = ap (λ (v : Variant). ghost_closing.closing_of v a.history.is_open lost) va ∙ ap (λ (o : Bool). ghost_closing.closing_of Opt o lost) op in
+      record {
+        went = subst (λ (s : List Step). Went a n (walk fates 1 s).moves) (sym steps_are) (subst (Went a n) (sym m) went);
+        ends = ends
+            ∙ ap (λ (v : List Move). ghost_closing.closed_by broken (closes v) (ghost_closing.closing_of Opt true lost)) (sym m)
+            ∙ ap (λ (f : Option StepFault). ghost_closing.closed_by f (closes (walk fates 1 (reading_steps Opt ++ last_steps lost)).moves) (ghost_closing.closing_of Opt true lost)) (sym br)
+            ∙ ap (ghost_closing.closed_by (walk fates 1 (reading_steps Opt ++ last_steps lost)).broken (closes (walk fates 1 (reading_steps Opt ++ last_steps lost)).moves)) (sym there)
+            ∙ ap (λ (s : List Step). ghost_closing.closed_by (walk fates 1 s).broken (closes (walk fates 1 s).moves)
+            (ghost_closing.closing_of a.variant a.history.is_open lost)) (sym steps_are);
+      }
+
+  pub check_broken : (n : Recorded) (fault : StepFault) → Walks a n reading (Some fault) → ChecksBy a n all (Stops fault false)
+  check_broken n fault w =
+      let same = read_broken fates Opt (last_steps lost) fault (sym w.broken) in
+      by_parts n (Stops fault false) reading.moves (Some fault) (ap (λ (v : Walked). v.moves) same) (ap (λ (v : Walked). v.broken) same ∙ sym w.broken)
+      w.went (ap (ghost_closing.Stops fault) (sym (two_close fates)))
+
+  -- what the chronicle tells of power is what the checkpoint sees
+  lost_there : (n : Recorded) → Walks a n reading None → is_lost (life_of n.variant n.history) ≡ lost
+  lost_there n w =
+      ap (λ (v : Variant). is_lost (life_of v n.history)) w.went.variant
+      ∙ ap (λ (h : History). is_lost (life_of a.variant h))
+      (w.went.history ∙ ap (all_made (by_lists at) a.history) (read_seen fates Opt (sym w.broken)
+      ∙ ap (λ (v : Variant). seen_in fates (reading_steps v) 1) (sym va)))
+
+  goes_last : (l : Bool) → lost ≡ l → reading.broken ≡ None
+      → Then reading (walk fates 3 (last_steps l)) (walk fates 1 (reading_steps Opt ++ last_steps lost))
+  goes_last l e whole =
+      subst (λ (k : Bool). Then reading (walk fates 3 (last_steps l)) (walk fates 1 (reading_steps Opt ++ last_steps k))) (sym e)
+      (read_whole fates Opt (last_steps l) whole)
+
+  pub check_lost : (n : Recorded) → Walks a n reading None → is_lost (life_of n.variant n.history) ≡ true → ChecksBy a n all LostPower
+  check_lost n w e =
+      let l : lost ≡ true = sym (lost_there n w) ∙ e in
+      let t = goes_last true l (sym w.broken) in
+      by_parts n LostPower reading.moves None (t.moves ∙ append-nil reading.moves) t.broken w.went
+      (ap (ghost_closing.closing_of Opt true) (sym l))
+
+  abbrev closing_walk : Walked
+  closing_walk = walk fates 3 (Writes Close ∷ [])
+
+  pub check_closed : (n m : Recorded) → Walks a n reading None → is_lost (life_of n.variant n.history) ≡ false
+      → Walks n m closing_walk None → ChecksBy a m all Closes
+  check_closed n m w e more =
+      let l : lost ≡ false = sym (lost_there n w) ∙ e in
+      let t = goes_last false l (sym w.broken) in
+      by_parts m Closes (reading.moves ++ closing_walk.moves) None t.moves (t.broken ∙ sym more.broken)
+      (went_then a n m reading.moves closing_walk.moves w.went more.went)
+      (ap (ghost_closing.closing_of Opt true) (sym l))
+
+  closes_made : (values : List (List ℕ)) (answer : Option StepFault) (made : Bool) (fault : StepFault)
+      → (after_step (Writes Close) values (end_of answer made) finished).broken ≡ Some fault
+      → closes (after_step (Writes Close) values (end_of answer made) finished).moves ≡ made
+  closes_made values None made fault e = cc
+  closes_made values (Some f) true fault e = refl
+  closes_made values (Some f) false fault e = closes-foreign values
+
+  pub check_stopped : (n m : Recorded) (fault : StepFault) (made : Bool) → Walks a n reading None → is_lost (life_of n.variant n.history) ≡ false
+      → Walks n m closing_walk (Some fault) → made ≡ is_made_at stop 3 → ChecksBy a m all (Stops fault made)
+  check_stopped n m fault made w e more is =
+      let l : lost ≡ false = sym (lost_there n w) ∙ e in
+      let t = goes_last false l (sym w.broken) in
+      by_parts m (Stops fault made) (reading.moves ++ closing_walk.moves) (Some fault) t.moves (t.broken ∙ sym more.broken)
+      (went_then a n m reading.moves closing_walk.moves w.went more.went)
+      (ap (ghost_closing.Stops fault) (is ∙ sym (closes_made (fates 3).brings (fault_at stop 3) (is_made_at stop 3) fault (sym more.broken))
+      ∙ sym (closes-append reading.moves closing_walk.moves (two_close fates))))

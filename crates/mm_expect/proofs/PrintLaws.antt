@@ -1,0 +1,146 @@
+-- Each expected reply can be printed, and an event issues at most one snapshot.
+use Rattle.std.proofs.Common.{◌≡◌, ℕ, ◌+◌, ◌-◌, ◌≤◌, ◌^◌, Bool, true, false, List, [], ◌∷◌, ◌++◌, length, Option, None, Some, Result, Ok, Err, refl, sym, ap, ◌∙◌, subst, arith, length-append}
+use Rattle.std.specs.Prelude.{if◌then◌else◌, All, IsTrue, nat_le}
+use Rattle.std.specs.Str.{bytes_eq}
+use Rattle.std.proofs.lemmas.List.Elements.{All-nil, All-cons}
+use Rattle.mm_digest.specs.declared.variant.Variant.{Variant}
+use Rattle.mm_digest.specs.declared.variant.Variant.TheVariants.{Basic, Opt}
+use Rattle.mm_platform.specs.declared.fault.StepFault.{StepFault}
+use Rattle.mm_platform.specs.declared.plan.Meddle.{Meddle}
+use Rattle.mm_platform.specs.declared.plan.Stop.{Stop}
+use Rattle.mm_module.specs.Meaning.{Meaning, IsLawful, state_after, outputs_from}
+use Rattle.mm_module.specs.Batch.{Batch, members_of, size_of, normal}
+use Rattle.mm_module.proofs.RunLaws.{state_after-is_spelled, length-outputs_from}
+use Rattle.mm_seal.specs.declared.snapshot.PartsFault.{PartsFault}
+use Rattle.mm_seal.specs.declared.snapshot.PartsFault.TheVariants.{Form, Kind}
+use Rattle.mm_seal.specs.Snapshot.{Snapshot}
+use Rattle.mm_seal.specs.Parts.{parts_of}
+use Rattle.mm_model.specs.Instance.{Instance}
+use Rattle.mm_model.specs.History.{History, Move, requests_of, total_of}
+use Rattle.mm_model.specs.Judge.{is_last, judge}
+use Rattle.mm_model.specs.Life.{life_of, is_lost}
+use Rattle.mm_model.specs.Long.{is_long}
+use Rattle.mm_model.specs.Steps.{ask_steps}
+use Rattle.mm_model.specs.declared.refusal.Refusal.{Refusal}
+use Rattle.mm_model.specs.declared.refusal.Refusal.TheVariants as refusal
+use Rattle.mm_model.proofs.Batches.{is_last_tells}
+use Rattle.mm_model.proofs.MovedDigests.{total-push}
+use Rattle.mm_call.specs.Answers.{last_outputs, answer_on}
+use Rattle.mm_call.specs.Called.{Ending, Answers, Refuses, Breaks, Called, reading_steps, kept_at, ended_by, called, seen_at}
+use Rattle.mm_call.specs.Checkpoints as ghost_closing
+use Rattle.mm_call.specs.Courses.{Course, Walked, walk, seen_in}
+use Rattle.mm_call.specs.Found.{Found, found_with, found_from, found_at, found_in, is_fresh}
+use Rattle.mm_call.specs.Levels.{by_lists, all_made}
+use Rattle.mm_call.specs.Order.{examined}
+use Rattle.mm_call.proofs.BasicLaw.{unlacked}
+use Rattle.mm_call.proofs.Calling.{said_last}
+use Rattle.mm_call.proofs.Finding.{found_with_tells, weighed_tells}
+use Rattle.mm_call.proofs.Moving.{committed_in, same_batches, more_batches}
+use Rattle.mm_call.proofs.Walks.{Commits, nothing, batch, basic_commits, opt_commits, asks}
+use Rattle.mm_schedule.specs.declared.reply.Way.{Way}
+use Rattle.mm_schedule.specs.declared.reply.Cause.TheVariants as cause
+use Rattle.mm_schedule.specs.declared.reply.Reply.TheVariants as reply
+use Rattle.mm_schedule.specs.Events.{Event, Ask, Checkpoint, Power, Extend}
+use Rattle.mm_schedule.specs.Replies.{IsPrintable}
+use Rattle.mm_run.specs.Offered.{offered_bytes}
+use Rattle.mm_run.specs.Folds.{Outcome, course_of, way_of, told_reply, broken_reply, reply_of, closing_reply, snapshots_of, uncalled, outcome_by, asked, outcome_of}
+use Rattle.mm_expect.specs.Calls.{Admits}
+use Rattle.mm_expect.proofs.Asking.{foreign_batches, last_pushed}
+use Rattle.mm_expect.proofs.FindLaws.{admits_found}
+
+short_outputs : (meaning : Meaning) → IsLawful meaning → (state : List ℕ) (requests : List (List ℕ)) → IsTrue (meaning.is_spelled state)
+    → All (λ (o : List ℕ). length o ≤ 4096) (outputs_from meaning state requests)
+short_outputs meaning lawful state [] spelled = All-nil (λ (o : List ℕ). length o ≤ 4096)
+short_outputs meaning lawful state (request ∷ requests) spelled =
+    All-cons (λ (o : List ℕ). length o ≤ 4096) (meaning.says state request) (outputs_from meaning (meaning.next state request) requests)
+    (lawful.says_lines state request spelled).short
+    (short_outputs meaning lawful (meaning.next state request) requests (lawful.goes_on state request spelled))
+
+back_again : (total size n : ℕ) → size ≤ total → n ≡ size → total ≤ 2 ^ 48 → total - n + n ≤ 2 ^ 48
+back_again total size n l e few = omega (arith, l, e, few)
+
+-- the reply that tells an answer to the last batch
+told_printable : (i : Instance) → IsLawful i.meaning → (y : History) (b : Batch) (again : Bool) → is_last y.batches b ≡ true → total_of y.batches ≤ 2 ^ 48
+    → IsPrintable (told_reply (answer_on i y b again))
+told_printable i lawful y b again last few =
+    let h = is_last_tells y.batches b last in
+    let start = state_after i.meaning (requests_of h.front) in
+    let outputs = outputs_from i.meaning start (members_of b) in
+    let same : last_outputs i.meaning y (size_of b) ≡ outputs = said_last i.meaning y.batches h.front b h.is in
+    let many : total_of y.batches ≡ total_of h.front + size_of b = ap total_of h.is ∙ total-push h.front b in
+    let size : length (last_outputs i.meaning y (size_of b)) ≡ size_of b =
+    ap (λ (v : List (List ℕ)). length v) same ∙ length-outputs_from i.meaning start (members_of b) in (
+      subst (λ (v : List (List ℕ)). All (λ (o : List ℕ). length o ≤ 4096) v) (sym same)
+          (short_outputs i.meaning lawful start (members_of b) (state_after-is_spelled i.meaning lawful (requests_of h.front))),
+      back_again (total_of y.batches) (size_of b) (length (last_outputs i.meaning y (size_of b))) (omega (arith, many)) size few,
+    )
+
+broken_printable : (way : Way) (commit : Bool) (position : ℕ) → IsPrintable (broken_reply way (kept_at commit position))
+broken_printable way true position = tt
+broken_printable way false position = tt
+
+-- what a walk leaves of the batches, where it ends well
+ends_by : (i : Instance) (y seen : History) (b : Batch) (again : Bool) (walked : Walked) → seen.batches ≡ y.batches → Admits seen b again
+    → Commits b (if again then false else true) walked → walked.broken ≡ None
+    → (is_last (all_made (by_lists i) y walked.moves).batches b ≡ true) × (total_of (all_made (by_lists i) y walked.moves).batches ≤ 2 ^ 48)
+ends_by i y seen b true walked same admits (nothing none unless) whole =
+    let stays = same_batches i walked.moves y none ∙ sym same in
+    (ap (λ (bs : List Batch). is_last bs b) stays ∙ admits.repeats refl, subst (λ n. n ≤ 2 ^ 48) (sym (ap total_of stays)) admits.fits)
+ends_by i y seen b true walked same admits (batch one is) whole = cc
+ends_by i y seen b false walked same admits (nothing none unless) whole = let no : true ≡ false = unless whole in cc
+ends_by i y seen b false walked same admits (batch one is) whole =
+    let grown = more_batches i walked.moves y b one in
+    (ap (λ (bs : List Batch). is_last bs b) grown ∙ last_pushed y.batches b,
+    subst (λ n. n ≤ 2 ^ 48) (sym (ap total_of grown ∙ total-push y.batches b ∙ ap (λ (bs : List Batch). total_of bs + size_of b) (sym same))) admits.fits)
+
+ended_printable : (i : Instance) → IsLawful i.meaning → (way : Way) (y seen : History) (b : Batch) (found : Result Found Refusal) (walked : Walked)
+    → seen.batches ≡ y.batches → ((f : Found) → found ≡ Ok f → Admits seen b f.again) → Commits b (is_fresh found) walked
+    → (broken : Option StepFault) → walked.broken ≡ broken
+    → IsPrintable (reply_of way (ended_by (by_lists i) seen (all_made (by_lists i) y walked.moves) b found walked.moves broken))
+ended_printable i lawful way y seen b (Err why) walked same admits commits None e = tt
+ended_printable i lawful way y seen b (Err why) walked same admits c (Some fault) e = broken_printable way _ _
+ended_printable i lawful way y seen b (Ok f) walked same admits c (Some fault) e = broken_printable way _ _
+ended_printable i lawful way y seen b (Ok f) walked same admits c None e =
+    let ends = ends_by i y seen b f.again walked same (admits f refl) c e in
+    told_printable i lawful (all_made (by_lists i) y walked.moves) b f.again ends.0 ends.1
+
+commits_any : (variant : Variant) (course : Course) (is_open fresh : Bool) (b : Batch) → Commits b fresh (walk course.fates 1 (ask_steps variant is_open fresh b))
+commits_any Basic course is_open fresh b = basic_commits course.fates is_open fresh b
+commits_any Opt course is_open fresh b =
+    subst (λ s. Commits b fresh (walk course.fates 1 s)) (sym (asks is_open fresh b)) (opt_commits course.fates is_open fresh b)
+
+called_printable : (i : Instance) → IsLawful i.meaning → (y : History) (way : Way) (course : Course) (bytes : List ℕ) (b : Batch)
+    → IsPrintable (reply_of way (called i (by_lists i) y course bytes b).ending)
+called_printable i lawful y way course bytes b =
+    let seen = seen_at i (by_lists i) y course in
+    let found = found_in (found_at i (by_lists i) seen b bytes) course.lacks in
+    let walked = walk course.fates 1 (ask_steps i.variant y.is_open (is_fresh found) b) in
+    ended_printable i lawful way y seen b found walked (foreign_batches i course.fates (reading_steps i.variant) 1 y)
+    (λ f is. admits_found i seen b bytes f (unlacked (found_at i (by_lists i) seen b bytes) course.lacks f is))
+    (commits_any i.variant course y.is_open (is_fresh found) b) walked.broken refl
+
+asked_printable : (i : Instance) → IsLawful i.meaning → (y : History) (issued : List (List ℕ)) (meddles : List Meddle) (stop : Stop) (bytes : List ℕ) (b : Batch) (long : Bool)
+    → IsPrintable (if long then uncalled y issued (reply.No cause.Long) else outcome_by (by_lists i) stop issued (called i (by_lists i) y (course_of stop meddles) bytes (normal b))).reply
+asked_printable i lawful y issued meddles stop bytes b true = tt
+asked_printable i lawful y issued meddles stop bytes b false = called_printable i lawful y (way_of stop) (course_of stop meddles) bytes (normal b)
+
+bytes_printable : (i : Instance) → IsLawful i.meaning → (y : History) (issued : List (List ℕ)) (meddles : List Meddle) (stop : Stop) (bytes : Option (List ℕ)) (b : Batch)
+    → IsPrintable (asked i (by_lists i) y issued meddles stop bytes b).reply
+bytes_printable i lawful y issued meddles stop None b = tt
+bytes_printable i lawful y issued meddles stop (Some bytes) b = asked_printable i lawful y issued meddles stop bytes b (is_long b)
+
+closing_printable : (way : Way) (closing : ghost_closing.Closing) → IsPrintable (closing_reply way closing)
+closing_printable way ghost_closing.Closes = tt
+closing_printable way ghost_closing.HasNone = tt
+closing_printable way ghost_closing.NoSegment = tt
+closing_printable way ghost_closing.LostPower = tt
+closing_printable way (ghost_closing.Stops fault true) = tt
+closing_printable way (ghost_closing.Stops fault false) = tt
+
+pub printable : (i : Instance) → IsLawful i.meaning → (y : History) (issued : List (List ℕ)) (event : Event)
+    → IsPrintable (outcome_of i (by_lists i) y issued event).reply
+printable i lawful y issued (Ask meddles stop offer b) = bytes_printable i lawful y issued meddles stop (offered_bytes issued offer) b
+printable i lawful y issued (Checkpoint meddles stop) =
+    closing_printable (way_of stop) (ghost_closing.checkpointed i (by_lists i) y (course_of stop meddles)).ending
+printable i lawful y issued Power = tt
+printable i lawful y issued (Extend value) = tt

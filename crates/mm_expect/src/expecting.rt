@@ -1,0 +1,337 @@
+//! The fold by lists.
+
+ghost use Rattle.std.specs.Prelude.{◌≡◌, ◌++◌, false, IfOk, OnOk, option_to_list};
+ghost use Rattle.mm_module.specs.Batches.{batch_of};
+ghost use Rattle.mm_model.specs.Long.{is_long};
+ghost use Rattle.mm_call.specs.Asked.{right_messages};
+ghost use Rattle.mm_call.specs.Ended.{is_broken};
+ghost use Rattle.mm_call.specs.Found.{right_content};
+ghost use Rattle.mm_schedule.specs.Events.{Ask, Checkpoint, Power, Extend, meddles_of, event_of};
+ghost use Rattle.mm_run.specs.Folds.{after_stop};
+ghost use Rattle.mm_run.specs.Held.{world_key};
+ghost use Rattle.mm_expect.specs.Coming.{Calls, ComesTo, moves_if};
+ghost use Rattle.mm_expect.specs.Recorded.{Went, instance_of};
+
+use crate::calls::Closing;
+use crate::chronicle::Chronicle;
+use crate::course::Course;
+use crate::keys::key;
+use crate::kept::normal;
+use crate::messages::list_place;
+use crate::offered::offered;
+use crate::replies::{Said, closing_said, quiet, said_of, way};
+use mm_base::{Bytes, Memory};
+use mm_call::Ended;
+use mm_digest::{Digest, HmacKey};
+use mm_model::is_long;
+use mm_module::{Batch, Module};
+use mm_platform::{Meddle, Stop};
+use mm_schedule::{Cause, Event, Header, Meddles, Offer, Reply};
+use mm_seal::parts;
+use std::alloc::Global;
+use std::marker::Model;
+
+/// What an event comes to by lists.
+#[derive(Drop)]
+pub struct Heard {
+    /// The reply that is expected.
+    pub reply: Reply,
+    /// The messages of the event, in the order of their numbers; one may have come before.
+    pub messages: Vec<Bytes>,
+}
+
+/// A schedule followed by lists, which contracts see as the header, the history and the issued snapshots.
+#[derive(Drop)]
+pub struct Expecting {
+    alloc: Global,
+    key: HmacKey,
+    chronicle: Chronicle,
+    issued: Vec<Bytes>,
+}
+
+impl Model for Expecting {
+    ghost use Rattle.std.specs.Prelude.{◌≡◌};
+    ghost use Rattle.mm_run.specs.Held.{world_key};
+    ghost use Rattle.mm_expect.specs.Traced.{Traced};
+
+    ghost Value = { Traced };
+
+    ghost view = { λ s. record {
+      header = record { variant = s.chronicle.variant; «module» = s.chronicle.«module» };
+      history = s.chronicle.history;
+      issued = s.issued.items;
+    } };
+
+    ghost invariant = { λ s. s.key ≡ world_key };
+}
+
+// The meddles that count.
+fn listed(meddles: &Meddles) -> &[Meddle]
+    ensures { result.now ≡ meddles_of meddles.now }
+{
+    let (front, _) = meddles.items.split_at(meddles.count as usize);
+    front
+}
+
+// Lists the messages of what is asked, where the offer is right.
+fn list_asked(
+    chronicle: &Chronicle,
+    key: &HmacKey,
+    bytes: &[u8],
+    batch: Batch<'_>,
+    messages: &mut Vec<Bytes>,
+) -> Result<(), Memory>
+    requires { key.now ≡ world_key }
+    ensures { OnOk result (messages.new.items ≡ messages.old.items ++ right_messages (instance_of chronicle.now) (batch_of batch.entry)
+        (right_content (instance_of chronicle.now) bytes.now)) }
+{
+    let Ok(offered) = parts(bytes, chronicle.variant, chronicle.module.id()) else {
+        return Ok(());
+    };
+    let body = offered.body();
+    if chronicle.module.state_is_spelled(body.state) && offered.tag_right_under(key) {
+        return list_place(
+            chronicle.alloc,
+            &chronicle.barrier,
+            &body.place,
+            batch,
+            messages,
+        );
+    }
+    Ok(())
+}
+
+// Power is lost where a call is cut that is broken off, and comes back.
+fn restore(chronicle: &mut Chronicle, stop: Stop, is_broken: bool)
+    ensures { Went chronicle.old chronicle.new (moves_if is_broken (after_stop stop)) }
+{
+    if let Stop::Cut(_) = stop
+        && is_broken
+    {
+        chronicle.empty();
+    }
+}
+
+// A call that offers these bytes: what is said, and its messages.
+fn call(
+    chronicle: &mut Chronicle,
+    key: &HmacKey,
+    course: &Course<'_>,
+    bytes: &[u8],
+    batch: Batch<'_>,
+    messages: &mut Vec<Bytes>,
+) -> Result<Said, Memory>
+    requires key { key.now ≡ world_key }
+    requires short { is_long (batch_of batch) ≡ false }
+    ensures { IfOk result (Calls chronicle.old chronicle.new course.now.stop course.now.meddles.now bytes.now (batch_of batch.entry)
+        messages.old.items messages.new.items) }
+{
+    list_asked(chronicle, key, bytes, batch, messages)?;
+    chronicle.forget_messages();
+    let ended = chronicle.ask(key, course, bytes, batch)?;
+    chronicle.hand_messages(messages)?;
+    let is_broken = is_broken(&ended);
+    restore(chronicle, course.stop, is_broken);
+    Ok(said_of(way(course.stop), ended))
+}
+
+// Whether a device's fault broke a call off.
+fn is_broken(ended: &Ended) -> bool
+    ensures { result ≡ is_broken ended.now }
+{
+    match ended {
+        Ended::Broken { .. } => true,
+        Ended::Answered(_) | Ended::Refused(_) => false,
+    }
+}
+
+// An event that asks for a batch of what is offered.
+fn ask(
+    chronicle: &mut Chronicle,
+    key: &HmacKey,
+    issued: &[Bytes],
+    offer: &Offer,
+    course: &Course<'_>,
+    batch: Batch<'_>,
+    messages: &mut Vec<Bytes>,
+) -> Result<Said, Memory>
+    requires key { key.now ≡ world_key }
+    ensures { IfOk result (ComesTo chronicle.old chronicle.new issued.now
+        (Ask course.now.meddles.now course.now.stop offer.now (batch_of batch.entry)) messages.old.items messages.new.items) }
+{
+    match offered(chronicle.alloc, issued, offer)? {
+        None => Ok(quiet(Reply::No(Cause::Snapshot))),
+        Some(found) => {
+            if is_long(&batch) {
+                return Ok(quiet(Reply::No(Cause::Long)));
+            }
+            call(chronicle, key, course, found.bytes(), normal(batch), messages)
+        }
+    }
+}
+
+// An event that closes the open segment.
+fn checkpoint(
+    chronicle: &mut Chronicle,
+    issued: &[Bytes],
+    course: &Course<'_>,
+    messages: &mut Vec<Bytes>,
+) -> Result<Said, Memory>
+    ensures { IfOk result (ComesTo chronicle.old chronicle.new issued.now
+        (Checkpoint course.now.meddles.now course.now.stop) messages.old.items messages.new.items) }
+{
+    chronicle.forget_messages();
+    let closing = chronicle.checkpoint(course)?;
+    chronicle.hand_messages(messages)?;
+    let is_broken = closing.stops();
+    restore(chronicle, course.stop, is_broken);
+    Ok(quiet(closing_said(way(course.stop), closing)))
+}
+
+// Power is lost and comes back.
+fn power(chronicle: &mut Chronicle, issued: &[Bytes], messages: &mut Vec<Bytes>) -> Said
+    ensures { ComesTo chronicle.old chronicle.new issued.now Power messages.old.items messages.new.items result }
+{
+    chronicle.empty();
+    quiet(Reply::Power)
+}
+
+// Others extend the register.
+fn extend(
+    chronicle: &mut Chronicle,
+    issued: &[Bytes],
+    value: &Digest,
+    messages: &mut Vec<Bytes>,
+) -> Result<Said, Memory>
+    ensures { IfOk result (ComesTo chronicle.old chronicle.new issued.now (Extend value.now.bytes) messages.old.items messages.new.items) }
+{
+    chronicle.forget_messages();
+    chronicle.bring(value)?;
+    chronicle.hand_messages(messages)?;
+    Ok(quiet(Reply::Extended))
+}
+
+// One event.
+fn follow(
+    chronicle: &mut Chronicle,
+    key: &HmacKey,
+    issued: &[Bytes],
+    event: &Event,
+    messages: &mut Vec<Bytes>,
+) -> Result<Said, Memory>
+    requires { key.now ≡ world_key }
+    ensures { IfOk result (ComesTo chronicle.old chronicle.new issued.now (event_of event.now) messages.old.items messages.new.items) }
+{
+    match event {
+        Event::Ask {
+            meddles,
+            stop,
+            offer,
+            request,
+        } => {
+            let course = Course {
+                stop: *stop,
+                meddles: listed(meddles),
+            };
+            let batch = Batch::One(request.as_slice());
+            ask(chronicle, key, issued, offer, &course, batch, messages)
+        }
+        Event::Batch {
+            meddles,
+            stop,
+            offer,
+            text,
+        } => {
+            let course = Course {
+                stop: *stop,
+                meddles: listed(meddles),
+            };
+            let batch = Batch::Many(text.as_slice());
+            ask(chronicle, key, issued, offer, &course, batch, messages)
+        }
+        Event::Checkpoint { meddles, stop } => {
+            let course = Course {
+                stop: *stop,
+                meddles: listed(meddles),
+            };
+            checkpoint(chronicle, issued, &course, messages)
+        }
+        Event::Power => Ok(power(chronicle, issued, messages)),
+        Event::Extend { value } => extend(chronicle, issued, value, messages),
+    }
+}
+
+// Keeps the snapshot that was handed out, if one was.
+fn keep(issued: &mut Vec<Bytes>, snapshot: Option<Bytes>) -> Result<(), Memory>
+    ensures { OnOk result (issued.new.items ≡ issued.old.items ++ option_to_list snapshot) }
+{
+    if let Some(snapshot) = snapshot {
+        issued.push(snapshot)?;
+    }
+    Ok(())
+}
+
+impl Expecting {
+    ghost use Rattle.std.specs.Prelude.{◌≡◌, ◌<◌, ◌≤◌, ◌+◌, ◌^◌, [], length, IfOk, OnOk};
+    ghost use Rattle.mm_model.specs.History.{total_of};
+    ghost use Rattle.mm_schedule.specs.Events.{event_of};
+    ghost use Rattle.mm_schedule.specs.Replies.{IsPrintable};
+    ghost use Rattle.mm_run.specs.Held.{world_of};
+    ghost use Rattle.mm_expect.specs.Traced.{IsAfter, StandsLater, first_traced, after_event};
+    ghost use Rattle.mm_expect.specs.Hears.{Hears};
+
+    /// A schedule with this header, before its first event.
+    pub fn begin(alloc: Global, header: &Header) -> Result<Expecting, Memory>
+        ensures first { IfOk result (λ it. it ≡ first_traced header.now) }
+        ensures after { IfOk result (IsAfter header.now []) }
+    {
+        let key = HmacKey::new(&key());
+        let chronicle = Chronicle::new(alloc, header.variant, header.module)?;
+        let snapshot = chronicle.snapshot(&key)?;
+        let mut issued = Vec::new(alloc);
+        issued.push(snapshot)?;
+        Ok(Expecting {
+            alloc,
+            key,
+            chronicle,
+            issued,
+        })
+    }
+
+    /// Follows one event. After want of memory nothing is said of what stands.
+    pub fn event(&mut self, event: &Event) -> Result<Heard, Memory>
+        ensures state { OnOk result (self.new ≡ after_event self.old (event_of event.now)) }
+        ensures hears { IfOk result (Hears (world_of self.old.header) self.old.history self.old.issued (event_of event.now)) }
+        ensures after { OnOk result (StandsLater self.old (event_of event.now) self.new) }
+
+        // The reply can be printed, and at most one snapshot is issued.
+        ensures printable { IfOk result (λ heard. IsPrintable heard.reply) }
+        ensures grows { OnOk result (length self.new.issued ≤ length self.old.issued + 1) }
+    {
+        let mut messages = Vec::new(self.alloc);
+        let Said { reply, snapshot } = follow(
+            &mut self.chronicle,
+            &self.key,
+            self.issued.as_slice(),
+            event,
+            &mut messages,
+        )?;
+        keep(&mut self.issued, snapshot)?;
+        Ok(Heard { reply, messages })
+    }
+
+    /// How many requests are committed.
+    pub fn committed(&self) -> u64
+        ensures { result ≡ total_of self.now.history.batches }
+    {
+        self.chronicle.total()
+    }
+
+    /// How many snapshots were issued, the first of them included.
+    pub fn issued(&self) -> u32
+        requires { length self.now.issued < 2 ^ 32 }
+        ensures { result ≡ length self.now.issued }
+    {
+        self.issued.len() as u32
+    }
+}
