@@ -11,3 +11,4 @@ pub mod CheckLaws
 pub mod ComingLaws
 pub mod AfterLaws
 pub mod PrintLaws
+pub mod PlaceLaws

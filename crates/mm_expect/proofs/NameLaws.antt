@@ -83,7 +83,7 @@ first_is (b ∷ named) rest =
 
 -- Lists of batches.
 
-same-Decides : (bs cs : List Batch) → Decides (same_batches bs cs) (bs ≡ cs)
+pub same-Decides : (bs cs : List Batch) → Decides (same_batches bs cs) (bs ≡ cs)
 same-Decides [] [] = (λ e. refl, λ e. refl)
 same-Decides [] (c ∷ cs) = (λ e. absurd (cc), λ e. absurd (cc))
 same-Decides (b ∷ bs) [] = (λ e. absurd (cc), λ e. absurd (cc))
@@ -183,7 +183,13 @@ module _ (i : Instance) (y : History) (named : List Batch) (a e : List ℕ) wher
 
   point_at : (before rest : List (List Entry)) → y.closed ≡ before ++ rest → IsAt before → IsPoint i y named a e
   point_at before rest is p = at_anchor (record {
-    before = before; later = rest; split = is; clean = p.clean; counted = p.counted; anchor_is = p.anchor; extension_is = p.extension;
+    before = before;
+    later = rest;
+    split = is;
+    clean = p.clean;
+    counted = p.counted;
+    anchor_is = p.anchor;
+    extension_is = p.extension;
   })
 
   point_closed : (before : List (List Entry)) (segment : List Entry) (rest : List (List Entry)) → y.closed ≡ before ++ segment ∷ rest → IsBehind (length (joined before)) before → IsWithin before segment rest → IsPoint i y named a e
@@ -316,8 +322,7 @@ names_by i y content places None e = (
 names_by i y content places (Some named) e =
     let t = first_tells content.position y.batches named e in
     let state : List ℕ = state_after i.meaning (requests_of named) in
-    let both = Decides-and (bytes_eq content.state state) (is_place i.variant i y named content.place) (bytes_eq-Decides content.state state) (places named t.0 t.1.0) in
-    (
+    let both = Decides-and (bytes_eq content.state state) (is_place i.variant i y named content.place) (bytes_eq-Decides content.state state) (places named t.0 t.1.0) in (
       λ yes. let p = both.0 yes in record { named = named; rest = t.0; first = t.1.0; position = t.1.1; state = p.0; place = p.1 },
       λ n.
           let same : n.named ≡ named = same_fronts n.named named n.rest t.0 (sym n.first ∙ t.1.0) (sym n.position ∙ t.1.1) in

@@ -89,9 +89,10 @@ ends_by i y seen b true walked same admits (nothing none unless) whole =
 ends_by i y seen b true walked same admits (batch one is) whole = cc
 ends_by i y seen b false walked same admits (nothing none unless) whole = let no : true ≡ false = unless whole in cc
 ends_by i y seen b false walked same admits (batch one is) whole =
-    let grown = more_batches i walked.moves y b one in
-    (ap (λ (bs : List Batch). is_last bs b) grown ∙ last_pushed y.batches b,
-    subst (λ n. n ≤ 2 ^ 48) (sym (ap total_of grown ∙ total-push y.batches b ∙ ap (λ (bs : List Batch). total_of bs + size_of b) (sym same))) admits.fits)
+    let grown = more_batches i walked.moves y b one in (
+      ap (λ (bs : List Batch). is_last bs b) grown ∙ last_pushed y.batches b,
+      subst (λ n. n ≤ 2 ^ 48) (sym (ap total_of grown ∙ total-push y.batches b ∙ ap (λ (bs : List Batch). total_of bs + size_of b) (sym same))) admits.fits,
+    )
 
 ended_printable : (i : Instance) → IsLawful i.meaning → (way : Way) (y seen : History) (b : Batch) (found : Result Found Refusal) (walked : Walked)
     → seen.batches ≡ y.batches → ((f : Found) → found ≡ Ok f → Admits seen b f.again) → Commits b (is_fresh found) walked

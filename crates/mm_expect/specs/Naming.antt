@@ -14,8 +14,7 @@ use Rattle.mm_model.specs.Chains.{summary_of, register_of, own_values}
 use Rattle.mm_model.specs.Instance.{Instance, basic, opt}
 use Rattle.mm_model.specs.History.{Entry, History, requests_of, joined}
 use Rattle.mm_model.specs.Life.{is_empty, has_value, same_batch}
-use Rattle.mm_model.specs.Places.{anchor_after, digest_of, Names}
-use Rattle.mm_expect.specs.declared.naming.Reached.{Reached}
+use Rattle.mm_model.specs.Places.{anchor_after, Names}
 
 -- the statement holds, or doesn't
 abbrev pub IsDecided : Bool → Type 0 → Type 0
@@ -55,13 +54,15 @@ abbrev pub is_within : History → List Batch → (before : List (List Entry)) �
 is_within y named before segment later =
     nat_le (length named - length (joined before)) (length segment) || (is_empty later && is_empty y.current)
 
--- in the open segment, whose batches are the last of all
-abbrev pub is_inside : Instance → History → List Batch → (anchor extension : List ℕ) → Bool
-is_inside i y named anchor extension =
+-- in the open segment, whose batches are the last of all: by the barrier and the anchor after the closed ones
+abbrev pub is_inside_at : (barrier cell : List ℕ) → History → List Batch → (anchor extension : List ℕ) → Bool
+is_inside_at barrier cell y named anchor extension =
     let start = length y.batches - length y.current in
     same_batches (drop start y.batches) y.current && nat_lt start (length named)
-    && (bytes_eq anchor (anchor_after i y.closed)
-    && bytes_eq extension (register_of (own_values i.barrier (drop start named))))
+    && (bytes_eq anchor cell && bytes_eq extension (register_of (own_values barrier (drop start named))))
+
+abbrev pub is_inside : Instance → History → List Batch → (anchor extension : List ℕ) → Bool
+is_inside i y named anchor extension = is_inside_at i.barrier (anchor_after i y.closed) y named anchor extension
 
 -- some place, from these segments on
 abbrev pub some_place : Instance → History → List Batch → (anchor extension : List ℕ) → (before rest : List (List Entry)) → Bool
@@ -85,14 +86,6 @@ is_named_at i y content (Some named) =
 -- the content names a position of the history
 abbrev pub is_named : Instance → History → Content → Bool
 is_named i y content = is_named_at i y content (first_with content.position y.batches)
-
--- How far a walk over the closed segments has come, behind these.
-abbrev pub reached_of : Instance → List (List Entry) → Reached
-reached_of i before = record {
-  anchor = digest_of (anchor_after i before);
-  entries = length (joined before);
-  is_clean = not (has_value (joined before));
-}
 
 -- So it is decided, in either variant.
 abbrev pub BasicNamesAreDecided : Type 0

@@ -69,8 +69,12 @@ impl Chronicle {
         requires last { is_last self.now.history.batches (batch_of batch) ≡ true }
         ensures { IfOk result (λ ended. ended ≡ Answered (answer_on (instance_of self.now) self.now.history (batch_of batch.entry) again)) }
     {
-        let Ran { outputs, .. } =
-            run_batch(self.alloc, &self.module, self.before.as_slice(), batch)?;
+        let Ran { outputs, .. } = run_batch(
+            self.alloc,
+            &self.module,
+            self.before.as_slice(),
+            batch,
+        )?;
         let snapshot = self.snapshot(key)?;
         Ok(Ended::Answered(BatchAnswer {
             again,

@@ -61,7 +61,11 @@ impl Chronicle {
     ghost use Rattle.mm_expect.specs.Recorded.{first_recorded, Went, instance_of, extension_messages, closing_messages, state_after_batch};
 
     /// The first history of a variant and a module.
-    pub(crate) fn new(alloc: Global, variant: Variant, module: AnyModule) -> Result<Chronicle, Memory>
+    pub(crate) fn new(
+        alloc: Global,
+        variant: Variant,
+        module: AnyModule,
+    ) -> Result<Chronicle, Memory>
         ensures { IfOk result (λ it. it ≡ first_recorded variant «module») }
     {
         let state = module.first_state(alloc)?;
@@ -106,8 +110,10 @@ impl Chronicle {
 
     // Lists the message by which the register takes in a value: none in Basic, which has no register.
     fn tell_extension(&mut self, value: &Digest) -> Result<(), Memory>
-        ensures { OnOk result (self.new ≡ record self.old { extending = self.old.extending
-            ++ extension_messages self.old.variant (register_value_of (instance_of self.old) self.old.history) value.now.bytes }) }
+        ensures { OnOk result (self.new ≡ record self.old {
+          extending = self.old.extending
+              ++ extension_messages self.old.variant (register_value_of (instance_of self.old) self.old.history) value.now.bytes;
+        }) }
     {
         if let Variant::Opt = self.variant {
             let message = joined(self.alloc, &self.marks.register.bytes, &value.bytes)?;
@@ -145,9 +151,11 @@ impl Chronicle {
 
     // Lists the message by which a segment is closed: none in Basic, which has no segments.
     fn tell_closing(&mut self) -> Result<(), Memory>
-        ensures { OnOk result (self.new ≡ record self.old { closing = self.old.closing
-            ++ closing_messages self.old.variant (cell_digest_of (instance_of self.old) self.old.variant self.old.history)
-            (register_value_of (instance_of self.old) self.old.history) }) }
+        ensures { OnOk result (self.new ≡ record self.old {
+          closing = self.old.closing
+              ++ closing_messages self.old.variant (cell_digest_of (instance_of self.old) self.old.variant self.old.history)
+              (register_value_of (instance_of self.old) self.old.history);
+        }) }
     {
         if let Variant::Opt = self.variant {
             let message = anchored_message(self.alloc, &self.marks.cell, &self.marks.register)?;

@@ -15,8 +15,8 @@ ghost use Rattle.mm_expect.specs.Recorded.{Went, instance_of};
 use crate::calls::Closing;
 use crate::chronicle::Chronicle;
 use crate::course::Course;
-use crate::keys::key;
 use crate::kept::normal;
+use crate::keys::key;
 use crate::messages::list_place;
 use crate::offered::offered;
 use crate::replies::{Said, closing_said, quiet, said_of, way};
@@ -165,7 +165,14 @@ fn ask(
             if is_long(&batch) {
                 return Ok(quiet(Reply::No(Cause::Long)));
             }
-            call(chronicle, key, course, found.bytes(), normal(batch), messages)
+            call(
+                chronicle,
+                key,
+                course,
+                found.bytes(),
+                normal(batch),
+                messages,
+            )
         }
     }
 }

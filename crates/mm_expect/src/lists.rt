@@ -136,7 +136,10 @@ impl Lists {
     /// The items become a closed segment.
     pub(crate) fn close(&mut self) -> Result<(), Memory>
         ensures ok { OnOk result (self.new ≡ record self.old {
-            closed = self.old.closed ++ self.old.items ∷ []; current = []; is_open = false }) }
+          closed = self.old.closed ++ self.old.items ∷ [];
+          current = [];
+          is_open = false;
+        }) }
         ensures err { OnErr result (self.new ≡ self.old) }
     {
         let segment = kept::copy_entries(self.alloc, self.items.as_slice())?;

@@ -8,8 +8,8 @@ ghost use Rattle.mm_expect.specs.Kept.{kept_batches, kept_entry, kept_entries};
 
 use crate::kept::{KeptBatch, KeptEntry};
 use mm_digest::{
-    Digest, Variant, anchored, extended, secured, secured_batch, start, successor,
-    successor_batch, zero,
+    Digest, Variant, anchored, extended, secured, secured_batch, start, successor, successor_batch,
+    zero,
 };
 use mm_module::Batch;
 
@@ -40,8 +40,14 @@ impl Marks {
 
     /// Those of the first history.
     pub(crate) fn first(variant: Variant, id: u8) -> Marks
-        ensures { result ≡ record { total = 0; cell = digest_of (start_of variant id); own = digest_of zero_bytes;
-            register = digest_of zero_bytes; is_own = true; is_marred = false } }
+        ensures { result ≡ record {
+          total = 0;
+          cell = digest_of (start_of variant id);
+          own = digest_of zero_bytes;
+          register = digest_of zero_bytes;
+          is_own = true;
+          is_marred = false;
+        } }
     {
         Marks {
             total: 0,

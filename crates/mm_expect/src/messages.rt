@@ -103,7 +103,13 @@ fn list_point(
     }
     let closed = anchored_message(alloc, anchor, extension)?;
     messages.push(closed)?;
-    list_form(alloc, &anchored(anchor, extension), &zero(), value, messages)
+    list_form(
+        alloc,
+        &anchored(anchor, extension),
+        &zero(),
+        value,
+        messages,
+    )
 }
 
 /// Lists the messages of a call that offers this place, rightly, and asks for the batch.

@@ -12,14 +12,14 @@ ghost use Rattle.mm_model.specs.Life.{is_empty};
 ghost use Rattle.mm_model.specs.Long.{is_long};
 ghost use Rattle.mm_expect.specs.Genuine.{EachOfferIsDecided, BasicIssuedAreGenuine, OptIssuedAreGenuine};
 ghost use Rattle.mm_expect.specs.Kept.{kept_batches, kept_entries, kept_segments};
-ghost use Rattle.mm_expect.specs.Naming.{BasicNamesAreDecided, OptNamesAreDecided, first_with, same_batches};
+ghost use Rattle.mm_expect.specs.Naming.{BasicNamesAreDecided, OptNamesAreDecided, first_with, same_batches, is_inside_at};
 
-use crate::kept::{KeptBatch, KeptEntry, some_value};
+use crate::kept::KeptBatch;
 use crate::lists::Lists;
-use crate::marks::{link, own_register, register_of};
+use crate::marks::{link, own_register};
 use mm_base::{Bytes, Memory};
 use mm_call::{Ran, run_batch};
-use mm_digest::{Digest, Variant, anchored, start, zero};
+use mm_digest::{Digest, Variant, start, zero};
 use mm_module::Module;
 use mm_modules::AnyModule;
 use std::alloc::Global;
@@ -60,11 +60,7 @@ fn first_with(batches: &[KeptBatch], position: u64) -> Option<usize>
 }
 
 // The module's state after these batches, run from its first state.
-fn state_after(
-    alloc: Global,
-    module: &AnyModule,
-    batches: &[KeptBatch],
-) -> Result<Bytes, Memory>
+fn state_after(alloc: Global, module: &AnyModule, batches: &[KeptBatch]) -> Result<Bytes, Memory>
     requires { list_any is_long (kept_batches batches.now) ≡ false }
     ensures { IfOk result (λ state. state ≡ state_after (meaning_of «module».now) (requests_of (kept_batches batches.now))) }
 {
@@ -102,15 +98,6 @@ fn same_batches(batches: &[KeptBatch], others: &[KeptBatch]) -> bool
     true
 }
 
-/// How far a walk over the closed segments has come: the anchor there, how many entries came before, and whether none of
-/// them is a value that stands for no batch.
-#[derive(Clone, Copy, Debug)]
-pub(crate) struct Reached {
-    pub(crate) anchor: Digest,
-    pub(crate) entries: usize,
-    pub(crate) is_clean: bool,
-}
-
 // Whether two digests are the same.
 fn same_digest(one: &Digest, other: &Digest) -> bool
     ensures { result ≡ bytes_eq one.now.bytes other.now.bytes }
@@ -123,4 +110,24 @@ fn is_zero(digest: &Digest) -> bool
     ensures { result ≡ bytes_eq digest.now.bytes zero_bytes }
 {
     *digest == zero()
+}
+
+// Whether the place is inside the open segment, whose batches are the last of all.
+fn is_inside(
+    lists: &Lists,
+    barrier: &[u8; 32],
+    cell: &Digest,
+    named: &[KeptBatch],
+    anchor: &Digest,
+    extension: &Digest,
+) -> bool
+    ensures { result ≡ is_inside_at barrier.now cell.now.bytes lists.now (kept_batches named.now) anchor.now.bytes extension.now.bytes }
+{
+    let batches = lists.batches();
+    let current = lists.current();
+    let start = batches.len().saturating_sub(current.len());
+    same_batches(&batches[start..], current)
+        && start < named.len()
+        && (same_digest(anchor, cell)
+            && same_digest(extension, &own_register(barrier, &named[start..])))
 }
