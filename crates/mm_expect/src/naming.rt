@@ -1,6 +1,6 @@
 //! Whether what a right offer says names a position of the history.
 
-ghost use Rattle.std.specs.Prelude.{◌≡◌, ◌+◌, ◌≤◌, ◌==◌, ◌&&◌, ◌||◌, ◌-◌, false, take, drop, length, option_map, IfSome, IfOk, nat_lt, nat_le, map};
+ghost use Rattle.std.specs.Prelude.{◌≡◌, [], ◌+◌, ◌≤◌, ◌==◌, ◌&&◌, ◌||◌, ◌-◌, false, take, drop, length, option_map, IfSome, IfOk, nat_lt, nat_le, map};
 ghost use Rattle.std.specs.List.{list_any};
 ghost use Rattle.std.specs.Str.{bytes_eq};
 ghost use Rattle.mm_digest.specs.Messages.{zero_bytes};
@@ -12,14 +12,14 @@ ghost use Rattle.mm_model.specs.Life.{is_empty};
 ghost use Rattle.mm_model.specs.Long.{is_long};
 ghost use Rattle.mm_expect.specs.Genuine.{EachOfferIsDecided, BasicIssuedAreGenuine, OptIssuedAreGenuine};
 ghost use Rattle.mm_expect.specs.Kept.{kept_batches, kept_entries, kept_segments};
-ghost use Rattle.mm_expect.specs.Naming.{BasicNamesAreDecided, OptNamesAreDecided, first_with, same_batches, is_inside_at};
+ghost use Rattle.mm_expect.specs.Naming.{BasicNamesAreDecided, OptNamesAreDecided, first_with, same_batches, anchor_at, is_at, is_behind, is_here, is_inside_at, some_place};
 
-use crate::kept::KeptBatch;
+use crate::kept::{KeptBatch, KeptEntry, some_value};
 use crate::lists::Lists;
-use crate::marks::{link, own_register};
+use crate::marks::{link, own_register, register_of};
 use mm_base::{Bytes, Memory};
 use mm_call::{Ran, run_batch};
-use mm_digest::{Digest, Variant, start, zero};
+use mm_digest::{Digest, Variant, anchored, start, zero};
 use mm_module::Module;
 use mm_modules::AnyModule;
 use std::alloc::Global;
@@ -112,22 +112,148 @@ fn is_zero(digest: &Digest) -> bool
     *digest == zero()
 }
 
-// Whether the place is inside the open segment, whose batches are the last of all.
-fn is_inside(
-    lists: &Lists,
-    barrier: &[u8; 32],
-    cell: &Digest,
+// Whether the place is at this anchor, behind so many entries.
+fn is_at(
+    is_clean: bool,
+    here: &Digest,
+    start: usize,
     named: &[KeptBatch],
     anchor: &Digest,
     extension: &Digest,
 ) -> bool
-    ensures { result ≡ is_inside_at barrier.now cell.now.bytes lists.now (kept_batches named.now) anchor.now.bytes extension.now.bytes }
+    ensures { result ≡ is_at is_clean here.now.bytes start (kept_batches named.now) anchor.now.bytes extension.now.bytes }
+{
+    if !is_clean {
+        return false;
+    }
+    if named.len() != start {
+        return false;
+    }
+    if !same_digest(anchor, here) {
+        return false;
+    }
+    is_zero(extension)
+}
+
+// Whether the place is behind this anchor, in a segment that starts behind so many entries.
+fn is_behind(
+    barrier: &[u8; 32],
+    here: &Digest,
+    start: usize,
+    named: &[KeptBatch],
+    anchor: &Digest,
+    extension: &Digest,
+) -> bool
+    ensures { result ≡ is_behind barrier.now here.now.bytes start (kept_batches named.now) anchor.now.bytes extension.now.bytes }
+{
+    if start >= named.len() {
+        return false;
+    }
+    if !same_digest(anchor, here) {
+        return false;
+    }
+    same_digest(extension, &own_register(barrier, &named[start..]))
+}
+
+// Whether the place is inside the open segment, whose batches are the last of all.
+fn is_inside(
+    lists: &Lists,
+    barrier: &[u8; 32],
+    last: &Digest,
+    named: &[KeptBatch],
+    anchor: &Digest,
+    extension: &Digest,
+) -> bool
+    ensures { result ≡ is_inside_at barrier.now last.now.bytes lists.now (kept_batches named.now) anchor.now.bytes extension.now.bytes }
 {
     let batches = lists.batches();
     let current = lists.current();
     let start = batches.len().saturating_sub(current.len());
-    same_batches(&batches[start..], current)
-        && start < named.len()
-        && (same_digest(anchor, cell)
-            && same_digest(extension, &own_register(barrier, &named[start..])))
+    if !same_batches(&batches[start..], current) {
+        return false;
+    }
+    is_behind(barrier, last, start, named, anchor, extension)
+}
+
+// The anchor after these segments.
+fn anchor_at(id: u8, barrier: &[u8; 32], closed: &[Vec<KeptEntry>]) -> Digest
+    ensures { result.bytes ≡ anchor_at id barrier.now (kept_segments closed.now) }
+{
+    let mut anchor = start(Variant::Opt, id);
+    'closed: for segment in closed {
+        anchor = anchored(&anchor, &register_of(barrier, segment.as_slice()));
+    }
+    anchor
+}
+
+// Whether the place is at the segment that comes next, which has so many entries: by whether it is the end.
+fn is_here(
+    is_clean: bool,
+    barrier: &[u8; 32],
+    here: &Digest,
+    start: usize,
+    named: &[KeptBatch],
+    size: usize,
+    ends: bool,
+    anchor: &Digest,
+    extension: &Digest,
+) -> bool
+    ensures { result ≡ is_here is_clean barrier.now here.now.bytes start (kept_batches named.now) size ends anchor.now.bytes extension.now.bytes }
+{
+    if is_at(is_clean, here, start, named, anchor, extension) {
+        return true;
+    }
+    if !is_behind(barrier, here, start, named, anchor, extension) {
+        return false;
+    }
+    if named.len().saturating_sub(start) <= size {
+        return true;
+    }
+    ends
+}
+
+fn both(one: bool, other: bool) -> bool
+    ensures { result ≡ (one && other) }
+{
+    one && other
+}
+
+// Whether it is some place of Opt.
+fn some_place(
+    lists: &Lists,
+    id: u8,
+    barrier: &[u8; 32],
+    named: &[KeptBatch],
+    anchor: &Digest,
+    extension: &Digest,
+) -> bool
+    ensures { result ≡ some_place id barrier.now lists.now (kept_batches named.now) anchor.now.bytes extension.now.bytes [] lists.now.closed }
+{
+    let closed = lists.closed();
+    let is_shut = lists.is_clear();
+    let last = anchor_at(id, barrier, closed);
+    let mut here = start(Variant::Opt, id);
+    let mut entries = 0;
+    let mut is_clean = true;
+    let mut later = closed.len();
+    'closed: for segment in closed {
+        later -= 1;
+        let size = segment.len();
+        let ends = both(later == 0, is_shut);
+        if is_here(
+            is_clean, barrier, &here, entries, named, size, ends, anchor, extension,
+        ) {
+            return true;
+        }
+        if size > named.len() - entries {
+            return is_inside(lists, barrier, &last, named, anchor, extension);
+        }
+        here = anchored(&here, &register_of(barrier, segment.as_slice()));
+        entries += size;
+        is_clean = both(is_clean, !some_value(segment.as_slice()));
+    }
+    if is_at(is_clean, &here, entries, named, anchor, extension) {
+        return true;
+    }
+    is_inside(lists, barrier, &last, named, anchor, extension)
 }
