@@ -12,7 +12,12 @@ use Rattle.std.proofs.Common.{length-drop}
 use Rattle.mm_model.proofs.Segments.{not_empty}
 use Rattle.std.proofs.Math.Seq.{drop-append_seam, take-append_seam}
 use Rattle.std.proofs.lemmas.Slice.Eq.{bytes_eq-Decides}
+use Rattle.mm_digest.specs.declared.variant.Variant.{Variant}
 use Rattle.mm_digest.specs.declared.variant.Variant.TheVariants.{Basic, Opt}
+use Rattle.mm_modules.specs.declared.any.AnyModule.{AnyModule}
+use Rattle.mm_modules.specs.Modules.{meaning_of}
+use Rattle.mm_run.specs.Held.{world_key, world_barrier}
+use Rattle.mm_expect.specs.Recorded.{instance_with}
 use Rattle.mm_digest.specs.Messages.{zero_bytes}
 use Rattle.mm_module.specs.Batch.{Batch, size_of}
 use Rattle.mm_module.specs.Meaning.{Meaning, state_after}
@@ -336,3 +341,8 @@ pub opt_decided : OptNamesAreDecided
 opt_decided meaning key barrier y content =
     let i : Instance = opt meaning key barrier in
     decided (is_named i y content) (names_by i y content (λ named rest first. opt_place meaning key barrier y named rest content.place first) (first_with content.position y.batches) refl)
+
+-- the same for an instance of a world, by what the test gave
+pub named_by : (variant : Variant) («module» : AnyModule) (y : History) (content : Content) (r : Bool) → r ≡ is_named (instance_with variant «module») y content → IsDecided r (Names (instance_with variant «module») y content)
+named_by Basic «module» y content r e = subst (λ (t : Bool). IsDecided t (Names (instance_with Basic «module») y content)) (sym e) (basic_decided (meaning_of «module») world_key y content)
+named_by Opt «module» y content r e = subst (λ (t : Bool). IsDecided t (Names (instance_with Opt «module») y content)) (sym e) (opt_decided (meaning_of «module») world_key world_barrier y content)

@@ -9,6 +9,8 @@ use Rattle.std.proofs.lemmas.Bool.Decides.{Decides-eqb, Decides-ltb}
 use Rattle.std.proofs.lemmas.List.{append-nil, map-append, take-map, drop-map, take_more, drop_more, drop_all, take_all, length-map}
 use Rattle.mm_module.specs.Batch.{Batch, members_of}
 use Rattle.mm_module.specs.Meaning.{Meaning, state_from, state_after}
+use Rattle.mm_seal.specs.Snapshot.{Content}
+use Rattle.mm_model.specs.Instance.{Instance}
 use Rattle.mm_module.proofs.RunLaws.{state_after-append}
 use Rattle.mm_digest.specs.declared.variant.Variant.TheVariants.{Opt}
 use Rattle.mm_digest.specs.Messages.{zero_bytes, start_of, anchored_of}
@@ -22,7 +24,7 @@ use Rattle.mm_model.proofs.Digests.{summary-push, anchor-push}
 use Rattle.mm_expect.specs.declared.kept.KeptBatch.{KeptBatch}
 use Rattle.mm_expect.specs.declared.kept.KeptEntry.{KeptEntry}
 use Rattle.mm_expect.specs.Kept.{kept_batch, kept_batches, kept_entry, kept_entries, kept_segments}
-use Rattle.mm_expect.specs.Naming.{first_with, same_batches, anchor_at, is_at, is_behind, is_within, is_here, is_inside_at, some_place}
+use Rattle.mm_expect.specs.Naming.{first_with, same_batches, anchor_at, is_at, is_behind, is_within, is_here, is_inside_at, some_place, place_in, is_place, is_named_at, is_named}
 use Rattle.mm_expect.proofs.NameLaws.{same-Decides}
 
 -- one more batch of a list
@@ -327,3 +329,37 @@ short_front (suc n) [] short = refl
 short_front (suc n) (x ∷ batches) short =
     let p = or_parts (is_long (kept_batch x)) (list_any is_long (kept_batches batches)) short in
     or_from (is_long (kept_batch x)) (list_any is_long (kept_batches (take n batches))) p.0 (short_front n batches p.1)
+
+-- The whole test, by what was found.
+
+counted_by : (batches : List KeptBatch) (all : List Batch) (position : ℕ) (found : Option ℕ) → kept_batches batches ≡ all
+    → option_map (λ (n : ℕ). take n (kept_batches batches)) found ≡ first_with position (kept_batches batches) → first_with position all ≡ option_map (λ (n : ℕ). take n (kept_batches batches)) found
+counted_by batches all position found is e = ap (first_with position) (sym is) ∙ sym e
+
+pub not_counted : (i : Instance) (y : History) (content : Content) (batches : List KeptBatch) → kept_batches batches ≡ y.batches → (found : Option ℕ) → found ≡ None
+    → option_map (λ (n : ℕ). take n (kept_batches batches)) found ≡ first_with content.position (kept_batches batches) → false ≡ is_named i y content
+not_counted i y content batches is found none e =
+    sym (ap (is_named_at i y content) (counted_by batches y.batches content.position found is e ∙ ap (option_map (λ (n : ℕ). take n (kept_batches batches))) none))
+
+there_by : (i : Instance) (y : History) (content : Content) (batches : List KeptBatch) → kept_batches batches ≡ y.batches → (found : Option ℕ) (count : ℕ) → found ≡ Some count
+    → option_map (λ (n : ℕ). take n (kept_batches batches)) found ≡ first_with content.position (kept_batches batches) → is_named i y content ≡ is_named_at i y content (Some (kept_batches (take count batches)))
+there_by i y content batches is found count some e =
+    ap (is_named_at i y content) (counted_by batches y.batches content.position found is e ∙ ap (option_map (λ (n : ℕ). take n (kept_batches batches))) some
+    ∙ ap (λ (bs : List Batch). Some bs) (take-map kept_batch count batches))
+
+pub other_state : (i : Instance) (y : History) (content : Content) (batches : List KeptBatch) → kept_batches batches ≡ y.batches → (found : Option ℕ) (count : ℕ) → found ≡ Some count
+    → option_map (λ (n : ℕ). take n (kept_batches batches)) found ≡ first_with content.position (kept_batches batches)
+    → (state : List ℕ) → state ≡ state_after i.meaning (requests_of (kept_batches (take count batches))) → bytes_eq content.state state ≡ false → false ≡ is_named i y content
+other_state i y content batches is found count some e state run off =
+    sym (there_by i y content batches is found count some e
+    ∙ ap (λ (b : Bool). b && is_place i.variant i y (kept_batches (take count batches)) content.place) (ap (bytes_eq content.state) (sym run) ∙ off))
+
+pub placed_by : (i : Instance) (y : History) (content : Content) (batches : List KeptBatch) → kept_batches batches ≡ y.batches → (found : Option ℕ) (count : ℕ) → found ≡ Some count
+    → option_map (λ (n : ℕ). take n (kept_batches batches)) found ≡ first_with content.position (kept_batches batches)
+    → (state : List ℕ) → state ≡ state_after i.meaning (requests_of (kept_batches (take count batches))) → bytes_eq content.state state ≡ true
+    → (r : Bool) (id : ℕ) (barrier : List ℕ) → id ≡ i.meaning.id → barrier ≡ i.barrier → r ≡ place_in i.variant id barrier y (kept_batches (take count batches)) content.place → r ≡ is_named i y content
+placed_by i y content batches is found count some e state run on r id barrier same guarded place =
+    place ∙ ap (λ (n : ℕ). place_in i.variant n barrier y (kept_batches (take count batches)) content.place) same
+    ∙ ap (λ (x : List ℕ). place_in i.variant i.meaning.id x y (kept_batches (take count batches)) content.place) guarded
+    ∙ sym (there_by i y content batches is found count some e
+    ∙ ap (λ (b : Bool). b && is_place i.variant i y (kept_batches (take count batches)) content.place) (ap (bytes_eq content.state) (sym run) ∙ on))

@@ -11,8 +11,11 @@ ghost use Rattle.mm_model.specs.History.{requests_of};
 ghost use Rattle.mm_model.specs.Life.{is_empty};
 ghost use Rattle.mm_model.specs.Long.{is_long};
 ghost use Rattle.mm_expect.specs.Genuine.{EachOfferIsDecided, BasicIssuedAreGenuine, OptIssuedAreGenuine};
+ghost use Rattle.mm_seal.specs.Body.{content_of};
+ghost use Rattle.mm_model.specs.Places.{Names};
+ghost use Rattle.mm_expect.specs.Recorded.{barrier_of, instance_with};
 ghost use Rattle.mm_expect.specs.Kept.{kept_batches, kept_entries, kept_segments};
-ghost use Rattle.mm_expect.specs.Naming.{BasicNamesAreDecided, OptNamesAreDecided, first_with, same_batches, anchor_at, is_at, is_behind, is_here, is_inside_at, some_place};
+ghost use Rattle.mm_expect.specs.Naming.{BasicNamesAreDecided, OptNamesAreDecided, first_with, same_batches, anchor_at, is_at, is_behind, is_here, is_inside_at, some_place, place_in, IsDecided};
 
 use crate::kept::{KeptBatch, KeptEntry, some_value};
 use crate::lists::Lists;
@@ -22,6 +25,7 @@ use mm_call::{Ran, run_batch};
 use mm_digest::{Digest, Variant, anchored, start, zero};
 use mm_module::Module;
 use mm_modules::AnyModule;
+use mm_seal::{Body, Place};
 use std::alloc::Global;
 
 /// A test from end to end decides whether what a snapshot says names a position of a history, in either variant.
@@ -103,6 +107,13 @@ fn same_digest(one: &Digest, other: &Digest) -> bool
     ensures { result ≡ bytes_eq one.now.bytes other.now.bytes }
 {
     *one == *other
+}
+
+// Whether the bytes are the same.
+fn same_bytes(one: &[u8], other: &[u8]) -> bool
+    ensures { result ≡ bytes_eq one.now other.now }
+{
+    one == other
 }
 
 // Whether a digest is zero.
@@ -238,7 +249,8 @@ fn some_place(
     let mut later = closed.len();
     'closed: for segment in closed {
         later -= 1;
-        let size = segment.len();
+        let items = segment.as_slice();
+        let size = items.len();
         let ends = both(later == 0, is_shut);
         if is_here(
             is_clean, barrier, &here, entries, named, size, ends, anchor, extension,
@@ -248,12 +260,63 @@ fn some_place(
         if size > named.len() - entries {
             return is_inside(lists, barrier, &last, named, anchor, extension);
         }
-        here = anchored(&here, &register_of(barrier, segment.as_slice()));
+        here = anchored(&here, &register_of(barrier, items));
         entries += size;
-        is_clean = both(is_clean, !some_value(segment.as_slice()));
+        is_clean = both(is_clean, !some_value(items));
     }
     if is_at(is_clean, &here, entries, named, anchor, extension) {
         return true;
     }
     is_inside(lists, barrier, &last, named, anchor, extension)
+}
+
+// Whether it is a place behind these first batches.
+fn is_place(
+    lists: &Lists,
+    variant: Variant,
+    id: u8,
+    barrier: &[u8; 32],
+    named: &[KeptBatch],
+    place: &Place,
+) -> bool
+    ensures { result ≡ place_in variant id barrier.now lists.now (kept_batches named.now) place.now }
+{
+    match variant {
+        Variant::Basic => match place {
+            Place::Basic(summary) => same_digest(summary, &summary_of(id, named)),
+            Place::Opt { .. } => false,
+        },
+        Variant::Opt => match place {
+            Place::Basic(_) => false,
+            Place::Opt { anchor, extension } => some_place(
+                lists, id, barrier, named, anchor, extension,
+            ),
+        },
+    }
+}
+
+/// Whether what a right offer says names a position of the history.
+pub(crate) fn is_named(
+    alloc: Global,
+    lists: &Lists,
+    variant: Variant,
+    module: &AnyModule,
+    barrier: &[u8; 32],
+    body: &Body<'_>,
+) -> Result<bool, Memory>
+    requires barrier { barrier.now ≡ barrier_of variant }
+    requires short { list_any is_long lists.now.batches ≡ false }
+    ensures { IfOk result (λ yes. IsDecided yes (Names (instance_with variant «module».now) lists.now (content_of body.now))) }
+{
+    let batches = lists.batches();
+    let count = match first_with(batches, body.position) {
+        None => return Ok(false),
+        Some(count) => count,
+    };
+    let named = &batches[..count];
+    let state = state_after(alloc, module, named)?;
+    if !same_bytes(body.state, state.as_slice()) {
+        return Ok(false);
+    }
+    Ok(is_place(lists, variant, module.id(), barrier, named, &body.place))
 }
