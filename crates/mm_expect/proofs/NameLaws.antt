@@ -1,16 +1,14 @@
 -- The test whether a content names a position of a history decides it.
-use Rattle.std.proofs.Common.{◌≡◌, ℕ, ◌+◌, ◌-◌, ◌<◌, ◌≤◌, ◌^◌, Bool, true, false, ◌&&◌, ◌||◌, List, [], ◌∷◌, ◌++◌, length, map, drop, take, Option, None, Some, Result, Ok, Err, refl, sym, ap, ◌∙◌, subst, inl, inr, ◌⊎◌, arith, append_assoc, length-append, le-leb}
-use Rattle.std.specs.Prelude.{if◌then◌else◌, not, ◌==◌, nat_le, nat_lt, slice_get}
+use Rattle.std.proofs.Common.{◌≡◌, ℕ, ◌+◌, ◌-◌, ◌<◌, ◌≤◌, Bool, true, false, ◌&&◌, ◌||◌, List, [], ◌∷◌, ◌++◌, length, drop, take, Option, None, Some, refl, sym, ap, ◌∙◌, subst, inl, inr, ◌⊎◌, arith, append_assoc, length-append, le-leb}
+use Rattle.std.specs.Prelude.{if◌then◌else◌, not, ◌==◌, nat_le, nat_lt}
 use Rattle.std.specs.Str.{bytes_eq}
-use Rattle.std.specs.List.{AllByRecursion}
 use Rattle.std.specs.Option.{option_map}
 use Rattle.std.specs.Bool.{Decides}
 use Rattle.std.proofs.lemmas.Bool.Decides.{Decides-eqb, Decides-and, Decides-or, Decides-like, Decides-ltb}
-use Rattle.std.proofs.lemmas.Bool.{and_parts, and_from}
 use Rattle.std.proofs.lemmas.List.{append-nil, take-append-drop, length-take, drop-append-le, take-append-le}
 use Rattle.std.proofs.Common.{length-drop}
 use Rattle.mm_model.proofs.Segments.{not_empty}
-use Rattle.std.proofs.Math.Seq.{drop-append_seam, take-append_seam}
+use Rattle.std.proofs.Math.Seq.{drop-append_seam}
 use Rattle.std.proofs.lemmas.Slice.Eq.{bytes_eq-Decides}
 use Rattle.mm_digest.specs.declared.variant.Variant.TheVariants.{Basic, Opt}
 use Rattle.mm_digest.specs.Messages.{zero_bytes}
@@ -25,8 +23,8 @@ use Rattle.mm_model.specs.Chains.{summary_of, register_of, own_values}
 use Rattle.mm_model.specs.Instance.{Instance, basic, opt}
 use Rattle.mm_model.specs.History.{Entry, History, requests_of, total_of, joined}
 use Rattle.mm_model.specs.Life.{is_empty, has_value, same_batch}
-use Rattle.mm_model.specs.Places.{AtAnchor, InClosed, InCurrent, IsPoint, at_anchor, in_closed, in_current, IsPlaceOf, Names, anchor_after}
-use Rattle.mm_model.proofs.Batches.{same_batch-Decides, total-cons, total-nil, same_fronts}
+use Rattle.mm_model.specs.Places.{IsPoint, at_anchor, in_closed, in_current, IsPlaceOf, Names, anchor_after}
+use Rattle.mm_model.proofs.Batches.{same_batch-Decides, total-cons, same_fronts}
 use Rattle.mm_expect.specs.Naming.{IsDecided, first_with, same_batches, is_at, is_behind, is_within, is_inside, some_place, is_place, is_named_at, is_named, BasicNamesAreDecided, OptNamesAreDecided}
 
 pub decided : {P : Type 0} (r : Bool) → Decides r P → IsDecided r P
@@ -183,7 +181,13 @@ module _ (i : Instance) (y : History) (named : List Batch) (a e : List ℕ) wher
 
   point_at : (before rest : List (List Entry)) → y.closed ≡ before ++ rest → IsAt before → IsPoint i y named a e
   point_at before rest is p = at_anchor (record {
-    before = before; later = rest; split = is; clean = p.clean; counted = p.counted; anchor_is = p.anchor; extension_is = p.extension;
+    before = before;
+    later = rest;
+    split = is;
+    clean = p.clean;
+    counted = p.counted;
+    anchor_is = p.anchor;
+    extension_is = p.extension;
   })
 
   point_closed : (before : List (List Entry)) (segment : List Entry) (rest : List (List Entry)) → y.closed ≡ before ++ segment ∷ rest → IsBehind (length (joined before)) before → IsWithin before segment rest → IsPoint i y named a e
@@ -316,8 +320,7 @@ names_by i y content places None e = (
 names_by i y content places (Some named) e =
     let t = first_tells content.position y.batches named e in
     let state : List ℕ = state_after i.meaning (requests_of named) in
-    let both = Decides-and (bytes_eq content.state state) (is_place i.variant i y named content.place) (bytes_eq-Decides content.state state) (places named t.0 t.1.0) in
-    (
+    let both = Decides-and (bytes_eq content.state state) (is_place i.variant i y named content.place) (bytes_eq-Decides content.state state) (places named t.0 t.1.0) in (
       λ yes. let p = both.0 yes in record { named = named; rest = t.0; first = t.1.0; position = t.1.1; state = p.0; place = p.1 },
       λ n.
           let same : n.named ≡ named = same_fronts n.named named n.rest t.0 (sym n.first ∙ t.1.0) (sym n.position ∙ t.1.1) in
