@@ -1,6 +1,6 @@
 -- A schedule followed by lists goes on by its events.
-use Rattle.std.proofs.Common.{◌≡◌, ℕ, List, [], ◌∷◌, ◌++◌, refl, sym, ap, ◌∙◌, subst}
-use Rattle.std.specs.Prelude.{Result, Ok, Err, OnOk, IfOk, option_to_list, Vec}
+use Rattle.std.proofs.Common.{◌≡◌, ℕ, List, [], ◌∷◌, ◌++◌, refl, sym, ap, ◌∙◌}
+use Rattle.std.specs.Prelude.{option_to_list}
 use Rattle.mm_digest.specs.declared.variant.Variant.{Variant}
 use Rattle.mm_digest.specs.declared.variant.Variant.TheVariants.{Basic, Opt}
 use Rattle.mm_modules.specs.declared.any.AnyModule.{AnyModule}
@@ -11,13 +11,12 @@ use Rattle.mm_call.specs.Levels.{by_lists}
 use Rattle.mm_call.specs.Standing.{instance_by}
 use Rattle.mm_schedule.specs.declared.header.Header.{Header}
 use Rattle.mm_schedule.specs.Events.{Event}
-use Rattle.mm_run.specs.Folds.{Outcome, outcome_of, Followed, followed, expected, first_issued}
+use Rattle.mm_run.specs.Folds.{Outcome, outcome_of, Followed, expected, first_issued}
 use Rattle.mm_run.specs.Held.{world_key, world_barrier, world_of}
 use Rattle.mm_run.proofs.GoingOn.{goes_on}
 use Rattle.mm_expect.specs.declared.replies.Said.{Said}
 use Rattle.mm_expect.specs.Coming.{ComesTo}
-use Rattle.mm_expect.specs.Numbered.{numbered_event}
-use Rattle.mm_expect.specs.Recorded.{Recorded, instance_with, instance_of}
+use Rattle.mm_expect.specs.Recorded.{Recorded, instance_with}
 use Rattle.mm_expect.specs.Traced.{Traced, outcome_in, after_event, first_traced, IsAfter}
 
 world_is : (variant : Variant) («module» : AnyModule) → instance_with variant «module» ≡ instance_by variant (meaning_of «module») world_key world_barrier
@@ -61,15 +60,3 @@ event_state old new issued later event front back said comes kept =
       history = (comes.state ∙ ap (λ (o : Outcome History). o.state) same) j;
       issued = (kept ∙ sym comes.issued_is ∙ ap (λ (o : Outcome History). o.issued) same) j;
     }
-
-pub event_reply : (old new : Recorded) (issued : List (List ℕ)) (event : Event) (front back : List (List ℕ)) (said : Said)
-    → ComesTo old new issued event front back said
-    → said.reply ≡ (outcome_of (world_of (header_of old)) (by_lists (world_of (header_of old))) old.history issued event).reply
-event_reply old new issued event front back said comes =
-    comes.reply ∙ ap (λ (i : Instance). (outcome_of i (by_lists i) old.history issued event).reply) (instance_is (header_of old))
-
-pub event_messages_are : (old new : Recorded) (issued : List (List ℕ)) (event : Event) (front back : List (List ℕ)) (said : Said)
-    → ComesTo old new issued event front back said → front ≡ [] → back ≡ numbered_event (world_of (header_of old)) old.history issued event
-event_messages_are old new issued event front back said comes none =
-    comes.messages ∙ ap (λ v. v ++ numbered_event (instance_of old) old.history issued event) none
-    ∙ ap (λ (i : Instance). numbered_event i old.history issued event) (instance_is (header_of old))

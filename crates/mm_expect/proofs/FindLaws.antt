@@ -1,15 +1,13 @@
 -- What is found of an offer.
-use Rattle.std.proofs.Common.{◌≡◌, ℕ, ◌+◌, ◌≤◌, ◌^◌, Bool, true, false, ◌&&◌, List, Result, Ok, Err, refl, sym, ap, ◌∙◌, subst, arith}
-use Rattle.std.specs.Prelude.{if◌then◌else◌, nat_eq, nat_le, IfOk}
+use Rattle.std.proofs.Common.{◌≡◌, ℕ, ◌+◌, ◌≤◌, ◌^◌, Bool, true, false, ◌&&◌, List, Result, Ok, Err, refl, subst}
+use Rattle.std.specs.Prelude.{if◌then◌else◌, nat_eq, nat_le}
 use Rattle.std.specs.Str.{bytes_eq}
 use Rattle.std.proofs.lemmas.Bool.{and_parts, leb-true}
 use Rattle.std.proofs.lemmas.Bool.Decides.{Decides-eqb}
-use Rattle.mm_digest.specs.declared.variant.Variant.{Variant}
 use Rattle.mm_module.specs.Batch.{Batch, size_of}
-use Rattle.mm_module.specs.Meaning.{Meaning}
 use Rattle.mm_seal.specs.declared.snapshot.PartsFault.{PartsFault}
 use Rattle.mm_seal.specs.declared.snapshot.PartsFault.TheVariants.{Form, Kind}
-use Rattle.mm_seal.specs.Snapshot.{Content, Snapshot, tag_of}
+use Rattle.mm_seal.specs.Snapshot.{Snapshot, tag_of}
 use Rattle.mm_seal.specs.Parts.{parts_of}
 use Rattle.mm_model.specs.Instance.{Instance}
 use Rattle.mm_model.specs.History.{History, total_of}
@@ -19,11 +17,11 @@ use Rattle.mm_model.specs.declared.verdict.Verdict.{Verdict}
 use Rattle.mm_model.specs.declared.verdict.Verdict.TheVariants.{Fresh, Again, Lost, Stale}
 use Rattle.mm_model.specs.declared.refusal.Refusal.{Refusal}
 use Rattle.mm_model.specs.declared.refusal.Refusal.TheVariants as refusal
-use Rattle.mm_call.specs.Order.{admitted, weighed, examined}
+use Rattle.mm_call.specs.Order.{admitted, examined}
 use Rattle.mm_call.specs.Levels.{by_lists}
-use Rattle.mm_call.specs.Found.{Found, found_with, found_from, found_at}
+use Rattle.mm_call.specs.Found.{Found, found_from, found_at}
 use Rattle.mm_call.proofs.Finding.{admitted_tells, weighed_tells, found_with_tells}
-use Rattle.mm_expect.specs.Calls.{again_in, reached, Admits}
+use Rattle.mm_expect.specs.Calls.{reached, Admits}
 
 pub lost_when : (is_open is_bare is_own is_marred : Bool) → is_lost (life_by is_open is_bare is_own is_marred) ≡ (is_open && is_bare)
 lost_when true true own marred = refl
@@ -32,33 +30,6 @@ lost_when true false true true = refl
 lost_when true false false marred = refl
 lost_when false bare own false = refl
 lost_when false bare own true = refl
-
-again_with : (offered : Content) (r : Result Bool Refusal) → again_in (found_with offered r) ≡ r
-again_with offered (Ok again) = refl
-again_with offered (Err why) = refl
-
-module _ (i : Instance) (y : History) (b : Batch) (bytes : List ℕ) where
-  pub found_lost : is_lost (life_of i.variant y) ≡ true → Err refusal.Lost ≡ again_in (found_at i (by_lists i) y b bytes)
-  found_lost lost =
-      sym (ap (λ (l : Bool). again_in (if l then Err refusal.Lost else found_from i (by_lists i) y b (parts_of i.variant i.meaning.id bytes))) lost)
-
-  found_parts : (parts : Result Snapshot PartsFault) → is_lost (life_of i.variant y) ≡ false → parts_of i.variant i.meaning.id bytes ≡ parts
-      → again_in (found_at i (by_lists i) y b bytes) ≡ again_in (found_from i (by_lists i) y b parts)
-  found_parts parts kept is =
-      ap (λ (l : Bool). again_in (if l then Err refusal.Lost else found_from i (by_lists i) y b (parts_of i.variant i.meaning.id bytes))) kept
-      ∙ ap (λ (p : Result Snapshot PartsFault). again_in (found_from i (by_lists i) y b p)) is
-
-  pub found_fault : (fault : PartsFault) (why : Refusal) → is_lost (life_of i.variant y) ≡ false → parts_of i.variant i.meaning.id bytes ≡ Err fault
-      → again_in (found_from i (by_lists i) y b (Err fault)) ≡ Err why → Err why ≡ again_in (found_at i (by_lists i) y b bytes)
-  found_fault fault why kept is e = sym (found_parts (Err fault) kept is ∙ e)
-
-  pub found_examined : (snapshot : Snapshot) (r : Result Bool Refusal) → is_lost (life_of i.variant y) ≡ false
-      → parts_of i.variant i.meaning.id bytes ≡ Ok snapshot
-      → r ≡ examined i.meaning i.key snapshot b (judge i.variant y snapshot.content.position b)
-      → r ≡ again_in (found_at i (by_lists i) y b bytes)
-  found_examined snapshot r kept is e =
-      e ∙ sym (again_with snapshot.content (examined i.meaning i.key snapshot b (judge i.variant y snapshot.content.position b)))
-      ∙ sym (found_parts (Ok snapshot) kept is)
 
 admitted_live : (life : Life) (here repeat fits again : Bool) → admitted (judged life here repeat) fits ≡ Ok again
     → (again ≡ false → here ≡ true) × (again ≡ true → repeat ≡ true)

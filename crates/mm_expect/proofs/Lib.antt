@@ -8,7 +8,8 @@ pub mod Flipping
 pub mod NameLaws
 pub mod GenuineLaws
 pub mod CheckLaws
-pub mod ComingLaws
 pub mod AfterLaws
 pub mod PrintLaws
 pub mod PlaceLaws
+pub mod FewLaws
+pub mod JudgeLaws

@@ -2,6 +2,9 @@
 use Rattle.std.proofs.Common.{◌≡◌, ◌≤◌, ℕ, Bool, true, false, List, [], ◌∷◌, ◌++◌, length, refl, sym, ap, ◌∙◌, subst}
 use Rattle.std.specs.Prelude.{IsTrue, nat_le}
 use Rattle.std.proofs.lemmas.List.{same_from_push}
+use Rattle.std.proofs.lemmas.List.Folds.{list_any-append}
+use Rattle.std.specs.List.{list_any}
+use Rattle.std.specs.Prelude.{◌||◌}
 use Rattle.mm_digest.specs.declared.variant.Variant.{Variant}
 use Rattle.mm_digest.specs.declared.variant.Variant.TheVariants.{Basic, Opt}
 use Rattle.mm_module.specs.Batch.{Batch, members_of, size_of}
@@ -13,8 +16,9 @@ use Rattle.mm_modules.specs.declared.any.AnyModule.{AnyModule}
 use Rattle.mm_modules.specs.Modules.{meaning_of}
 use Rattle.mm_modules.specs.ModulesLaws.{any_is_lawful}
 use Rattle.mm_model.specs.Chains.{guard, register_of, anchor_of}
-use Rattle.mm_model.specs.History.{History, Value, first_history, requests_of, total_of, cell_digest_of, values_of, renamed, committed}
+use Rattle.mm_model.specs.History.{History, Value, first_history, requests_of, total_of, cell_digest_of, values_of, committed}
 use Rattle.mm_model.specs.Judge.{is_last}
+use Rattle.mm_model.specs.Long.{is_long}
 use Rattle.mm_model.specs.Places.{digest_of}
 use Rattle.mm_model.specs.Standing.{issued_bytes}
 use Rattle.mm_model.proofs.Batches.{is_last_tells}
@@ -47,6 +51,7 @@ module _ (variant : Variant) («module» : AnyModule) (barrier : List ℕ) (y z 
     before_is = λ front last e. s.before_is front last (sym same ∙ e);
     spelled = s.spelled;
     begun = s.begun;
+    short = ap (list_any is_long) same ∙ s.short;
   }
 
   pub settled_value : (v : List ℕ) → IsSettled variant «module» barrier y old state before → z ≡ record y { items = y.items ++ Value v ∷ [] }
@@ -78,12 +83,13 @@ module _ (variant : Variant) («module» : AnyModule) (barrier : List ℕ) (y z 
   abbrev pub Ran : List ℕ → List ℕ → Batch → Type 0
   Ran next kept b =
       (next ≡ state_from (meaning_of «module») (state_after (meaning_of «module») (requests_of y.batches)) (members_of b)) × (kept ≡ state)
+      × (list_any is_long (b ∷ []) ≡ false)
 
   -- a batch is committed
   settled_more : (b : Batch) (next kept : List ℕ) → IsSettled variant «module» barrier y old state before → z.batches ≡ y.batches ++ b ∷ []
       → new ≡ marks_of (instance_with variant «module») z → Ran next kept b
       → IsSettled variant «module» barrier z new next kept
-  settled_more b next kept s grows marks (run, was) =
+  settled_more b next kept s grows marks (run, was, short) =
       let meaning = meaning_of «module» in
       record {
         barrier_is = s.barrier_is;
@@ -96,6 +102,7 @@ module _ (variant : Variant) («module» : AnyModule) (barrier : List ℕ) (y z 
             ∙ ap (λ (bs : List Batch). state_after meaning (requests_of bs)) (same_from_push y.batches front b last (sym grows ∙ e)).0;
         spelled = spelled_same «module» next state (members_of b) (run ∙ ap (λ (v : List ℕ). state_from meaning v (members_of b)) (sym s.state_is)) s.spelled;
         begun = subst (λ (v : List ℕ). IsTrue (meaning.is_spelled v)) (sym was) s.spelled;
+        short = ap (list_any is_long) grows ∙ list_any-append is_long y.batches (b ∷ []) ∙ ap (λ (f : Bool). f || list_any is_long (b ∷ [])) s.short ∙ short;
       }
 
   pub settled_linked : (b : Batch) (next kept : List ℕ) → IsSettled variant «module» barrier y old state before → variant ≡ Basic
@@ -166,6 +173,7 @@ settled_first variant «module» barrier y marks state before id b first ids m s
       before_is = λ front last e. absurd (no_last front last (sym (ap (λ (h : History). h.batches) first) ∙ e));
       spelled = subst (λ (v : List ℕ). IsTrue ((meaning_of «module»).is_spelled v)) (sym s) lawful.begins;
       begun = subst (λ (v : List ℕ). IsTrue ((meaning_of «module»).is_spelled v)) (sym f) lawful.begins;
+      short = ap (λ (h : History). list_any is_long h.batches) first;
     }
 
 -- the state is within its limit
@@ -189,3 +197,7 @@ pub answered_is : (r : Recorded) (again : Bool) (b : Batch) (position : ℕ) (ou
     → snapshot ≡ issued_bytes (instance_of r) r.history
     → Answered (record { again = again; position = position; outputs = outputs; snapshot = snapshot }) ≡ Answered (answer_on (instance_of r) r.history b again)
 answered_is r again b position outputs snapshot p o s = λ j. Answered (record { again = again; position = p j; outputs = o j; snapshot = s j })
+
+-- a batch that isn't too long, as a list
+pub short_one : (b : Batch) → is_long b ≡ false → list_any is_long (b ∷ []) ≡ false
+short_one b e = ap (λ (f : Bool). f || false) e

@@ -13,3 +13,4 @@ pub mod Genuine
 pub mod Coming
 pub mod Traced
 pub mod Hears
+pub mod Judged

@@ -1,16 +1,19 @@
 -- What the fields of a chronicle keep.
-use Rattle.std.specs.Prelude.{◌≡◌, ℕ, List, [], ◌∷◌, ◌++◌, IsTrue}
+use Rattle.std.specs.Prelude.{◌≡◌, ℕ, false, List, [], ◌∷◌, ◌++◌, IsTrue}
+use Rattle.std.specs.List.{list_any}
 use Rattle.mm_digest.specs.declared.variant.Variant.{Variant}
 use Rattle.mm_module.specs.Batch.{Batch}
 use Rattle.mm_module.specs.Meaning.{state_after}
 use Rattle.mm_modules.specs.declared.any.AnyModule.{AnyModule}
 use Rattle.mm_modules.specs.Modules.{meaning_of}
 use Rattle.mm_model.specs.History.{History, requests_of}
+use Rattle.mm_model.specs.Long.{is_long}
 use Rattle.mm_expect.specs.declared.marks.Marks.{Marks}
 use Rattle.mm_expect.specs.Marks.{marks_of}
 use Rattle.mm_expect.specs.Recorded.{barrier_of, instance_with}
 
--- the barrier and the marks are those of the history; and the module's states those after its batches, and before the last
+-- the barrier and the marks are those of the history; and the module's states those after its batches, and before the last;
+-- and no batch is too long
 pub record IsSettled (variant : Variant) («module» : AnyModule) (barrier : List ℕ) (history : History) (marks : Marks)
     (state before : List ℕ) : Type 0 where
   pub barrier_is : barrier ≡ barrier_of variant
@@ -20,3 +23,4 @@ pub record IsSettled (variant : Variant) («module» : AnyModule) (barrier : Lis
       before ≡ state_after (meaning_of «module») (requests_of front)
   pub spelled : IsTrue ((meaning_of «module»).is_spelled state)
   pub begun : IsTrue ((meaning_of «module»).is_spelled before)
+  pub short : list_any is_long history.batches ≡ false

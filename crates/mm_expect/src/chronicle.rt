@@ -201,6 +201,7 @@ impl Chronicle {
     // Basic: a batch of this size is committed, after which the module has this state.
     fn link(&mut self, batch: Batch<'_>, size: u64, state: Bytes) -> Result<(), Memory>
         requires variant { self.old.variant ≡ Basic }
+        requires short { is_long (batch_of batch) ≡ false }
         requires size { size ≡ size_of (batch_of batch) }
         requires fits { total_of self.old.history.batches + size < 2 ^ 64 }
         requires state { state ≡ state_after_batch self.old (batch_of batch) }
@@ -216,6 +217,7 @@ impl Chronicle {
     fn grow(&mut self, batch: Batch<'_>, size: u64, state: Bytes) -> Result<(), Memory>
         requires variant { self.old.variant ≡ Opt }
         requires inside { self.old.history.is_open ≡ true }
+        requires short { is_long (batch_of batch) ≡ false }
         requires size { size ≡ size_of (batch_of batch) }
         requires fits { total_of self.old.history.batches + size < 2 ^ 64 }
         requires state { state ≡ state_after_batch self.old (batch_of batch) }
@@ -235,6 +237,7 @@ impl Chronicle {
         value: &Digest,
     ) -> Result<(), Memory>
         requires variant { self.old.variant ≡ Opt }
+        requires short { is_long (batch_of batch) ≡ false }
         requires size { size ≡ size_of (batch_of batch) }
         requires fits { total_of self.old.history.batches + size < 2 ^ 64 }
         requires state { state ≡ state_after_batch self.old (batch_of batch) }
@@ -251,6 +254,7 @@ impl Chronicle {
     fn begin_segment(&mut self, batch: Batch<'_>, size: u64, state: Bytes) -> Result<(), Memory>
         requires variant { self.old.variant ≡ Opt }
         requires outside { self.old.history.is_open ≡ false }
+        requires short { is_long (batch_of batch) ≡ false }
         requires size { size ≡ size_of (batch_of batch) }
         requires fits { total_of self.old.history.batches + size < 2 ^ 64 }
         requires state { state ≡ state_after_batch self.old (batch_of batch) }

@@ -19,15 +19,15 @@ use crate::kept::normal;
 use crate::keys::key;
 use crate::messages::list_place;
 use crate::offered::offered;
+use crate::offers::{is_genuine, right_body};
 use crate::replies::{Said, closing_said, quiet, said_of, way};
 use mm_base::{Bytes, Memory};
 use mm_call::Ended;
 use mm_digest::{Digest, HmacKey};
 use mm_model::is_long;
-use mm_module::{Batch, Module};
+use mm_module::Batch;
 use mm_platform::{Meddle, Stop};
 use mm_schedule::{Cause, Event, Header, Meddles, Offer, Reply};
-use mm_seal::parts;
 use std::alloc::Global;
 use std::marker::Model;
 
@@ -38,6 +38,8 @@ pub struct Heard {
     pub reply: Reply,
     /// The messages of the event, in the order of their numbers; one may have come before.
     pub messages: Vec<Bytes>,
+    /// Whether the offer, where it is right, names a position of the history before the event.
+    pub is_genuine: bool,
 }
 
 /// A schedule followed by lists, which contracts see as the header, the history and the issued snapshots.
@@ -85,20 +87,16 @@ fn list_asked(
     ensures { OnOk result (messages.new.items ≡ messages.old.items ++ right_messages (instance_of chronicle.now) (batch_of batch.entry)
         (right_content (instance_of chronicle.now) bytes.now)) }
 {
-    let Ok(offered) = parts(bytes, chronicle.variant, chronicle.module.id()) else {
-        return Ok(());
-    };
-    let body = offered.body();
-    if chronicle.module.state_is_spelled(body.state) && offered.tag_right_under(key) {
-        return list_place(
+    match right_body(chronicle, key, bytes) {
+        None => Ok(()),
+        Some(body) => list_place(
             chronicle.alloc,
             &chronicle.barrier,
             &body.place,
             batch,
             messages,
-        );
+        ),
     }
-    Ok(())
 }
 
 // Power is lost where a call is cut that is broken off, and comes back.
@@ -286,6 +284,7 @@ impl Expecting {
     ghost use Rattle.mm_run.specs.Held.{world_of};
     ghost use Rattle.mm_expect.specs.Traced.{IsAfter, StandsLater, first_traced, after_event};
     ghost use Rattle.mm_expect.specs.Hears.{Hears};
+    ghost use Rattle.mm_expect.specs.Judged.{DecidesLater};
 
     /// A schedule with this header, before its first event.
     pub fn begin(alloc: Global, header: &Header) -> Result<Expecting, Memory>
@@ -310,11 +309,13 @@ impl Expecting {
         ensures state { OnOk result (self.new ≡ after_event self.old (event_of event.now)) }
         ensures hears { IfOk result (Hears (world_of self.old.header) self.old.history self.old.issued (event_of event.now)) }
         ensures after { OnOk result (StandsLater self.old (event_of event.now) self.new) }
+        ensures genuine { IfOk result (λ heard. DecidesLater self.old (event_of event.now) heard.is_genuine) }
 
         // The reply can be printed, and at most one snapshot is issued.
         ensures printable { IfOk result (λ heard. IsPrintable heard.reply) }
         ensures grows { OnOk result (length self.new.issued ≤ length self.old.issued + 1) }
     {
+        let is_genuine = is_genuine(&self.chronicle, &self.key, self.issued.as_slice(), event)?;
         let mut messages = Vec::new(self.alloc);
         let Said { reply, snapshot } = follow(
             &mut self.chronicle,
@@ -324,7 +325,11 @@ impl Expecting {
             &mut messages,
         )?;
         keep(&mut self.issued, snapshot)?;
-        Ok(Heard { reply, messages })
+        Ok(Heard {
+            reply,
+            messages,
+            is_genuine,
+        })
     }
 
     /// How many requests are committed.

@@ -14,6 +14,10 @@ mod marks;
 mod messages;
 mod naming;
 mod offered;
+mod offers;
 mod replies;
 
 pub use expecting::{Expecting, Heard};
+
+#[cfg(test)]
+mod tests;

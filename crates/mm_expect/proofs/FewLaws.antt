@@ -1,0 +1,137 @@
+-- A schedule commits at most 2^48 requests.
+use Rattle.std.proofs.Common.{◌≡◌, ℕ, ◌+◌, ◌≤◌, ◌^◌, Bool, true, false, List, [], ◌∷◌, ◌++◌, Option, None, Some, Result, Ok, Err, refl, sym, ap, ◌∙◌, subst, arith}
+use Rattle.std.specs.Prelude.{if◌then◌else◌}
+use Rattle.mm_digest.specs.declared.variant.Variant.{Variant}
+use Rattle.mm_digest.specs.declared.variant.Variant.TheVariants.{Basic, Opt}
+use Rattle.mm_platform.specs.declared.plan.Meddle.{Meddle}
+use Rattle.mm_platform.specs.declared.plan.Stop.{Stop}
+use Rattle.mm_platform.specs.declared.plan.Stop.TheVariants.{Quiet, Cut, Drop, Fail}
+use Rattle.mm_module.specs.Batch.{Batch, size_of, normal}
+use Rattle.mm_model.specs.Instance.{Instance}
+use Rattle.mm_model.specs.History.{History, Move, Close, first_history, total_of}
+use Rattle.mm_model.specs.Long.{is_long}
+use Rattle.mm_model.specs.Steps.{Step, Reads, Writes, ask_steps, checkpoint_steps}
+use Rattle.mm_model.specs.declared.refusal.Refusal.{Refusal}
+use Rattle.mm_model.proofs.MovedDigests.{total-push}
+use Rattle.mm_call.specs.Called.{Ending, Answers, Refuses, Breaks, reading_steps, called, seen_at}
+use Rattle.mm_call.specs.Checkpoints.{Closing, Closes, HasNone, NoSegment, LostPower, Stops, checkpointed}
+use Rattle.mm_call.specs.Courses.{End, Done, Fails, Fate, Course, Walked, step_moves, after_step, walk}
+use Rattle.mm_call.specs.Found.{Found, found_at, found_in, is_fresh}
+use Rattle.mm_call.specs.Levels.{by_lists, all_made}
+use Rattle.mm_call.proofs.BasicLaw.{unlacked}
+use Rattle.mm_call.proofs.Moving.{committed_in, same_batches, more_batches}
+use Rattle.mm_call.proofs.Walks.{Commits, nothing, batch, finished, committed-append, committed-foreign}
+use Rattle.mm_schedule.specs.declared.reply.Cause.TheVariants as cause
+use Rattle.mm_schedule.specs.declared.reply.Reply.TheVariants as reply
+use Rattle.mm_schedule.specs.Events.{Event, Ask, Checkpoint, Power, Extend}
+use Rattle.mm_run.specs.Offered.{offered_bytes}
+use Rattle.mm_run.specs.Folds.{course_of, after_stop, moves_then, closing_then, uncalled, outcome_by, asked, outcome_of, followed, first_issued, expected}
+use Rattle.mm_expect.specs.Calls.{Admits}
+use Rattle.mm_expect.proofs.Asking.{foreign_batches}
+use Rattle.mm_expect.proofs.FindLaws.{admits_found}
+use Rattle.mm_expect.proofs.PrintLaws.{commits_any}
+
+-- the history has at most so many requests
+abbrev pub IsFew : History → Type 0
+IsFew y = total_of y.batches ≤ 2 ^ 48
+
+still_few : (i : Instance) (moves : List Move) (y : History) → committed_in moves ≡ [] → IsFew y → IsFew (all_made (by_lists i) y moves)
+still_few i moves y none few = subst (λ n. n ≤ 2 ^ 48) (sym (ap total_of (same_batches i moves y none))) few
+
+not_again : (again : Bool) → (if again then false else true) ≡ true → again ≡ false
+not_again true e = cc
+not_again false e = refl
+
+fresh_found : (found : Result Found Refusal) → is_fresh found ≡ true → (f : Found) × (found ≡ Ok f) × (f.again ≡ false)
+fresh_found (Ok f) e = (f, refl, not_again f.again e)
+fresh_found (Err why) e = cc
+
+walked_few : (i : Instance) (y seen : History) (b : Batch) (found : Result Found Refusal) (walked : Walked) → seen.batches ≡ y.batches
+    → ((f : Found) → found ≡ Ok f → Admits seen b f.again) → Commits b (is_fresh found) walked → IsFew y → IsFew (all_made (by_lists i) y walked.moves)
+walked_few i y seen b found walked same admits (nothing none unless) few = still_few i walked.moves y none few
+walked_few i y seen b found walked same admits (batch one is) few =
+    let f = fresh_found found is in
+    let a : Admits seen b false = subst (Admits seen b) f.2 (admits f.0 f.1) in
+    subst (λ n. n ≤ 2 ^ 48)
+    (sym (ap total_of (more_batches i walked.moves y b one) ∙ total-push y.batches b ∙ ap (λ (bs : List Batch). total_of bs + size_of b) (sym same))) a.fits
+
+called_few : (i : Instance) (y : History) (course : Course) (bytes : List ℕ) (b : Batch) → IsFew y → IsFew (called i (by_lists i) y course bytes b).state
+called_few i y course bytes b few =
+    let seen = seen_at i (by_lists i) y course in
+    let found = found_in (found_at i (by_lists i) seen b bytes) course.lacks in
+    walked_few i y seen b found (walk course.fates 1 (ask_steps i.variant y.is_open (is_fresh found) b)) (foreign_batches i course.fates (reading_steps i.variant) 1 y)
+    (λ f is. admits_found i seen b bytes f (unlacked (found_at i (by_lists i) seen b bytes) course.lacks f is))
+    (commits_any i.variant course y.is_open (is_fresh found) b) few
+
+stop_quiet : (stop : Stop) → committed_in (after_stop stop) ≡ []
+stop_quiet Quiet = refl
+stop_quiet (Cut n) = refl
+stop_quiet (Drop n) = refl
+stop_quiet (Fail n done) = refl
+
+then_quiet : (stop : Stop) (ending : Ending) → committed_in (moves_then stop ending) ≡ []
+then_quiet stop (Answers answer) = refl
+then_quiet stop (Refuses why) = refl
+then_quiet stop (Breaks fault kept) = stop_quiet stop
+
+closing_quiet : (stop : Stop) (closing : Closing) → committed_in (closing_then stop closing) ≡ []
+closing_quiet stop Closes = refl
+closing_quiet stop HasNone = refl
+closing_quiet stop NoSegment = refl
+closing_quiet stop LostPower = refl
+closing_quiet stop (Stops fault closed) = stop_quiet stop
+
+asked_few : (i : Instance) (y : History) (issued : List (List ℕ)) (meddles : List Meddle) (stop : Stop) (bytes : List ℕ) (b : Batch) (long : Bool) → IsFew y
+    → IsFew (if long then uncalled y issued (reply.No cause.Long) else outcome_by (by_lists i) stop issued (called i (by_lists i) y (course_of stop meddles) bytes (normal b))).state
+asked_few i y issued meddles stop bytes b true few = few
+asked_few i y issued meddles stop bytes b false few =
+    let o = called i (by_lists i) y (course_of stop meddles) bytes (normal b) in
+    still_few i (moves_then stop o.ending) o.state (then_quiet stop o.ending) (called_few i y (course_of stop meddles) bytes (normal b) few)
+
+bytes_few : (i : Instance) (y : History) (issued : List (List ℕ)) (meddles : List Meddle) (stop : Stop) (bytes : Option (List ℕ)) (b : Batch) → IsFew y
+    → IsFew (asked i (by_lists i) y issued meddles stop bytes b).state
+bytes_few i y issued meddles stop None b few = few
+bytes_few i y issued meddles stop (Some bytes) b few = asked_few i y issued meddles stop bytes b (is_long b) few
+
+-- the steps of a checkpoint commit nothing
+
+quiet_step : (step : Step) (values : List (List ℕ)) (ends : End) (rest : Walked) → ((made : Bool) → committed_in (step_moves step made values) ≡ [])
+    → committed_in rest.moves ≡ [] → committed_in (after_step step values ends rest).moves ≡ []
+quiet_step step values Done rest q r =
+    committed-append (step_moves step true values) rest.moves ∙ ap (λ v. v ++ committed_in rest.moves) (q true) ∙ r
+quiet_step step values (Fails fault made) rest q r = q made
+
+reads_quiet : (values : List (List ℕ)) (ends : End) (rest : Walked) → committed_in rest.moves ≡ [] → committed_in (after_step Reads values ends rest).moves ≡ []
+reads_quiet values ends rest r = quiet_step Reads values ends rest (λ made. committed-foreign values) r
+
+close_quiet : (values : List (List ℕ)) (made : Bool) → committed_in (step_moves (Writes Close) made values) ≡ []
+close_quiet values true = committed-foreign values
+close_quiet values false = committed-foreign values
+
+checks_quiet : (fates : ℕ → Fate) (variant : Variant) (is_open lost : Bool) → committed_in (walk fates 1 (checkpoint_steps variant is_open lost)).moves ≡ []
+checks_quiet fates Basic is_open lost = reads_quiet (fates 1).brings (fates 1).ends finished refl
+checks_quiet fates Opt false lost = reads_quiet (fates 1).brings (fates 1).ends finished refl
+checks_quiet fates Opt true true =
+    reads_quiet (fates 1).brings (fates 1).ends (after_step Reads (fates 2).brings (fates 2).ends finished)
+    (reads_quiet (fates 2).brings (fates 2).ends finished refl)
+checks_quiet fates Opt true false =
+    reads_quiet (fates 1).brings (fates 1).ends (after_step Reads (fates 2).brings (fates 2).ends (after_step (Writes Close) (fates 3).brings (fates 3).ends finished))
+    (reads_quiet (fates 2).brings (fates 2).ends (after_step (Writes Close) (fates 3).brings (fates 3).ends finished)
+    (quiet_step (Writes Close) (fates 3).brings (fates 3).ends finished (close_quiet (fates 3).brings) refl))
+
+few_event : (i : Instance) (y : History) (issued : List (List ℕ)) (event : Event) → IsFew y → IsFew (outcome_of i (by_lists i) y issued event).state
+few_event i y issued (Ask meddles stop offer b) few = bytes_few i y issued meddles stop (offered_bytes issued offer) b few
+few_event i y issued (Checkpoint meddles stop) few =
+    let o = checkpointed i (by_lists i) y (course_of stop meddles) in
+    still_few i (closing_then stop o.ending) o.state (closing_quiet stop o.ending)
+    (still_few i o.moves y (checks_quiet (course_of stop meddles).fates i.variant y.is_open _) few)
+few_event i y issued Power few = few
+few_event i y issued (Extend value) few = few
+
+few_followed : (i : Instance) (y : History) (issued : List (List ℕ)) (events : List Event) → IsFew y → IsFew (followed i (by_lists i) y issued events).state
+few_followed i y issued [] few = few
+few_followed i y issued (event ∷ events) few =
+    let o = outcome_of i (by_lists i) y issued event in few_followed i o.state o.issued events (few_event i y issued event few)
+
+pub few_expected : (i : Instance) (events : List Event) → IsFew (expected i events).state
+few_expected i events = few_followed i first_history (first_issued i) events (omega arith)

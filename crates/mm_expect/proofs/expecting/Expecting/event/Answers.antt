@@ -1,0 +1,45 @@
+use Rattle.std.proofs.Common.{ℕ, List, sym, ap, ◌∙◌, subst}
+use Rattle.mm_modules.specs.ModulesLaws.{any_is_lawful}
+use Rattle.mm_schedule.specs.declared.reply.Reply.{Reply}
+use Rattle.mm_schedule.specs.Events.{event_of}
+use Rattle.mm_schedule.specs.Replies.{IsPrintable}
+use Rattle.mm_expect.specs.Coming.{ComesTo}
+use Rattle.mm_expect.specs.Recorded.{instance_of}
+use Rattle.mm_run.specs.Held.{world_of}
+use Rattle.mm_run.specs.Premises.{IsGenuineEvent}
+use Rattle.mm_expect.specs.Judged.{DecidesEvent}
+use Rattle.mm_expect.specs.Naming.{IsDecided}
+use Rattle.mm_expect.specs.Traced.{Traced, IsAfter, after_event}
+use Rattle.mm_expect.proofs.AfterLaws.{event_state, goes_after}
+use Rattle.mm_expect.proofs.JudgeLaws.{event_decided}
+use Rattle.mm_expect.proofs.PrintLaws.{printable}
+use Rattle.mm_expect.proofs.expecting.Expecting.event.Goals as goal
+
+pub returns-clause-state : goal.returns-clause-state
+returns-clause-state c =
+    let happens = event_of c.args.event.now in
+    let So : List (List ℕ) → Type 0 = λ v. ComesTo c.self.inside.chronicle c.follow.new.chronicle v happens c.new-messages.result.items
+    c.follow.new.messages.items c.in_ok-reply.field-0 in
+    event_state c.self.inside.chronicle c.follow.new.chronicle c.self.inside.issued.items c.keep.new.issued.items happens c.new-messages.result.items
+    c.follow.new.messages.items c.in_ok-reply.field-0 (subst So c.as_slice-2.ensures.value c.in_ok-reply.ensures) c.in_ok-keep.ensures
+    ∙ ap (λ (t : Traced). after_event t happens) c.self.view_is
+
+pub returns-clause-after : goal.returns-clause-after
+returns-clause-after c = λ header events at.
+    goes_after header events (event_of c.args.event.now) c.args.self.now _ at (returns-clause-state c)
+
+pub returns-clause-printable : goal.returns-clause-printable
+returns-clause-printable c =
+    subst (λ (r : Reply). IsPrintable r) (sym c.in_ok-reply.ensures.reply)
+    (printable (instance_of c.self.inside.chronicle) (any_is_lawful c.self.inside.chronicle.«module») c.self.inside.chronicle.history
+    c.as_slice-2.result.now (event_of c.args.event.now))
+
+pub returns-clause-genuine : goal.returns-clause-genuine
+returns-clause-genuine c = λ header events at.
+    let So : List (List ℕ) → Type 0 = λ v. DecidesEvent (instance_of c.self.inside.chronicle) c.self.inside.chronicle.history v (event_of c.args.event.now)
+    c.in_ok-is_genuine.is_genuine in
+    let To : Traced → Type 0 = λ t. IsDecided c.in_ok-is_genuine.is_genuine (IsGenuineEvent (world_of header) t.history t.issued (event_of c.args.event.now)) in
+    subst To c.self.view_is
+    (event_decided c.self.inside.chronicle c.self.inside.issued.items (event_of c.args.event.now) c.in_ok-is_genuine.is_genuine header events
+    (subst So c.as_slice.ensures.value c.in_ok-is_genuine.ensures)
+    (subst (IsAfter header events) (sym c.self.view_is) at))
