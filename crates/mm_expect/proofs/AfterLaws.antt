@@ -1,6 +1,6 @@
 -- A schedule followed by lists goes on by its events.
-use Rattle.std.proofs.Common.{◌≡◌, ℕ, List, [], ◌∷◌, ◌++◌, refl, sym, ap, ◌∙◌, subst}
-use Rattle.std.specs.Prelude.{Result, Ok, Err, OnOk, IfOk, option_to_list, Vec}
+use Rattle.std.proofs.Common.{◌≡◌, ℕ, List, [], ◌∷◌, ◌++◌, refl, sym, ap, ◌∙◌}
+use Rattle.std.specs.Prelude.{option_to_list}
 use Rattle.mm_digest.specs.declared.variant.Variant.{Variant}
 use Rattle.mm_digest.specs.declared.variant.Variant.TheVariants.{Basic, Opt}
 use Rattle.mm_modules.specs.declared.any.AnyModule.{AnyModule}
@@ -11,13 +11,12 @@ use Rattle.mm_call.specs.Levels.{by_lists}
 use Rattle.mm_call.specs.Standing.{instance_by}
 use Rattle.mm_schedule.specs.declared.header.Header.{Header}
 use Rattle.mm_schedule.specs.Events.{Event}
-use Rattle.mm_run.specs.Folds.{Outcome, outcome_of, Followed, followed, expected, first_issued}
+use Rattle.mm_run.specs.Folds.{Outcome, outcome_of, Followed, expected, first_issued}
 use Rattle.mm_run.specs.Held.{world_key, world_barrier, world_of}
 use Rattle.mm_run.proofs.GoingOn.{goes_on}
 use Rattle.mm_expect.specs.declared.replies.Said.{Said}
 use Rattle.mm_expect.specs.Coming.{ComesTo}
-use Rattle.mm_expect.specs.Numbered.{numbered_event}
-use Rattle.mm_expect.specs.Recorded.{Recorded, instance_with, instance_of}
+use Rattle.mm_expect.specs.Recorded.{Recorded, instance_with}
 use Rattle.mm_expect.specs.Traced.{Traced, outcome_in, after_event, first_traced, IsAfter}
 
 world_is : (variant : Variant) («module» : AnyModule) → instance_with variant «module» ≡ instance_by variant (meaning_of «module») world_key world_barrier

@@ -15,14 +15,13 @@ use Rattle.mm_model.specs.History.{History, Move, Commit, Foreign, Placed, Reset
 use Rattle.mm_model.specs.Judge.{is_last}
 use Rattle.mm_model.specs.Steps.{Step, Reads, Changes, Writes, ask_steps}
 use Rattle.mm_model.specs.declared.refusal.Refusal.{Refusal}
-use Rattle.mm_model.specs.Life.{same_batch}
 use Rattle.mm_model.proofs.Batches.{same_batch-Decides}
 use Rattle.mm_model.proofs.MovedDigests.{total-push}
 use Rattle.mm_call.specs.Answers.{answer_on}
 use Rattle.mm_call.specs.Levels.{by_lists, all_made}
 use Rattle.mm_call.specs.Found.{Found, found_in, found_at, is_fresh}
-use Rattle.mm_call.specs.Courses.{End, Done, Fails, Fate, Walked, made_move, step_moves, after_step, walk, seen_in, commits, planned}
-use Rattle.mm_call.specs.Called.{Ending, Answers, Refuses, Breaks, Called, reading_steps, kept_at, position_of, ended_by, called, called_with, seen_at}
+use Rattle.mm_call.specs.Courses.{End, Done, Fails, Fate, Walked, step_moves, after_step, walk, seen_in, commits, planned}
+use Rattle.mm_call.specs.Called.{Answers, Breaks, Called, reading_steps, kept_at, position_of, ended_by, called, called_with, seen_at}
 use Rattle.mm_call.specs.declared.ended.Ended.{Ended}
 use Rattle.mm_call.specs.declared.ended.Ended.TheVariants.{Answered, Refused, Broken}
 use Rattle.mm_call.proofs.Moving.{committed_in, same_batches, more_batches}
@@ -30,7 +29,7 @@ use Rattle.mm_call.proofs.Walks.{Commits, nothing, batch, finished, committed-ap
 use Rattle.mm_run.specs.Folds.{plan_of, course_of}
 use Rattle.mm_expect.specs.Recorded.{Recorded, Went, instance_of, instance_with}
 use Rattle.mm_expect.specs.Walking.{Walks}
-use Rattle.mm_expect.specs.Calls.{again_in, reached, Admits, changing_steps, changing_from, changes_on, ChangesBy, ending_of, new_ending, GoesOnNew, CallsBy}
+use Rattle.mm_expect.specs.Calls.{again_in, Admits, changing_steps, changing_from, changes_on, ChangesBy, ending_of, new_ending, GoesOnNew, CallsBy}
 use Rattle.mm_expect.proofs.Walking.{went_then}
 
 is_last_of : (front : List Batch) (b : Batch) → is_last (front ++ b ∷ []) b ≡ true

@@ -3,7 +3,7 @@ use Rattle.std.proofs.Common.{◌≡◌, ℕ, Bool, true, false, List, [], ◌�
 use Rattle.std.specs.Prelude.{IfOk}
 use Rattle.std.proofs.lemmas.List.{append-nil}
 use Rattle.mm_digest.specs.declared.variant.Variant.{Variant}
-use Rattle.mm_digest.specs.declared.variant.Variant.TheVariants.{Basic, Opt}
+use Rattle.mm_digest.specs.declared.variant.Variant.TheVariants.{Opt}
 use Rattle.mm_platform.specs.declared.fault.StepFault.{StepFault}
 use Rattle.mm_platform.specs.declared.plan.Meddle.{Meddle}
 use Rattle.mm_platform.specs.declared.plan.Stop.{Stop}
@@ -13,15 +13,15 @@ use Rattle.mm_model.specs.History.{History, Move, Commit, Foreign, Placed, Reset
 use Rattle.mm_model.specs.Life.{life_of, is_lost}
 use Rattle.mm_model.specs.Steps.{Step, Reads, Writes, checkpoint_steps}
 use Rattle.mm_call.specs.Levels.{by_lists, all_made}
-use Rattle.mm_call.specs.Courses.{End, Done, Fails, Fate, Walked, made_move, step_moves, after_step, walk, seen_in, closes, planned, end_of}
+use Rattle.mm_call.specs.Courses.{End, Done, Fails, Fate, Walked, after_step, walk, seen_in, closes, planned, end_of}
 use Rattle.mm_call.specs.Called.{reading_steps, seen_at}
 use Rattle.mm_call.specs.Checkpoints as ghost_closing
 use Rattle.mm_call.proofs.Walks.{finished}
 use Rattle.mm_run.specs.Folds.{plan_of, course_of}
 use Rattle.mm_expect.specs.declared.calls.Closing.{Closing}
-use Rattle.mm_expect.specs.declared.calls.Closing.TheVariants.{Closes, HasNone, NoSegment, LostPower, Stops}
+use Rattle.mm_expect.specs.declared.calls.Closing.TheVariants.{Closes, LostPower, Stops}
 use Rattle.mm_expect.specs.Closings.{closing_as, ChecksBy, ShutBy}
-use Rattle.mm_expect.specs.Recorded.{Recorded, Went, instance_of, instance_with}
+use Rattle.mm_expect.specs.Recorded.{Recorded, Went, instance_of}
 use Rattle.mm_expect.specs.Walking.{Walks}
 use Rattle.mm_expect.proofs.Asking.{Then, read_broken, read_whole, read_seen}
 use Rattle.mm_expect.proofs.Walking.{went_then}

@@ -1,5 +1,5 @@
 -- A schedule commits at most 2^48 requests.
-use Rattle.std.proofs.Common.{◌≡◌, ℕ, ◌+◌, ◌≤◌, ◌^◌, Bool, true, false, List, [], ◌∷◌, ◌++◌, map, Option, None, Some, Result, Ok, Err, refl, sym, ap, ◌∙◌, subst, arith}
+use Rattle.std.proofs.Common.{◌≡◌, ℕ, ◌+◌, ◌≤◌, ◌^◌, Bool, true, false, List, [], ◌∷◌, ◌++◌, Option, None, Some, Result, Ok, Err, refl, sym, ap, ◌∙◌, subst, arith}
 use Rattle.std.specs.Prelude.{if◌then◌else◌}
 use Rattle.mm_digest.specs.declared.variant.Variant.{Variant}
 use Rattle.mm_digest.specs.declared.variant.Variant.TheVariants.{Basic, Opt}
@@ -8,13 +8,13 @@ use Rattle.mm_platform.specs.declared.plan.Stop.{Stop}
 use Rattle.mm_platform.specs.declared.plan.Stop.TheVariants.{Quiet, Cut, Drop, Fail}
 use Rattle.mm_module.specs.Batch.{Batch, size_of, normal}
 use Rattle.mm_model.specs.Instance.{Instance}
-use Rattle.mm_model.specs.History.{History, Move, Foreign, Close, Power as PowerMove, first_history, total_of}
+use Rattle.mm_model.specs.History.{History, Move, Close, first_history, total_of}
 use Rattle.mm_model.specs.Long.{is_long}
 use Rattle.mm_model.specs.Steps.{Step, Reads, Writes, ask_steps, checkpoint_steps}
 use Rattle.mm_model.specs.declared.refusal.Refusal.{Refusal}
 use Rattle.mm_model.proofs.MovedDigests.{total-push}
-use Rattle.mm_call.specs.Called.{Ending, Answers, Refuses, Breaks, Called, reading_steps, called, seen_at}
-use Rattle.mm_call.specs.Checkpoints.{Closing, Closes, HasNone, NoSegment, LostPower, Stops, Checkpointed, checkpointed}
+use Rattle.mm_call.specs.Called.{Ending, Answers, Refuses, Breaks, reading_steps, called, seen_at}
+use Rattle.mm_call.specs.Checkpoints.{Closing, Closes, HasNone, NoSegment, LostPower, Stops, checkpointed}
 use Rattle.mm_call.specs.Courses.{End, Done, Fails, Fate, Course, Walked, step_moves, after_step, walk}
 use Rattle.mm_call.specs.Found.{Found, found_at, found_in, is_fresh}
 use Rattle.mm_call.specs.Levels.{by_lists, all_made}
@@ -25,7 +25,7 @@ use Rattle.mm_schedule.specs.declared.reply.Cause.TheVariants as cause
 use Rattle.mm_schedule.specs.declared.reply.Reply.TheVariants as reply
 use Rattle.mm_schedule.specs.Events.{Event, Ask, Checkpoint, Power, Extend}
 use Rattle.mm_run.specs.Offered.{offered_bytes}
-use Rattle.mm_run.specs.Folds.{Outcome, course_of, after_stop, moves_then, closing_then, uncalled, outcome_by, asked, outcome_of, Followed, followed, first_issued, expected}
+use Rattle.mm_run.specs.Folds.{course_of, after_stop, moves_then, closing_then, uncalled, outcome_by, asked, outcome_of, followed, first_issued, expected}
 use Rattle.mm_expect.specs.Calls.{Admits}
 use Rattle.mm_expect.proofs.Asking.{foreign_batches}
 use Rattle.mm_expect.proofs.FindLaws.{admits_found}

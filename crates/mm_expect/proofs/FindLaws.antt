@@ -1,15 +1,13 @@
 -- What is found of an offer.
-use Rattle.std.proofs.Common.{◌≡◌, ℕ, ◌+◌, ◌≤◌, ◌^◌, Bool, true, false, ◌&&◌, List, Result, Ok, Err, refl, sym, ap, ◌∙◌, subst, arith}
-use Rattle.std.specs.Prelude.{if◌then◌else◌, nat_eq, nat_le, IfOk}
+use Rattle.std.proofs.Common.{◌≡◌, ℕ, ◌+◌, ◌≤◌, ◌^◌, Bool, true, false, ◌&&◌, List, Result, Ok, Err, refl, subst}
+use Rattle.std.specs.Prelude.{if◌then◌else◌, nat_eq, nat_le}
 use Rattle.std.specs.Str.{bytes_eq}
 use Rattle.std.proofs.lemmas.Bool.{and_parts, leb-true}
 use Rattle.std.proofs.lemmas.Bool.Decides.{Decides-eqb}
-use Rattle.mm_digest.specs.declared.variant.Variant.{Variant}
 use Rattle.mm_module.specs.Batch.{Batch, size_of}
-use Rattle.mm_module.specs.Meaning.{Meaning}
 use Rattle.mm_seal.specs.declared.snapshot.PartsFault.{PartsFault}
 use Rattle.mm_seal.specs.declared.snapshot.PartsFault.TheVariants.{Form, Kind}
-use Rattle.mm_seal.specs.Snapshot.{Content, Snapshot, tag_of}
+use Rattle.mm_seal.specs.Snapshot.{Snapshot, tag_of}
 use Rattle.mm_seal.specs.Parts.{parts_of}
 use Rattle.mm_model.specs.Instance.{Instance}
 use Rattle.mm_model.specs.History.{History, total_of}
@@ -19,11 +17,11 @@ use Rattle.mm_model.specs.declared.verdict.Verdict.{Verdict}
 use Rattle.mm_model.specs.declared.verdict.Verdict.TheVariants.{Fresh, Again, Lost, Stale}
 use Rattle.mm_model.specs.declared.refusal.Refusal.{Refusal}
 use Rattle.mm_model.specs.declared.refusal.Refusal.TheVariants as refusal
-use Rattle.mm_call.specs.Order.{admitted, weighed, examined}
+use Rattle.mm_call.specs.Order.{admitted, examined}
 use Rattle.mm_call.specs.Levels.{by_lists}
-use Rattle.mm_call.specs.Found.{Found, found_with, found_from, found_at}
+use Rattle.mm_call.specs.Found.{Found, found_from, found_at}
 use Rattle.mm_call.proofs.Finding.{admitted_tells, weighed_tells, found_with_tells}
-use Rattle.mm_expect.specs.Calls.{again_in, reached, Admits}
+use Rattle.mm_expect.specs.Calls.{reached, Admits}
 
 pub lost_when : (is_open is_bare is_own is_marred : Bool) → is_lost (life_by is_open is_bare is_own is_marred) ≡ (is_open && is_bare)
 lost_when true true own marred = refl

@@ -13,7 +13,7 @@ use Rattle.mm_model.specs.Instance.{Instance}
 use Rattle.mm_model.specs.Places.{Names}
 use Rattle.mm_model.specs.Standing.{IsGenuine}
 use Rattle.mm_call.specs.Found.{right_content}
-use Rattle.mm_model.specs.History.{History, total_of}
+use Rattle.mm_model.specs.History.{History}
 use Rattle.mm_call.specs.Standing.{instance_by}
 use Rattle.mm_schedule.specs.declared.header.Header.{Header}
 use Rattle.mm_schedule.specs.declared.event.Offer.{Offer}

@@ -5,10 +5,11 @@ pub mod Walking
 pub mod FindLaws
 pub mod Asking
 pub mod Flipping
+pub mod NameLaws
+pub mod GenuineLaws
 pub mod CheckLaws
 pub mod AfterLaws
 pub mod PrintLaws
+pub mod PlaceLaws
 pub mod FewLaws
-pub mod NameLaws
-pub mod GenuineLaws
 pub mod JudgeLaws

@@ -1,11 +1,11 @@
 -- What a history comes to goes on with its moves.
-use Rattle.std.proofs.Common.{ℕ, suc, ◌≡◌, ◌+◌, ◌<◌, Bool, true, false, ◌&&◌, ◌||◌, List, [], ◌∷◌, ◌++◌, length, map, take, get_or, refl, sym, ap, ◌∙◌, arith}
+use Rattle.std.proofs.Common.{ℕ, suc, ◌≡◌, ◌+◌, ◌<◌, Bool, true, false, ◌&&◌, List, [], ◌∷◌, ◌++◌, length, map, take, get_or, refl, sym, ap, ◌∙◌, arith}
 use Rattle.std.specs.Prelude.{nat_le}
 use Rattle.std.proofs.lemmas.List.{map-append, take_more}
 use Rattle.std.proofs.lemmas.Bool.Decides.{nat_tests}
 use Rattle.mm_digest.specs.declared.variant.Variant.{Variant}
 use Rattle.mm_digest.specs.declared.variant.Variant.TheVariants.{Basic, Opt}
-use Rattle.mm_digest.specs.Messages.{zero_bytes, extended_of, anchored_of}
+use Rattle.mm_digest.specs.Messages.{extended_of}
 use Rattle.mm_module.specs.Batch.{Batch, size_of}
 use Rattle.mm_model.specs.Chains.{link, guard, register_of, own_values, anchor_of, summary_of}
 use Rattle.mm_model.specs.Instance.{Instance}
@@ -20,7 +20,6 @@ use Rattle.mm_model.proofs.MovedDigests.{total-push}
 use Rattle.mm_model.proofs.Segments.{joined-push}
 use Rattle.mm_expect.specs.declared.kept.KeptBatch.{KeptBatch}
 use Rattle.mm_expect.specs.declared.kept.KeptEntry.{KeptEntry}
-use Rattle.mm_expect.specs.declared.marks.Marks.{Marks}
 use Rattle.mm_expect.specs.Kept.{kept_batch, kept_batches, kept_entry, kept_entries}
 use Rattle.mm_expect.specs.Marks.{marks_of, with_value, emptied, closed_cell, closed_by, linked, grown, opened}
 

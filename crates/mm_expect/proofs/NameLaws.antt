@@ -12,7 +12,12 @@ use Rattle.std.proofs.Common.{length-drop}
 use Rattle.mm_model.proofs.Segments.{not_empty}
 use Rattle.std.proofs.Math.Seq.{drop-append_seam, take-append_seam}
 use Rattle.std.proofs.lemmas.Slice.Eq.{bytes_eq-Decides}
+use Rattle.mm_digest.specs.declared.variant.Variant.{Variant}
 use Rattle.mm_digest.specs.declared.variant.Variant.TheVariants.{Basic, Opt}
+use Rattle.mm_modules.specs.declared.any.AnyModule.{AnyModule}
+use Rattle.mm_modules.specs.Modules.{meaning_of}
+use Rattle.mm_run.specs.Held.{world_key, world_barrier}
+use Rattle.mm_expect.specs.Recorded.{instance_with}
 use Rattle.mm_digest.specs.Messages.{zero_bytes}
 use Rattle.mm_module.specs.Batch.{Batch, size_of}
 use Rattle.mm_module.specs.Meaning.{Meaning, state_after}
@@ -27,7 +32,7 @@ use Rattle.mm_model.specs.History.{Entry, History, requests_of, total_of, joined
 use Rattle.mm_model.specs.Life.{is_empty, has_value, same_batch}
 use Rattle.mm_model.specs.Places.{AtAnchor, InClosed, InCurrent, IsPoint, at_anchor, in_closed, in_current, IsPlaceOf, Names, anchor_after}
 use Rattle.mm_model.proofs.Batches.{same_batch-Decides, total-cons, total-nil, same_fronts}
-use Rattle.mm_expect.specs.Naming.{IsDecided, first_with, same_batches, is_at, is_behind, is_within, is_inside, some_place, is_place, is_named_at, is_named, BasicNamesAreDecided, OptNamesAreDecided}
+use Rattle.mm_expect.specs.Naming.{IsDecided, first_with, same_batches, is_at, is_behind, is_within, is_inside_at, some_place, is_place, is_named_at, is_named, BasicNamesAreDecided, OptNamesAreDecided}
 
 pub decided : {P : Type 0} (r : Bool) → Decides r P → IsDecided r P
 decided true d = d.0 refl
@@ -83,7 +88,7 @@ first_is (b ∷ named) rest =
 
 -- Lists of batches.
 
-same-Decides : (bs cs : List Batch) → Decides (same_batches bs cs) (bs ≡ cs)
+pub same-Decides : (bs cs : List Batch) → Decides (same_batches bs cs) (bs ≡ cs)
 same-Decides [] [] = (λ e. refl, λ e. refl)
 same-Decides [] (c ∷ cs) = (λ e. absurd (cc), λ e. absurd (cc))
 same-Decides (b ∷ bs) [] = (λ e. absurd (cc), λ e. absurd (cc))
@@ -129,11 +134,11 @@ module _ (i : Instance) (y : History) (named : List Batch) (a e : List ℕ) wher
   abbrev Places : List (List Entry) → List (List Entry) → Type 0
   Places before [] = IsAt before ⊎ IsInside (length y.batches - length y.current)
   Places before (segment ∷ rest) =
-      IsAt before ⊎ ((IsBehind (length (joined before)) before × IsWithin before segment rest) ⊎ Places (before ++ segment ∷ []) rest)
+      (IsAt before ⊎ (IsBehind (length (joined before)) before × IsWithin before segment rest)) ⊎ Places (before ++ segment ∷ []) rest
 
-  at-Decides : (before : List (List Entry)) → Decides (is_at i named a e before) (IsAt before)
+  at-Decides : (before : List (List Entry)) → Decides (is_at (not (has_value (joined before))) (anchor_after i before) (length (joined before)) named a e) (IsAt before)
   at-Decides before =
-      Decides-like (is_at i named a e before)
+      Decides-like (is_at (not (has_value (joined before))) (anchor_after i before) (length (joined before)) named a e)
       (λ (p : ((has_value (joined before) ≡ false) × (length named ≡ length (joined before))) × ((a ≡ anchor_after i before) × (e ≡ zero_bytes))).
       record { clean = p.0.0; counted = p.0.1; anchor = p.1.0; extension = p.1.1 })
       (λ (p : IsAt before). ((p.clean, p.counted), (p.anchor, p.extension)))
@@ -141,49 +146,53 @@ module _ (i : Instance) (y : History) (named : List Batch) (a e : List ℕ) wher
       (Decides-and (not (has_value (joined before))) (length named == length (joined before)) (not-Decides (has_value (joined before))) (Decides-eqb (length named) (length (joined before))))
       (Decides-and (bytes_eq a (anchor_after i before)) (bytes_eq e zero_bytes) (bytes_eq-Decides a (anchor_after i before)) (bytes_eq-Decides e zero_bytes)))
 
-  behind-Decides : (start : ℕ) (before : List (List Entry)) →
-      Decides (nat_lt start (length named) && (bytes_eq a (anchor_after i before) && bytes_eq e (register_of (own_values i.barrier (drop start named))))) (IsBehind start before)
+  behind-Decides : (start : ℕ) (before : List (List Entry)) → Decides (is_behind i.barrier (anchor_after i before) start named a e) (IsBehind start before)
   behind-Decides start before =
       let there : List ℕ = register_of (own_values i.barrier (drop start named)) in
-      Decides-like (nat_lt start (length named) && (bytes_eq a (anchor_after i before) && bytes_eq e there))
+      Decides-like (is_behind i.barrier (anchor_after i before) start named a e)
       (λ (p : (start < length named) × ((a ≡ anchor_after i before) × (e ≡ there))). record { starts = p.0; anchor = p.1.0; extension = p.1.1 })
       (λ (p : IsBehind start before). (p.starts, (p.anchor, p.extension)))
       (Decides-and (nat_lt start (length named)) (bytes_eq a (anchor_after i before) && bytes_eq e there) (Decides-ltb start (length named))
       (Decides-and (bytes_eq a (anchor_after i before)) (bytes_eq e there) (bytes_eq-Decides a (anchor_after i before)) (bytes_eq-Decides e there)))
 
-  within-Decides : (before : List (List Entry)) (segment : List Entry) (later : List (List Entry)) → Decides (is_within y named before segment later) (IsWithin before segment later)
+  within-Decides : (before : List (List Entry)) (segment : List Entry) (later : List (List Entry)) → Decides (is_within (length (joined before)) named (length segment) (is_empty later && is_empty y.current)) (IsWithin before segment later)
   within-Decides before segment later =
       Decides-or (nat_le (length named - length (joined before)) (length segment)) (is_empty later && is_empty y.current)
       (le-Decides (length named - length (joined before)) (length segment))
       (Decides-and (is_empty later) (is_empty y.current) (empty-Decides later) (empty-Decides y.current))
 
-  inside-Decides : Decides (is_inside i y named a e) (IsInside (length y.batches - length y.current))
+  inside-Decides : Decides (is_inside_at i.barrier (anchor_after i y.closed) y named a e) (IsInside (length y.batches - length y.current))
   inside-Decides =
       let start : ℕ = length y.batches - length y.current in
-      let test : Bool = bytes_eq a (anchor_after i y.closed) && bytes_eq e (register_of (own_values i.barrier (drop start named))) in
-      Decides-like (is_inside i y named a e)
-      (λ (p : ((drop start y.batches ≡ y.current) × (start < length named)) × ((a ≡ anchor_after i y.closed) × (e ≡ register_of (own_values i.barrier (drop start named))))).
-      record { last = p.0.0; behind = record { starts = p.0.1; anchor = p.1.0; extension = p.1.1 } })
-      (λ (p : IsInside start). ((p.last, p.behind.starts), (p.behind.anchor, p.behind.extension)))
-      (Decides-and (same_batches (drop start y.batches) y.current && nat_lt start (length named)) test
-      (Decides-and (same_batches (drop start y.batches) y.current) (nat_lt start (length named)) (same-Decides (drop start y.batches) y.current) (Decides-ltb start (length named)))
-      (Decides-and (bytes_eq a (anchor_after i y.closed)) (bytes_eq e (register_of (own_values i.barrier (drop start named)))) (bytes_eq-Decides a (anchor_after i y.closed))
-      (bytes_eq-Decides e (register_of (own_values i.barrier (drop start named))))))
+      Decides-like (is_inside_at i.barrier (anchor_after i y.closed) y named a e)
+      (λ (p : (drop start y.batches ≡ y.current) × IsBehind start y.closed). record { last = p.0; behind = p.1 })
+      (λ (p : IsInside start). (p.last, p.behind))
+      (Decides-and (same_batches (drop start y.batches) y.current) (is_behind i.barrier (anchor_after i y.closed) start named a e)
+      (same-Decides (drop start y.batches) y.current) (behind-Decides start y.closed))
 
-  places-Decides : (before rest : List (List Entry)) → Decides (some_place i y named a e before rest) (Places before rest)
-  places-Decides before [] = Decides-or (is_at i named a e before) (is_inside i y named a e) (at-Decides before) inside-Decides
+  places-Decides : (before rest : List (List Entry)) → Decides (some_place i.meaning.id i.barrier y named a e before rest) (Places before rest)
+  places-Decides before [] =
+      Decides-or (is_at (not (has_value (joined before))) (anchor_after i before) (length (joined before)) named a e) (is_inside_at i.barrier (anchor_after i y.closed) y named a e) (at-Decides before) inside-Decides
   places-Decides before (segment ∷ rest) =
-      Decides-or (is_at i named a e before) ((is_behind i named a e before && is_within y named before segment rest) || some_place i y named a e (before ++ segment ∷ []) rest)
-      (at-Decides before)
-      (Decides-or (is_behind i named a e before && is_within y named before segment rest) (some_place i y named a e (before ++ segment ∷ []) rest)
-      (Decides-and (is_behind i named a e before) (is_within y named before segment rest) (behind-Decides (length (joined before)) before) (within-Decides before segment rest))
-      (places-Decides (before ++ segment ∷ []) rest))
+      let start : ℕ = length (joined before) in
+      let within : Bool = is_within start named (length segment) (is_empty rest && is_empty y.current) in
+      let at : Bool = is_at (not (has_value (joined before))) (anchor_after i before) start named a e in
+      let behind : Bool = is_behind i.barrier (anchor_after i before) start named a e in
+      Decides-or (at || (behind && within)) (some_place i.meaning.id i.barrier y named a e (before ++ segment ∷ []) rest)
+      (Decides-or at (behind && within) (at-Decides before) (Decides-and behind within (behind-Decides start before) (within-Decides before segment rest)))
+      (places-Decides (before ++ segment ∷ []) rest)
 
   -- from the statement to a place
 
   point_at : (before rest : List (List Entry)) → y.closed ≡ before ++ rest → IsAt before → IsPoint i y named a e
   point_at before rest is p = at_anchor (record {
-    before = before; later = rest; split = is; clean = p.clean; counted = p.counted; anchor_is = p.anchor; extension_is = p.extension;
+    before = before;
+    later = rest;
+    split = is;
+    clean = p.clean;
+    counted = p.counted;
+    anchor_is = p.anchor;
+    extension_is = p.extension;
   })
 
   point_closed : (before : List (List Entry)) (segment : List Entry) (rest : List (List Entry)) → y.closed ≡ before ++ segment ∷ rest → IsBehind (length (joined before)) before → IsWithin before segment rest → IsPoint i y named a e
@@ -232,34 +241,34 @@ module _ (i : Instance) (y : History) (named : List Batch) (a e : List ℕ) wher
   places_tell : (rest_batches : List Batch) → y.batches ≡ named ++ rest_batches → (before rest : List (List Entry)) → y.closed ≡ before ++ rest → Places before rest → IsPoint i y named a e
   places_tell more first before [] is (inl here) = point_at before [] is here
   places_tell more first before [] is (inr inside) = point_current more first inside
-  places_tell more first before (segment ∷ rest) is (inl here) = point_at before (segment ∷ rest) is here
-  places_tell more first before (segment ∷ rest) is (inr (inl p)) = point_closed before segment rest is p.0 p.1
-  places_tell more first before (segment ∷ rest) is (inr (inr later)) =
+  places_tell more first before (segment ∷ rest) is (inl (inl here)) = point_at before (segment ∷ rest) is here
+  places_tell more first before (segment ∷ rest) is (inl (inr p)) = point_closed before segment rest is p.0 p.1
+  places_tell more first before (segment ∷ rest) is (inr later) =
       places_tell more first (before ++ segment ∷ []) rest (is ∙ sym (append_assoc before (segment ∷ []) rest)) later
 
   -- and back
 
   places_here : (before later : List (List Entry)) → IsAt before → Places before later
   places_here before [] p = inl p
-  places_here before (s ∷ later) p = inl p
+  places_here before (s ∷ later) p = inl (inl p)
 
   places_at : (x before later : List (List Entry)) → IsAt (before ++ x) → Places before (x ++ later)
   places_at [] before later p = places_here before later (subst IsAt (append-nil before) p)
-  places_at (s ∷ x) before later p = inr (inr (places_at x (before ++ s ∷ []) later (subst IsAt (sym (append_assoc before (s ∷ []) x)) p)))
+  places_at (s ∷ x) before later p = inr (places_at x (before ++ s ∷ []) later (subst IsAt (sym (append_assoc before (s ∷ []) x)) p))
 
   places_closed : (x before : List (List Entry)) (segment : List Entry) (later : List (List Entry)) → IsBehind (length (joined (before ++ x))) (before ++ x) → IsWithin (before ++ x) segment later → Places before (x ++ segment ∷ later)
   places_closed [] before segment later p within =
       let P : List (List Entry) → Type 0 = λ x. IsBehind (length (joined x)) x × IsWithin x segment later in
       let here : P before = subst P (append-nil before) (p, within) in
-      inr (inl here)
+      inl (inr here)
   places_closed (s ∷ x) before segment later p within =
       let P : List (List Entry) → Type 0 = λ z. IsBehind (length (joined z)) z × IsWithin z segment later in
       let there : P ((before ++ s ∷ []) ++ x) = subst P (sym (append_assoc before (s ∷ []) x)) (p, within) in
-      inr (inr (places_closed x (before ++ s ∷ []) segment later there.0 there.1))
+      inr (places_closed x (before ++ s ∷ []) segment later there.0 there.1)
 
   places_inside : (x before : List (List Entry)) → IsInside (length y.batches - length y.current) → Places before x
   places_inside [] before p = inr p
-  places_inside (s ∷ x) before p = inr (inr (places_inside x (before ++ s ∷ []) p))
+  places_inside (s ∷ x) before p = inr (places_inside x (before ++ s ∷ []) p)
 
   place_found : IsPoint i y named a e → Places [] y.closed
   place_found (at_anchor p) =
@@ -290,9 +299,9 @@ module _ (i : Instance) (y : History) (named : List Batch) (a e : List ℕ) wher
         behind = record { starts = omega (arith, sizes, some); anchor = p.anchor_is; extension = p.extension_is ∙ ap (λ (bs : List Batch). register_of (own_values i.barrier bs)) (sym taken) };
       }))
 
-  point-Decides : (rest : List Batch) → y.batches ≡ named ++ rest → Decides (some_place i y named a e [] y.closed) (IsPoint i y named a e)
+  point-Decides : (rest : List Batch) → y.batches ≡ named ++ rest → Decides (some_place i.meaning.id i.barrier y named a e [] y.closed) (IsPoint i y named a e)
   point-Decides rest first =
-      Decides-like (some_place i y named a e [] y.closed) (places_tell rest first [] y.closed refl) place_found (places-Decides [] y.closed)
+      Decides-like (some_place i.meaning.id i.barrier y named a e [] y.closed) (places_tell rest first [] y.closed refl) place_found (places-Decides [] y.closed)
 
 -- The test of a whole content.
 
@@ -316,8 +325,7 @@ names_by i y content places None e = (
 names_by i y content places (Some named) e =
     let t = first_tells content.position y.batches named e in
     let state : List ℕ = state_after i.meaning (requests_of named) in
-    let both = Decides-and (bytes_eq content.state state) (is_place i.variant i y named content.place) (bytes_eq-Decides content.state state) (places named t.0 t.1.0) in
-    (
+    let both = Decides-and (bytes_eq content.state state) (is_place i.variant i y named content.place) (bytes_eq-Decides content.state state) (places named t.0 t.1.0) in (
       λ yes. let p = both.0 yes in record { named = named; rest = t.0; first = t.1.0; position = t.1.1; state = p.0; place = p.1 },
       λ n.
           let same : n.named ≡ named = same_fronts n.named named n.rest t.0 (sym n.first ∙ t.1.0) (sym n.position ∙ t.1.1) in
@@ -333,3 +341,8 @@ pub opt_decided : OptNamesAreDecided
 opt_decided meaning key barrier y content =
     let i : Instance = opt meaning key barrier in
     decided (is_named i y content) (names_by i y content (λ named rest first. opt_place meaning key barrier y named rest content.place first) (first_with content.position y.batches) refl)
+
+-- the same for an instance of a world, by what the test gave
+pub named_by : (variant : Variant) («module» : AnyModule) (y : History) (content : Content) (r : Bool) → r ≡ is_named (instance_with variant «module») y content → IsDecided r (Names (instance_with variant «module») y content)
+named_by Basic «module» y content r e = subst (λ (t : Bool). IsDecided t (Names (instance_with Basic «module») y content)) (sym e) (basic_decided (meaning_of «module») world_key y content)
+named_by Opt «module» y content r e = subst (λ (t : Bool). IsDecided t (Names (instance_with Opt «module») y content)) (sym e) (opt_decided (meaning_of «module») world_key world_barrier y content)

@@ -1,7 +1,6 @@
 -- Each expected reply can be printed, and an event issues at most one snapshot.
-use Rattle.std.proofs.Common.{◌≡◌, ℕ, ◌+◌, ◌-◌, ◌≤◌, ◌^◌, Bool, true, false, List, [], ◌∷◌, ◌++◌, length, Option, None, Some, Result, Ok, Err, refl, sym, ap, ◌∙◌, subst, arith, length-append}
-use Rattle.std.specs.Prelude.{if◌then◌else◌, All, IsTrue, nat_le}
-use Rattle.std.specs.Str.{bytes_eq}
+use Rattle.std.proofs.Common.{◌≡◌, ℕ, ◌+◌, ◌-◌, ◌≤◌, ◌^◌, Bool, true, false, List, [], ◌∷◌, length, Option, None, Some, Result, Ok, Err, refl, sym, ap, ◌∙◌, subst, arith}
+use Rattle.std.specs.Prelude.{if◌then◌else◌, All, IsTrue}
 use Rattle.std.proofs.lemmas.List.Elements.{All-nil, All-cons}
 use Rattle.mm_digest.specs.declared.variant.Variant.{Variant}
 use Rattle.mm_digest.specs.declared.variant.Variant.TheVariants.{Basic, Opt}
@@ -11,31 +10,23 @@ use Rattle.mm_platform.specs.declared.plan.Stop.{Stop}
 use Rattle.mm_module.specs.Meaning.{Meaning, IsLawful, state_after, outputs_from}
 use Rattle.mm_module.specs.Batch.{Batch, members_of, size_of, normal}
 use Rattle.mm_module.proofs.RunLaws.{state_after-is_spelled, length-outputs_from}
-use Rattle.mm_seal.specs.declared.snapshot.PartsFault.{PartsFault}
-use Rattle.mm_seal.specs.declared.snapshot.PartsFault.TheVariants.{Form, Kind}
-use Rattle.mm_seal.specs.Snapshot.{Snapshot}
-use Rattle.mm_seal.specs.Parts.{parts_of}
 use Rattle.mm_model.specs.Instance.{Instance}
-use Rattle.mm_model.specs.History.{History, Move, requests_of, total_of}
-use Rattle.mm_model.specs.Judge.{is_last, judge}
-use Rattle.mm_model.specs.Life.{life_of, is_lost}
+use Rattle.mm_model.specs.History.{History, requests_of, total_of}
+use Rattle.mm_model.specs.Judge.{is_last}
 use Rattle.mm_model.specs.Long.{is_long}
 use Rattle.mm_model.specs.Steps.{ask_steps}
 use Rattle.mm_model.specs.declared.refusal.Refusal.{Refusal}
-use Rattle.mm_model.specs.declared.refusal.Refusal.TheVariants as refusal
 use Rattle.mm_model.proofs.Batches.{is_last_tells}
 use Rattle.mm_model.proofs.MovedDigests.{total-push}
 use Rattle.mm_call.specs.Answers.{last_outputs, answer_on}
-use Rattle.mm_call.specs.Called.{Ending, Answers, Refuses, Breaks, Called, reading_steps, kept_at, ended_by, called, seen_at}
+use Rattle.mm_call.specs.Called.{reading_steps, kept_at, ended_by, called, seen_at}
 use Rattle.mm_call.specs.Checkpoints as ghost_closing
-use Rattle.mm_call.specs.Courses.{Course, Walked, walk, seen_in}
-use Rattle.mm_call.specs.Found.{Found, found_with, found_from, found_at, found_in, is_fresh}
+use Rattle.mm_call.specs.Courses.{Course, Walked, walk}
+use Rattle.mm_call.specs.Found.{Found, found_at, found_in, is_fresh}
 use Rattle.mm_call.specs.Levels.{by_lists, all_made}
-use Rattle.mm_call.specs.Order.{examined}
 use Rattle.mm_call.proofs.BasicLaw.{unlacked}
 use Rattle.mm_call.proofs.Calling.{said_last}
-use Rattle.mm_call.proofs.Finding.{found_with_tells, weighed_tells}
-use Rattle.mm_call.proofs.Moving.{committed_in, same_batches, more_batches}
+use Rattle.mm_call.proofs.Moving.{same_batches, more_batches}
 use Rattle.mm_call.proofs.Walks.{Commits, nothing, batch, basic_commits, opt_commits, asks}
 use Rattle.mm_schedule.specs.declared.reply.Way.{Way}
 use Rattle.mm_schedule.specs.declared.reply.Cause.TheVariants as cause
@@ -43,7 +34,7 @@ use Rattle.mm_schedule.specs.declared.reply.Reply.TheVariants as reply
 use Rattle.mm_schedule.specs.Events.{Event, Ask, Checkpoint, Power, Extend}
 use Rattle.mm_schedule.specs.Replies.{IsPrintable}
 use Rattle.mm_run.specs.Offered.{offered_bytes}
-use Rattle.mm_run.specs.Folds.{Outcome, course_of, way_of, told_reply, broken_reply, reply_of, closing_reply, snapshots_of, uncalled, outcome_by, asked, outcome_of}
+use Rattle.mm_run.specs.Folds.{course_of, way_of, told_reply, broken_reply, reply_of, closing_reply, uncalled, outcome_by, asked, outcome_of}
 use Rattle.mm_expect.specs.Calls.{Admits}
 use Rattle.mm_expect.proofs.Asking.{foreign_batches, last_pushed}
 use Rattle.mm_expect.proofs.FindLaws.{admits_found}

@@ -16,7 +16,7 @@ use Rattle.mm_modules.specs.declared.any.AnyModule.{AnyModule}
 use Rattle.mm_modules.specs.Modules.{meaning_of}
 use Rattle.mm_modules.specs.ModulesLaws.{any_is_lawful}
 use Rattle.mm_model.specs.Chains.{guard, register_of, anchor_of}
-use Rattle.mm_model.specs.History.{History, Value, first_history, requests_of, total_of, cell_digest_of, values_of, renamed, committed}
+use Rattle.mm_model.specs.History.{History, Value, first_history, requests_of, total_of, cell_digest_of, values_of, committed}
 use Rattle.mm_model.specs.Judge.{is_last}
 use Rattle.mm_model.specs.Long.{is_long}
 use Rattle.mm_model.specs.Places.{digest_of}

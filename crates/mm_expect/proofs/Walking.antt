@@ -11,13 +11,11 @@ use Rattle.mm_platform.specs.declared.plan.Stop.{Stop}
 use Rattle.mm_platform.specs.declared.plan.Stop.TheVariants.{Quiet, Cut, Drop, Fail}
 use Rattle.mm_platform.specs.Standing.{due}
 use Rattle.mm_platform.specs.Steps.{fault_at, is_made_at}
-use Rattle.mm_digest.specs.declared.variant.Variant.{Variant}
-use Rattle.mm_modules.specs.declared.any.AnyModule.{AnyModule}
 use Rattle.mm_model.specs.Instance.{Instance}
 use Rattle.mm_model.specs.History.{History, Move, Foreign, moved}
 use Rattle.mm_model.specs.Steps.{Step}
 use Rattle.mm_call.specs.Levels.{by_lists, all_made}
-use Rattle.mm_call.specs.Courses.{End, Done, Fails, Fate, Walked, made_move, step_moves, after_step, walk, planned, end_of}
+use Rattle.mm_call.specs.Courses.{Fate, made_move, step_moves, after_step, walk, planned, end_of}
 use Rattle.mm_call.proofs.Walks.{made-append}
 use Rattle.mm_run.specs.Folds.{plan_of}
 use Rattle.mm_expect.specs.Numbered.{messages_if, messages_where}

@@ -1,6 +1,5 @@
 -- What a checkpoint comes to, as a chronicle goes on by it.
-use Rattle.std.specs.Prelude.{◌≡◌, Bool, true, false, Option, None, Some}
-use Rattle.mm_platform.specs.declared.fault.StepFault.{StepFault}
+use Rattle.std.specs.Prelude.{◌≡◌, Bool, true, false}
 use Rattle.mm_model.specs.History.{History}
 use Rattle.mm_call.specs.Checkpoints as ghost_closing
 use Rattle.mm_call.specs.Courses.{Walked}

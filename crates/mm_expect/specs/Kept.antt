@@ -1,7 +1,7 @@
 -- Owned batches and entries, as the lists of a history.
-use Rattle.std.specs.Prelude.{Bool, List, Vec, map}
+use Rattle.std.specs.Prelude.{List, Vec, map}
 use Rattle.mm_module.specs.Batch as ghost_batch
-use Rattle.mm_model.specs.History.{Entry, Own, Value, History}
+use Rattle.mm_model.specs.History.{Entry, Own, Value}
 use Rattle.mm_expect.specs.declared.kept.KeptBatch.{KeptBatch}
 use Rattle.mm_expect.specs.declared.kept.KeptBatch.TheVariants.{One, Many}
 use Rattle.mm_expect.specs.declared.kept.KeptEntry.{KeptEntry}

@@ -8,9 +8,9 @@ pub mod Calls
 pub mod Closings
 pub mod Asked
 pub mod OfferedBytes
+pub mod Naming
+pub mod Genuine
 pub mod Coming
 pub mod Traced
 pub mod Hears
-pub mod Naming
-pub mod Genuine
 pub mod Judged

@@ -1,5 +1,5 @@
 -- Whether what a snapshot says names a position of a history, as a test from end to end.
-use Rattle.std.specs.Prelude.{◌≡◌, ℕ, ◌-◌, ◌==◌, Bool, true, false, ◌&&◌, ◌||◌, not, List, [], ◌∷◌, ◌++◌, length, map, drop, Option, None, Some, if◌then◌else◌, nat_le, nat_lt}
+use Rattle.std.specs.Prelude.{ℕ, ◌-◌, ◌==◌, Bool, true, false, ◌&&◌, ◌||◌, not, List, [], ◌∷◌, ◌++◌, length, drop, Option, None, Some, if◌then◌else◌, nat_le, nat_lt}
 use Rattle.std.specs.Str.{bytes_eq}
 use Rattle.std.specs.Option.{option_map}
 use Rattle.mm_digest.specs.declared.variant.Variant.{Variant}
@@ -10,11 +10,11 @@ use Rattle.mm_module.specs.Meaning.{Meaning, state_after}
 use Rattle.mm_seal.specs.declared.snapshot.Place.{Place}
 use Rattle.mm_seal.specs.declared.snapshot.Place.TheVariants.{Basic as InBasic, Opt as InOpt}
 use Rattle.mm_seal.specs.Snapshot.{Content}
-use Rattle.mm_model.specs.Chains.{summary_of, register_of, own_values}
+use Rattle.mm_model.specs.Chains.{summary_of, register_of, anchor_of, own_values}
 use Rattle.mm_model.specs.Instance.{Instance, basic, opt}
-use Rattle.mm_model.specs.History.{Entry, History, requests_of, joined}
+use Rattle.mm_model.specs.History.{Entry, History, requests_of, joined, values_of}
 use Rattle.mm_model.specs.Life.{is_empty, has_value, same_batch}
-use Rattle.mm_model.specs.Places.{anchor_after, Names}
+use Rattle.mm_model.specs.Places.{Names}
 
 -- the statement holds, or doesn't
 abbrev pub IsDecided : Bool → Type 0 → Type 0
@@ -36,45 +36,55 @@ same_batches [] (c ∷ cs) = false
 same_batches (b ∷ bs) [] = false
 same_batches (b ∷ bs) (c ∷ cs) = same_batch b c && same_batches bs cs
 
--- a place of Opt: at the anchor after these segments
-abbrev pub is_at : Instance → List Batch → (anchor extension : List ℕ) → (before : List (List Entry)) → Bool
-is_at i named anchor extension before =
-    not (has_value (joined before)) && (length named == length (joined before))
-    && (bytes_eq anchor (anchor_after i before) && bytes_eq extension zero_bytes)
+-- the anchor after these segments, by the module's id and the barrier
+abbrev pub anchor_at : ℕ → List ℕ → List (List Entry) → List ℕ
+anchor_at id barrier segments = anchor_of id (map (values_of barrier) segments)
 
--- behind these segments, in the next one: it starts behind their entries
-abbrev pub is_behind : Instance → List Batch → (anchor extension : List ℕ) → (before : List (List Entry)) → Bool
-is_behind i named anchor extension before =
-    nat_lt (length (joined before)) (length named)
-    && (bytes_eq anchor (anchor_after i before)
-    && bytes_eq extension (register_of (own_values i.barrier (drop (length (joined before)) named))))
+-- a place of Opt: at this anchor, behind so many entries, of which none stands for no batch
+abbrev pub is_at : (is_clean : Bool) (here : List ℕ) (start : ℕ) → List Batch → (anchor extension : List ℕ) → Bool
+is_at is_clean here start named anchor extension =
+    is_clean && (length named == start) && (bytes_eq anchor here && bytes_eq extension zero_bytes)
+
+-- behind this anchor, in a segment that starts behind so many entries
+abbrev pub is_behind : (barrier here : List ℕ) (start : ℕ) → List Batch → (anchor extension : List ℕ) → Bool
+is_behind barrier here start named anchor extension =
+    nat_lt start (length named)
+    && (bytes_eq anchor here && bytes_eq extension (register_of (own_values barrier (drop start named))))
 
 -- and within it, unless it is the last and no batch is in an open one
-abbrev pub is_within : History → List Batch → (before : List (List Entry)) → List Entry → (later : List (List Entry)) → Bool
-is_within y named before segment later =
-    nat_le (length named - length (joined before)) (length segment) || (is_empty later && is_empty y.current)
+abbrev pub is_within : (start : ℕ) → List Batch → (size : ℕ) (ends : Bool) → Bool
+is_within start named size ends = nat_le (length named - start) size || ends
 
--- in the open segment, whose batches are the last of all
-abbrev pub is_inside : Instance → History → List Batch → (anchor extension : List ℕ) → Bool
-is_inside i y named anchor extension =
+-- at the segment that comes next
+abbrev pub is_here : (is_clean : Bool) (barrier here : List ℕ) (start : ℕ) → List Batch → (size : ℕ) (ends : Bool) → (anchor extension : List ℕ) → Bool
+is_here is_clean barrier here start named size ends anchor extension =
+    is_at is_clean here start named anchor extension
+    || (is_behind barrier here start named anchor extension && is_within start named size ends)
+
+-- in the open segment, whose batches are the last of all: by the anchor after the closed ones
+abbrev pub is_inside_at : (barrier last : List ℕ) → History → List Batch → (anchor extension : List ℕ) → Bool
+is_inside_at barrier last y named anchor extension =
     let start = length y.batches - length y.current in
-    same_batches (drop start y.batches) y.current && nat_lt start (length named)
-    && (bytes_eq anchor (anchor_after i y.closed)
-    && bytes_eq extension (register_of (own_values i.barrier (drop start named))))
+    same_batches (drop start y.batches) y.current && is_behind barrier last start named anchor extension
 
 -- some place, from these segments on
-abbrev pub some_place : Instance → History → List Batch → (anchor extension : List ℕ) → (before rest : List (List Entry)) → Bool
-some_place i y named anchor extension before [] = is_at i named anchor extension before || is_inside i y named anchor extension
-some_place i y named anchor extension before (segment ∷ rest) =
-    is_at i named anchor extension before
-    || ((is_behind i named anchor extension before && is_within y named before segment rest)
-    || some_place i y named anchor extension (before ++ segment ∷ []) rest)
+abbrev pub some_place : ℕ → (barrier : List ℕ) → History → List Batch → (anchor extension : List ℕ) → (before rest : List (List Entry)) → Bool
+some_place id barrier y named anchor extension before [] =
+    is_at (not (has_value (joined before))) (anchor_at id barrier before) (length (joined before)) named anchor extension
+    || is_inside_at barrier (anchor_at id barrier y.closed) y named anchor extension
+some_place id barrier y named anchor extension before (segment ∷ rest) =
+    is_here (not (has_value (joined before))) barrier (anchor_at id barrier before) (length (joined before)) named
+    (length segment) (is_empty rest && is_empty y.current) anchor extension
+    || some_place id barrier y named anchor extension (before ++ segment ∷ []) rest
+
+abbrev pub place_in : Variant → ℕ → (barrier : List ℕ) → History → List Batch → Place → Bool
+place_in Basic id barrier y named (InBasic s) = bytes_eq s.bytes (summary_of id named)
+place_in Basic id barrier y named (InOpt a e) = false
+place_in Opt id barrier y named (InBasic s) = false
+place_in Opt id barrier y named (InOpt a e) = some_place id barrier y named a.bytes e.bytes [] y.closed
 
 abbrev pub is_place : Variant → Instance → History → List Batch → Place → Bool
-is_place Basic i y named (InBasic s) = bytes_eq s.bytes (summary_of i.meaning.id named)
-is_place Basic i y named (InOpt a e) = false
-is_place Opt i y named (InBasic s) = false
-is_place Opt i y named (InOpt a e) = some_place i y named a.bytes e.bytes [] y.closed
+is_place variant i y named place = place_in variant i.meaning.id i.barrier y named place
 
 abbrev pub is_named_at : Instance → History → Content → Option (List Batch) → Bool
 is_named_at i y content None = false

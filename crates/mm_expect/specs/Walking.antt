@@ -1,5 +1,5 @@
 -- The steps of a call in code, and the walk of them.
-use Rattle.std.specs.Prelude.{◌≡◌, Bool, false, List, [], ◌∷◌, map, Option}
+use Rattle.std.specs.Prelude.{◌≡◌, false, List, [], ◌∷◌, map, Option}
 use Rattle.mm_platform.specs.declared.fault.StepFault.{StepFault}
 use Rattle.mm_module.specs.Batches.{batch_of}
 use Rattle.mm_model.specs.History as history

@@ -92,7 +92,7 @@ impl KeptBatch {
     }
 
     /// Whether this is that batch.
-    fn is_that(&self, batch: Batch<'_>) -> bool
+    pub(crate) fn is_that(&self, batch: Batch<'_>) -> bool
         ensures { result ≡ same_batch (kept_batch self.now) (batch_of batch.entry) }
     {
         match self {

@@ -55,6 +55,7 @@ impl Lists {
     ghost use Rattle.mm_model.specs.Chains.{register_of};
     ghost use Rattle.mm_model.specs.Judge.{is_last};
     ghost use Rattle.mm_model.specs.Life.{is_empty, has_value};
+    ghost use Rattle.mm_expect.specs.Kept.{kept_batches, kept_segments};
 
     /// The first history. Takes no memory.
     pub(crate) fn new(alloc: Global) -> Lists
@@ -146,6 +147,27 @@ impl Lists {
         self.current.clear();
         self.is_open = false;
         Ok(())
+    }
+
+    /// The batches.
+    pub(crate) fn batches(&self) -> &[KeptBatch]
+        ensures { kept_batches result.now ≡ self.now.batches }
+    {
+        self.batches.as_slice()
+    }
+
+    /// The batches of the open segment.
+    pub(crate) fn current(&self) -> &[KeptBatch]
+        ensures { kept_batches result.now ≡ self.now.current }
+    {
+        self.current.as_slice()
+    }
+
+    /// The closed segments.
+    pub(crate) fn closed(&self) -> &[Vec<KeptEntry>]
+        ensures { kept_segments result.now ≡ self.now.closed }
+    {
+        self.closed.as_slice()
     }
 
     /// Whether a segment is open.

@@ -1,19 +1,31 @@
 //! Whether what a right offer says names a position of the history.
 
-ghost use Rattle.std.specs.Prelude.{◌≡◌, false, IfOk};
+ghost use Rattle.std.specs.Prelude.{◌≡◌, [], ◌+◌, ◌≤◌, ◌==◌, ◌&&◌, ◌||◌, ◌-◌, false, take, drop, length, option_map, IfSome, IfOk, nat_lt, nat_le, map};
 ghost use Rattle.std.specs.List.{list_any};
-ghost use Rattle.mm_seal.specs.Body.{content_of};
+ghost use Rattle.std.specs.Str.{bytes_eq};
+ghost use Rattle.mm_digest.specs.Messages.{zero_bytes};
+ghost use Rattle.mm_modules.specs.Modules.{meaning_of};
+ghost use Rattle.mm_module.specs.Meaning.{state_after};
+ghost use Rattle.mm_model.specs.Chains.{summary_of};
+ghost use Rattle.mm_model.specs.History.{requests_of};
+ghost use Rattle.mm_model.specs.Life.{is_empty};
 ghost use Rattle.mm_model.specs.Long.{is_long};
+ghost use Rattle.mm_expect.specs.Genuine.{EachOfferIsDecided, BasicIssuedAreGenuine, OptIssuedAreGenuine};
+ghost use Rattle.mm_seal.specs.Body.{content_of};
 ghost use Rattle.mm_model.specs.Places.{Names};
 ghost use Rattle.mm_expect.specs.Recorded.{barrier_of, instance_with};
-ghost use Rattle.mm_expect.specs.Genuine.{EachOfferIsDecided, BasicIssuedAreGenuine, OptIssuedAreGenuine};
-ghost use Rattle.mm_expect.specs.Naming.{IsDecided, BasicNamesAreDecided, OptNamesAreDecided};
+ghost use Rattle.mm_expect.specs.Kept.{kept_batches, kept_entries, kept_segments};
+ghost use Rattle.mm_expect.specs.Naming.{BasicNamesAreDecided, OptNamesAreDecided, first_with, same_batches, anchor_at, is_at, is_behind, is_here, is_inside_at, some_place, place_in, IsDecided};
 
+use crate::kept::{KeptBatch, KeptEntry, some_value};
 use crate::lists::Lists;
-use mm_base::Memory;
-use mm_digest::Variant;
+use crate::marks::{link, own_register, register_of};
+use mm_base::{Bytes, Memory};
+use mm_call::{Ran, run_batch};
+use mm_digest::{Digest, Variant, anchored, start, zero};
+use mm_module::Module;
 use mm_modules::AnyModule;
-use mm_seal::Body;
+use mm_seal::{Body, Place};
 use std::alloc::Global;
 
 /// A test from end to end decides whether what a snapshot says names a position of a history, in either variant.
@@ -30,18 +42,281 @@ pub fn offers_are_decided()
     ensures opt { OptIssuedAreGenuine }
 {}
 
-/// stub
-pub(crate) fn is_named(
-    _alloc: Global,
-    _lists: &Lists,
-    _variant: Variant,
-    _module: &AnyModule,
-    _barrier: &[u8; 32],
-    _body: &Body<'_>,
-) -> Result<bool, Memory>
-    requires barrier { _barrier.now ≡ barrier_of _variant }
-    requires short { list_any is_long _lists.now.batches ≡ false }
-    ensures { IfOk result (λ yes. IsDecided yes (Names (instance_with _variant _module.now) _lists.now (content_of _body.now))) }
+// How many first batches have so many requests, if there are such.
+fn first_with(batches: &[KeptBatch], position: u64) -> Option<usize>
+    ensures front { option_map (λ (count : _). take count (kept_batches batches.now)) result ≡ first_with position (kept_batches batches.now) }
+    ensures within { IfSome result (λ count. count ≤ length batches.now) }
 {
-    Err(Memory)
+    let mut left = position;
+    let mut count = 0;
+    'batches: for batch in batches {
+        if left == 0 {
+            return Some(count);
+        }
+        let size = batch.lent().len() as u64;
+        if size > left {
+            return None;
+        }
+        left -= size;
+        count += 1;
+    }
+    if left == 0 { Some(count) } else { None }
+}
+
+// The module's state after these batches, run from its first state.
+fn state_after(alloc: Global, module: &AnyModule, batches: &[KeptBatch]) -> Result<Bytes, Memory>
+    requires { list_any is_long (kept_batches batches.now) ≡ false }
+    ensures { IfOk result (λ state. state ≡ state_after (meaning_of «module».now) (requests_of (kept_batches batches.now))) }
+{
+    let mut state = module.first_state(alloc)?;
+    'batches: for batch in batches {
+        let Ran { state: next, .. } = run_batch(alloc, module, state.as_slice(), batch.lent())?;
+        state = next;
+    }
+    Ok(state)
+}
+
+// The summary of these batches.
+fn summary_of(id: u8, batches: &[KeptBatch]) -> Digest
+    ensures { result.bytes ≡ summary_of id (kept_batches batches.now) }
+{
+    let mut summary = start(Variant::Basic, id);
+    'batches: for batch in batches {
+        summary = link(&summary, batch.lent());
+    }
+    summary
+}
+
+// Whether the batches are these.
+fn same_batches(batches: &[KeptBatch], others: &[KeptBatch]) -> bool
+    ensures { result ≡ same_batches (kept_batches batches.now) (kept_batches others.now) }
+{
+    if batches.len() != others.len() {
+        return false;
+    }
+    'at: for i in 0..batches.len() {
+        if !batches[i].is_that(others[i].lent()) {
+            return false;
+        }
+    }
+    true
+}
+
+// Whether two digests are the same.
+fn same_digest(one: &Digest, other: &Digest) -> bool
+    ensures { result ≡ bytes_eq one.now.bytes other.now.bytes }
+{
+    *one == *other
+}
+
+// Whether the bytes are the same.
+fn same_bytes(one: &[u8], other: &[u8]) -> bool
+    ensures { result ≡ bytes_eq one.now other.now }
+{
+    one == other
+}
+
+// Whether a digest is zero.
+fn is_zero(digest: &Digest) -> bool
+    ensures { result ≡ bytes_eq digest.now.bytes zero_bytes }
+{
+    *digest == zero()
+}
+
+// Whether the place is at this anchor, behind so many entries.
+fn is_at(
+    is_clean: bool,
+    here: &Digest,
+    start: usize,
+    named: &[KeptBatch],
+    anchor: &Digest,
+    extension: &Digest,
+) -> bool
+    ensures { result ≡ is_at is_clean here.now.bytes start (kept_batches named.now) anchor.now.bytes extension.now.bytes }
+{
+    if !is_clean {
+        return false;
+    }
+    if named.len() != start {
+        return false;
+    }
+    if !same_digest(anchor, here) {
+        return false;
+    }
+    is_zero(extension)
+}
+
+// Whether the place is behind this anchor, in a segment that starts behind so many entries.
+fn is_behind(
+    barrier: &[u8; 32],
+    here: &Digest,
+    start: usize,
+    named: &[KeptBatch],
+    anchor: &Digest,
+    extension: &Digest,
+) -> bool
+    ensures { result ≡ is_behind barrier.now here.now.bytes start (kept_batches named.now) anchor.now.bytes extension.now.bytes }
+{
+    if start >= named.len() {
+        return false;
+    }
+    if !same_digest(anchor, here) {
+        return false;
+    }
+    same_digest(extension, &own_register(barrier, &named[start..]))
+}
+
+// Whether the place is inside the open segment, whose batches are the last of all.
+fn is_inside(
+    lists: &Lists,
+    barrier: &[u8; 32],
+    last: &Digest,
+    named: &[KeptBatch],
+    anchor: &Digest,
+    extension: &Digest,
+) -> bool
+    ensures { result ≡ is_inside_at barrier.now last.now.bytes lists.now (kept_batches named.now) anchor.now.bytes extension.now.bytes }
+{
+    let batches = lists.batches();
+    let current = lists.current();
+    let start = batches.len().saturating_sub(current.len());
+    if !same_batches(&batches[start..], current) {
+        return false;
+    }
+    is_behind(barrier, last, start, named, anchor, extension)
+}
+
+// The anchor after these segments.
+fn anchor_at(id: u8, barrier: &[u8; 32], closed: &[Vec<KeptEntry>]) -> Digest
+    ensures { result.bytes ≡ anchor_at id barrier.now (kept_segments closed.now) }
+{
+    let mut anchor = start(Variant::Opt, id);
+    'closed: for segment in closed {
+        anchor = anchored(&anchor, &register_of(barrier, segment.as_slice()));
+    }
+    anchor
+}
+
+// Whether the place is at the segment that comes next, which has so many entries: by whether it is the end.
+fn is_here(
+    is_clean: bool,
+    barrier: &[u8; 32],
+    here: &Digest,
+    start: usize,
+    named: &[KeptBatch],
+    size: usize,
+    ends: bool,
+    anchor: &Digest,
+    extension: &Digest,
+) -> bool
+    ensures { result ≡ is_here is_clean barrier.now here.now.bytes start (kept_batches named.now) size ends anchor.now.bytes extension.now.bytes }
+{
+    if is_at(is_clean, here, start, named, anchor, extension) {
+        return true;
+    }
+    if !is_behind(barrier, here, start, named, anchor, extension) {
+        return false;
+    }
+    if named.len().saturating_sub(start) <= size {
+        return true;
+    }
+    ends
+}
+
+fn both(one: bool, other: bool) -> bool
+    ensures { result ≡ (one && other) }
+{
+    one && other
+}
+
+// Whether it is some place of Opt.
+fn some_place(
+    lists: &Lists,
+    id: u8,
+    barrier: &[u8; 32],
+    named: &[KeptBatch],
+    anchor: &Digest,
+    extension: &Digest,
+) -> bool
+    ensures { result ≡ some_place id barrier.now lists.now (kept_batches named.now) anchor.now.bytes extension.now.bytes [] lists.now.closed }
+{
+    let closed = lists.closed();
+    let is_shut = lists.is_clear();
+    let last = anchor_at(id, barrier, closed);
+    let mut here = start(Variant::Opt, id);
+    let mut entries = 0;
+    let mut is_clean = true;
+    let mut later = closed.len();
+    'closed: for segment in closed {
+        later -= 1;
+        let items = segment.as_slice();
+        let size = items.len();
+        let ends = both(later == 0, is_shut);
+        if is_here(
+            is_clean, barrier, &here, entries, named, size, ends, anchor, extension,
+        ) {
+            return true;
+        }
+        if size > named.len() - entries {
+            return is_inside(lists, barrier, &last, named, anchor, extension);
+        }
+        here = anchored(&here, &register_of(barrier, items));
+        entries += size;
+        is_clean = both(is_clean, !some_value(items));
+    }
+    if is_at(is_clean, &here, entries, named, anchor, extension) {
+        return true;
+    }
+    is_inside(lists, barrier, &last, named, anchor, extension)
+}
+
+// Whether it is a place behind these first batches.
+fn is_place(
+    lists: &Lists,
+    variant: Variant,
+    id: u8,
+    barrier: &[u8; 32],
+    named: &[KeptBatch],
+    place: &Place,
+) -> bool
+    ensures { result ≡ place_in variant id barrier.now lists.now (kept_batches named.now) place.now }
+{
+    match variant {
+        Variant::Basic => match place {
+            Place::Basic(summary) => same_digest(summary, &summary_of(id, named)),
+            Place::Opt { .. } => false,
+        },
+        Variant::Opt => match place {
+            Place::Basic(_) => false,
+            Place::Opt { anchor, extension } => some_place(
+                lists, id, barrier, named, anchor, extension,
+            ),
+        },
+    }
+}
+
+/// Whether what a right offer says names a position of the history.
+pub(crate) fn is_named(
+    alloc: Global,
+    lists: &Lists,
+    variant: Variant,
+    module: &AnyModule,
+    barrier: &[u8; 32],
+    body: &Body<'_>,
+) -> Result<bool, Memory>
+    requires barrier { barrier.now ≡ barrier_of variant }
+    requires short { list_any is_long lists.now.batches ≡ false }
+    ensures { IfOk result (λ yes. IsDecided yes (Names (instance_with variant «module».now) lists.now (content_of body.now))) }
+{
+    let batches = lists.batches();
+    let count = match first_with(batches, body.position) {
+        None => return Ok(false),
+        Some(count) => count,
+    };
+    let named = &batches[..count];
+    let state = state_after(alloc, module, named)?;
+    if !same_bytes(body.state, state.as_slice()) {
+        return Ok(false);
+    }
+    Ok(is_place(lists, variant, module.id(), barrier, named, &body.place))
 }

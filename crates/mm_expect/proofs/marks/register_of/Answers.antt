@@ -1,6 +1,4 @@
-use Rattle.std.proofs.Common.{◌∙◌, sym, ap}
-use Rattle.mm_digest.specs.Messages.{extended_of}
-use Rattle.mm_model.specs.History.{value_of}
+use Rattle.std.proofs.Common.{◌∙◌, sym}
 use Rattle.mm_model.proofs.Forms.{reads_zero}
 use Rattle.mm_expect.proofs.MarkLaws.{entry_taken}
 use Rattle.mm_expect.proofs.marks.register_of.Goals as goal

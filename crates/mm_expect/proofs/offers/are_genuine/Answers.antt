@@ -1,7 +1,7 @@
 use Rattle.std.proofs.Common.{sym, ap, ◌∙◌}
 use Rattle.std.specs.Prelude.{option_map}
 use Rattle.mm_seal.specs.Body.{content_of}
-use Rattle.mm_expect.specs.Recorded.{Recorded, instance_of, instance_with}
+use Rattle.mm_expect.specs.Recorded.{Recorded, instance_of}
 use Rattle.mm_expect.proofs.GenuineLaws.{offers_decided}
 use Rattle.mm_expect.proofs.JudgeLaws.{genuine_some, names_there}
 use Rattle.mm_expect.proofs.offers.are_genuine.Goals as goal

@@ -1,4 +1,4 @@
-use Rattle.std.proofs.Common.{subst, sym, ap, ◌∙◌}
+use Rattle.std.proofs.Common.{sym, ◌∙◌}
 use Rattle.mm_expect.proofs.Walking.{walks_on}
 use Rattle.mm_expect.proofs.chronicle.Chronicle.+walk.Goals as goal
 

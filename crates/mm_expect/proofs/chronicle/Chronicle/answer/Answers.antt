@@ -1,14 +1,13 @@
-use Rattle.std.proofs.Common.{◌≡◌, true, sym, ap, ◌∙◌, subst}
+use Rattle.std.proofs.Common.{ap, ◌∙◌}
 use Rattle.mm_module.specs.Batch.{members_of, size_of}
 use Rattle.mm_module.specs.Batches.{batch_of}
 use Rattle.mm_module.specs.Meaning.{outputs_from}
 use Rattle.mm_modules.specs.Modules.{meaning_of}
 use Rattle.mm_model.specs.Judge.{is_last}
-use Rattle.mm_model.specs.Standing.{issued_bytes}
 use Rattle.mm_model.specs.History.{total_of}
 use Rattle.mm_call.specs.Answers.{last_outputs}
 use Rattle.mm_expect.specs.declared.marks.Marks.{Marks}
-use Rattle.mm_expect.specs.Recorded.{Recorded, instance_of}
+use Rattle.mm_expect.specs.Recorded.{Recorded}
 use Rattle.mm_expect.proofs.Settling.{outputs_last, answered_is}
 use Rattle.mm_expect.proofs.chronicle.Chronicle.answer.Goals as goal
 

@@ -1,7 +1,6 @@
-use Rattle.std.proofs.Common.{sym, ap, ◌∙◌, ◌≡◌, Option, None, Bool, Result, Ok, subst}
+use Rattle.std.proofs.Common.{sym, ap, ◌∙◌, Option, Bool, Ok, subst}
 use Rattle.mm_platform.specs.declared.fault.StepFault.{StepFault}
 use Rattle.mm_module.specs.Batches.{batch_of}
-use Rattle.mm_model.specs.declared.refusal.Refusal.{Refusal}
 use Rattle.mm_call.specs.Called.{reading_steps}
 use Rattle.mm_call.specs.Courses.{planned, walk}
 use Rattle.mm_run.specs.Folds.{plan_of}

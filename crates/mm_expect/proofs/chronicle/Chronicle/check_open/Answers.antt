@@ -1,4 +1,4 @@
-use Rattle.std.proofs.Common.{sym, ap, ◌∙◌, ◌≡◌, Option, None, Some, List, [], ◌∷◌, subst}
+use Rattle.std.proofs.Common.{sym, ◌∙◌, Option, [], ◌∷◌, subst}
 use Rattle.mm_digest.specs.declared.variant.Variant.TheVariants.{Opt}
 use Rattle.mm_platform.specs.declared.fault.StepFault.{StepFault}
 use Rattle.mm_model.specs.History.{Close}

@@ -1,4 +1,4 @@
-use Rattle.std.proofs.Common.{sym, ap, ◌∙◌, ◌≡◌, refl, true, false}
+use Rattle.std.proofs.Common.{sym, ap, ◌∙◌, refl, false}
 use Rattle.mm_digest.specs.declared.variant.Variant.TheVariants.{Basic, Opt}
 use Rattle.mm_expect.specs.declared.calls.Closing.TheVariants.{HasNone, NoSegment}
 use Rattle.mm_expect.specs.Recorded.{Recorded}

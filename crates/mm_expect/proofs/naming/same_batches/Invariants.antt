@@ -1,0 +1,8 @@
+use Rattle.std.proofs.Common.{◌≡◌, drop, length}
+use Rattle.mm_expect.specs.Kept.{kept_batches}
+use Rattle.mm_expect.specs.Naming.{same_batches}
+use Rattle.mm_expect.proofs.naming.same_batches.Given as goal
+
+abbrev pub invariant-at : goal.invariant-at
+invariant-at l =
+    same_batches (kept_batches (drop l.i l.batches)) (kept_batches (drop l.i l.others)) ≡ same_batches (kept_batches l.batches) (kept_batches l.others)

@@ -1,0 +1,13 @@
+use Rattle.std.proofs.Common.{◌∙◌}
+use Rattle.mm_call.proofs.Moving.{summary-nil}
+use Rattle.mm_expect.proofs.PlaceLaws.{summary_taken}
+use Rattle.mm_module.specs.Batches.{batch_of}
+use Rattle.mm_expect.proofs.naming.summary_of.Goals as goal
+
+pub batches-init : goal.batches-init
+batches-init c = c.start-summary.ensures ∙ summary-nil c.args.id
+
+pub batches-preserved : goal.batches-preserved
+batches-preserved c =
+    summary_taken c.args.id c.args.batches.now c.batches.batch-index c.batch-item.result (batch_of c.lent.result) c.batches.summary.bytes
+    c.link-summary.result.bytes c.batches-test.true c.batch-item.is c.batches.invariant c.lent.ensures c.link-summary.ensures
