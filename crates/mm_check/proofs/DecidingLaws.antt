@@ -289,3 +289,6 @@ stands_after header es index event old new heard within is h hears after few lis
     (ap (λ (e : CodeEvent). before ++ event_of e ∷ []) is ∙ sym (events_more es index event within))
     (stands_next header before (event_of event) old new heard h hears after few lists lines
     (forged ∙ ap (λ (n : ℕ). forged_then old.forged heard.is_genuine (n + 1)) count))
+
+pub start_is : (byte id variant code : ℕ) → byte ≡ variant → id ≡ code → 0 ∷ byte ∷ id ∷ [] ≡ 0 ∷ variant ∷ code ∷ []
+start_is byte id variant code b i = ap (λ (n : ℕ). 0 ∷ n ∷ id ∷ []) b ∙ ap (λ (n : ℕ). 0 ∷ variant ∷ n ∷ []) i
