@@ -20,7 +20,7 @@ stops Closes = false
 stops HasNone = false
 stops NoSegment = false
 stops LostPower = false
-stops (Stops fault closed) = true
+stops (Stops _ _) = true
 
 -- The chronicle went on by a checkpoint, which ended so.
 pub record ChecksBy (old new : Recorded) (o : ghost_closing.Checkpointed History) (closing : Closing) : Type 0 where
