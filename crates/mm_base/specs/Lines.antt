@@ -1,5 +1,5 @@
 -- Lines: their bytes stand before a line feed.
-use Rattle.std.specs.Prelude.{◌≡◌, ◌+◌, ◌<◌, ◌≤◌, ℕ, List, [], ◌∷◌, ◌++◌, length, take, drop, Option, Some, None, Result, Ok, Err}
+use Rattle.std.specs.Prelude.{◌≡◌, ◌+◌, ◌<◌, ◌≤◌, ℕ, List, [], ◌∷◌, ◌++◌, length, take, drop, Option, Some, None, Result, Ok, Err, Bool, true, false}
 use Rattle.std.specs.Io.KnownBytes.{Consumes, IsAtEnd}
 use Rattle.mm_base.specs.declared.fault.Failed.{Failed}
 use Rattle.mm_base.specs.declared.lines.LineFault.{LineFault}
@@ -14,6 +14,11 @@ pub record Breaks (bytes : List ℕ) (at : ℕ) : Type 0 where
   pub within : at < length bytes
   pub line : IsUnbroken (take at bytes)
   pub parts : bytes ≡ take at bytes ++ 10 ∷ drop (at + 1) bytes
+
+-- whether a line feed is among the bytes
+abbrev pub HoldsLine : List ℕ → Bool → Type 0
+HoldsLine bytes true = (at : ℕ) × Breaks bytes at
+HoldsLine bytes false = IsUnbroken bytes
 
 -- how many bytes were given: none only at the end, and none after a fault
 abbrev pub Gives : Option (List ℕ) → List ℕ → Result ℕ Failed → Type 0

@@ -70,6 +70,7 @@ impl Model for LineReader {
 
 impl LineReader {
     ghost use Rattle.mm_base.specs.Next.{NextLine};
+    ghost use Rattle.mm_base.specs.Lines.{HoldsLine};
     ghost use Rattle.mm_base.specs.contracts.lines.LineReader.{the_row};
 
     /// A reader that holds nothing. Reserves all its room, 32,768 bytes.
@@ -78,6 +79,14 @@ impl LineReader {
     {
         let held = Held::new(alloc)?;
         Ok(LineReader { held })
+    }
+
+    /// Whether a whole line is held, of any length, so that `next` asks the source for nothing.
+    pub fn has_line(&mut self) -> bool
+        ensures same { self.new ≡ self.old }
+        ensures held { HoldsLine self.old result }
+    {
+        self.held.find_break().is_some()
     }
 
     /// The next line of the source, of at most `limit` bytes. Takes no memory.
