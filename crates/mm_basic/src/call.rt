@@ -7,7 +7,7 @@ ghost use Rattle.mm_basic.specs.Asks.{AsksTo};
 
 use crate::found::{Found, Ready};
 use crate::step::{commit, read, write};
-use mm_call::Ended;
+use mm_call::{Ended, KeptKey};
 use mm_model::{BatchAnswer, Refusal};
 use mm_module::{Batch, Module};
 use mm_platform::{Platform, StepFault};
@@ -103,7 +103,28 @@ impl Call {
         ensures continuity { TurnContinues (M.meaning «module».now) self (P.standing platform.old) (P.standing platform.new) offer.now
             (batch_of batch.entry) result }
     {
-        self.turn(alloc, module, platform, offer, batch)
+        self.advance_keeping(alloc, module, platform, offer, batch, &mut KeptKey::new())
+    }
+
+    /// `advance` with an absorbed key that the caller keeps between calls.
+    pub fn advance_keeping<M: Module, P: Platform>(
+        self,
+        alloc: Global,
+        module: &M,
+        platform: &mut P,
+        offer: &[u8],
+        batch: Batch<'_>,
+        keys: &mut KeptKey,
+    ) -> Turn
+        requires { is_long (batch_of batch) ≡ false }
+        ensures turns { Turns (M.meaning «module».now) self (P.standing platform.old)
+            (P.standing platform.new) offer.now (batch_of batch.entry) result }
+        ensures faults { Blames (turn_fault result) (P.standing platform.old).faults
+            (P.standing platform.new).faults }
+        ensures continuity { TurnContinues (M.meaning «module».now) self (P.standing platform.old)
+            (P.standing platform.new) offer.now (batch_of batch.entry) result }
+    {
+        self.turn(alloc, module, platform, offer, batch, keys)
     }
 
     /// Moves the call to its end: what `advance` does, over and over. After the reading step it has no allocator.
@@ -122,7 +143,28 @@ impl Call {
             offer.now (batch_of batch.entry) result }
         ensures faults { Blames (fault_in (result_of result)) (P.standing platform.old).faults (P.standing platform.new).faults }
     {
-        self.end(alloc, module, platform, offer, batch)
+        self.finish_keeping(alloc, module, platform, offer, batch, &mut KeptKey::new())
+    }
+
+    /// `finish` with an absorbed key that the caller keeps between calls.
+    pub fn finish_keeping<M: Module, P: Platform>(
+        self,
+        alloc: Global,
+        module: &M,
+        platform: &mut P,
+        offer: &[u8],
+        batch: Batch<'_>,
+        keys: &mut KeptKey,
+    ) -> Ended
+        requires short { is_long (batch_of batch) ≡ false }
+        ensures finishes { Finishes (M.meaning «module».now) self (P.standing platform.old)
+            (P.standing platform.new) offer.now (batch_of batch.entry) result }
+        ensures ends { self ≡ None → CallsTo Basic (M.meaning «module».now) (P.standing platform.old)
+            (P.standing platform.new) offer.now (batch_of batch.entry) result }
+        ensures faults { Blames (fault_in (result_of result)) (P.standing platform.old).faults
+            (P.standing platform.new).faults }
+    {
+        self.end(alloc, module, platform, offer, batch, keys)
     }
 
     fn end<M: Module, P: Platform>(
@@ -132,13 +174,14 @@ impl Call {
         platform: &mut P,
         offer: &[u8],
         batch: Batch<'_>,
+        keys: &mut KeptKey,
     ) -> Ended
         requires { is_long (batch_of batch) ≡ false }
         ensures { Finishes (M.meaning «module».now) self (P.standing platform.old) (P.standing platform.new) offer.now
             (batch_of batch.entry) result }
     {
         match self.ready {
-            None => ask(alloc, module, platform, offer, batch),
+            None => ask(alloc, module, platform, offer, batch, keys),
             Some(ready) => commit(ready, platform),
         }
     }
@@ -150,13 +193,14 @@ impl Call {
         platform: &mut P,
         offer: &[u8],
         batch: Batch<'_>,
+        keys: &mut KeptKey,
     ) -> Turn
         requires { is_long (batch_of batch) ≡ false }
         ensures { Turns (M.meaning «module».now) self (P.standing platform.old) (P.standing platform.new) offer.now
             (batch_of batch.entry) result }
     {
         match self.ready {
-            None => Turn::first(read(alloc, module, platform, offer, batch)),
+            None => Turn::first(read(alloc, module, platform, offer, batch, keys)),
             Some(ready) => Turn::last(write(ready, platform)),
         }
     }
@@ -169,12 +213,13 @@ fn ask<M: Module, P: Platform>(
     platform: &mut P,
     offer: &[u8],
     batch: Batch<'_>,
+    keys: &mut KeptKey,
 ) -> Ended
     requires { is_long (batch_of batch) ≡ false }
     ensures { AsksTo (M.meaning «module».now) (P.standing platform.old) (P.standing platform.new) offer.now
         (batch_of batch.entry) result }
 {
-    match read(alloc, module, platform, offer, batch) {
+    match read(alloc, module, platform, offer, batch, keys) {
         Err(refusal) => Ended::refused(refusal),
         Ok(Found::Repeat(answer)) => Ended::Answered(answer),
         Ok(Found::Change(ready)) => commit(ready, platform),

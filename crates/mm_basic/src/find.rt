@@ -17,8 +17,8 @@ ghost use Rattle.mm_basic.specs.Steps.{FindsIn};
 ghost use Rattle.mm_call.specs.Refusals.{OrMemory, fault_in};
 
 use crate::found::{Found, Ready};
-use mm_call::{answer, examine, has_tab};
-use mm_digest::{Digest, HmacKey, Variant, successor, successor_batch};
+use mm_call::{KeptKey, answer, examine, has_tab};
+use mm_digest::{Digest, Variant, successor, successor_batch};
 use mm_model::{Refusal, Verdict};
 use mm_module::{Batch, Module};
 use mm_seal::{Cell, CellFault, Offered, PartsFault, Place, cell_bytes, parts, read_cell};
@@ -31,6 +31,7 @@ pub fn find<M: Module>(
     bytes: &[u8; 104],
     offer: &[u8],
     batch: Batch<'_>,
+    keys: &mut KeptKey,
 ) -> Result<Found, Refusal>
     requires { is_long (batch_of batch) ≡ false }
     ensures finds { FindsIn (M.meaning «module».now) bytes.now offer.now (batch_of batch.entry) result }
@@ -48,7 +49,7 @@ pub fn find<M: Module>(
     match parts(offer, Variant::Basic, id) {
         Err(PartsFault::Form) => Err(Refusal::Form),
         Err(PartsFault::Kind) => Err(Refusal::Kind),
-        Ok(offered) => weigh(alloc, module, &cell, &offered, batch),
+        Ok(offered) => weigh(alloc, module, &cell, &offered, batch, keys),
     }
 }
 
@@ -69,6 +70,7 @@ fn weigh<M: Module>(
     cell: &Cell,
     offered: &Offered<'_>,
     batch: Batch<'_>,
+    keys: &mut KeptKey,
 ) -> Result<Found, Refusal>
     requires cell { FitsVariant cell.now.variant cell.now.flag cell.now.barrier }
     requires variant { variant_of offered.now.content.place ≡ Basic }
@@ -81,12 +83,12 @@ fn weigh<M: Module>(
     let here = summary_in(&body.place);
     let next = link(&here, batch);
     let verdict = verdict(&cell.summary, &here, &next);
-    let key = HmacKey::new(&cell.key);
-    let again = match examine(module, &key, offered, batch, verdict) {
+    let key = keys.under(&cell.key);
+    let again = match examine(module, key, offered, batch, verdict) {
         Err(refusal) => return Err(refusal),
         Ok(again) => again,
     };
-    let answer = match answer(alloc, module, &key, &body, Place::Basic(next), batch, again) {
+    let answer = match answer(alloc, module, key, &body, Place::Basic(next), batch, again) {
         Err(_) => return Err(Refusal::Memory),
         Ok(answer) => answer,
     };

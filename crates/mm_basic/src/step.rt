@@ -8,7 +8,7 @@ ghost use Rattle.mm_basic.specs.Asks.{WritesTo};
 
 use crate::find::find;
 use crate::found::{Found, Ready};
-use mm_call::Ended;
+use mm_call::{Ended, KeptKey};
 use mm_model::{BatchAnswer, Refusal};
 use mm_module::{Batch, Module};
 use mm_platform::{Platform, StepFault};
@@ -21,6 +21,7 @@ pub fn read<M: Module, P: Platform>(
     platform: &mut P,
     offer: &[u8],
     batch: Batch<'_>,
+    keys: &mut KeptKey,
 ) -> Result<Found, Refusal>
     requires { is_long (batch_of batch) ≡ false }
     ensures { Reads (M.meaning «module».now) (P.standing platform.old) (P.standing platform.new)
@@ -29,7 +30,7 @@ pub fn read<M: Module, P: Platform>(
     let mut bytes = [0; 104];
     match platform.nv_read(&mut bytes) {
         Err(fault) => Err(Refusal::Device(fault)),
-        Ok(()) => find(alloc, module, &bytes, offer, batch),
+        Ok(()) => find(alloc, module, &bytes, offer, batch, keys),
     }
 }
 

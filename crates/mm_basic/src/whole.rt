@@ -17,6 +17,7 @@ ghost use Rattle.mm_call.specs.Leaving.{LeavesUntouched, Blames, whole, whole_in
 use crate::call::begin;
 use crate::found::Found;
 use crate::step::{read, write};
+use mm_call::KeptKey;
 use mm_model::{Answer, BatchAnswer, Refusal};
 use mm_module::{Batch, Module};
 use mm_platform::{Platform, StepFault};
@@ -92,7 +93,7 @@ fn prepare_batch<M: Module, P: Platform>(
     if mm_model::is_long(&batch) {
         return Err(Refusal::Long);
     }
-    match read(alloc, module, platform, offer, batch) {
+    match read(alloc, module, platform, offer, batch, &mut KeptKey::new()) {
         Err(refusal) => Err(refusal),
         Ok(found) => Ok(Prepared { found }),
     }

@@ -9,7 +9,7 @@ use crate::finish::{ask, extend_last, open, place_on, see, write_last};
 use crate::found::{Found, Opening};
 use crate::stage::{Change, Stage};
 use crate::step::{empty, extend, place, read_cell, read_register, write};
-use mm_call::Ended;
+use mm_call::{Ended, KeptKey};
 use mm_model::{BatchAnswer, Refusal};
 use mm_module::{Batch, Module};
 use mm_platform::{Platform, StepFault};
@@ -112,7 +112,31 @@ impl Call {
         ensures goes { TurnsOn (M.meaning «module».now) self (P.standing platform.old) (P.standing platform.new) offer.now
             (batch_of batch.entry) result }
     {
-        self.turn(alloc, module, platform, offer, batch)
+        self.advance_keeping(alloc, module, platform, offer, batch, &mut KeptKey::new())
+    }
+
+    /// `advance` with an absorbed key that the caller keeps between calls.
+    pub fn advance_keeping<M: Module, P: Platform>(
+        self,
+        alloc: Global,
+        module: &M,
+        platform: &mut P,
+        offer: &[u8],
+        batch: Batch<'_>,
+        keys: &mut KeptKey,
+    ) -> Turn
+        requires short { is_long (batch_of batch) ≡ false }
+        requires room { MayGoOn self (P.standing platform.old) }
+        ensures turns { Turns (M.meaning «module».now) self (P.standing platform.old)
+            (P.standing platform.new) offer.now (batch_of batch.entry) result }
+        ensures acts { ActsAt self (P.standing platform.old) (P.standing platform.new) result }
+        ensures room { TurnMayGoOn result (P.standing platform.new) }
+        ensures faults { Blames (fault_turned result) (P.standing platform.old).faults
+            (P.standing platform.new).faults }
+        ensures goes { TurnsOn (M.meaning «module».now) self (P.standing platform.old)
+            (P.standing platform.new) offer.now (batch_of batch.entry) result }
+    {
+        self.turn(alloc, module, platform, offer, batch, keys)
     }
 
     /// Moves the call to its end: what `advance` does, over and over. After the reading steps it has no allocator.
@@ -132,7 +156,29 @@ impl Call {
             offer.now (batch_of batch.entry) result }
         ensures faults { Blames (fault_in (result_of result)) (P.standing platform.old).faults (P.standing platform.new).faults }
     {
-        self.end(alloc, module, platform, offer, batch)
+        self.finish_keeping(alloc, module, platform, offer, batch, &mut KeptKey::new())
+    }
+
+    /// `finish` with an absorbed key that the caller keeps between calls.
+    pub fn finish_keeping<M: Module, P: Platform>(
+        self,
+        alloc: Global,
+        module: &M,
+        platform: &mut P,
+        offer: &[u8],
+        batch: Batch<'_>,
+        keys: &mut KeptKey,
+    ) -> Ended
+        requires short { is_long (batch_of batch) ≡ false }
+        requires room { MayGoOn self (P.standing platform.old) }
+        ensures finishes { Finishes (M.meaning «module».now) self (P.standing platform.old)
+            (P.standing platform.new) offer.now (batch_of batch.entry) result }
+        ensures ends { self ≡ Begun → CallsTo Opt (M.meaning «module».now) (P.standing platform.old)
+            (P.standing platform.new) offer.now (batch_of batch.entry) result }
+        ensures faults { Blames (fault_in (result_of result)) (P.standing platform.old).faults
+            (P.standing platform.new).faults }
+    {
+        self.end(alloc, module, platform, offer, batch, keys)
     }
 
     fn end<M: Module, P: Platform>(
@@ -142,6 +188,7 @@ impl Call {
         platform: &mut P,
         offer: &[u8],
         batch: Batch<'_>,
+        keys: &mut KeptKey,
     ) -> Ended
         requires short { is_long (batch_of batch) ≡ false }
         requires room { MayGoOn self (P.standing platform.old) }
@@ -149,8 +196,8 @@ impl Call {
             (batch_of batch.entry) result }
     {
         match self.stage {
-            Stage::Begun => ask(alloc, module, platform, offer, batch),
-            Stage::Seen(cell) => see(alloc, module, &cell, platform, offer, batch),
+            Stage::Begun => ask(alloc, module, platform, offer, batch, keys),
+            Stage::Seen(cell) => see(alloc, module, &cell, platform, offer, batch, keys),
             Stage::Changing(change) => change.end(platform),
         }
     }
@@ -162,6 +209,7 @@ impl Call {
         platform: &mut P,
         offer: &[u8],
         batch: Batch<'_>,
+        keys: &mut KeptKey,
     ) -> Turn
         requires short { is_long (batch_of batch) ≡ false }
         requires room { MayGoOn self (P.standing platform.old) }
@@ -171,7 +219,7 @@ impl Call {
         match self.stage {
             Stage::Begun => Turn::seen(read_cell(module.id(), platform)),
             Stage::Seen(cell) => {
-                Turn::found(read_register(alloc, module, &cell, platform, offer, batch))
+                Turn::found(read_register(alloc, module, &cell, platform, offer, batch, keys))
             }
             Stage::Changing(change) => change.make(platform),
         }

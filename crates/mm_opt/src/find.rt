@@ -16,8 +16,8 @@ ghost use Rattle.mm_opt.specs.Steps.{FindsIn};
 
 use crate::found::{Found, Opening, Ready};
 use crate::verdicts::{has_lost_power, verdict};
-use mm_call::{answer, examine, has_tab};
-use mm_digest::{Digest, HmacKey, Variant, extended, secured, secured_batch, zero};
+use mm_call::{KeptKey, answer, examine, has_tab};
+use mm_digest::{Digest, Variant, extended, secured, secured_batch, zero};
 use mm_model::{BatchAnswer, Refusal, Verdict};
 use mm_module::{Batch, Module};
 use mm_seal::{Cell, CellFault, Offered, PartsFault, Place, cell_bytes, parts, read_cell};
@@ -63,6 +63,7 @@ pub fn find<M: Module>(
     register: &Digest,
     offer: &[u8],
     batch: Batch<'_>,
+    keys: &mut KeptKey,
 ) -> Result<Found, Refusal>
     requires { is_long (batch_of batch) ≡ false }
     ensures finds { FindsIn (M.meaning «module».now) cell.now register.now.bytes offer.now (batch_of batch.entry) result }
@@ -78,7 +79,7 @@ pub fn find<M: Module>(
     match taken {
         Err(PartsFault::Form) => Err(Refusal::Form),
         Err(PartsFault::Kind) => Err(Refusal::Kind),
-        Ok(offered) => weigh(alloc, module, cell, register, &offered, batch),
+        Ok(offered) => weigh(alloc, module, cell, register, &offered, batch, keys),
     }
 }
 
@@ -90,6 +91,7 @@ fn weigh<M: Module>(
     register: &Digest,
     offered: &Offered<'_>,
     batch: Batch<'_>,
+    keys: &mut KeptKey,
 ) -> Result<Found, Refusal>
     requires variant { variant_of offered.now.content.place ≡ Opt }
     requires position { offered.now.content.position ≤ 2 ^ 48 }
@@ -100,13 +102,13 @@ fn weigh<M: Module>(
     let body = offered.body();
     let value = guard(&cell.barrier, batch);
     let verdict = verdict_on(cell, register, &body.place, &value);
-    let key = HmacKey::new(&cell.key);
-    let again = match examine(module, &key, offered, batch, verdict) {
+    let key = keys.under(&cell.key);
+    let again = match examine(module, key, offered, batch, verdict) {
         Err(refusal) => return Err(refusal),
         Ok(again) => again,
     };
     let place = place_after(cell, register, &value, again);
-    let answer = match answer(alloc, module, &key, &body, place, batch, again) {
+    let answer = match answer(alloc, module, key, &body, place, batch, again) {
         Err(_) => return Err(Refusal::Memory),
         Ok(answer) => answer,
     };

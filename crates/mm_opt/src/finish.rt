@@ -11,7 +11,7 @@ ghost use Rattle.mm_opt.specs.Finishes.{ExtendsTo, WritesTo, PlacesTo, OpensTo, 
 use crate::found::{Found, Opening, Ready};
 use crate::step::{empty, extend, place, read_register, write};
 use crate::whole::read;
-use mm_call::Ended;
+use mm_call::{Ended, KeptKey};
 use mm_model::{BatchAnswer, Refusal};
 use mm_module::{Batch, Module};
 use mm_platform::{Platform, StepFault};
@@ -25,12 +25,13 @@ pub fn ask<M: Module, P: Platform>(
     platform: &mut P,
     offer: &[u8],
     batch: Batch<'_>,
+    keys: &mut KeptKey,
 ) -> Ended
     requires { is_long (batch_of batch) ≡ false }
     ensures { AsksTo (M.meaning «module».now) (P.standing platform.old) (P.standing platform.new)
         offer.now (batch_of batch.entry) result }
 {
-    let found = read(alloc, module, platform, offer, batch);
+    let found = read(alloc, module, platform, offer, batch, keys);
     end(found, platform)
 }
 
@@ -42,12 +43,13 @@ pub fn see<M: Module, P: Platform>(
     platform: &mut P,
     offer: &[u8],
     batch: Batch<'_>,
+    keys: &mut KeptKey,
 ) -> Ended
     requires { is_long (batch_of batch) ≡ false }
     ensures { SeesTo (M.meaning «module».now) cell.now (P.standing platform.old) (P.standing platform.new)
         offer.now (batch_of batch.entry) result }
 {
-    let found = found_in(alloc, module, cell, platform, offer, batch);
+    let found = found_in(alloc, module, cell, platform, offer, batch, keys);
     end(found, platform)
 }
 
@@ -58,13 +60,14 @@ fn found_in<M: Module, P: Platform>(
     platform: &mut P,
     offer: &[u8],
     batch: Batch<'_>,
+    keys: &mut KeptKey,
 ) -> Result<Found, Refusal>
     requires { is_long (batch_of batch) ≡ false }
     ensures reads { ReadsRegister (M.meaning «module».now) cell.now (P.standing platform.old) (P.standing platform.new)
         offer.now (batch_of batch.entry) result }
     ensures room { LeavesRoom result (P.standing platform.new) }
 {
-    read_register(alloc, module, cell, platform, offer, batch)
+    read_register(alloc, module, cell, platform, offer, batch, keys)
 }
 
 /// What is left of a call that found this. It is handed no allocator.

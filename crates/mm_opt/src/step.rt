@@ -8,6 +8,7 @@ ghost use Rattle.mm_opt.specs.Steps.{IsReady, ReadsCell, ReadsRegister, MakesRoo
 
 use crate::find::{find, find_cell};
 use crate::found::{Found, Opening, Ready};
+use mm_call::KeptKey;
 use mm_model::{BatchAnswer, Refusal};
 use mm_module::{Batch, Module};
 use mm_platform::{Platform, StepFault};
@@ -33,6 +34,7 @@ pub fn read_register<M: Module, P: Platform>(
     platform: &mut P,
     offer: &[u8],
     batch: Batch<'_>,
+    keys: &mut KeptKey,
 ) -> Result<Found, Refusal>
     requires { is_long (batch_of batch) ≡ false }
     ensures { ReadsRegister (M.meaning «module».now) cell.now (P.standing platform.old) (P.standing platform.new)
@@ -42,7 +44,7 @@ pub fn read_register<M: Module, P: Platform>(
         Err(fault) => return Err(Refusal::Device(fault)),
         Ok(register) => register,
     };
-    match find(alloc, module, cell, &register, offer, batch) {
+    match find(alloc, module, cell, &register, offer, batch, keys) {
         Err(refusal) => Err(refusal),
         Ok(found) => make_room(found, platform),
     }

@@ -17,7 +17,7 @@ use crate::call::{Call, begin};
 use crate::finish::end;
 use crate::found::Found;
 use crate::step::{read_cell, read_register};
-use mm_call::Ended;
+use mm_call::{Ended, KeptKey};
 use mm_model::{Answer, BatchAnswer, Refusal};
 use mm_module::{Batch, Module};
 use mm_platform::{Platform, StepFault};
@@ -91,7 +91,7 @@ fn prepare_batch<M: Module, P: Platform>(
     if mm_model::is_long(&batch) {
         return Err(Refusal::Long);
     }
-    match read(alloc, module, platform, offer, batch) {
+    match read(alloc, module, platform, offer, batch, &mut KeptKey::new()) {
         Err(refusal) => Err(refusal),
         Ok(found) => Ok(Prepared { found }),
     }
@@ -104,6 +104,7 @@ pub fn read<M: Module, P: Platform>(
     platform: &mut P,
     offer: &[u8],
     batch: Batch<'_>,
+    keys: &mut KeptKey,
 ) -> Result<Found, Refusal>
     requires { is_long (batch_of batch) ≡ false }
     ensures reads { Reads (M.meaning «module».now) (P.standing platform.old) (P.standing platform.new)
@@ -111,7 +112,7 @@ pub fn read<M: Module, P: Platform>(
     ensures room { LeavesRoom result (P.standing platform.new) }
 {
     let cell = read_cell(module.id(), platform);
-    read_on(alloc, module, cell, platform, offer, batch)
+    read_on(alloc, module, cell, platform, offer, batch, keys)
 }
 
 // Makes the second reading step, where the first found a cell.
@@ -122,6 +123,7 @@ fn read_on<M: Module, P: Platform>(
     platform: &mut P,
     offer: &[u8],
     batch: Batch<'_>,
+    keys: &mut KeptKey,
 ) -> Result<Found, Refusal>
     requires { is_long (batch_of batch) ≡ false }
     ensures on { ReadsOn (M.meaning «module».now) cell (P.standing platform.old) (P.standing platform.new)
@@ -130,7 +132,7 @@ fn read_on<M: Module, P: Platform>(
 {
     match cell {
         Err(refusal) => Err(refusal),
-        Ok(cell) => read_register(alloc, module, &cell, platform, offer, batch),
+        Ok(cell) => read_register(alloc, module, &cell, platform, offer, batch, keys),
     }
 }
 

@@ -15,7 +15,7 @@ ghost use Rattle.mm_world.specs.Calls.{refused_as, told_as, broken_as, takes_eff
 
 use crate::offered::offered;
 use mm_base::{Bytes, Memory};
-use mm_call::Ended;
+use mm_call::{Ended, KeptKey};
 use mm_digest::Variant;
 use mm_model::{BatchAnswer, Refusal, is_long};
 use mm_module::{Batch, Module};
@@ -159,12 +159,13 @@ fn basic<M: Module>(
     platform: &mut MemPlatform,
     offer: &[u8],
     batch: Batch<'_>,
+    keys: &mut KeptKey,
 ) -> Ended
     requires short { is_long (batch_of batch) ≡ false }
     ensures { CallsTo Basic (M.meaning «module».now) platform.old platform.new offer.now (batch_of batch.entry) result }
 {
     match mm_basic::begin(batch) {
-        Ok(call) => call.finish(alloc, module, platform, offer, batch),
+        Ok(call) => call.finish_keeping(alloc, module, platform, offer, batch, keys),
         Err(_) => unreachable!(),
     }
 }
@@ -176,12 +177,13 @@ fn opt<M: Module>(
     platform: &mut MemPlatform,
     offer: &[u8],
     batch: Batch<'_>,
+    keys: &mut KeptKey,
 ) -> Ended
     requires short { is_long (batch_of batch) ≡ false }
     ensures { CallsTo Opt (M.meaning «module».now) platform.old platform.new offer.now (batch_of batch.entry) result }
 {
     match mm_opt::begin(batch) {
-        Ok(call) => call.finish(alloc, module, platform, offer, batch),
+        Ok(call) => call.finish_keeping(alloc, module, platform, offer, batch, keys),
         Err(_) => unreachable!(),
     }
 }
@@ -194,13 +196,14 @@ fn finish<M: Module>(
     platform: &mut MemPlatform,
     offer: &[u8],
     batch: Batch<'_>,
+    keys: &mut KeptKey,
 ) -> Ended
     requires short { is_long (batch_of batch) ≡ false }
     ensures { CallsTo variant (M.meaning «module».now) platform.old platform.new offer.now (batch_of batch.entry) result }
 {
     match variant {
-        Variant::Basic => basic(alloc, module, platform, offer, batch),
-        Variant::Opt => opt(alloc, module, platform, offer, batch),
+        Variant::Basic => basic(alloc, module, platform, offer, batch, keys),
+        Variant::Opt => opt(alloc, module, platform, offer, batch, keys),
     }
 }
 
@@ -233,6 +236,7 @@ fn ask<M: Module>(
     batch: Batch<'_>,
     meddles: &[Meddle],
     stop: Stop,
+    keys: &mut KeptKey,
 ) -> Result<Called, Memory>
     ensures { (issued : List (List ℕ)) → AsksAs variant (M.meaning «module».now) platform.old platform.new issued meddles.now stop
         (Some offer.now) (batch_of batch.entry) result }
@@ -243,7 +247,7 @@ fn ask<M: Module>(
     if let Err(memory) = platform.plan(stop, meddles) {
         return Err(memory);
     }
-    let ended = finish(alloc, variant, module, platform, offer, batch);
+    let ended = finish(alloc, variant, module, platform, offer, batch, keys);
     settle(platform, stop, is_broken(&ended));
     came_to(stop, ended, batch.len() as u64)
 }
@@ -259,6 +263,7 @@ pub fn asked<M: Module>(
     batch: Batch<'_>,
     meddles: &[Meddle],
     stop: Stop,
+    keys: &mut KeptKey,
 ) -> Result<Called, Memory>
     ensures { AsksAs variant (M.meaning «module».now) platform.old platform.new issued.now meddles.now stop
         (offered_bytes issued.now offer.now) (batch_of batch.entry) result }
@@ -275,6 +280,7 @@ pub fn asked<M: Module>(
             batch,
             meddles,
             stop,
+            keys,
         ),
     }
 }

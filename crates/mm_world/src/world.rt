@@ -10,7 +10,7 @@ use crate::call::{Called, asked, checkpoint};
 use crate::keys::{barrier, key};
 use crate::parts::{first, keep, listed};
 use mm_base::{Bytes, Memory};
-use mm_call::Provisioned;
+use mm_call::{KeptKey, Provisioned};
 use mm_digest::{Digest, Variant};
 use mm_module::Batch;
 use mm_platform::{Meddle, MemPlatform, Platform, Stop};
@@ -26,6 +26,7 @@ pub struct World {
     platform: MemPlatform,
     issued: Vec<Bytes>,
     committed: u64,
+    keys: KeptKey,
 }
 
 impl Model for World {
@@ -85,6 +86,7 @@ impl World {
                 platform: MemPlatform::new(alloc, &cell),
                 issued,
                 committed: 0,
+                keys: KeptKey::new(),
             }),
         }
     }
@@ -190,6 +192,7 @@ impl World {
             batch,
             meddles,
             stop,
+            &mut self.keys,
         ) {
             Err(memory) => Err(memory),
             Ok(called) => {

@@ -1,6 +1,6 @@
 use Rattle.mm_module.specs.Batches.{batch_of}
 use Rattle.mm_opt.proofs.Finishing.{finished_to, finish_blamed}
-use Rattle.mm_opt.proofs.call.Call.finish.Goals as goal
+use Rattle.mm_opt.proofs.call.Call.finish_keeping.Goals as goal
 
 pub returns-clause-ends : goal.returns-clause-ends
 returns-clause-ends g c =

@@ -1,6 +1,6 @@
 use Rattle.mm_module.specs.Batches.{batch_of}
 use Rattle.mm_basic.proofs.Turning.{turns_on, turn_blamed}
-use Rattle.mm_basic.proofs.call.Call.advance.Goals as goal
+use Rattle.mm_basic.proofs.call.Call.advance_keeping.Goals as goal
 
 pub returns-clause-continuity : goal.returns-clause-continuity
 returns-clause-continuity g c =

@@ -1,7 +1,7 @@
 use Rattle.mm_module.specs.Batches.{batch_of}
 use Rattle.mm_basic.proofs.Ending.{finish_blamed}
 use Rattle.mm_basic.proofs.Going.{finished_to}
-use Rattle.mm_basic.proofs.call.Call.finish.Goals as goal
+use Rattle.mm_basic.proofs.call.Call.finish_keeping.Goals as goal
 
 pub returns-clause-ends : goal.returns-clause-ends
 returns-clause-ends g c =

@@ -1,7 +1,7 @@
 use Rattle.mm_module.specs.Batches.{batch_of}
 use Rattle.mm_opt.proofs.Acting.{acts_at, turn_blamed}
 use Rattle.mm_opt.proofs.Turning.{turns_on}
-use Rattle.mm_opt.proofs.call.Call.advance.Goals as goal
+use Rattle.mm_opt.proofs.call.Call.advance_keeping.Goals as goal
 
 pub returns-clause-goes : goal.returns-clause-goes
 returns-clause-goes g c =
