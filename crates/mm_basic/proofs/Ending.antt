@@ -1,7 +1,6 @@
 -- A call that ended so is a call that gives its result.
 use Rattle.std.proofs.Common.{◌≡◌, ℕ, true, false, Option, None, Some, List, Result, Ok, Err, refl, sym, ap, ◌∙◌, subst}
 use Rattle.std.specs.Result.{result_err}
-use Rattle.mm_platform.specs.declared.fault.StepFault.{StepFault}
 use Rattle.mm_platform.specs.Standing.{Standing}
 use Rattle.mm_module.specs.Meaning.{Meaning}
 use Rattle.mm_module.specs.Batch.{Batch}
@@ -9,7 +8,7 @@ use Rattle.mm_model.specs.Long.{is_long}
 use Rattle.mm_model.specs.declared.answer.BatchAnswer.{BatchAnswer}
 use Rattle.mm_model.specs.declared.refusal.Refusal.{Refusal}
 use Rattle.mm_call.specs.declared.ended.Ended.{Ended}
-use Rattle.mm_call.specs.Refusals.{fault_in, handed_on}
+use Rattle.mm_call.specs.Refusals.{fault_in}
 use Rattle.mm_call.specs.Leaving.{Blames}
 use Rattle.mm_call.specs.Ended.{result_of}
 use Rattle.mm_call.proofs.Keeping.{refused_result, committed_result}
