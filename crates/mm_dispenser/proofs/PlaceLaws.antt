@@ -13,10 +13,11 @@ use Rattle.mm_base.specs.Decimals.{number_of}
 use Rattle.mm_base.proofs.DecimalLemmas.{read_by_spelling}
 use Rattle.mm_module.specs.LineLaws.{and-true, list_all-get_or}
 use Rattle.mm_module.specs.Meaning.{outputs_from}
+use Rattle.mm_module.specs.ValueLaws.{passes-encoded}
 use Rattle.mm_module.specs.Words.{is_space, words_of}
 use Rattle.mm_dispenser.specs.Draws.{word_of, word_text, words_text, drawn_text}
 use Rattle.mm_dispenser.specs.Table.{request_of, outcome_of, text_of, spelling_of, stepped, dispenser}
-use Rattle.mm_dispenser.specs.DispenserLaws.{IsGood, request_of-asked, outcome_of-IsOutcome, state_of-spelling_of, passes-encoded, digits_at}
+use Rattle.mm_dispenser.specs.DispenserLaws.{IsDispenserState, request_of-IsDispenserRequest, outcome_of-IsOutcome, state_of-spelling_of, digits_at}
 use Rattle.mm_dispenser.specs.Places.{Places, places_in, places_told, places_at, RisesByPlaces, PlacesAreToldOnce}
 use Rattle.mm_dispenser.specs.declared.dispenser.State.{State}
 use Rattle.mm_dispenser.specs.declared.dispenser.State.TheVariants.{Unset, Seeded}
@@ -94,15 +95,15 @@ abbrev outputs_by : State → List (List ℕ) → List (List ℕ)
 outputs_by state [] = []
 outputs_by state (request ∷ requests) = text_of (after state request).1 ∷ outputs_by (after state request).0 requests
 
-after-good : (state : State) (request : List ℕ) → IsGood state → IsGood (after state request).0
-after-good state request good = (outcome_of-IsOutcome state (request_of (words_of request)) good (request_of-asked (words_of request))).state
+after-good : (state : State) (request : List ℕ) → IsDispenserState state → IsDispenserState (after state request).0
+after-good state request good = (outcome_of-IsOutcome state (request_of (words_of request)) good (request_of-IsDispenserRequest (words_of request))).state
 
-stepped-after : (state : State) (request : List ℕ) → IsGood state → stepped (spelling_of state) request ≡ after state request
+stepped-after : (state : State) (request : List ℕ) → IsDispenserState state → stepped (spelling_of state) request ≡ after state request
 unfolding stepped
 stepped-after state request good = rw (state_of-spelling_of state good) refl
 
 -- the outputs of the module are those
-outputs-same : (state : State) (requests : List (List ℕ)) → IsGood state → outputs_from dispenser (spelling_of state) requests ≡ outputs_by state requests
+outputs-same : (state : State) (requests : List (List ℕ)) → IsDispenserState state → outputs_from dispenser (spelling_of state) requests ≡ outputs_by state requests
 outputs-same state [] good = refl
 outputs-same state (request ∷ requests) good =
     let e = stepped-after state request good in
@@ -160,7 +161,7 @@ drawn-moves seed place count true small = record {
 }
 drawn-moves seed place count false small = record { rises = omega arith; tells = λ p is. absurd (tells_none p (sym full-none ∙ is)) }
 
-moves : (state : State) (request : Option Request) → IsGood state → Moves (next_place state) (outcome_of state request)
+moves : (state : State) (request : Option Request) → IsDispenserState state → Moves (next_place state) (outcome_of state request)
 moves Unset (Some (Seed seed)) good = record { rises = omega arith; tells = λ p is. absurd (tells_none p (sym seeded-none ∙ is)) }
 moves (Seeded seed place) (Some (Seed other)) good = record { rises = omega arith; tells = λ p is. absurd (tells_none p (sym taken-none ∙ is)) }
 moves Unset (Some (Draw count)) good = record { rises = omega arith; tells = λ p is. absurd (tells_none p (sym unset-none ∙ is)) }
@@ -169,7 +170,7 @@ moves Unset None good = record { rises = omega arith; tells = λ p is. absurd (t
 moves (Seeded seed place) None good = record { rises = omega arith; tells = λ p is. absurd (tells_none p (sym bad-none ∙ is)) }
 
 -- places that are told later begin at or behind the place of now
-from_here : (j : ℕ) (state : State) (requests : List (List ℕ)) → IsGood state → (q : Places) → places_at (outputs_by state requests) j ≡ Some q → next_place state ≤ q.from
+from_here : (j : ℕ) (state : State) (requests : List (List ℕ)) → IsDispenserState state → (q : Places) → places_at (outputs_by state requests) j ≡ Some q → next_place state ≤ q.from
 from_here j state [] good q is = absurd (tells_none q is)
 from_here zero state (request ∷ requests) good q is =
     let m = moves state (request_of (words_of request)) good in omega (arith, (m.tells q is).0)
@@ -177,7 +178,7 @@ from_here (suc j) state (request ∷ requests) good q is =
     let m = moves state (request_of (words_of request)) good in
     omega (arith, m.rises, from_here j (after state request).0 requests (after-good state request good) q is)
 
-rises-by : (i j : ℕ) (state : State) (requests : List (List ℕ)) → IsGood state → (p q : Places) → i < j
+rises-by : (i j : ℕ) (state : State) (requests : List (List ℕ)) → IsDispenserState state → (p q : Places) → i < j
     → places_at (outputs_by state requests) i ≡ Some p → places_at (outputs_by state requests) j ≡ Some q → p.from + p.size ≤ q.from
 rises-by i j state [] good p q before one two = absurd (tells_none p one)
 rises-by i zero state (request ∷ requests) good p q before one two = absurd (omega arith)

@@ -1,27 +1,27 @@
 -- The laws of the dispenser.
-use Rattle.std.specs.Prelude.{◌≡◌, ℕ, zero, suc, ◌+◌, ◌*◌, ◌^◌, ◌<◌, ◌≤◌, ◌==◌, ◌&&◌, Bool, true, false, not, nat_le, List, [], ◌∷◌, ◌++◌, length, take, drop, Option, Some, None, is_some, unwrap_or, option_map, option_and_then, Result, Ok, Err, if◌then◌else◌, codes, slice_index}
-use Rattle.std.proofs.Common.{refl, sym, ◌∙◌, ap, arith, rules, length-append}
+use Rattle.std.specs.Prelude.{◌≡◌, ℕ, zero, suc, ◌+◌, ◌*◌, ◌^◌, ◌<◌, ◌≤◌, ◌==◌, ◌&&◌, Bool, true, false, not, nat_le, List, [], ◌∷◌, ◌++◌, length, take, drop, Option, Some, None, is_some, unwrap_or, option_map, option_and_then, if◌then◌else◌, codes}
+use Rattle.std.proofs.Common.{refl, ◌∙◌, ap, arith, rules, length-append}
 use Rattle.std.specs.Fmt.{decimal}
 use Rattle.std.specs.Int.{w32, to_be_bytes}
-use Rattle.std.specs.List.{list_all}
-use Rattle.std.specs.Result.{result_ok}
 use Rattle.std.specs.Str.{bytes_eq}
-use Rattle.std.proofs.Math.Seq.{take-append_seam, drop-append_seam}
 use Rattle.std.proofs.lemmas.Bool.Decides.{nat_tests}
 use Rattle.std.proofs.lemmas.List.{length-take-le}
 use Rattle.std.proofs.lemmas.List.Folds.{list_all-append}
-use Rattle.std.proofs.lemmas.Nat.{from_be_bytes-to_be_bytes_8}
-use Rattle.hex.specs.Hex.{decode_sized, decode_of, encode_with, encode_lower, lower_digits, IsBytes}
-use Rattle.hex.specs.declared.error.FromHexError.{FromHexError}
-use Rattle.hex.proofs.HexLemmas.{decode_sized-ok, decode_sized-twice, decode_of-ok, length-encode_with}
+use Rattle.hex.specs.Hex.{encode_lower, lower_digits}
+use Rattle.hex.proofs.HexLemmas.{length-encode_with}
 use Rattle.mm_base.specs.Decimals.{number_of}
+use Rattle.mm_base.specs.Fields.{eight_bytes}
 use Rattle.mm_module.specs.Bytes.{is_byte, are_bytes}
-use Rattle.mm_module.specs.LineLaws.{is_unbroken, and-true, and-both, is_byte-rem, All-are_bytes, IsLine-from, is_unbroken-decimal, length-decimal}
+use Rattle.mm_module.specs.LineLaws.{is_unbroken, and-true, and-both, All-are_bytes, IsText, IsLine-text, is_unbroken-decimal, length-decimal}
 use Rattle.mm_module.specs.Meaning.{IsLawful}
+use Rattle.mm_module.specs.Numbers.{of_eight_bytes}
+use Rattle.mm_module.specs.PartLaws.{take-front, drop-front, are_bytes-take, are_bytes-append, length-eight, are_bytes-eight, of_eight_bytes-eight}
+use Rattle.mm_module.specs.TableLaws.{IsOutcome}
+use Rattle.mm_module.specs.ValueLaws.{IsValue, MayBeValue, value_at-value, is_unbroken-encoded}
 use Rattle.mm_module.specs.Values.{value_at}
 use Rattle.mm_module.specs.Words.{words_of}
 use Rattle.mm_dispenser.specs.Draws.{word_of, word_text, words_text}
-use Rattle.mm_dispenser.specs.Table.{drawing_of, request_of, outcome_of, text_of, IsDrawn, place_of, place_bytes, placed, seeded_of, state_of, spelling_of, stepped, is_state, dispenser}
+use Rattle.mm_dispenser.specs.Table.{drawing_of, request_of, outcome_of, text_of, IsDrawn, placed, seeded_of, state_of, spelling_of, stepped, is_state, dispenser}
 use Rattle.mm_dispenser.specs.declared.dispenser.State.{State}
 use Rattle.mm_dispenser.specs.declared.dispenser.State.TheVariants.{Unset, Seeded}
 use Rattle.mm_dispenser.specs.declared.dispenser.Request.{Request}
@@ -29,83 +29,60 @@ use Rattle.mm_dispenser.specs.declared.dispenser.Request.TheVariants.{Seed, Draw
 use Rattle.mm_dispenser.specs.declared.dispenser.Says.{Says}
 use Rattle.mm_dispenser.specs.declared.dispenser.Says.TheVariants as says
 
--- a seed, and a seed with a place
-pub record IsSeed (seed : List ℕ) : Type 0 where
-  pub long : length seed ≡ 32
-  pub bytes : are_bytes seed ≡ true
-
+-- a seed with a place
 pub record IsSeeded (seed : List ℕ) (place : ℕ) : Type 0 where
-  pub formed : IsSeed seed
+  pub formed : IsValue seed
   pub within : place ≤ 2 ^ 48
 
 -- a state that can be spelled
-abbrev pub IsGood : State → Type 0
-IsGood Unset = Unit {0}
-IsGood (Seeded seed place) = IsSeeded seed place
+abbrev pub IsDispenserState : State → Type 0
+IsDispenserState Unset = Unit {0}
+IsDispenserState (Seeded seed place) = IsSeeded seed place
 
 -- a request that can be read
-abbrev pub IsAsked : Option Request → Type 0
-IsAsked (Some (Seed seed)) = IsSeed seed
-IsAsked (Some (Draw count)) = count ≤ 16
-IsAsked None = Unit {0}
+abbrev pub IsDispenserRequest : Option Request → Type 0
+IsDispenserRequest (Some (Seed seed)) = IsValue seed
+IsDispenserRequest (Some (Draw count)) = count ≤ 16
+IsDispenserRequest None = Unit {0}
 
-draw_asked : (number : ℕ) (flag : Bool) → (nat_le 1 number && nat_le number 16) ≡ flag → IsAsked (if flag then Some (Draw number) else None)
+draw_asked : (number : ℕ) (flag : Bool) → (nat_le 1 number && nat_le number 16) ≡ flag → IsDispenserRequest (if flag then Some (Draw number) else None)
 draw_asked number true is = let w = and-true (nat_le 1 number) (nat_le number 16) is in grind (arith, nat_tests)
 draw_asked number false is = tt
 
-number_asked : (number : Option ℕ) → IsAsked (option_and_then drawing_of number)
+number_asked : (number : Option ℕ) → IsDispenserRequest (option_and_then drawing_of number)
 number_asked None = tt
 number_asked (Some number) = draw_asked number (nat_le 1 number && nat_le number 16) refl
 
-bytes-below : (bytes : List ℕ) → IsBytes bytes → are_bytes bytes ≡ true
-bytes-below [] below = refl
-bytes-below (x ∷ xs) below =
-    let small : x < 256 = below 0 in
-    let is : is_byte x ≡ true = grind (arith, nat_tests) in
-    and-both (is_byte x) (are_bytes xs) is (bytes-below xs (λ i. below (suc i)))
+seed_asked : (value : Option (List ℕ)) → MayBeValue value → IsDispenserRequest (option_map (λ seed. Seed seed) value)
+seed_asked None is = tt
+seed_asked (Some value) is = is
 
-seed_asked : (word : List ℕ) (decoded : Result (List ℕ) FromHexError) → decode_sized word 32 ≡ decoded → IsAsked (option_map (λ seed. Seed seed) (result_ok decoded))
-seed_asked word (Ok bytes) is =
-    let whole : decode_of word ≡ Ok bytes = sym (decode_sized-twice word 32 (decode_sized-ok word 32 bytes is)) ∙ is in
-    let read = decode_of-ok word bytes whole in
-    let double = decode_sized-ok word 32 bytes is in
-    record { long = omega (arith, read.2, double); bytes = bytes-below bytes read.3 }
-seed_asked word (Err fault) is = tt
-
-value_asked : (argument : List ℕ) → IsAsked (option_map (λ seed. Seed seed) (value_at argument))
-unfolding value_at
-value_asked argument = seed_asked argument (decode_sized argument 32) refl
-
-asked_by : (seeds draws : Bool) (argument : List ℕ) → IsAsked (if seeds then option_map (λ seed. Seed seed) (value_at argument) else (if draws then option_and_then drawing_of (number_of argument) else None))
-asked_by true draws argument = value_asked argument
+asked_by : (seeds draws : Bool) (argument : List ℕ) → IsDispenserRequest (if seeds then option_map (λ seed. Seed seed) (value_at argument) else (if draws then option_and_then drawing_of (number_of argument) else None))
+asked_by true draws argument = seed_asked (value_at argument) (value_at-value argument)
 asked_by false true argument = number_asked (number_of argument)
 asked_by false false argument = tt
 
-pub request_of-asked : (words : List (List ℕ)) → IsAsked (request_of words)
+pub request_of-IsDispenserRequest : (words : List (List ℕ)) → IsDispenserRequest (request_of words)
 unfolding request_of
-request_of-asked [] = tt
-request_of-asked (word ∷ []) = tt
-request_of-asked (word ∷ argument ∷ []) = asked_by (bytes_eq word (codes "seed")) (bytes_eq word (codes "draw")) argument
-request_of-asked (word ∷ argument ∷ other ∷ more) = tt
+request_of-IsDispenserRequest [] = tt
+request_of-IsDispenserRequest (word ∷ []) = tt
+request_of-IsDispenserRequest (word ∷ argument ∷ []) = asked_by (bytes_eq word (codes "seed")) (bytes_eq word (codes "draw")) argument
+request_of-IsDispenserRequest (word ∷ argument ∷ other ∷ more) = tt
 
 -- what is said, of at most 16 words
-abbrev IsSaid : Says → Type 0
-IsSaid (says.Words seed place count) = (place < 2 ^ 64) × (count ≤ 16)
-IsSaid _ = Unit {0}
+abbrev pub SaysWords : Says → Type 0
+SaysWords (says.Words seed place count) = (place < 2 ^ 64) × (count ≤ 16)
+SaysWords _ = Unit {0}
 
 -- a state that can be spelled and what can be said
-pub record IsOutcome (outcome : State × Says) : Type 0 where
-  pub state : IsGood outcome.0
-  said : IsSaid outcome.1
-
 drawn-IsOutcome : (seed : List ℕ) (place count : ℕ) (flag : Bool) → nat_le (place + count) (2 ^ 48) ≡ flag → IsSeeded seed place → count ≤ 16
-    → IsOutcome (if flag then (Seeded seed (place + count), says.Words seed place count) else (Seeded seed place, says.Full))
+    → IsOutcome IsDispenserState SaysWords (if flag then (Seeded seed (place + count), says.Words seed place count) else (Seeded seed place, says.Full))
 drawn-IsOutcome seed place count true is good few =
     let room : place + count ≤ 2 ^ 48 = grind (arith, nat_tests) in
     record { state = record { formed = good.formed; within = room }; said = (omega (arith, good.within), few) }
 drawn-IsOutcome seed place count false is good few = record { state = good; said = tt }
 
-pub outcome_of-IsOutcome : (state : State) (request : Option Request) → IsGood state → IsAsked request → IsOutcome (outcome_of state request)
+pub outcome_of-IsOutcome : (state : State) (request : Option Request) → IsDispenserState state → IsDispenserRequest request → IsOutcome IsDispenserState SaysWords (outcome_of state request)
 outcome_of-IsOutcome Unset (Some (Seed seed)) good asked = record { state = record { formed = asked; within = omega arith }; said = tt }
 outcome_of-IsOutcome (Seeded seed place) (Some (Seed other)) good asked = record { state = good; said = tt }
 outcome_of-IsOutcome Unset (Some (Draw count)) good asked = record { state = tt; said = tt }
@@ -127,79 +104,55 @@ outcome_of-drawn (Seeded seed place) (Some (Draw count)) = drawn-drawn seed plac
 outcome_of-drawn Unset None = tt
 outcome_of-drawn (Seeded seed place) None = tt
 
--- the front of a list, and what follows
-take-front : (n : ℕ) (front back : List ℕ) → length front ≡ n → take n (front ++ back) ≡ front
-take-front n front back is = rw (← is) (take-append_seam front back)
-
-drop-front : (n : ℕ) (front back : List ℕ) → length front ≡ n → drop n (front ++ back) ≡ back
-drop-front n front back is = rw (← is) (drop-append_seam front back)
-
-length-place_bytes : (place : ℕ) → length (place_bytes place) ≡ 8
-unfolding place_bytes
-length-place_bytes place = refl
-
-bytes-place_bytes : (place : ℕ) → are_bytes (place_bytes place) ≡ true
-unfolding place_bytes
-bytes-place_bytes place = simp is_byte-rem
-
-place_of-place_bytes : (place : ℕ) → place < 2 ^ 64 → place_of (place_bytes place) ≡ place
-unfolding place_of place_bytes
-place_of-place_bytes place small = from_be_bytes-to_be_bytes_8 place small
-
 -- a seed and a place are read back
-seeded_of-joined : (seed : List ℕ) (place : ℕ) → IsSeeded seed place → seeded_of (seed ++ place_bytes place) ≡ Some (Seeded seed place)
+seeded_of-joined : (seed : List ℕ) (place : ℕ) → IsSeeded seed place → seeded_of (seed ++ eight_bytes place) ≡ Some (Seeded seed place)
 seeded_of-joined seed place good =
-    let long : length (seed ++ place_bytes place) ≡ 40 = omega (arith, length-append seed (place_bytes place), length-place_bytes place, good.formed.long) in
-    let counted : (length (seed ++ place_bytes place) == 40) ≡ true = grind (arith, nat_tests) in
-    let front = take-front 32 seed (place_bytes place) good.formed.long in
-    let back = drop-front 32 seed (place_bytes place) good.formed.long in
-    let read : place_of (place_bytes place) ≡ place = place_of-place_bytes place (omega (arith, good.within)) in
+    let long : length (seed ++ eight_bytes place) ≡ 40 = omega (arith, length-append seed (eight_bytes place), length-eight place, good.formed.long) in
+    let counted : (length (seed ++ eight_bytes place) == 40) ≡ true = grind (arith, nat_tests) in
+    let front = take-front 32 seed (eight_bytes place) good.formed.long in
+    let back = drop-front 32 seed (eight_bytes place) good.formed.long in
+    let read : of_eight_bytes (eight_bytes place) ≡ place = of_eight_bytes-eight place (omega (arith, good.within)) in
     let room : nat_le place (2 ^ 48) ≡ true = let most : place ≤ 2 ^ 48 = good.within in grind (arith, nat_tests) in
     rw (counted, front, back, read, room) refl
 
 -- a spelling is read back
-pub state_of-spelling_of : (state : State) → IsGood state → state_of (spelling_of state) ≡ Some state
+pub state_of-spelling_of : (state : State) → IsDispenserState state → state_of (spelling_of state) ≡ Some state
 unfolding state_of
 state_of-spelling_of Unset good = refl
 state_of-spelling_of (Seeded [] place) good = absurd (omega (arith, good.formed.long))
 state_of-spelling_of (Seeded (x ∷ xs) place) good = seeded_of-joined (x ∷ xs) place good
 
-are_bytes-take : (n : ℕ) (bytes : List ℕ) → are_bytes bytes ≡ true → are_bytes (take n bytes) ≡ true
-are_bytes-take zero bytes is = refl
-are_bytes-take (suc n) [] is = refl
-are_bytes-take (suc n) (x ∷ xs) is = let w = and-true (is_byte x) (are_bytes xs) is in and-both (is_byte x) (are_bytes (take n xs)) w.0 (are_bytes-take n xs w.1)
-
 -- what reading gives
-abbrev ReadsWell : Option State → Type 0
-ReadsWell None = Unit {0}
-ReadsWell (Some state) = IsGood state
+abbrev MayBeState : Option State → Type 0
+MayBeState None = Unit {0}
+MayBeState (Some state) = IsDispenserState state
 
-placed-reads : (seed : List ℕ) (place : ℕ) (flag : Bool) → nat_le place (2 ^ 48) ≡ flag → IsSeed seed → ReadsWell (if flag then Some (Seeded seed place) else None)
+placed-reads : (seed : List ℕ) (place : ℕ) (flag : Bool) → nat_le place (2 ^ 48) ≡ flag → IsValue seed → MayBeState (if flag then Some (Seeded seed place) else None)
 placed-reads seed place true is formed = record { formed = formed; within = grind (arith, nat_tests) }
 placed-reads seed place false is formed = tt
 
-seeded-reads : (bytes : List ℕ) (flag : Bool) → (length bytes == 40) ≡ flag → are_bytes bytes ≡ true → ReadsWell (if flag then placed (take 32 bytes) (place_of (drop 32 bytes)) else None)
+seeded-reads : (bytes : List ℕ) (flag : Bool) → (length bytes == 40) ≡ flag → are_bytes bytes ≡ true → MayBeState (if flag then placed (take 32 bytes) (of_eight_bytes (drop 32 bytes)) else None)
 seeded-reads bytes true is good =
     let long : length bytes ≡ 40 = grind (arith, nat_tests) in
-    placed-reads (take 32 bytes) (place_of (drop 32 bytes)) (nat_le (place_of (drop 32 bytes)) (2 ^ 48)) refl
+    placed-reads (take 32 bytes) (of_eight_bytes (drop 32 bytes)) (nat_le (of_eight_bytes (drop 32 bytes)) (2 ^ 48)) refl
     (record { long = length-take-le 32 bytes (omega arith); bytes = are_bytes-take 32 bytes good })
 seeded-reads bytes false is good = tt
 
-unset-reads : (flag : Bool) → ReadsWell (if flag then Some Unset else None)
+unset-reads : (flag : Bool) → MayBeState (if flag then Some Unset else None)
 unset-reads true = tt
 unset-reads false = tt
 
-formed-reads : (bytes : List ℕ) (flag : Bool) → are_bytes bytes ≡ true → ReadsWell (if flag then seeded_of bytes else None)
+formed-reads : (bytes : List ℕ) (flag : Bool) → are_bytes bytes ≡ true → MayBeState (if flag then seeded_of bytes else None)
 formed-reads bytes true good = seeded-reads bytes (length bytes == 40) refl good
 formed-reads bytes false good = tt
 
-state_of-reads : (bytes : List ℕ) → are_bytes bytes ≡ true → ReadsWell (state_of bytes)
+state_of-reads : (bytes : List ℕ) → are_bytes bytes ≡ true → MayBeState (state_of bytes)
 unfolding state_of
 state_of-reads [] good = tt
 state_of-reads (form ∷ []) good = unset-reads (form == 0)
 state_of-reads (form ∷ first ∷ rest) good = formed-reads (first ∷ rest) (form == 1) (and-true (is_byte form) (are_bytes (first ∷ rest)) good).1
 
-read-good : (read : Option State) → ReadsWell read → is_some read ≡ true → IsGood (unwrap_or read Unset)
+read-good : (read : Option State) → MayBeState read → is_some read ≡ true → IsDispenserState (unwrap_or read Unset)
 read-good None reads is = tt
 read-good (Some state) reads is = reads
 
@@ -208,7 +161,7 @@ unfolding is_state
 state-parts bytes is = and-true (are_bytes bytes) (is_some (state_of bytes)) is
 
 -- a spelled state is good
-pub state-good : (bytes : List ℕ) → is_state bytes ≡ true → IsGood (unwrap_or (state_of bytes) Unset)
+pub state-good : (bytes : List ℕ) → is_state bytes ≡ true → IsDispenserState (unwrap_or (state_of bytes) Unset)
 state-good bytes is = let w = state-parts bytes is in read-good (state_of bytes) (state_of-reads bytes w.0) w.1
 
 not_some : false ≡ true → ⊥
@@ -225,33 +178,15 @@ unfolding state_of
 short-state [] is = omega arith
 short-state (form ∷ []) is = omega arith
 short-state (form ∷ first ∷ rest) is =
-    omega (arith, short-by (first ∷ rest) (form == 1) (length (first ∷ rest) == 40) (placed (take 32 (first ∷ rest)) (place_of (drop 32 (first ∷ rest)))) refl is)
+    omega (arith, short-by (first ∷ rest) (form == 1) (length (first ∷ rest) == 40) (placed (take 32 (first ∷ rest)) (of_eight_bytes (drop 32 (first ∷ rest)))) refl is)
 
-are_bytes-spelling_of : (state : State) → IsGood state → are_bytes (spelling_of state) ≡ true
+are_bytes-spelling_of : (state : State) → IsDispenserState state → are_bytes (spelling_of state) ≡ true
 are_bytes-spelling_of Unset good = refl
-are_bytes-spelling_of (Seeded seed place) good = list_all-append is_byte seed (place_bytes place) ∙ and-both _ _ good.formed.bytes (bytes-place_bytes place)
+are_bytes-spelling_of (Seeded seed place) good = are_bytes-append seed (eight_bytes place) good.formed.bytes (are_bytes-eight place)
 
-is_state-spelling_of : (state : State) → IsGood state → is_state (spelling_of state) ≡ true
+is_state-spelling_of : (state : State) → IsDispenserState state → is_state (spelling_of state) ≡ true
 unfolding is_state
 is_state-spelling_of state good = and-both _ _ (are_bytes-spelling_of state good) (ap is_some (state_of-spelling_of state good))
-
--- a text of at most 170 bytes, with no LF
-record IsText (text : List ℕ) : Type 0 where
-  short : length text ≤ 170
-  unbroken : is_unbroken text ≡ true
-
--- what each of these numbers passes, and 0, passes each of them and any past the end
-pub passes_at : (p : ℕ → Bool) (xs : List ℕ) → list_all p xs ≡ true → p 0 ≡ true → (i : ℕ) → p (slice_index xs i) ≡ true
-passes_at p [] all none i = none
-passes_at p (x ∷ xs) all none zero = (and-true (p x) (list_all p xs) all).0
-passes_at p (x ∷ xs) all none (suc i) = passes_at p xs (and-true (p x) (list_all p xs) all).1 none i
-
--- what hexadecimal digits pass, a text of them passes
-pub passes-encoded : (p : ℕ → Bool) → list_all p lower_digits ≡ true → p 0 ≡ true → (bytes : List ℕ) → list_all p (encode_lower bytes) ≡ true
-unfolding encode_with
-passes-encoded p all none [] = refl
-passes-encoded p all none (b ∷ rest) =
-    and-both _ _ (passes_at p lower_digits all none _) (and-both _ _ (passes_at p lower_digits all none _) (passes-encoded p all none rest))
 
 -- a word's text is a space and eight digits
 unfoldable pub digits_at : List ℕ → ℕ → List ℕ
@@ -263,7 +198,7 @@ length-word_text word = omega (arith, length-encode_with lower_digits (to_be_byt
 
 unbroken-word_text : (word : ℕ) → is_unbroken (word_text word) ≡ true
 unfolding word_text
-unbroken-word_text word = passes-encoded (λ byte. not (byte == 10)) refl refl (to_be_bytes w32 word)
+unbroken-word_text word = is_unbroken-encoded (to_be_bytes w32 word)
 
 length-words_text : (seed : List ℕ) (place count : ℕ) → length (words_text seed place count) ≡ 9 * count
 length-words_text seed place zero = refl
@@ -276,7 +211,8 @@ unbroken-words_text seed place (suc count) =
     list_all-append (λ byte. not (byte == 10)) (word_text (word_of seed place)) (words_text seed (place + 1) count)
     ∙ and-both _ _ (unbroken-word_text (word_of seed place)) (unbroken-words_text seed (place + 1) count)
 
-text_of-IsText : (said : Says) → IsSaid said → IsText (text_of said)
+-- what is said has at most 170 bytes, with no LF
+text_of-IsText : (said : Says) → SaysWords said → IsText 170 (text_of said)
 text_of-IsText says.Seeded is = record { short = omega arith; unbroken = refl }
 text_of-IsText says.Taken is = record { short = omega arith; unbroken = refl }
 text_of-IsText says.Unset is = record { short = omega arith; unbroken = refl }
@@ -288,14 +224,14 @@ text_of-IsText (says.Words seed place count) is = record {
 text_of-IsText says.Bad is = record { short = omega arith; unbroken = refl }
 
 -- the outcome at a spelled state
-stepped-IsOutcome : (state request : List ℕ) → is_state state ≡ true → IsOutcome (stepped state request)
+stepped-IsOutcome : (state request : List ℕ) → is_state state ≡ true → IsOutcome IsDispenserState SaysWords (stepped state request)
 unfolding stepped
-stepped-IsOutcome state request is = outcome_of-IsOutcome _ _ (state-good state is) (request_of-asked (words_of request))
+stepped-IsOutcome state request is = outcome_of-IsOutcome _ _ (state-good state is) (request_of-IsDispenserRequest (words_of request))
 
 dispenser_begins : is_state dispenser.first ≡ true
 dispenser_begins = is_state-spelling_of Unset tt
 
-dispenser_says : (state request : List ℕ) → is_state state ≡ true → IsText (dispenser.says state request)
+dispenser_says : (state request : List ℕ) → is_state state ≡ true → IsText 170 (dispenser.says state request)
 dispenser_says state request is = text_of-IsText _ (stepped-IsOutcome state request is).said
 
 -- the dispenser is a module
@@ -305,5 +241,5 @@ dispenser_is_lawful = record {
   goes_on = λ state request is. search (rules, is_state-spelling_of (stepped state request).0 (stepped-IsOutcome state request (search (rules, is))).state);
   fits = λ state is. let w = state-parts state (search (rules, is)) in omega (arith, short-state state w.1);
   has_bytes = λ state is. All-are_bytes state (state-parts state (search (rules, is))).0;
-  says_lines = λ state request is. let text = dispenser_says state request (search (rules, is)) in IsLine-from _ (omega (arith, text.short)) text.unbroken;
+  says_lines = λ state request is. IsLine-text 170 _ (omega arith) (dispenser_says state request (search (rules, is)));
 }

@@ -1,10 +1,11 @@
 -- The dispenser: a seed that is set once, and the place of the next word.
 use Rattle.std.specs.Prelude.{ℕ, ◌+◌, ◌≤◌, ◌^◌, ◌==◌, ◌&&◌, Bool, nat_le, List, [], ◌∷◌, ◌++◌, length, take, drop, codes, Option, Some, None, is_some, unwrap_or, option_map, option_and_then, if◌then◌else◌}
-use Rattle.std.specs.Int.{w64, to_be_bytes, from_be_bytes}
 use Rattle.std.specs.Str.{bytes_eq}
 use Rattle.mm_base.specs.Decimals.{number_of}
+use Rattle.mm_base.specs.Fields.{eight_bytes}
 use Rattle.mm_module.specs.Bytes.{are_bytes}
 use Rattle.mm_module.specs.Meaning.{Meaning}
+use Rattle.mm_module.specs.Numbers.{of_eight_bytes}
 use Rattle.mm_module.specs.Values.{value_at}
 use Rattle.mm_module.specs.Words.{words_of}
 use Rattle.mm_dispenser.specs.Draws.{drawn_text}
@@ -58,21 +59,13 @@ IsDrawn says.Full = Unit {0}
 IsDrawn (says.Words seed place count) = place + count ≤ 2 ^ 48
 IsDrawn says.Bad = Unit {0}
 
--- a place of 8 bytes, the greatest first
-unfoldable pub place_of : List ℕ → ℕ
-place_of bytes = from_be_bytes w64 bytes
-
--- the 8 bytes of a place
-unfoldable pub place_bytes : ℕ → List ℕ
-place_bytes place = to_be_bytes w64 place
-
 -- a seed with a place, where there is such a place
 abbrev pub placed : List ℕ → ℕ → Option State
 placed seed place = if nat_le place (2 ^ 48) then Some (Seeded seed place) else None
 
--- a seed and a place, of 40 bytes
+-- a seed and the 8 bytes of a place
 abbrev pub seeded_of : List ℕ → Option State
-seeded_of bytes = if length bytes == 40 then placed (take 32 bytes) (place_of (drop 32 bytes)) else None
+seeded_of bytes = if length bytes == 40 then placed (take 32 bytes) (of_eight_bytes (drop 32 bytes)) else None
 
 -- the state that these bytes spell
 unfoldable pub state_of : List ℕ → Option State
@@ -83,7 +76,7 @@ state_of (form ∷ first ∷ rest) = if form == 1 then seeded_of (first ∷ rest
 -- the bytes of a state
 abbrev pub spelling_of : State → List ℕ
 spelling_of Unset = 0 ∷ []
-spelling_of (Seeded seed place) = 1 ∷ (seed ++ place_bytes place)
+spelling_of (Seeded seed place) = 1 ∷ (seed ++ eight_bytes place)
 
 -- what a request does to a spelled state
 unfoldable pub stepped : List ℕ → List ℕ → State × Says

@@ -1,14 +1,13 @@
 //! The dispenser as a module.
 
 ghost use Rattle.std.specs.Prelude.{◌≡◌, ◌+◌, ◌≤◌, ◌^◌, None, if◌then◌else◌, IfOk, IsTrue, length};
-ghost use Rattle.std.specs.Int.{w64, from_be_bytes};
 ghost use Rattle.mm_module.specs.Words.{words_of};
-ghost use Rattle.mm_dispenser.specs.Table.{IsDrawn, drawing_of, request_of, place_of, placed, seeded_of, state_of, outcome_of, drawn_at, text_of, spelling_of, dispenser};
+ghost use Rattle.mm_dispenser.specs.Table.{IsDrawn, drawing_of, request_of, placed, seeded_of, state_of, outcome_of, drawn_at, text_of, spelling_of, dispenser};
 ghost use Rattle.mm_dispenser.specs.DispenserLaws.{dispenser_is_lawful};
 
 use crate::draws::draw;
-use mm_base::{Bytes, Memory, read_decimal};
-use mm_module::{Module, Stepped, Words, value_in};
+use mm_base::{Bytes, Memory, bytes_of_u64, read_decimal};
+use mm_module::{Module, Stepped, Words, u64_of_bytes, value_in};
 use std::alloc::Global;
 
 /// Random words: those of ChaCha20 under a seed of 32 bytes, from place 0 on.
@@ -22,7 +21,7 @@ use std::alloc::Global;
 pub struct Dispenser;
 
 /// The most places.
-const MOST: u64 = 281474976710656;
+const MOST_PLACES: u64 = 281474976710656;
 
 /// What a dispenser keeps.
 #[derive(Clone, Copy, Debug)]
@@ -76,23 +75,12 @@ fn read_request(bytes: &[u8]) -> Option<Request>
     }
 }
 
-/// The place in 8 bytes.
-#[tactic(auto, unfolding(crate::specs::Table::place_of))]
-fn place_in(bytes: &[u8]) -> u64
-    requires { length bytes.now ≡ 8 }
-    ensures { result ≡ place_of bytes.now }
-{
-    let mut place = [0; 8];
-    place.copy_from_slice(bytes);
-    u64::from_be_bytes(place)
-}
-
 /// The state of a seed and a place, where there is such a place.
 fn seeded(bytes: &[u8], place: u64) -> Option<State>
     requires { length bytes.now ≡ 32 }
     ensures { result ≡ placed bytes.now place }
 {
-    if place > MOST {
+    if place > MOST_PLACES {
         return None;
     }
     let mut seed = [0; 32];
@@ -108,7 +96,7 @@ fn read_seeded(bytes: &[u8]) -> Option<State>
         return None;
     }
     let (seed, place) = bytes.split_at(32);
-    seeded(seed, place_in(place))
+    seeded(seed, u64_of_bytes(place))
 }
 
 /// The state that these bytes spell, where they spell one.
@@ -128,7 +116,7 @@ fn drawn(seed: [u8; 32], place: u64, count: u8) -> (State, Says)
     ensures { result ≡ drawn_at seed place count }
 {
     match place.checked_add(u64::from(count)) {
-        Some(next) if next <= MOST => {
+        Some(next) if next <= MOST_PLACES => {
             let state = State::Seeded { seed, place: next };
             (state, Says::Words { seed, place, count })
         }
@@ -167,7 +155,6 @@ fn text(alloc: Global, says: Says) -> Result<Bytes, Memory>
 }
 
 /// The bytes of a state.
-#[tactic(auto, unfolding(crate::specs::Table::place_bytes))]
 fn spelled(alloc: Global, state: State) -> Result<Bytes, Memory>
     ensures { IfOk result (λ bytes. bytes ≡ spelling_of state) }
 {
@@ -177,7 +164,7 @@ fn spelled(alloc: Global, state: State) -> Result<Bytes, Memory>
             let mut bytes = Bytes::with_capacity(alloc, 41)?;
             bytes.push(1)?;
             bytes.append(&seed)?;
-            bytes.append(&place.to_be_bytes())?;
+            bytes.append(&bytes_of_u64(place))?;
             Ok(bytes)
         }
     }

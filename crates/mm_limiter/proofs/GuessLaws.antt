@@ -8,7 +8,7 @@ use Rattle.std.proofs.lemmas.List.Sums.{sum_by-cons}
 use Rattle.mm_module.specs.Meaning.{outputs_from}
 use Rattle.mm_module.specs.Words.{words_of}
 use Rattle.mm_limiter.specs.Table.{State, Unset, Guarded, Request, Guard, Guess, Left, Says, IsLocked, IsOpen, IsWrong, outcome_of, text_of, request_of, spelling_of, stepped, limiter}
-use Rattle.mm_limiter.specs.LimiterLaws.{IsGood, request_of-asked, outcome_of-IsOutcome, state_of-spelling_of}
+use Rattle.mm_limiter.specs.LimiterLaws.{IsLimiterState, request_of-IsLimiterRequest, outcome_of-IsOutcome, state_of-spelling_of}
 use Rattle.mm_limiter.specs.Guesses.{is_renewal, is_wrong, tries_in, allowed_by, stretch, GuessesAreLimited}
 
 -- what a request does at a state, and what is said
@@ -20,15 +20,15 @@ abbrev outputs_at : State → List (List ℕ) → List (List ℕ)
 outputs_at state [] = []
 outputs_at state (request ∷ requests) = text_of (after state request).1 ∷ outputs_at (after state request).0 requests
 
-after-good : (state : State) (request : List ℕ) → IsGood state → IsGood (after state request).0
-after-good state request good = (outcome_of-IsOutcome state (request_of (words_of request)) good (request_of-asked (words_of request))).state
+after-good : (state : State) (request : List ℕ) → IsLimiterState state → IsLimiterState (after state request).0
+after-good state request good = (outcome_of-IsOutcome state (request_of (words_of request)) good (request_of-IsLimiterRequest (words_of request))).state
 
-stepped-after : (state : State) (request : List ℕ) → IsGood state → stepped (spelling_of state) request ≡ after state request
+stepped-after : (state : State) (request : List ℕ) → IsLimiterState state → stepped (spelling_of state) request ≡ after state request
 unfolding stepped
 stepped-after state request good = rw (state_of-spelling_of state good) refl
 
 -- the outputs of the module are those
-outputs-same : (state : State) (requests : List (List ℕ)) → IsGood state → outputs_from limiter (spelling_of state) requests ≡ outputs_at state requests
+outputs-same : (state : State) (requests : List (List ℕ)) → IsLimiterState state → outputs_from limiter (spelling_of state) requests ≡ outputs_at state requests
 outputs-same state [] good = refl
 outputs-same state (request ∷ requests) good =
     let e = stepped-after state request good in
@@ -102,7 +102,7 @@ abbrev allowed_at : State → List (List ℕ) → ℕ
 allowed_at Unset requests = allowed_by requests (outputs_at Unset requests)
 allowed_at (Guarded tries left secret) requests = tries
 
-left-allowed : (state : State) (requests : List (List ℕ)) → IsGood state → left_in state ≤ allowed_at state requests
+left-allowed : (state : State) (requests : List (List ℕ)) → IsLimiterState state → left_in state ≤ allowed_at state requests
 left-allowed Unset requests good = omega arith
 left-allowed (Guarded tries left secret) requests good = good.rest
 
@@ -135,7 +135,7 @@ allowed-same Unset request requests = unset-allowed (request_of (words_of reques
 allowed-same (Guarded tries left secret) request requests = guarded-allowed tries left secret (request_of (words_of request)) requests
 
 -- in a stretch that renews nothing no more are wrong than are allowed
-limited_at : (from size : ℕ) (state : State) (requests : List (List ℕ)) → IsGood state
+limited_at : (from size : ℕ) (state : State) (requests : List (List ℕ)) → IsLimiterState state
     → list_any is_renewal (stretch from size (outputs_at state requests)) ≡ false
     → count_by is_wrong (stretch from size (outputs_at state requests)) ≤ allowed_at state requests
 limited_at zero size state requests good none = omega (arith, few_wrong size state requests none, left-allowed state requests good)

@@ -6,10 +6,13 @@ use Rattle.std.specs.Str.{bytes_eq}
 use Rattle.std.proofs.lemmas.Bool.Decides.{nat_tests}
 use Rattle.mm_base.specs.Decimals.{number_of}
 use Rattle.mm_module.specs.Bytes.{is_byte, are_bytes}
-use Rattle.mm_module.specs.LineLaws.{is_unbroken, and-true, and-both, All-are_bytes, IsLine-from, is_unbroken-decimal, length-decimal}
+use Rattle.mm_module.specs.LineLaws.{and-true, and-both, All-are_bytes, IsText, IsLine-text, is_unbroken-decimal, length-decimal}
 use Rattle.mm_module.specs.Meaning.{IsLawful, IsShort}
+use Rattle.mm_module.specs.PartLaws.{are_bytes-visible}
+use Rattle.mm_module.specs.TableLaws.{IsOutcome}
+use Rattle.mm_module.specs.Visible.{is_visible}
 use Rattle.mm_module.specs.Words.{words_of}
-use Rattle.mm_limiter.specs.Table.{State, Unset, Guarded, Request, Guard, Guess, Left, Says, IsSet, IsTaken, IsUnset, IsLocked, IsOpen, IsWrong, HasLeft, IsBad, outcome_of, text_of, is_visible, is_secret, is_tries, guard_of, request_of, is_guard, state_of, spelling_of, IsShortSecret, stepped, is_state, limiter}
+use Rattle.mm_limiter.specs.Table.{State, Unset, Guarded, Request, Guard, Guess, Left, Says, IsSet, IsTaken, IsUnset, IsLocked, IsOpen, IsWrong, HasLeft, IsBad, outcome_of, text_of, is_secret, is_tries, guard_of, request_of, is_guard, state_of, spelling_of, IsShortSecret, stepped, is_state, limiter}
 
 -- what a secret and a guarded state keep
 pub record IsSecret (secret : List ℕ) : Type 0 where
@@ -71,62 +74,58 @@ is_guard-IsGuard tries left secret is =
     and-both _ _ (and-both _ _ (and-both _ _ (and-both _ _ some few) rest) counted) (is_secret-IsSecret secret is.formed)
 
 -- a state that can be spelled
-abbrev pub IsGood : State → Type 0
-IsGood Unset = Unit {0}
-IsGood (Guarded tries left secret) = IsGuard tries left secret
+abbrev pub IsLimiterState : State → Type 0
+IsLimiterState Unset = Unit {0}
+IsLimiterState (Guarded tries left secret) = IsGuard tries left secret
 
 -- a request that can be read
-abbrev pub IsAsked : Option Request → Type 0
-IsAsked (Some (Guard secret tries)) = IsSecret secret × IsTries tries
-IsAsked (Some (Guess secret)) = Unit {0}
-IsAsked (Some Left) = Unit {0}
-IsAsked None = Unit {0}
+abbrev pub IsLimiterRequest : Option Request → Type 0
+IsLimiterRequest (Some (Guard secret tries)) = IsSecret secret × IsTries tries
+IsLimiterRequest (Some (Guess secret)) = Unit {0}
+IsLimiterRequest (Some Left) = Unit {0}
+IsLimiterRequest None = Unit {0}
 
-left_asked : (flag : Bool) → IsAsked (if flag then Some Left else None)
+left_asked : (flag : Bool) → IsLimiterRequest (if flag then Some Left else None)
 left_asked true = tt
 left_asked false = tt
 
-guess_asked : (flag : Bool) (secret : List ℕ) → IsAsked (if flag then Some (Guess secret) else None)
+guess_asked : (flag : Bool) (secret : List ℕ) → IsLimiterRequest (if flag then Some (Guess secret) else None)
 guess_asked true secret = tt
 guess_asked false secret = tt
 
-tries_asked : (secret : List ℕ) (tries : ℕ) (flag : Bool) → is_tries tries ≡ flag → IsSecret secret → IsAsked (if flag then Some (Guard secret tries) else None)
+tries_asked : (secret : List ℕ) (tries : ℕ) (flag : Bool) → is_tries tries ≡ flag → IsSecret secret → IsLimiterRequest (if flag then Some (Guard secret tries) else None)
 tries_asked secret tries true is formed = (formed, IsTries-from tries is)
 tries_asked secret tries false is formed = tt
 
-number_asked : (secret : List ℕ) (number : Option ℕ) → IsSecret secret → IsAsked (option_and_then (guard_of secret) number)
-number_asked secret None formed = tt
-number_asked secret (Some tries) formed = tries_asked secret tries (is_tries tries) refl formed
+allowed_asked : (secret : List ℕ) (number : Option ℕ) → IsSecret secret → IsLimiterRequest (option_and_then (guard_of secret) number)
+allowed_asked secret None formed = tt
+allowed_asked secret (Some tries) formed = tries_asked secret tries (is_tries tries) refl formed
 
-guard_asked : (secret : List ℕ) (number : Option ℕ) (named flag : Bool) → (named && is_secret secret) ≡ flag → IsAsked (if flag then option_and_then (guard_of secret) number else None)
-guard_asked secret number named true is = number_asked secret number (IsSecret-from secret (and-true named (is_secret secret) is).1)
+guard_asked : (secret : List ℕ) (number : Option ℕ) (named flag : Bool) → (named && is_secret secret) ≡ flag → IsLimiterRequest (if flag then option_and_then (guard_of secret) number else None)
+guard_asked secret number named true is = allowed_asked secret number (IsSecret-from secret (and-true named (is_secret secret) is).1)
 guard_asked secret number named false is = tt
 
-pub request_of-asked : (words : List (List ℕ)) → IsAsked (request_of words)
+pub request_of-IsLimiterRequest : (words : List (List ℕ)) → IsLimiterRequest (request_of words)
 unfolding request_of
-request_of-asked [] = tt
-request_of-asked (word ∷ []) = left_asked (bytes_eq word (codes "left"))
-request_of-asked (word ∷ secret ∷ []) = guess_asked (bytes_eq word (codes "guess") && is_secret secret) secret
-request_of-asked (word ∷ secret ∷ number ∷ []) = guard_asked secret (number_of number) (bytes_eq word (codes "set")) _ refl
-request_of-asked (word ∷ secret ∷ number ∷ other ∷ more) = tt
+request_of-IsLimiterRequest [] = tt
+request_of-IsLimiterRequest (word ∷ []) = left_asked (bytes_eq word (codes "left"))
+request_of-IsLimiterRequest (word ∷ secret ∷ []) = guess_asked (bytes_eq word (codes "guess") && is_secret secret) secret
+request_of-IsLimiterRequest (word ∷ secret ∷ number ∷ []) = guard_asked secret (number_of number) (bytes_eq word (codes "set")) _ refl
+request_of-IsLimiterRequest (word ∷ secret ∷ number ∷ other ∷ more) = tt
 
 -- what is said, with a count of guesses
-abbrev pub IsSaid : Says → Type 0
-IsSaid (IsWrong left) = left ≤ 100
-IsSaid (HasLeft left) = left ≤ 100
-IsSaid _ = Unit {0}
+abbrev pub SaysGuesses : Says → Type 0
+SaysGuesses (IsWrong left) = left ≤ 100
+SaysGuesses (HasLeft left) = left ≤ 100
+SaysGuesses _ = Unit {0}
 
 -- a state that can be spelled and what can be said
-pub record IsOutcome (outcome : State × Says) : Type 0 where
-  pub state : IsGood outcome.0
-  pub said : IsSaid outcome.1
-
-guessed : (tries left : ℕ) (secret : List ℕ) (locked right : Bool) → IsGuard tries left secret → IsOutcome (if locked then (Guarded tries left secret, IsLocked) else (if right then (Guarded tries tries secret, IsOpen) else (Guarded tries (left - 1) secret, IsWrong (left - 1))))
+guessed : (tries left : ℕ) (secret : List ℕ) (locked right : Bool) → IsGuard tries left secret → IsOutcome IsLimiterState SaysGuesses (if locked then (Guarded tries left secret, IsLocked) else (if right then (Guarded tries tries secret, IsOpen) else (Guarded tries (left - 1) secret, IsWrong (left - 1))))
 guessed tries left secret true right is = record { state = is; said = tt }
 guessed tries left secret false true is = record { state = record { some = is.some; few = is.few; rest = omega arith; formed = is.formed }; said = tt }
 guessed tries left secret false false is = record { state = record { some = is.some; few = is.few; rest = omega (arith, is.rest); formed = is.formed }; said = omega (arith, is.rest, is.few) }
 
-pub outcome_of-IsOutcome : (state : State) (request : Option Request) → IsGood state → IsAsked request → IsOutcome (outcome_of state request)
+pub outcome_of-IsOutcome : (state : State) (request : Option Request) → IsLimiterState state → IsLimiterRequest request → IsOutcome IsLimiterState SaysGuesses (outcome_of state request)
 outcome_of-IsOutcome Unset (Some (Guard secret tries)) is asked = record { state = record { some = asked.1.some; few = asked.1.few; rest = omega arith; formed = asked.0 }; said = tt }
 outcome_of-IsOutcome (Guarded tries left secret) (Some (Guard other number)) is asked = record { state = is; said = tt }
 outcome_of-IsOutcome Unset (Some (Guess guess)) is asked = record { state = tt; said = tt }
@@ -138,7 +137,7 @@ outcome_of-IsOutcome (Guarded tries left secret) None is asked = record { state 
 
 -- bytes that spell a state are its spelling
 record IsRead (bytes : List ℕ) (state : State) : Type 0 where
-  good : IsGood state
+  good : IsLimiterState state
   spelled : bytes ≡ spelling_of state
 
 -- what reading gives
@@ -168,7 +167,7 @@ state_of-reads (form ∷ tries ∷ left ∷ []) = tt
 state_of-reads (form ∷ tries ∷ left ∷ count ∷ secret) = guarded_read form tries left count secret _ refl
 
 -- a spelling is read back
-pub state_of-spelling_of : (state : State) → IsGood state → state_of (spelling_of state) ≡ Some state
+pub state_of-spelling_of : (state : State) → IsLimiterState state → state_of (spelling_of state) ≡ Some state
 unfolding state_of
 state_of-spelling_of Unset is = refl
 state_of-spelling_of (Guarded tries left secret) is = rw (is_guard-IsGuard tries left secret is) refl
@@ -182,37 +181,26 @@ state-IsRead : (bytes : List ℕ) → is_state bytes ≡ true → IsRead bytes (
 unfolding is_state
 state-IsRead bytes is = read_is bytes (state_of bytes) (state_of-reads bytes) is
 
-is_state-spelling_of : (state : State) → IsGood state → is_state (spelling_of state) ≡ true
+is_state-spelling_of : (state : State) → IsLimiterState state → is_state (spelling_of state) ≡ true
 unfolding is_state
 is_state-spelling_of state is = rw (state_of-spelling_of state is) refl
-
-visible-bytes : (bytes : List ℕ) → list_all is_visible bytes ≡ true → are_bytes bytes ≡ true
-visible-bytes [] is = refl
-visible-bytes (x ∷ xs) is =
-    let w = and-true (is_visible x) (list_all is_visible xs) is in
-    let v = and-true (nat_le 33 x) (nat_le x 126) w.0 in
-    and-both (is_byte x) (are_bytes xs) (grind (arith, nat_tests)) (visible-bytes xs w.1)
 
 byte-small : (x : ℕ) → x ≤ 100 → is_byte x ≡ true
 byte-small x small = grind (arith, nat_tests)
 
-are_bytes-spelling_of : (state : State) → IsGood state → are_bytes (spelling_of state) ≡ true
+are_bytes-spelling_of : (state : State) → IsLimiterState state → are_bytes (spelling_of state) ≡ true
 are_bytes-spelling_of Unset is = refl
 are_bytes-spelling_of (Guarded tries left secret) is =
     and-both _ _ (byte-small tries is.few)
     (and-both _ _ (byte-small left (omega (arith, is.rest, is.few)))
-    (and-both _ _ (byte-small (length secret) (omega (arith, is.formed.short))) (visible-bytes secret is.formed.visible)))
+    (and-both _ _ (byte-small (length secret) (omega (arith, is.formed.short))) (are_bytes-visible secret is.formed.visible)))
 
-length-spelling_of : (state : State) → IsGood state → length (spelling_of state) ≤ 68
+length-spelling_of : (state : State) → IsLimiterState state → length (spelling_of state) ≤ 68
 length-spelling_of Unset is = omega arith
 length-spelling_of (Guarded tries left secret) is = omega (arith, is.formed.short)
 
--- a text of at most 26 bytes, with no LF
-record IsText (text : List ℕ) : Type 0 where
-  short : length text ≤ 26
-  unbroken : is_unbroken text ≡ true
-
-text_of-IsText : (says : Says) → IsSaid says → IsText (text_of says)
+-- what is said has at most 26 bytes, with no LF
+text_of-IsText : (says : Says) → SaysGuesses says → IsText 26 (text_of says)
 text_of-IsText IsSet is = record { short = omega arith; unbroken = refl }
 text_of-IsText IsTaken is = record { short = omega arith; unbroken = refl }
 text_of-IsText IsUnset is = record { short = omega arith; unbroken = refl }
@@ -223,9 +211,9 @@ text_of-IsText (HasLeft left) is = record { short = omega (arith, length-decimal
 text_of-IsText IsBad is = record { short = omega arith; unbroken = refl }
 
 -- the outcome at a spelled state
-stepped-IsOutcome : (state request : List ℕ) → is_state state ≡ true → IsOutcome (stepped state request)
+stepped-IsOutcome : (state request : List ℕ) → is_state state ≡ true → IsOutcome IsLimiterState SaysGuesses (stepped state request)
 unfolding stepped
-stepped-IsOutcome state request is = outcome_of-IsOutcome _ _ (state-IsRead state is).good (request_of-asked (words_of request))
+stepped-IsOutcome state request is = outcome_of-IsOutcome _ _ (state-IsRead state is).good (request_of-IsLimiterRequest (words_of request))
 
 limiter_begins : is_state limiter.first ≡ true
 limiter_begins = is_state-spelling_of Unset tt
@@ -236,7 +224,7 @@ limiter_fits state is = let r = state-IsRead state is in subst (λ (s : List ℕ
 limiter_bytes : (state : List ℕ) → is_state state ≡ true → are_bytes state ≡ true
 limiter_bytes state is = let r = state-IsRead state is in ap (λ (s : List ℕ). are_bytes s) r.spelled ∙ are_bytes-spelling_of _ r.good
 
-limiter_says : (state request : List ℕ) → is_state state ≡ true → IsText (limiter.says state request)
+limiter_says : (state request : List ℕ) → is_state state ≡ true → IsText 26 (limiter.says state request)
 limiter_says state request is = text_of-IsText _ (stepped-IsOutcome state request is).said
 
 -- the limiter is a module
@@ -246,7 +234,7 @@ limiter_is_lawful = record {
   goes_on = λ state request is. search (rules, is_state-spelling_of (stepped state request).0 (stepped-IsOutcome state request (search (rules, is))).state);
   fits = λ state is. omega (arith, limiter_fits state (search (rules, is)));
   has_bytes = λ state is. All-are_bytes state (limiter_bytes state (search (rules, is)));
-  says_lines = λ state request is. let text = limiter_says state request (search (rules, is)) in IsLine-from _ (omega (arith, text.short)) text.unbroken;
+  says_lines = λ state request is. IsLine-text 26 _ (omega arith) (limiter_says state request (search (rules, is)));
 }
 
 -- a limiter is short
@@ -256,7 +244,7 @@ limiter_is_short = record {
   output = λ state request is. let text = limiter_says state request (search (rules, is)) in omega (arith, text.short);
 }
 
-short_secret : (state : State) → IsGood state → IsShortSecret state
+short_secret : (state : State) → IsLimiterState state → IsShortSecret state
 short_secret Unset is = tt
 short_secret (Guarded tries left secret) is = is.formed.short
 

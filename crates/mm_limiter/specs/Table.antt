@@ -4,6 +4,7 @@ use Rattle.std.specs.Fmt.{decimal}
 use Rattle.std.specs.List.{list_all}
 use Rattle.std.specs.Str.{bytes_eq}
 use Rattle.mm_base.specs.Decimals.{number_of}
+use Rattle.mm_module.specs.Visible.{is_visible}
 use Rattle.mm_module.specs.Words.{words_of}
 use Rattle.mm_module.specs.Meaning.{Meaning}
 
@@ -51,10 +52,6 @@ text_of IsOpen = codes "open"
 text_of (IsWrong left) = codes "wrong " ++ decimal left
 text_of (HasLeft left) = codes "left " ++ decimal left
 text_of IsBad = codes "bad"
-
--- a visible byte of ASCII
-abbrev pub is_visible : ℕ → Bool
-is_visible byte = nat_le 33 byte && nat_le byte 126
 
 -- a secret: 1 to 64 visible bytes
 unfoldable pub is_secret : List ℕ → Bool

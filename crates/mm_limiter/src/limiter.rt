@@ -1,15 +1,13 @@
 //! The limiter as a module.
 
-ghost use Rattle.std.specs.Prelude.{◌≡◌, ◌++◌, None, if◌then◌else◌, IfOk, IsTrue, is_some, length, option_map, option_and_then};
-ghost use Rattle.std.specs.Fmt.{decimal};
-ghost use Rattle.std.specs.List.{list_all};
+ghost use Rattle.std.specs.Prelude.{◌≡◌, None, if◌then◌else◌, IfOk, IsTrue, is_some, length, option_map, option_and_then};
 ghost use Rattle.mm_module.specs.Words.{words_of};
-ghost use Rattle.mm_limiter.specs.Table.{IsShortSecret, is_visible, is_secret, is_tries, is_guard, request_of, state_of, outcome_of, text_of, spelling_of, limiter};
+ghost use Rattle.mm_limiter.specs.Table.{IsShortSecret, is_secret, is_tries, is_guard, request_of, state_of, outcome_of, text_of, spelling_of, limiter};
 ghost use Rattle.mm_limiter.specs.Views.{as_state, as_request, as_says};
 ghost use Rattle.mm_limiter.specs.LimiterLaws.{limiter_is_lawful, limiter_is_short};
 
-use mm_base::{Bytes, Memory, put_decimal, read_decimal};
-use mm_module::{Module, Short, Stepped, Words};
+use mm_base::{Bytes, Memory, read_decimal};
+use mm_module::{Module, Short, Stepped, Words, are_visible, text_and_number};
 use std::alloc::Global;
 
 /// A secret of 1 to 64 bytes from 0x21 to 0x7e, and the number of wrong guesses in a row, 1 to 100, after which it is
@@ -58,12 +56,6 @@ fn secret_is_formed(bytes: &[u8]) -> bool
     ensures { result ≡ is_secret bytes.now }
 {
     1 <= bytes.len() && bytes.len() <= 64 && are_visible(bytes)
-}
-
-fn are_visible(bytes: &[u8]) -> bool
-    ensures { result ≡ list_all is_visible bytes.now }
-{
-    bytes.iter().all(|byte| 33 <= *byte && *byte <= 126)
 }
 
 /// The number of guesses, where it is 1 to 100.
@@ -174,15 +166,6 @@ fn outcome<'a>(state: State<'a>, request: Option<Request<'a>>) -> (State<'a>, Sa
     }
 }
 
-/// A word and a number.
-fn counted(alloc: Global, word: &[u8], number: u8) -> Result<Bytes, Memory>
-    ensures { IfOk result (λ text. text ≡ word.now ++ decimal number) }
-{
-    let mut text = Bytes::copy_of(alloc, word)?;
-    put_decimal(&mut text, u64::from(number))?;
-    Ok(text)
-}
-
 /// The text of what is said.
 fn text(alloc: Global, says: Says) -> Result<Bytes, Memory>
     ensures { IfOk result (λ text. text ≡ text_of (as_says says)) }
@@ -193,8 +176,8 @@ fn text(alloc: Global, says: Says) -> Result<Bytes, Memory>
         Says::Unset => Bytes::copy_of(alloc, b"unset"),
         Says::Locked => Bytes::copy_of(alloc, b"locked"),
         Says::Open => Bytes::copy_of(alloc, b"open"),
-        Says::Wrong(left) => counted(alloc, b"wrong ", left),
-        Says::Left(left) => counted(alloc, b"left ", left),
+        Says::Wrong(left) => text_and_number(alloc, b"wrong ", u64::from(left)),
+        Says::Left(left) => text_and_number(alloc, b"left ", u64::from(left)),
         Says::Bad => Bytes::copy_of(alloc, b"bad"),
     }
 }

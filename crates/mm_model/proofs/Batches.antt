@@ -41,7 +41,7 @@ is_last_tells (c ∷ d ∷ batches) b e =
     let h = is_last_tells (d ∷ batches) b e in
     record { front = c ∷ h.front; is = ap (λ xs. c ∷ xs) h.is }
 
-is_last_of : (front : List Batch) (b : Batch) → is_last (front ++ b ∷ []) b ≡ true
+pub is_last_of : (front : List Batch) (b : Batch) → is_last (front ++ b ∷ []) b ≡ true
 is_last_of [] b = (same_batch-Decides b b).1 refl
 is_last_of (c ∷ []) b = (same_batch-Decides b b).1 refl
 is_last_of (c ∷ d ∷ front) b = is_last_of (d ∷ front) b

@@ -1,5 +1,5 @@
 -- An answer that was run from a spelled state, with positions left for it, is fit.
-use Rattle.std.proofs.Common.{◌≡◌, ℕ, ◌+◌, ◌≤◌, ◌<◌, ◌^◌, Bool, true, false, List, [], ◌∷◌, length, IsTrue, refl, ap, ◌∙◌, arith, length-append}
+use Rattle.std.proofs.Common.{◌≡◌, ℕ, ◌+◌, ◌≤◌, ◌<◌, ◌^◌, Bool, true, false, List, [], ◌∷◌, length, IsTrue, arith, length-append}
 use Rattle.std.specs.Prelude.{All, nat_lt, if◌then◌else◌}
 use Rattle.std.proofs.lemmas.List.Elements.{All-nil, All-cons}
 use Rattle.mm_base.specs.Limits.{limit_of}
@@ -15,7 +15,6 @@ use Rattle.mm_seal.specs.declared.snapshot.Place.{Place}
 use Rattle.mm_seal.specs.Snapshot.{Content, IsPlace, IsContent, variant_of, snapshot_front, sealed_of}
 use Rattle.mm_seal.proofs.SnapshotLaws.{length-snapshot_front}
 use Rattle.mm_model.specs.Fit.{IsFit}
-use Rattle.mm_model.specs.declared.answer.BatchAnswer.{BatchAnswer}
 
 lines_from : (meaning : Meaning) → IsLawful meaning → (state : List ℕ) (requests : List (List ℕ)) → IsTrue (meaning.is_spelled state)
     → All IsLine (outputs_from meaning state requests)

@@ -23,7 +23,7 @@ use Rattle.mm_model.proofs.Moves.{moving, moving_is}
 pub total-push : (bs : List Batch) (b : Batch) → total_of (bs ++ b ∷ []) ≡ total_of bs + size_of b
 total-push bs b = omega (arith, total-append bs (b ∷ []), total-cons b [])
 
-register_more : (barrier : List ℕ) (items : List Entry) (e : Entry) → register_of (values_of barrier (items ++ e ∷ [])) ≡ extended_of (register_of (values_of barrier items)) (value_of barrier e)
+pub register_more : (barrier : List ℕ) (items : List Entry) (e : Entry) → register_of (values_of barrier (items ++ e ∷ [])) ≡ extended_of (register_of (values_of barrier items)) (value_of barrier e)
 register_more barrier items e =
     ap register_of (values_of-append barrier items (e ∷ [])) ∙ register-push (values_of barrier items) (value_of barrier e)
 

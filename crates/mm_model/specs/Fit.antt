@@ -1,5 +1,5 @@
 -- The sizes of an answer.
-use Rattle.std.specs.Prelude.{◌≡◌, ◌≤◌, ◌^◌, ℕ, length, All}
+use Rattle.std.specs.Prelude.{◌≡◌, ◌≤◌, ◌^◌, length, All}
 use Rattle.mm_module.specs.Meaning.{IsLine}
 use Rattle.mm_module.specs.Batch.{Batch, size_of}
 use Rattle.mm_model.specs.declared.answer.BatchAnswer.{BatchAnswer}

@@ -15,14 +15,14 @@ use std::alloc::Global;
 
 /// A batch: one request, or the text of several with its TABs.
 #[derive(Debug, Drop)]
-pub(crate) enum KeptBatch {
+pub enum KeptBatch {
     One(Bytes),
     Many(Bytes),
 }
 
 /// What a register took in: a committed batch, or a value that stands for none.
 #[derive(Debug, Drop)]
-pub(crate) enum KeptEntry {
+pub enum KeptEntry {
     Own(KeptBatch),
     Value(Digest),
 }
@@ -35,7 +35,7 @@ fn has_tab(text: &[u8]) -> bool
 }
 
 /// The batch with these members that its members fix: a text with no TAB is one request.
-pub(crate) fn normal(batch: Batch<'_>) -> Batch<'_>
+pub fn normal(batch: Batch<'_>) -> Batch<'_>
     ensures { batch_of result ≡ normal (batch_of batch.entry) }
 {
     match batch {
@@ -52,7 +52,7 @@ pub(crate) fn normal(batch: Batch<'_>) -> Batch<'_>
 
 impl KeptBatch {
     /// An own copy.
-    pub(crate) fn copy_of(alloc: Global, batch: &Batch<'_>) -> Result<KeptBatch, Memory>
+    pub fn copy_of(alloc: Global, batch: &Batch<'_>) -> Result<KeptBatch, Memory>
         ensures { IfOk result (λ kept. kept_batch kept ≡ batch_of batch.now) }
     {
         match *batch {
@@ -82,8 +82,18 @@ impl KeptBatch {
         }
     }
 
+    /// The batch, lent.
+    pub fn lent(&self) -> Batch<'_>
+        ensures { batch_of result ≡ kept_batch self.now }
+    {
+        match self {
+            KeptBatch::One(request) => Batch::One(request.as_slice()),
+            KeptBatch::Many(text) => Batch::Many(text.as_slice()),
+        }
+    }
+
     /// Whether the two are one batch.
-    fn is(&self, other: &KeptBatch) -> bool
+    pub fn is(&self, other: &KeptBatch) -> bool
         ensures { result ≡ same_batch (kept_batch self.now) (kept_batch other.now) }
     {
         match self {
@@ -139,7 +149,7 @@ impl KeptEntry {
 }
 
 /// A copy of entries.
-pub(crate) fn copy_entries(alloc: Global, entries: &[KeptEntry]) -> Result<Vec<KeptEntry>, Memory>
+pub fn copy_entries(alloc: Global, entries: &[KeptEntry]) -> Result<Vec<KeptEntry>, Memory>
     ensures { IfOk result (λ copies. kept_entries copies.items ≡ kept_entries entries.now) }
 {
     let mut copies = Vec::new(alloc);
@@ -151,7 +161,7 @@ pub(crate) fn copy_entries(alloc: Global, entries: &[KeptEntry]) -> Result<Vec<K
 }
 
 /// Whether some entry is a value that stands for no batch.
-pub(crate) fn some_value(entries: &[KeptEntry]) -> bool
+pub fn some_value(entries: &[KeptEntry]) -> bool
     ensures { result ≡ has_value (kept_entries entries.now) }
 {
     'entries: for entry in entries {
@@ -190,7 +200,7 @@ pub(crate) fn all_own(entries: &[KeptEntry], batches: &[KeptBatch]) -> bool
 }
 
 /// Whether the last of the batches is this one.
-pub(crate) fn last_is(batches: &[KeptBatch], batch: &Batch<'_>) -> bool
+pub fn last_is(batches: &[KeptBatch], batch: &Batch<'_>) -> bool
     ensures { result ≡ is_last (kept_batches batches.now) (batch_of batch.now) }
 {
     let count = batches.len();

@@ -5,7 +5,7 @@ ghost use Rattle.std.specs.List.{list_any};
 ghost use Rattle.mm_module.specs.Batches.{batch_of};
 ghost use Rattle.mm_model.specs.Long.{is_lf, is_long};
 
-use mm_module::Batch;
+use mm_module::{Batch, LONGEST_REQUEST};
 
 /// Whether the batch is refused as Long: its text, the requests joined by TAB, has more than 4,096 bytes
 /// or an LF, or there are more than 64 requests.
@@ -13,7 +13,7 @@ pub fn is_long(batch: &Batch<'_>) -> bool
     ensures { result ≡ is_long (batch_of batch.now) }
 {
     let text = batch.text();
-    if text.len() > 4096 || has_lf(text) {
+    if text.len() > LONGEST_REQUEST || has_lf(text) {
         return true;
     }
     batch.len() > 64

@@ -1,15 +1,17 @@
 -- The laws of the counter.
-use Rattle.std.specs.Prelude.{◌≡◌, ◌==◌, ℕ, ◌+◌, ◌^◌, ◌<◌, ◌≤◌, List, length, Bool, true, false, nat_lt, All, Option, Some, None, if◌then◌else◌}
+use Rattle.std.specs.Prelude.{◌≡◌, ◌==◌, ℕ, ◌+◌, ◌^◌, ◌<◌, List, length, Bool, true, false, nat_lt, All, Option, Some, None, if◌then◌else◌}
 use Rattle.std.proofs.Common.{refl, arith, rules}
-use Rattle.mm_module.specs.LineLaws.{is_unbroken, and-true, is_byte-rem, All-are_bytes, IsLine-from, is_unbroken-decimal, length-decimal}
+use Rattle.mm_module.specs.LineLaws.{and-true, is_byte-rem, All-are_bytes, IsText, IsLine-text, is_unbroken-decimal, length-decimal}
 use Rattle.std.proofs.lemmas.Bool.Decides.{nat_tests}
+use Rattle.mm_base.specs.Fields.{eight_bytes}
 use Rattle.mm_module.specs.Bytes.{are_bytes}
+use Rattle.mm_module.specs.Numbers.{of_eight_bytes}
 use Rattle.mm_module.specs.declared.counter.Request.{Request}
 use Rattle.mm_module.specs.declared.counter.Request.TheVariants.{Read, Add}
 use Rattle.mm_module.specs.declared.counter.Says.{Says}
 use Rattle.mm_module.specs.declared.counter.Says.TheVariants.{Value, Full, Bad}
 use Rattle.mm_module.specs.Meaning.{IsLawful, IsShort}
-use Rattle.mm_module.specs.CounterTable.{counter, value_of, state_of, stepped, is_state, outcome_of, text_of}
+use Rattle.mm_module.specs.CounterTable.{counter, stepped, is_state, outcome_of, text_of}
 
 -- a state has 8 bytes
 length-state : (state : List ℕ) → is_state state ≡ true → length state ≡ 8
@@ -21,17 +23,17 @@ unfolding is_state
 bytes-state state is = All-are_bytes state (and-true (are_bytes state) (length state == 8) is).0
 
 -- a state's value has 64 bits
-value_of-lt : (state : List ℕ) → is_state state ≡ true → value_of state < 2 ^ 64
-unfolding value_of
-value_of-lt state is =
+value-lt : (state : List ℕ) → is_state state ≡ true → of_eight_bytes state < 2 ^ 64
+unfolding of_eight_bytes
+value-lt state is =
     let eight = length-state state is in
     let small = bytes-state state is in
     omega (arith, small 0 0 (omega arith), small 1 0 (omega arith), small 2 0 (omega arith), small 3 0 (omega arith), small 4 0 (omega arith), small 5 0 (omega arith), small 6 0 (omega arith), small 7 0 (omega arith))
 
 -- the state of a value is one
-is_state-state_of : (value : ℕ) → is_state (state_of value) ≡ true
-unfolding is_state state_of
-is_state-state_of value = simp is_byte-rem
+is_state-eight : (value : ℕ) → is_state (eight_bytes value) ≡ true
+unfolding is_state eight_bytes
+is_state-eight value = simp is_byte-rem
 
 -- what is said of 64 bits
 abbrev Says64 : Says → Type 0
@@ -40,11 +42,7 @@ Says64 Full = Unit {0}
 Says64 Bad = Unit {0}
 
 -- its text is at most 20 bytes, with no LF
-record IsText (text : List ℕ) : Type 0 where
-  short : length text ≤ 20
-  unbroken : is_unbroken text ≡ true
-
-text_of-IsText : (says : Says) → Says64 says → IsText (text_of says)
+text_of-IsText : (says : Says) → Says64 says → IsText 20 (text_of says)
 text_of-IsText (Value value) small = record { short = length-decimal value small; unbroken = is_unbroken-decimal value small }
 text_of-IsText Full _ = record { short = omega arith; unbroken = refl }
 text_of-IsText Bad _ = record { short = omega arith; unbroken = refl }
@@ -59,9 +57,9 @@ outcome_of-64 value (Some (Add number)) small = added-64 value number (nat_lt (v
 outcome_of-64 value None small = tt
 
 -- what a counter says is at most 20 bytes, with no LF
-counter_says : (state request : List ℕ) → is_state state ≡ true → IsText (counter.says state request)
+counter_says : (state request : List ℕ) → is_state state ≡ true → IsText 20 (counter.says state request)
 unfolding stepped
-counter_says state request is = text_of-IsText _ (outcome_of-64 (value_of state) _ (value_of-lt state is))
+counter_says state request is = text_of-IsText _ (outcome_of-64 (of_eight_bytes state) _ (value-lt state is))
 
 counter_begins : is_state counter.first ≡ true
 unfolding is_state
@@ -71,10 +69,10 @@ counter_begins = refl
 pub counter_is_lawful : IsLawful counter
 counter_is_lawful = record {
   begins = search (rules, counter_begins);
-  goes_on = λ state request is. search (rules, is_state-state_of (stepped state request).0);
+  goes_on = λ state request is. search (rules, is_state-eight (stepped state request).0);
   fits = λ state is. omega (arith, length-state state (search (rules, is)));
   has_bytes = λ state is. bytes-state state (search (rules, is));
-  says_lines = λ state request is. let text = counter_says state request (search (rules, is)) in IsLine-from _ (omega (arith, text.short)) text.unbroken;
+  says_lines = λ state request is. IsLine-text 20 _ (omega arith) (counter_says state request (search (rules, is)));
 }
 
 -- a counter is short

@@ -1,10 +1,11 @@
 -- The counter: a value of 64 bits.
 use Rattle.std.specs.Prelude.{ℕ, ◌+◌, ◌^◌, ◌==◌, ◌&&◌, Bool, nat_lt, List, [], ◌∷◌, length, replicate, codes, Option, Some, None, option_map, if◌then◌else◌}
 use Rattle.std.specs.Fmt.{decimal}
-use Rattle.std.specs.Int.{w64, to_be_bytes, from_be_bytes}
 use Rattle.std.specs.Str.{bytes_eq}
 use Rattle.mm_base.specs.Decimals.{number_of}
+use Rattle.mm_base.specs.Fields.{eight_bytes}
 use Rattle.mm_module.specs.Bytes.{are_bytes}
+use Rattle.mm_module.specs.Numbers.{of_eight_bytes}
 use Rattle.mm_module.specs.Words.{words_of}
 use Rattle.mm_module.specs.Meaning.{Meaning}
 use Rattle.mm_module.specs.declared.counter.Request.{Request}
@@ -30,17 +31,9 @@ text_of (Value value) = decimal value
 text_of Full = codes "full"
 text_of Bad = codes "bad"
 
--- the value of a state of 8 bytes, the greatest first
-unfoldable pub value_of : List ℕ → ℕ
-value_of state = from_be_bytes w64 state
-
--- the state of a value
-unfoldable pub state_of : ℕ → List ℕ
-state_of value = to_be_bytes w64 value
-
 -- what a request does to a state
 unfoldable pub stepped : List ℕ → List ℕ → ℕ × Says
-stepped state request = outcome_of (value_of state) (request_of (words_of request))
+stepped state request = outcome_of (of_eight_bytes state) (request_of (words_of request))
 
 -- a state: 8 bytes
 unfoldable pub is_state : List ℕ → Bool
@@ -51,7 +44,7 @@ abbrev pub counter : Meaning
 counter = record {
   id = 1;
   first = replicate 8 0;
-  next = λ state request. state_of (stepped state request).0;
+  next = λ state request. eight_bytes (stepped state request).0;
   says = λ state request. text_of (stepped state request).1;
   is_spelled = is_state;
 }

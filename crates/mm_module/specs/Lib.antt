@@ -8,3 +8,8 @@ pub mod CounterTable
 pub mod CounterLaws
 pub mod LineLaws
 pub mod Values
+pub mod ValueLaws
+pub mod Numbers
+pub mod Visible
+pub mod PartLaws
+pub mod TableLaws

@@ -66,6 +66,19 @@ is_unbroken-decimal n small = digits_unbroken (decimal n) (digits_decimal (numer
 pub length-decimal : (n : ℕ) → n < 2 ^ 64 → length (decimal n) ≤ 20
 length-decimal n small = length-decimal-le 20 n (lit< tt) (omega arith) small
 
--- a line, from the tests
-pub IsLine-from : (text : List ℕ) → length text ≤ 4096 → is_unbroken text ≡ true → IsLine text
-IsLine-from text short unbroken = record { short = short; unbroken = All-is_unbroken text unbroken }
+-- a text of at most so many bytes, with no LF
+pub record IsText (most : ℕ) (text : List ℕ) : Type 0 where
+  pub short : length text ≤ most
+  pub unbroken : is_unbroken text ≡ true
+
+-- such a text is a line
+pub IsLine-text : (most : ℕ) (text : List ℕ) → most ≤ 4096 → IsText most text → IsLine text
+IsLine-text most text few is = record { short = omega (arith, is.short, few); unbroken = All-is_unbroken text is.unbroken }
+
+-- a text with no LF, from each byte
+pub is_unbroken-All : (text : List ℕ) → All (λ byte. byte ≢ 10) text → is_unbroken text ≡ true
+is_unbroken-All [] all = refl
+is_unbroken-All (x ∷ xs) all =
+    let other : x ≢ 10 = all 0 0 (omega arith) in
+    let is : not (x == 10) ≡ true = grind (arith, nat_tests) in
+    and-both _ _ is (is_unbroken-All xs (λ k d inside. all (suc k) d (omega (arith, inside))))

@@ -1,13 +1,14 @@
 //! The counter: a value of 64 bits that requests read and add to.
 
-ghost use Rattle.std.specs.Prelude.{◌≡◌, length, IfOk, IsTrue};
+ghost use Rattle.std.specs.Prelude.{◌≡◌, IfOk, IsTrue};
 ghost use Rattle.mm_module.specs.Words.{words_of};
-ghost use Rattle.mm_module.specs.CounterTable.{request_of, outcome_of, text_of, value_of, state_of, counter};
+ghost use Rattle.mm_module.specs.CounterTable.{request_of, outcome_of, text_of, counter};
 ghost use Rattle.mm_module.specs.CounterLaws.{counter_is_lawful, counter_is_short};
 
 use crate::machine::{Module, Short, Stepped};
+use crate::texts::u64_of_bytes;
 use crate::words::Words;
-use mm_base::{Bytes, Memory, put_decimal, read_decimal};
+use mm_base::{Bytes, Memory, bytes_of_u64, put_decimal, read_decimal};
 use std::alloc::Global;
 
 /// A value of 64 bits, 0 at first. Its state is the value in 8 bytes, the greatest first.
@@ -74,25 +75,6 @@ fn text(alloc: Global, says: Says) -> Result<Bytes, Memory>
     }
 }
 
-/// The value of a state.
-#[tactic(auto, unfolding(crate::specs::CounterTable::value_of))]
-fn value_in(state: &[u8]) -> u64
-    requires { length state.now ≡ 8 }
-    ensures { result ≡ value_of state.now }
-{
-    let mut bytes = [0; 8];
-    bytes.copy_from_slice(state);
-    u64::from_be_bytes(bytes)
-}
-
-/// The state of a value.
-#[tactic(auto, unfolding(crate::specs::CounterTable::state_of))]
-fn spelled(alloc: Global, value: u64) -> Result<Bytes, Memory>
-    ensures { IfOk result (λ state. state ≡ state_of value) }
-{
-    Bytes::copy_of(alloc, &value.to_be_bytes())
-}
-
 #[tactic(auto, unfolding(crate::specs::CounterTable::stepped, crate::specs::CounterTable::is_state))]
 impl Module for Counter {
     ghost meaning = { λ _. counter };
@@ -112,9 +94,9 @@ impl Module for Counter {
     }
 
     fn step(&self, alloc: Global, state: &[u8], request: &[u8]) -> Result<Stepped, Memory> {
-        let (value, says) = outcome(value_in(state), read_request(request));
+        let (value, says) = outcome(u64_of_bytes(state), read_request(request));
         Ok(Stepped {
-            state: spelled(alloc, value)?,
+            state: Bytes::copy_of(alloc, &bytes_of_u64(value))?,
             output: text(alloc, says)?,
         })
     }

@@ -3,17 +3,21 @@
 
 mod batch;
 mod counter;
+mod limits;
 mod machine;
 mod outputs;
+mod texts;
 mod value;
 mod words;
 
 pub use batch::Batch;
 pub use counter::Counter;
+pub use limits::{LAST_POSITION, LONGEST_REQUEST};
 pub use machine::{Module, Short, Stepped, is_line};
 pub use outputs::Outputs;
+pub use texts::{are_visible, text_and_number, u64_of_bytes};
 pub use value::value_in;
-pub use words::Words;
+pub use words::{Words, space_in};
 
 #[cfg(test)]
 mod tests;

@@ -3,6 +3,7 @@
 ghost use Rattle.std.specs.Prelude.{◌≡◌, ◌↔◌, IfOk, IsTrue};
 ghost use Rattle.mm_module.specs.Meaning.{Meaning, IsLine, IsLawful, IsShort};
 
+use crate::limits::LONGEST_REQUEST;
 use mm_base::{Bytes, Memory};
 use std::alloc::Global;
 
@@ -55,5 +56,5 @@ pub trait Short: Module {
 pub fn is_line(text: &[u8]) -> bool
     ensures { IsTrue result ↔ IsLine text.now }
 {
-    text.len() <= 4096 && !text.contains(&b'\n')
+    text.len() <= LONGEST_REQUEST && !text.contains(&b'\n')
 }

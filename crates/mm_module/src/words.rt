@@ -17,8 +17,8 @@ pub enum Words<'a> {
     More,
 }
 
-/// Where the first space is.
-fn space_in(text: &[u8]) -> Option<usize>
+/// Where the first space is. None exactly where there is none.
+pub fn space_in(text: &[u8]) -> Option<usize>
     ensures { result ≡ position is_space text.now }
 {
     text.iter().position(|byte| *byte == b' ')

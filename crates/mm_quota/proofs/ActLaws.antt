@@ -4,8 +4,8 @@ use Rattle.std.proofs.Common.{refl, sym, ◌∙◌, ap, arith, subst}
 use Rattle.std.proofs.lemmas.Bool.Decides.{nat_tests}
 use Rattle.mm_quota.specs.Table.{Account, Action, Request, On, Says, account_named, put, decision_of, is_name, is_account, request_of, rises, account_bytes, body_of, count_bytes, spelling_of, is_state, ledger_of, stepped}
 use Rattle.mm_quota.specs.LedgerLaws.{FoundOf, account_named-found, length-put-there, length-put-absent}
-use Rattle.mm_quota.specs.SpellingLaws.{IsAccount-from, is_state-Holds}
-use Rattle.mm_quota.specs.QuotaLaws.{IsAction, IsAsked, request_of-asked, PutIf, IsPut, decision_of-is}
+use Rattle.mm_quota.specs.SpellingLaws.{IsAccount-from, is_state-SpellsLedger}
+use Rattle.mm_quota.specs.QuotaLaws.{IsAction, IsQuotaRequest, request_of-IsQuotaRequest, PutIf, IsPut, decision_of-is}
 use Rattle.mm_quota.specs.OthersStay.{OthersStay, others_stay}
 use Rattle.mm_quota.specs.Spelled.{IsSpelled}
 use Rattle.mm_quota.specs.Views.{as_account}
@@ -14,11 +14,11 @@ use Rattle.mm_quota.specs.declared.account.Account as declared
 -- a state spells a ledger that its size allows
 pub IsSpelled-from : (most : ℕ) (bytes : List ℕ) → most < 2 ^ 16 → is_state most bytes ≡ true → IsSpelled bytes
 IsSpelled-from most bytes small is =
-    let h = is_state-Holds most bytes is in
+    let h = is_state-SpellsLedger most bytes is in
     record { few = omega (arith, h.ledger.few); good = h.ledger.good; rising = h.ledger.rising; spelled = h.spelled; body = h.body; counted = h.counted; headed = h.headed }
 
 pub few-from : (most : ℕ) (bytes : List ℕ) → is_state most bytes ≡ true → length (ledger_of bytes) ≤ most
-few-from most bytes is = (is_state-Holds most bytes is).ledger.few
+few-from most bytes is = (is_state-SpellsLedger most bytes is).ledger.few
 
 -- the account that was found
 within-step : (name : List ℕ) (found : Option declared.Account) (named : Option Account) → option_map as_account found ≡ named → FoundOf is_account name named → (account : declared.Account) → found ≡ Some account → (account.used ≤ account.limit) × (account.limit ≤ 2 ^ 48)
@@ -68,7 +68,7 @@ decided most count bytes name found action decision is count_is found_is =
 
 -- what was read of a request
 pub asked-named : (words : List (List ℕ)) (name : List ℕ) (action : Action) → request_of words ≡ Some (On name action) → (is_name name ≡ true) × IsAction action
-asked-named words name action is = subst (λ (r : Option Request). IsAsked r) is (request_of-asked words)
+asked-named words name action is = subst (λ (r : Option Request). IsQuotaRequest r) is (request_of-IsQuotaRequest words)
 
 -- what a step gives, where it gives the state of the table
 pub IfOk-others : {X E : Type 0} (r : Result X E) (view : X → List ℕ) (most : ℕ) (state request : List ℕ) → most < 2 ^ 16 → is_state most state ≡ true → IfOk r (λ x. view x ≡ spelling_of (stepped most state request).0) → IfOk r (λ x. OthersStay state request (view x))

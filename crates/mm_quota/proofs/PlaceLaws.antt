@@ -9,9 +9,10 @@ use Rattle.std.proofs.Math.Seq.{take-append_seam}
 use Rattle.std.proofs.lemmas.Bool.Decides.{nat_tests}
 use Rattle.mm_module.specs.Bytes.{are_bytes}
 use Rattle.mm_module.specs.LineLaws.{and-true}
-use Rattle.mm_quota.specs.Table.{Account, order_of, account_named, put, total_used, is_account, rises, account_bytes, body_of, account_at, accounts_from, accounts_of, count_in, holds_ledger, is_ledger, is_state, ledger_of}
+use Rattle.mm_module.specs.PartLaws.{are_bytes-drop}
+use Rattle.mm_quota.specs.Table.{Account, order_of, account_named, put, total_used, is_account, rises, account_bytes, body_of, account_at, accounts_from, accounts_of, of_count_bytes, holds_ledger, is_ledger, is_state, ledger_of}
 use Rattle.mm_quota.specs.LedgerLaws.{account_named-other, account_named-this, account_named-absent, bytes_eq-order}
-use Rattle.mm_quota.specs.SpellingLaws.{account_at-account_bytes, IsAccount-from, ReadsBody, accounts_from-reads, are_bytes-drop}
+use Rattle.mm_quota.specs.SpellingLaws.{account_at-account_bytes, IsAccount-from, ReadsBody, accounts_from-reads}
 use Rattle.mm_quota.specs.Spelled.{IsSpelled, follow}
 
 -- the rest, where an account stands in front of it
@@ -200,7 +201,7 @@ accounts_of-short : (bytes : List ℕ) → length bytes < 2 → accounts_of byte
 unfolding accounts_of
 accounts_of-short bytes short = let flag : nat_le 2 (length bytes) ≡ false = grind (arith, nat_tests) in rw flag refl
 
-accounts_of-long : (bytes : List ℕ) → 2 ≤ length bytes → accounts_of bytes ≡ accounts_from (count_in (take 2 bytes)) (drop 2 bytes)
+accounts_of-long : (bytes : List ℕ) → 2 ≤ length bytes → accounts_of bytes ≡ accounts_from (of_count_bytes (take 2 bytes)) (drop 2 bytes)
 unfolding accounts_of
 accounts_of-long bytes long = let flag : nat_le 2 (length bytes) ≡ true = grind (arith, nat_tests) in rw flag refl
 
@@ -210,16 +211,16 @@ unfolding is_state
 is_state-short most bytes short = rw (accounts_of-short bytes short) (and-false (are_bytes bytes))
 
 -- bytes with a count that the ledger allows are a state, where their accounts follow
-pub is_state-long : (most : ℕ) (bytes : List ℕ) → 2 ≤ length bytes → are_bytes bytes ≡ true → is_state most bytes ≡ (nat_le (count_in (take 2 bytes)) most && follow [] (accounts_from (count_in (take 2 bytes)) (drop 2 bytes)))
+pub is_state-long : (most : ℕ) (bytes : List ℕ) → 2 ≤ length bytes → are_bytes bytes ≡ true → is_state most bytes ≡ (nat_le (of_count_bytes (take 2 bytes)) most && follow [] (accounts_from (of_count_bytes (take 2 bytes)) (drop 2 bytes)))
 unfolding is_state
-is_state-long most bytes long is = rw (is, accounts_of-long bytes long) (holds-follow most (count_in (take 2 bytes)) (drop 2 bytes) _ (accounts_from-reads (count_in (take 2 bytes)) (drop 2 bytes) (are_bytes-drop 2 bytes is)))
+is_state-long most bytes long is = rw (is, accounts_of-long bytes long) (holds-follow most (of_count_bytes (take 2 bytes)) (drop 2 bytes) _ (accounts_from-reads (of_count_bytes (take 2 bytes)) (drop 2 bytes) (are_bytes-drop 2 bytes is)))
 
-pub state-within : (most count : ℕ) (bytes body : List ℕ) → 2 ≤ length bytes → are_bytes bytes ≡ true → count ≡ count_in (take 2 bytes) → body ≡ drop 2 bytes → count ≤ most → follow [] (accounts_from count body) ≡ is_state most bytes
+pub state-within : (most count : ℕ) (bytes body : List ℕ) → 2 ≤ length bytes → are_bytes bytes ≡ true → count ≡ of_count_bytes (take 2 bytes) → body ≡ drop 2 bytes → count ≤ most → follow [] (accounts_from count body) ≡ is_state most bytes
 state-within most count bytes body long is count_is body_is few =
     let flag : nat_le count most ≡ true = grind (arith, nat_tests) in
     sym (is_state-long most bytes long is ∙ rw (← count_is, ← body_is, flag) refl)
 
-pub state-beyond : (most count : ℕ) (bytes : List ℕ) → 2 ≤ length bytes → are_bytes bytes ≡ true → count ≡ count_in (take 2 bytes) → most < count → nat_le count most ≡ is_state most bytes
+pub state-beyond : (most count : ℕ) (bytes : List ℕ) → 2 ≤ length bytes → are_bytes bytes ≡ true → count ≡ of_count_bytes (take 2 bytes) → most < count → nat_le count most ≡ is_state most bytes
 state-beyond most count bytes long is count_is many =
     let flag : nat_le count most ≡ false = grind (arith, nat_tests) in
     flag ∙ sym (is_state-long most bytes long is ∙ rw (← count_is, flag) refl)

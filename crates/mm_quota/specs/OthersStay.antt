@@ -1,13 +1,13 @@
 -- Accounts that a request does not name stay.
-use Rattle.std.specs.Prelude.{◌≡◌, ◌≢◌, ℕ, ◌^◌, ◌<◌, ◌≤◌, Bool, true, false, nat_le, List, [], length, Option, Some, None, Result, Ok, Err, IfOk, IsTrue}
-use Rattle.std.proofs.Common.{refl, sym, ◌∙◌, ap, arith, rules, subst}
+use Rattle.std.specs.Prelude.{◌≡◌, ◌≢◌, ℕ, ◌^◌, ◌<◌, Bool, true, false, nat_le, List, length, Option, Some, None}
+use Rattle.std.proofs.Common.{refl, sym, ◌∙◌, ap}
 use Rattle.std.specs.Str.{bytes_eq}
 use Rattle.std.proofs.lemmas.Slice.Eq.{bytes_eq-Decides}
 use Rattle.mm_module.specs.Words.{words_of}
-use Rattle.mm_quota.specs.Table.{Account, Action, Request, Sum, On, account_named, put, decision_of, settled, outcome_of, request_of, is_account, spelling_of, is_state, ledger_of, stepped}
+use Rattle.mm_quota.specs.Table.{Account, Request, Sum, On, account_named, settled, outcome_of, request_of, is_account, spelling_of, is_state, ledger_of, stepped}
 use Rattle.mm_quota.specs.LedgerLaws.{account_named-found, account_named-put-other}
-use Rattle.mm_quota.specs.SpellingLaws.{IsLedger, Holds, is_state-Holds, ledger_of-spelling_of}
-use Rattle.mm_quota.specs.QuotaLaws.{IsAsked, request_of-asked, PutIf, decision_of-is, stepped-IsOutcome}
+use Rattle.mm_quota.specs.SpellingLaws.{IsLedger, is_state-SpellsLedger, ledger_of-spelling_of}
+use Rattle.mm_quota.specs.QuotaLaws.{IsQuotaRequest, request_of-IsQuotaRequest, PutIf, decision_of-is, stepped-IsOutcome}
 
 -- the name that a request gives
 abbrev pub name_in : Option Request → Option (List ℕ)
@@ -28,7 +28,7 @@ settled-others full wanted name accounts None is apart = refl
 settled-others full wanted name accounts (Some account) is apart =
     account_named-put-other name account accounts (differ name account.name (bytes_eq name account.name) refl (λ same. apart (sym is.named ∙ same)))
 
-outcome-others : (most : ℕ) (accounts : List Account) (request : Option Request) (name : List ℕ) → IsLedger most accounts → IsAsked request → name_in request ≢ Some name → account_named name (outcome_of most accounts request).0 ≡ account_named name accounts
+outcome-others : (most : ℕ) (accounts : List Account) (request : Option Request) (name : List ℕ) → IsLedger most accounts → IsQuotaRequest request → name_in request ≢ Some name → account_named name (outcome_of most accounts request).0 ≡ account_named name accounts
 outcome-others most accounts (Some Sum) name ledger asked apart = refl
 outcome-others most accounts (Some (On wanted action)) name ledger asked apart =
     let d = decision_of-is (nat_le most (length accounts)) wanted (account_named wanted accounts) action asked.0 asked.1 (account_named-found is_account wanted accounts ledger.good) in
@@ -37,7 +37,7 @@ outcome-others most accounts None name ledger asked apart = refl
 
 pub others_stay : (most : ℕ) (state request : List ℕ) → most < 2 ^ 16 → is_state most state ≡ true → OthersStay state request (spelling_of (stepped most state request).0)
 others_stay most state request small is = λ name apart.
-    let h = is_state-Holds most state is in
+    let h = is_state-SpellsLedger most state is in
     let o = stepped-IsOutcome most state request small is in
-    ap (λ (accounts : List Account). account_named name accounts) (ledger_of-spelling_of most (stepped most state request).0 small o.ledger) ∙
-    unfold stepped in outcome-others most (ledger_of state) (request_of (words_of request)) name h.ledger (request_of-asked (words_of request)) apart
+    ap (λ (accounts : List Account). account_named name accounts) (ledger_of-spelling_of most (stepped most state request).0 small o.state) ∙
+    unfold stepped in outcome-others most (ledger_of state) (request_of (words_of request)) name h.ledger (request_of-IsQuotaRequest (words_of request)) apart

@@ -7,22 +7,23 @@ use Rattle.std.specs.Str.{bytes_eq}
 use Rattle.std.proofs.lemmas.Bool.Decides.{nat_tests}
 use Rattle.mm_base.specs.Decimals.{number_of}
 use Rattle.mm_base.specs.Limits.{limit_of}
-use Rattle.mm_module.specs.LineLaws.{is_unbroken, and-true, All-are_bytes, IsLine-from, is_unbroken-decimal, length-decimal}
+use Rattle.mm_module.specs.LineLaws.{and-true, All-are_bytes, IsText, IsLine-text, is_unbroken-decimal, length-decimal}
 use Rattle.mm_module.specs.Meaning.{IsLawful, IsShort}
+use Rattle.mm_module.specs.TableLaws.{IsOutcome}
 use Rattle.mm_module.specs.Words.{words_of}
 use Rattle.mm_quota.specs.Table.{Account, Action, Open, Use, Free, Left, Request, Sum, On, Says, IsOpened, IsThere, IsFull, IsNone, IsUsed, IsOver, IsUnder, HasLeft, HasSum, IsBad, order_of, account_named, put, total_used, decision_of, settled, outcome_of, text_of, is_name, opening_of, action_of, request_of, is_account, count_bytes, spelling_of, is_state, stepped, quota}
 use Rattle.mm_quota.specs.LedgerLaws.{rises-put, list_all-put, length-put, length-put-there, IsFound, FoundOf, account_named-found}
-use Rattle.mm_quota.specs.SpellingLaws.{IsAccount-from, is_account-made, is_account-named, IsLedger, is_state-Holds, are_bytes-state, length-spelling_of, is_state-spelling_of}
+use Rattle.mm_quota.specs.SpellingLaws.{IsAccount-from, is_account-made, is_account-named, IsLedger, is_state-SpellsLedger, are_bytes-state, length-spelling_of, is_state-spelling_of}
 
 -- an action and a request that can be read
 abbrev pub IsAction : Action → Type 0
 IsAction (Open limit) = limit ≤ 2 ^ 48
 IsAction _ = Unit {0}
 
-abbrev pub IsAsked : Option Request → Type 0
-IsAsked (Some (On name action)) = (is_name name ≡ true) × IsAction action
-IsAsked (Some Sum) = Unit {0}
-IsAsked None = Unit {0}
+abbrev pub IsQuotaRequest : Option Request → Type 0
+IsQuotaRequest (Some (On name action)) = (is_name name ≡ true) × IsAction action
+IsQuotaRequest (Some Sum) = Unit {0}
+IsQuotaRequest None = Unit {0}
 
 abbrev IsActionIf : Option Action → Type 0
 IsActionIf None = Unit {0}
@@ -42,38 +43,38 @@ number-action : (word : List ℕ) (number : Option ℕ) → IsActionIf (option_a
 number-action word None = tt
 number-action word (Some number) = word-action number (bytes_eq word (codes "open")) (bytes_eq word (codes "use")) (bytes_eq word (codes "free"))
 
-on-asked : (name : List ℕ) (action : Option Action) → is_name name ≡ true → IsActionIf action → IsAsked (option_map (λ a. On name a) action)
+on-asked : (name : List ℕ) (action : Option Action) → is_name name ≡ true → IsActionIf action → IsQuotaRequest (option_map (λ a. On name a) action)
 on-asked name None named is = tt
 on-asked name (Some action) named is = (named, is)
 
-sum-asked : (flag : Bool) → IsAsked (if flag then Some Sum else None)
+sum-asked : (flag : Bool) → IsQuotaRequest (if flag then Some Sum else None)
 sum-asked true = tt
 sum-asked false = tt
 
-left-asked : (name : List ℕ) (worded flag : Bool) → (worded && is_name name) ≡ flag → IsAsked (if flag then Some (On name Left) else None)
+left-asked : (name : List ℕ) (worded flag : Bool) → (worded && is_name name) ≡ flag → IsQuotaRequest (if flag then Some (On name Left) else None)
 left-asked name worded true is = ((and-true worded (is_name name) is).1, tt)
 left-asked name worded false is = tt
 
-numbered-asked : (word name : List ℕ) (number : Option ℕ) (flag : Bool) → is_name name ≡ flag → IsAsked (if flag then option_map (λ action. On name action) (option_and_then (action_of word) number) else None)
+numbered-asked : (word name : List ℕ) (number : Option ℕ) (flag : Bool) → is_name name ≡ flag → IsQuotaRequest (if flag then option_map (λ action. On name action) (option_and_then (action_of word) number) else None)
 numbered-asked word name number true is = on-asked name (option_and_then (action_of word) number) is (number-action word number)
 numbered-asked word name number false is = tt
 
-pub request_of-asked : (words : List (List ℕ)) → IsAsked (request_of words)
+pub request_of-IsQuotaRequest : (words : List (List ℕ)) → IsQuotaRequest (request_of words)
 unfolding request_of
-request_of-asked [] = tt
-request_of-asked (word ∷ []) = sum-asked (bytes_eq word (codes "sum"))
-request_of-asked (word ∷ name ∷ []) = left-asked name (bytes_eq word (codes "left")) _ refl
-request_of-asked (word ∷ name ∷ number ∷ []) = numbered-asked word name (number_of number) (is_name name) refl
-request_of-asked (word ∷ name ∷ number ∷ other ∷ more) = tt
+request_of-IsQuotaRequest [] = tt
+request_of-IsQuotaRequest (word ∷ []) = sum-asked (bytes_eq word (codes "sum"))
+request_of-IsQuotaRequest (word ∷ name ∷ []) = left-asked name (bytes_eq word (codes "left")) _ refl
+request_of-IsQuotaRequest (word ∷ name ∷ number ∷ []) = numbered-asked word name (number_of number) (is_name name) refl
+request_of-IsQuotaRequest (word ∷ name ∷ number ∷ other ∷ more) = tt
 
 -- what is said, with a number of 64 bits
-abbrev pub IsSaid : Says → Type 0
-IsSaid (IsUsed used) = used < 2 ^ 64
-IsSaid (IsOver left) = left < 2 ^ 64
-IsSaid (IsUnder used) = used < 2 ^ 64
-IsSaid (HasLeft left) = left < 2 ^ 64
-IsSaid (HasSum sum) = sum < 2 ^ 64
-IsSaid _ = Unit {0}
+abbrev pub SaysNumber : Says → Type 0
+SaysNumber (IsUsed used) = used < 2 ^ 64
+SaysNumber (IsOver left) = left < 2 ^ 64
+SaysNumber (IsUnder used) = used < 2 ^ 64
+SaysNumber (HasLeft left) = left < 2 ^ 64
+SaysNumber (HasSum sum) = sum < 2 ^ 64
+SaysNumber _ = Unit {0}
 
 -- an account that is put: it has the name, and stands where one of the name stood, or where there is room
 pub record IsPut (full : Bool) (wanted : List ℕ) (found : Option Account) (account : Account) : Type 0 where
@@ -87,7 +88,7 @@ PutIf full name found (Some account) = IsPut full name found account
 
 pub record IsDecision (full : Bool) (wanted : List ℕ) (found : Option Account) (decision : Option Account × Says) : Type 0 where
   pub change : PutIf full wanted found decision.0
-  pub said : IsSaid decision.1
+  pub said : SaysNumber decision.1
 
 use-decision : (full : Bool) (name : List ℕ) (account : Account) (number : ℕ) (flag : Bool) → nat_le number (account.limit - account.used) ≡ flag → IsFound is_account name account → IsDecision full name (Some account) (if flag then (Some (record account { used = account.used + number }), IsUsed (account.used + number)) else (None, IsOver (account.limit - account.used)))
 use-decision full name account number true is found =
@@ -148,23 +149,15 @@ total_used-le (account ∷ accounts) all =
     let kept = IsAccount-from account w.0 in
     omega (arith, kept.limited, kept.within, total_used-le accounts w.1)
 
-pub record IsOutcome (most : ℕ) (outcome : List Account × Says) : Type 0 where
-  pub ledger : IsLedger most outcome.0
-  pub said : IsSaid outcome.1
-
-outcome_of-is : (most : ℕ) (accounts : List Account) (request : Option Request) → most < 2 ^ 16 → IsLedger most accounts → IsAsked request → IsOutcome most (outcome_of most accounts request)
-outcome_of-is most accounts (Some Sum) small ledger asked = record { ledger = ledger; said = omega (arith, total_used-le accounts ledger.good, ledger.few) }
+outcome_of-is : (most : ℕ) (accounts : List Account) (request : Option Request) → most < 2 ^ 16 → IsLedger most accounts → IsQuotaRequest request → IsOutcome (IsLedger most) SaysNumber (outcome_of most accounts request)
+outcome_of-is most accounts (Some Sum) small ledger asked = record { state = ledger; said = omega (arith, total_used-le accounts ledger.good, ledger.few) }
 outcome_of-is most accounts (Some (On name action)) small ledger asked =
     let d = decision_of-is (nat_le most (length accounts)) name (account_named name accounts) action asked.0 asked.1 (account_named-found is_account name accounts ledger.good) in
-    record { ledger = settled-ledger most accounts name _ d.change ledger; said = d.said }
-outcome_of-is most accounts None small ledger asked = record { ledger = ledger; said = tt }
+    record { state = settled-ledger most accounts name _ d.change ledger; said = d.said }
+outcome_of-is most accounts None small ledger asked = record { state = ledger; said = tt }
 
--- a text of at most 26 bytes, with no LF
-record IsText (text : List ℕ) : Type 0 where
-  short : length text ≤ 26
-  unbroken : is_unbroken text ≡ true
-
-text_of-IsText : (says : Says) → IsSaid says → IsText (text_of says)
+-- what is said has at most 26 bytes, with no LF
+text_of-IsText : (says : Says) → SaysNumber says → IsText 26 (text_of says)
 text_of-IsText IsOpened is = record { short = omega arith; unbroken = refl }
 text_of-IsText IsThere is = record { short = omega arith; unbroken = refl }
 text_of-IsText IsFull is = record { short = omega arith; unbroken = refl }
@@ -176,15 +169,15 @@ text_of-IsText (HasLeft left) is = record { short = omega (arith, length-decimal
 text_of-IsText (HasSum sum) is = record { short = omega (arith, length-decimal sum is); unbroken = is_unbroken-decimal sum is }
 text_of-IsText IsBad is = record { short = omega arith; unbroken = refl }
 
-pub stepped-IsOutcome : (most : ℕ) (state request : List ℕ) → most < 2 ^ 16 → is_state most state ≡ true → IsOutcome most (stepped most state request)
+pub stepped-IsOutcome : (most : ℕ) (state request : List ℕ) → most < 2 ^ 16 → is_state most state ≡ true → IsOutcome (IsLedger most) SaysNumber (stepped most state request)
 unfolding stepped
-stepped-IsOutcome most state request small is = outcome_of-is most _ _ small (is_state-Holds most state is).ledger (request_of-asked (words_of request))
+stepped-IsOutcome most state request small is = outcome_of-is most _ _ small (is_state-SpellsLedger most state is).ledger (request_of-IsQuotaRequest (words_of request))
 
-quota_says : (id most : ℕ) (state request : List ℕ) → most < 2 ^ 16 → is_state most state ≡ true → IsText ((quota id most).says state request)
+quota_says : (id most : ℕ) (state request : List ℕ) → most < 2 ^ 16 → is_state most state ≡ true → IsText 26 ((quota id most).says state request)
 quota_says id most state request small is = text_of-IsText _ (stepped-IsOutcome most state request small is).said
 
 quota_fits : (most : ℕ) (state : List ℕ) → is_state most state ≡ true → length state ≤ 2 + 49 * most
-quota_fits most state is = let h = is_state-Holds most state is in subst (λ (s : List ℕ). length s ≤ 2 + 49 * most) (sym h.spelled) (length-spelling_of most _ h.ledger)
+quota_fits most state is = let h = is_state-SpellsLedger most state is in subst (λ (s : List ℕ). length s ≤ 2 + 49 * most) (sym h.spelled) (length-spelling_of most _ h.ledger)
 
 empty_ledger : (most : ℕ) → IsLedger most []
 empty_ledger most = record { few = omega arith; good = refl; rising = refl }
@@ -197,10 +190,10 @@ empty_bytes = refl
 pub quota_is_lawful : (id most : ℕ) → most < 2 ^ 16 → 2 + 49 * most ≤ limit_of id → IsLawful (quota id most)
 quota_is_lawful id most small allowed = record {
   begins = search (rules, subst (λ bytes. is_state most bytes ≡ true) empty_bytes (is_state-spelling_of most [] small (empty_ledger most)));
-  goes_on = λ state request is. search (rules, is_state-spelling_of most (stepped most state request).0 small (stepped-IsOutcome most state request small (search (rules, is))).ledger);
+  goes_on = λ state request is. search (rules, is_state-spelling_of most (stepped most state request).0 small (stepped-IsOutcome most state request small (search (rules, is))).state);
   fits = λ state is. omega (arith, quota_fits most state (search (rules, is)), allowed);
   has_bytes = λ state is. All-are_bytes state (are_bytes-state most state (search (rules, is)));
-  says_lines = λ state request is. let text = quota_says id most state request small (search (rules, is)) in IsLine-from _ (omega (arith, text.short)) text.unbroken;
+  says_lines = λ state request is. IsLine-text 26 _ (omega arith) (quota_says id most state request small (search (rules, is)));
 }
 
 -- the small ledger is short

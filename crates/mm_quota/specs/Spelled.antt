@@ -1,7 +1,7 @@
 -- Bytes that spell a ledger.
 use Rattle.std.specs.Prelude.{◌≡◌, ℕ, ◌<◌, ◌≤◌, ◌^◌, ◌&&◌, Bool, true, false, List, [], length, take, drop, Option, Some, None}
 use Rattle.std.specs.List.{list_all}
-use Rattle.mm_quota.specs.Table.{Account, is_account, rises, body_of, spelling_of, count_in, ledger_of}
+use Rattle.mm_quota.specs.Table.{Account, is_account, rises, body_of, spelling_of, of_count_bytes, ledger_of}
 
 -- the bytes spell a ledger of some size
 pub record IsSpelled (bytes : List ℕ) : Type 0 where
@@ -10,7 +10,7 @@ pub record IsSpelled (bytes : List ℕ) : Type 0 where
   pub rising : rises [] (ledger_of bytes) ≡ true
   pub spelled : bytes ≡ spelling_of (ledger_of bytes)
   pub body : drop 2 bytes ≡ body_of (ledger_of bytes)
-  pub counted : count_in (take 2 bytes) ≡ length (ledger_of bytes)
+  pub counted : of_count_bytes (take 2 bytes) ≡ length (ledger_of bytes)
   pub headed : 2 ≤ length bytes
 
 -- accounts whose names rise from this one on

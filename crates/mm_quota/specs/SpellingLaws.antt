@@ -1,15 +1,19 @@
 -- Laws of the bytes of a ledger.
 use Rattle.std.specs.Prelude.{◌≡◌, ℕ, zero, suc, ◌+◌, ◌-◌, ◌*◌, ◌^◌, ◌<◌, ◌≤◌, ◌==◌, ◌&&◌, Bool, true, false, nat_le, List, [], ◌∷◌, ◌++◌, length, take, drop, Option, Some, None, option_map, option_and_then, if◌then◌else◌}
-use Rattle.std.proofs.Common.{unwrap_or, refl, sym, ◌∙◌, ap, arith, get_or, append_assoc, length-append}
+use Rattle.std.proofs.Common.{unwrap_or, refl, sym, ◌∙◌, ap, arith, append_assoc, length-append}
 use Rattle.std.specs.List.{list_all}
 use Rattle.std.proofs.Math.Seq.{take-append_seam, drop-append_seam}
 use Rattle.std.proofs.lemmas.Bool.Decides.{nat_tests}
 use Rattle.std.proofs.lemmas.List.{take-append-drop, length-take-le, length-drop}
 use Rattle.std.proofs.lemmas.List.Folds.{list_all-append}
-use Rattle.std.proofs.lemmas.Nat.{be_bytes_2, be_bytes_8, from_be_bytes-to_be_bytes_2, from_be_bytes-to_be_bytes_8}
+use Rattle.std.proofs.lemmas.Nat.{be_bytes_2, from_be_bytes-to_be_bytes_2}
+use Rattle.mm_base.specs.Fields.{eight_bytes}
 use Rattle.mm_module.specs.Bytes.{is_byte, are_bytes}
 use Rattle.mm_module.specs.LineLaws.{and-true, and-both, is_byte-rem}
-use Rattle.mm_quota.specs.Table.{Account, is_visible, is_name, is_account, is_ledger, rises, number_bytes, number_in, count_bytes, count_in, account_bytes, body_of, spelling_of, account_after, account_at, accounts_from, accounts_of, holds_ledger, is_state, ledger_of}
+use Rattle.mm_module.specs.Numbers.{of_eight_bytes}
+use Rattle.mm_module.specs.PartLaws.{take-front, drop-front, are_bytes-take, are_bytes-drop, are_bytes-append, are_bytes-visible, get_or-small, length-eight, are_bytes-eight, of_eight_bytes-eight, eight-of_eight_bytes}
+use Rattle.mm_module.specs.Visible.{is_visible}
+use Rattle.mm_quota.specs.Table.{Account, is_name, is_account, is_ledger, rises, count_bytes, of_count_bytes, account_bytes, body_of, spelling_of, account_after, account_at, accounts_from, accounts_of, holds_ledger, is_state, ledger_of}
 
 -- what a name and an account keep
 pub record IsName (name : List ℕ) : Type 0 where
@@ -47,56 +51,28 @@ pub is_account-named : (account : Account) → is_account account ≡ true → i
 unfolding is_account
 is_account-named account is = (and-true (is_name account.name) (nat_le account.limit (2 ^ 48)) (and-true (is_name account.name && nat_le account.limit (2 ^ 48)) (nat_le account.used account.limit) is).0).0
 
--- the front of a list, and what follows
-take-front : (n : ℕ) (front back : List ℕ) → length front ≡ n → take n (front ++ back) ≡ front
-take-front n front back is = rw (← is) (take-append_seam front back)
-
-drop-front : (n : ℕ) (front back : List ℕ) → length front ≡ n → drop n (front ++ back) ≡ back
-drop-front n front back is = rw (← is) (drop-append_seam front back)
-
 length-count_bytes : (n : ℕ) → length (count_bytes n) ≡ 2
 unfolding count_bytes
 length-count_bytes n = refl
-
-length-number_bytes : (n : ℕ) → length (number_bytes n) ≡ 8
-unfolding number_bytes
-length-number_bytes n = refl
 
 bytes-count_bytes : (n : ℕ) → are_bytes (count_bytes n) ≡ true
 unfolding count_bytes
 bytes-count_bytes n = simp is_byte-rem
 
-bytes-number_bytes : (n : ℕ) → are_bytes (number_bytes n) ≡ true
-unfolding number_bytes
-bytes-number_bytes n = simp is_byte-rem
+of_count_bytes-count_bytes : (n : ℕ) → n < 2 ^ 16 → of_count_bytes (count_bytes n) ≡ n
+unfolding of_count_bytes count_bytes
+of_count_bytes-count_bytes n small = from_be_bytes-to_be_bytes_2 n small
 
-count_in-count_bytes : (n : ℕ) → n < 2 ^ 16 → count_in (count_bytes n) ≡ n
-unfolding count_in count_bytes
-count_in-count_bytes n small = from_be_bytes-to_be_bytes_2 n small
-
-number_in-number_bytes : (n : ℕ) → n < 2 ^ 64 → number_in (number_bytes n) ≡ n
-unfolding number_in number_bytes
-number_in-number_bytes n small = from_be_bytes-to_be_bytes_8 n small
-
-get_or-small : (bytes : List ℕ) → are_bytes bytes ≡ true → (i : ℕ) → get_or bytes i 0 < 256
-get_or-small [] is i = omega arith
-get_or-small (x ∷ xs) is zero = let w = and-true (is_byte x) (are_bytes xs) is in grind (arith, nat_tests)
-get_or-small (x ∷ xs) is (suc i) = get_or-small xs (and-true (is_byte x) (are_bytes xs) is).1 i
-
-count_bytes-count_in : (bytes : List ℕ) → length bytes ≡ 2 → are_bytes bytes ≡ true → count_bytes (count_in bytes) ≡ bytes
-unfolding count_in count_bytes
-count_bytes-count_in bytes two is = be_bytes_2 bytes _ two (get_or-small bytes is) refl
-
-number_bytes-number_in : (bytes : List ℕ) → length bytes ≡ 8 → are_bytes bytes ≡ true → number_bytes (number_in bytes) ≡ bytes
-unfolding number_in number_bytes
-number_bytes-number_in bytes eight is = be_bytes_8 bytes _ eight (get_or-small bytes is) refl
+count_bytes-of_count_bytes : (bytes : List ℕ) → length bytes ≡ 2 → are_bytes bytes ≡ true → count_bytes (of_count_bytes bytes) ≡ bytes
+unfolding of_count_bytes count_bytes
+count_bytes-of_count_bytes bytes two is = be_bytes_2 bytes _ two (get_or-small bytes is) refl
 
 if-true : {A : Type 0} (flag : Bool) (x y : A) → flag ≡ true → (if flag then x else y) ≡ x
 if-true true x y is = refl
 if-true false x y is = cc
 
 -- an account from its parts
-account_after-parts : (name limit used more : List ℕ) → length limit ≡ 8 → length used ≡ 8 → account_after (length name) (name ++ (limit ++ (used ++ more))) ≡ Some (record { name = name; limit = number_in limit; used = number_in used }, more)
+account_after-parts : (name limit used more : List ℕ) → length limit ≡ 8 → length used ≡ 8 → account_after (length name) (name ++ (limit ++ (used ++ more))) ≡ Some (record { name = name; limit = of_eight_bytes limit; used = of_eight_bytes used }, more)
 unfolding account_after
 account_after-parts name limit used more limit_is used_is =
     let long : nat_le (length name + 16) (length (name ++ (limit ++ (used ++ more)))) ≡ true = let enough : length name + 16 ≤ length (name ++ (limit ++ (used ++ more))) = omega (arith, length-append name (limit ++ (used ++ more)), length-append limit (used ++ more), length-append used more) in grind (arith, nat_tests) in
@@ -112,24 +88,17 @@ pub account_at-account_bytes : (account : Account) (more : List ℕ) → is_acco
 unfolding account_bytes
 account_at-account_bytes account more is =
     let kept = IsAccount-from account is in
-    let grouped : (account.name ++ (number_bytes account.limit ++ number_bytes account.used)) ++ more ≡ account.name ++ (number_bytes account.limit ++ (number_bytes account.used ++ more)) = simp append_assoc in
-    let limit : number_in (number_bytes account.limit) ≡ account.limit = number_in-number_bytes account.limit (omega (arith, kept.limited)) in
-    let used : number_in (number_bytes account.used) ≡ account.used = number_in-number_bytes account.used (omega (arith, kept.limited, kept.within)) in
-    rw grouped (account_after-parts account.name (number_bytes account.limit) (number_bytes account.used) more (length-number_bytes account.limit) (length-number_bytes account.used) ∙ rw (limit, used) refl)
+    let grouped : (account.name ++ (eight_bytes account.limit ++ eight_bytes account.used)) ++ more ≡ account.name ++ (eight_bytes account.limit ++ (eight_bytes account.used ++ more)) = simp append_assoc in
+    let limit : of_eight_bytes (eight_bytes account.limit) ≡ account.limit = of_eight_bytes-eight account.limit (omega (arith, kept.limited)) in
+    let used : of_eight_bytes (eight_bytes account.used) ≡ account.used = of_eight_bytes-eight account.used (omega (arith, kept.limited, kept.within)) in
+    rw grouped (account_after-parts account.name (eight_bytes account.limit) (eight_bytes account.used) more (length-eight account.limit) (length-eight account.used) ∙ rw (limit, used) refl)
 
 -- bytes of which an account was read are its bytes, and the rest
 abbrev pub IsFront : List ℕ → Option (Account × List ℕ) → Type 0
 IsFront bytes None = Unit {0}
 IsFront bytes (Some front) = bytes ≡ account_bytes front.0 ++ front.1
 
--- the bytes of both parts are bytes
-pub are_bytes-take : (n : ℕ) (bytes : List ℕ) → are_bytes bytes ≡ true → are_bytes (take n bytes) ≡ true
-are_bytes-take n bytes is = (and-true _ _ (sym (list_all-append is_byte (take n bytes) (drop n bytes)) ∙ ap (λ (b : List ℕ). are_bytes b) (take-append-drop n bytes) ∙ is)).0
-
-pub are_bytes-drop : (n : ℕ) (bytes : List ℕ) → are_bytes bytes ≡ true → are_bytes (drop n bytes) ≡ true
-are_bytes-drop n bytes is = (and-true _ _ (sym (list_all-append is_byte (take n bytes) (drop n bytes)) ∙ ap (λ (b : List ℕ). are_bytes b) (take-append-drop n bytes) ∙ is)).1
-
-front-step : (count : ℕ) (bytes : List ℕ) (flag : Bool) → nat_le (count + 16) (length bytes) ≡ flag → are_bytes bytes ≡ true → IsFront (count ∷ bytes) (if flag then Some (record { name = take count bytes; limit = number_in (take 8 (drop count bytes)); used = number_in (take 8 (drop 8 (drop count bytes))) }, drop 8 (drop 8 (drop count bytes))) else None)
+front-step : (count : ℕ) (bytes : List ℕ) (flag : Bool) → nat_le (count + 16) (length bytes) ≡ flag → are_bytes bytes ≡ true → IsFront (count ∷ bytes) (if flag then Some (record { name = take count bytes; limit = of_eight_bytes (take 8 (drop count bytes)); used = of_eight_bytes (take 8 (drop 8 (drop count bytes))) }, drop 8 (drop 8 (drop count bytes))) else None)
 unfolding account_bytes
 front-step count bytes true is are =
     let long : count + 16 ≤ length bytes = grind (arith, nat_tests) in
@@ -140,8 +109,8 @@ front-step count bytes true is are =
     let b1 : are_bytes (drop count bytes) ≡ true = are_bytes-drop count bytes are in
     let b2 : are_bytes (drop 8 (drop count bytes)) ≡ true = are_bytes-drop 8 (drop count bytes) b1 in
     let counted : length (take count bytes) ≡ count = length-take-le count bytes (omega arith) in
-    let limit : number_bytes (number_in (take 8 (drop count bytes))) ≡ take 8 (drop count bytes) = number_bytes-number_in _ (length-take-le 8 (drop count bytes) (omega arith)) (are_bytes-take 8 (drop count bytes) b1) in
-    let used : number_bytes (number_in (take 8 (drop 8 (drop count bytes)))) ≡ take 8 (drop 8 (drop count bytes)) = number_bytes-number_in _ (length-take-le 8 (drop 8 (drop count bytes)) (omega arith)) (are_bytes-take 8 (drop 8 (drop count bytes)) b2) in
+    let limit : eight_bytes (of_eight_bytes (take 8 (drop count bytes))) ≡ take 8 (drop count bytes) = eight-of_eight_bytes _ (length-take-le 8 (drop count bytes) (omega arith)) (are_bytes-take 8 (drop count bytes) b1) in
+    let used : eight_bytes (of_eight_bytes (take 8 (drop 8 (drop count bytes)))) ≡ take 8 (drop 8 (drop count bytes)) = eight-of_eight_bytes _ (length-take-le 8 (drop 8 (drop count bytes)) (omega arith)) (are_bytes-take 8 (drop 8 (drop count bytes)) b2) in
     let whole : bytes ≡ (take count bytes ++ (take 8 (drop count bytes) ++ take 8 (drop 8 (drop count bytes)))) ++ drop 8 (drop 8 (drop count bytes)) = sym (simp (append_assoc, take-append-drop)) in
     rw (counted, limit, used) (ap (λ b. count ∷ b) whole)
 front-step count bytes false is are = tt
@@ -212,18 +181,18 @@ is_ledger-IsLedger most accounts is =
     and-both _ _ (and-both _ _ few is.good) is.rising
 
 -- a spelled ledger is that of its bytes
-pub record Holds (most : ℕ) (bytes : List ℕ) : Type 0 where
+pub record SpellsLedger (most : ℕ) (bytes : List ℕ) : Type 0 where
   pub ledger : IsLedger most (ledger_of bytes)
   pub spelled : bytes ≡ spelling_of (ledger_of bytes)
   pub body : drop 2 bytes ≡ body_of (ledger_of bytes)
-  pub counted : count_in (take 2 bytes) ≡ length (ledger_of bytes)
+  pub counted : of_count_bytes (take 2 bytes) ≡ length (ledger_of bytes)
   pub headed : 2 ≤ length bytes
 
-holds-step : (most : ℕ) (bytes : List ℕ) (accounts : Option (List Account)) → are_bytes bytes ≡ true → 2 ≤ length bytes → ReadsBody (count_in (take 2 bytes)) (drop 2 bytes) accounts → holds_ledger most accounts ≡ true → accounts_of bytes ≡ accounts → Holds most bytes
+holds-step : (most : ℕ) (bytes : List ℕ) (accounts : Option (List Account)) → are_bytes bytes ≡ true → 2 ≤ length bytes → ReadsBody (of_count_bytes (take 2 bytes)) (drop 2 bytes) accounts → holds_ledger most accounts ≡ true → accounts_of bytes ≡ accounts → SpellsLedger most bytes
 unfolding spelling_of ledger_of
 holds-step most bytes None is long reads holds read = cc
 holds-step most bytes (Some accounts) is long reads holds read =
-    let head : count_bytes (count_in (take 2 bytes)) ≡ take 2 bytes = count_bytes-count_in (take 2 bytes) (length-take-le 2 bytes long) (are_bytes-take 2 bytes is) in
+    let head : count_bytes (of_count_bytes (take 2 bytes)) ≡ take 2 bytes = count_bytes-of_count_bytes (take 2 bytes) (length-take-le 2 bytes long) (are_bytes-take 2 bytes is) in
     record {
       ledger = rw read (IsLedger-from most accounts holds);
       spelled = rw read (sym (rw (reads.counted, head, ← reads.whole) (take-append-drop 2 bytes)));
@@ -232,13 +201,13 @@ holds-step most bytes (Some accounts) is long reads holds read =
       headed = long;
     }
 
-flag-holds : (most : ℕ) (bytes : List ℕ) (flag : Bool) → nat_le 2 (length bytes) ≡ flag → are_bytes bytes ≡ true → holds_ledger most (if flag then accounts_from (count_in (take 2 bytes)) (drop 2 bytes) else None) ≡ true → accounts_of bytes ≡ (if flag then accounts_from (count_in (take 2 bytes)) (drop 2 bytes) else None) → Holds most bytes
-flag-holds most bytes true flag_is is holds read = holds-step most bytes _ is (grind (arith, nat_tests)) (accounts_from-reads (count_in (take 2 bytes)) (drop 2 bytes) (are_bytes-drop 2 bytes is)) holds read
+flag-holds : (most : ℕ) (bytes : List ℕ) (flag : Bool) → nat_le 2 (length bytes) ≡ flag → are_bytes bytes ≡ true → holds_ledger most (if flag then accounts_from (of_count_bytes (take 2 bytes)) (drop 2 bytes) else None) ≡ true → accounts_of bytes ≡ (if flag then accounts_from (of_count_bytes (take 2 bytes)) (drop 2 bytes) else None) → SpellsLedger most bytes
+flag-holds most bytes true flag_is is holds read = holds-step most bytes _ is (grind (arith, nat_tests)) (accounts_from-reads (of_count_bytes (take 2 bytes)) (drop 2 bytes) (are_bytes-drop 2 bytes is)) holds read
 flag-holds most bytes false flag_is is holds read = cc
 
-pub is_state-Holds : (most : ℕ) (bytes : List ℕ) → is_state most bytes ≡ true → Holds most bytes
+pub is_state-SpellsLedger : (most : ℕ) (bytes : List ℕ) → is_state most bytes ≡ true → SpellsLedger most bytes
 unfolding is_state accounts_of
-is_state-Holds most bytes is =
+is_state-SpellsLedger most bytes is =
     let w = and-true (are_bytes bytes) (holds_ledger most (accounts_of bytes)) is in
     flag-holds most bytes (nat_le 2 (length bytes)) refl w.0 w.1 refl
 
@@ -247,22 +216,12 @@ unfolding is_state
 are_bytes-state most bytes is = (and-true (are_bytes bytes) (holds_ledger most (accounts_of bytes)) is).0
 
 -- the bytes of a ledger are bytes
-visible-bytes : (bytes : List ℕ) → list_all is_visible bytes ≡ true → are_bytes bytes ≡ true
-visible-bytes [] is = refl
-visible-bytes (x ∷ xs) is =
-    let w = and-true (is_visible x) (list_all is_visible xs) is in
-    let v = and-true (nat_le 33 x) (nat_le x 126) w.0 in
-    and-both (is_byte x) (are_bytes xs) (grind (arith, nat_tests)) (visible-bytes xs w.1)
-
-are_bytes-append : (xs ys : List ℕ) → are_bytes xs ≡ true → are_bytes ys ≡ true → are_bytes (xs ++ ys) ≡ true
-are_bytes-append xs ys is_xs is_ys = list_all-append is_byte xs ys ∙ and-both _ _ is_xs is_ys
-
 are_bytes-account_bytes : (account : Account) → is_account account ≡ true → are_bytes (account_bytes account) ≡ true
 unfolding account_bytes
 are_bytes-account_bytes account is =
     let kept = IsAccount-from account is in
     let count : is_byte (length account.name) ≡ true = let small : length account.name ≤ 32 = kept.named.short in grind (arith, nat_tests) in
-    and-both _ _ count (are_bytes-append account.name _ (visible-bytes account.name kept.named.visible) (are_bytes-append (number_bytes account.limit) (number_bytes account.used) (bytes-number_bytes account.limit) (bytes-number_bytes account.used)))
+    and-both _ _ count (are_bytes-append account.name _ (are_bytes-visible account.name kept.named.visible) (are_bytes-append (eight_bytes account.limit) (eight_bytes account.used) (are_bytes-eight account.limit) (are_bytes-eight account.used)))
 
 are_bytes-body_of : (accounts : List Account) → list_all is_account accounts ≡ true → are_bytes (body_of accounts) ≡ true
 are_bytes-body_of [] all = refl
@@ -273,7 +232,7 @@ are_bytes-body_of (account ∷ accounts) all =
 -- an account has at most 49 bytes
 pub length-account_bytes : (account : Account) → length (account_bytes account) ≡ length account.name + 17
 unfolding account_bytes
-length-account_bytes account = omega (arith, length-append account.name (number_bytes account.limit ++ number_bytes account.used), length-append (number_bytes account.limit) (number_bytes account.used), length-number_bytes account.limit, length-number_bytes account.used)
+length-account_bytes account = omega (arith, length-append account.name (eight_bytes account.limit ++ eight_bytes account.used), length-append (eight_bytes account.limit) (eight_bytes account.used), length-eight account.limit, length-eight account.used)
 
 length-body_of : (accounts : List Account) → list_all is_account accounts ≡ true → length (body_of accounts) ≤ 49 * length accounts
 length-body_of [] all = omega arith
@@ -294,7 +253,7 @@ accounts_of-spelling_of accounts few all =
     let long : nat_le 2 (length (count_bytes (length accounts) ++ body_of accounts)) ≡ true = let enough : 2 ≤ length (count_bytes (length accounts) ++ body_of accounts) = omega (arith, length-append (count_bytes (length accounts)) (body_of accounts), length-count_bytes (length accounts)) in grind (arith, nat_tests) in
     let head : take 2 (count_bytes (length accounts) ++ body_of accounts) ≡ count_bytes (length accounts) = take-front 2 (count_bytes (length accounts)) (body_of accounts) (length-count_bytes (length accounts)) in
     let tail : drop 2 (count_bytes (length accounts) ++ body_of accounts) ≡ body_of accounts = drop-front 2 (count_bytes (length accounts)) (body_of accounts) (length-count_bytes (length accounts)) in
-    let counted : count_in (count_bytes (length accounts)) ≡ length accounts = count_in-count_bytes (length accounts) few in
+    let counted : of_count_bytes (count_bytes (length accounts)) ≡ length accounts = of_count_bytes-count_bytes (length accounts) few in
     rw (long, head, tail, counted) (accounts_from-body_of accounts all)
 
 pub ledger_of-spelling_of : (most : ℕ) (accounts : List Account) → most < 2 ^ 16 → IsLedger most accounts → ledger_of (spelling_of accounts) ≡ accounts

@@ -3,12 +3,15 @@ use Rattle.std.specs.Prelude.{ℕ, zero, suc, ◌+◌, ◌-◌, ◌^◌, ◌==�
 use Rattle.std.specs.declared.cmp.Ordering.{Ordering}
 use Rattle.std.specs.Cmp.Lexicographic.{slice_cmp}
 use Rattle.std.specs.Fmt.{decimal}
-use Rattle.std.specs.Int.{w16, w64, to_be_bytes, from_be_bytes}
+use Rattle.std.specs.Int.{w16, to_be_bytes, from_be_bytes}
 use Rattle.std.specs.List.{list_all}
 use Rattle.std.specs.Ordering.{nat_cmp, is_lt, match_ordering}
 use Rattle.std.specs.Str.{bytes_eq}
 use Rattle.mm_base.specs.Decimals.{number_of}
+use Rattle.mm_base.specs.Fields.{eight_bytes}
 use Rattle.mm_module.specs.Bytes.{are_bytes}
+use Rattle.mm_module.specs.Numbers.{of_eight_bytes}
+use Rattle.mm_module.specs.Visible.{is_visible}
 use Rattle.mm_module.specs.Words.{words_of}
 use Rattle.mm_module.specs.Meaning.{Meaning}
 
@@ -104,10 +107,6 @@ text_of (HasLeft left) = codes "left " ++ decimal left
 text_of (HasSum sum) = codes "sum " ++ decimal sum
 text_of IsBad = codes "bad"
 
--- a visible byte of ASCII
-abbrev pub is_visible : ℕ → Bool
-is_visible byte = nat_le 33 byte && nat_le byte 126
-
 -- a name: 1 to 32 visible bytes
 unfoldable pub is_name : List ℕ → Bool
 is_name bytes = nat_le 1 (length bytes) && nat_le (length bytes) 32 && list_all is_visible bytes
@@ -143,23 +142,17 @@ rises name (account ∷ accounts) = is_lt (order_of name account.name) && rises 
 unfoldable pub is_ledger : ℕ → List Account → Bool
 is_ledger most accounts = nat_le (length accounts) most && list_all is_account accounts && rises [] accounts
 
--- a number in 8 bytes, and a count in 2 bytes, the greatest first
-unfoldable pub number_bytes : ℕ → List ℕ
-number_bytes number = to_be_bytes w64 number
-
+-- a count in 2 bytes, the greatest first
 unfoldable pub count_bytes : ℕ → List ℕ
 count_bytes count = to_be_bytes w16 count
 
--- the number that 8 bytes spell, and the count that 2 bytes spell
-unfoldable pub number_in : List ℕ → ℕ
-number_in bytes = from_be_bytes w64 bytes
-
-unfoldable pub count_in : List ℕ → ℕ
-count_in bytes = from_be_bytes w16 bytes
+-- the count that 2 bytes spell
+unfoldable pub of_count_bytes : List ℕ → ℕ
+of_count_bytes bytes = from_be_bytes w16 bytes
 
 -- the bytes of an account: the length of its name, the name, the limit and what is used
 unfoldable pub account_bytes : Account → List ℕ
-account_bytes account = length account.name ∷ (account.name ++ (number_bytes account.limit ++ number_bytes account.used))
+account_bytes account = length account.name ∷ (account.name ++ (eight_bytes account.limit ++ eight_bytes account.used))
 
 -- the bytes of accounts in a row
 abbrev pub body_of : List Account → List ℕ
@@ -173,7 +166,7 @@ spelling_of accounts = count_bytes (length accounts) ++ body_of accounts
 -- the account that begins with a name of this length, and the bytes after it
 unfoldable pub account_after : ℕ → List ℕ → Option (Account × List ℕ)
 account_after count bytes =
-    if nat_le (count + 16) (length bytes) then Some (record { name = take count bytes; limit = number_in (take 8 (drop count bytes)); used = number_in (take 8 (drop 8 (drop count bytes))) }, drop 8 (drop 8 (drop count bytes)))
+    if nat_le (count + 16) (length bytes) then Some (record { name = take count bytes; limit = of_eight_bytes (take 8 (drop count bytes)); used = of_eight_bytes (take 8 (drop 8 (drop count bytes))) }, drop 8 (drop 8 (drop count bytes)))
     else None
 
 -- the account at the front of these bytes, and the bytes after it
@@ -188,7 +181,7 @@ accounts_from (suc count) bytes = option_and_then (λ (front : Account × List �
 
 -- the accounts that these bytes spell
 unfoldable pub accounts_of : List ℕ → Option (List Account)
-accounts_of bytes = if nat_le 2 (length bytes) then accounts_from (count_in (take 2 bytes)) (drop 2 bytes) else None
+accounts_of bytes = if nat_le 2 (length bytes) then accounts_from (of_count_bytes (take 2 bytes)) (drop 2 bytes) else None
 
 -- these are the accounts of a ledger
 abbrev pub holds_ledger : ℕ → Option (List Account) → Bool

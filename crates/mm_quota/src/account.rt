@@ -1,11 +1,11 @@
 //! An account as it stands in a state.
 
 ghost use Rattle.std.specs.Prelude.{◌≡◌, ◌++◌, ◌≤◌, ℕ, length, option_map, OnOk};
-ghost use Rattle.std.specs.List.{list_all};
-ghost use Rattle.mm_quota.specs.Table.{is_visible, is_name, is_account, account_bytes, account_at, number_in, number_bytes};
+ghost use Rattle.mm_quota.specs.Table.{is_name, is_account, account_bytes, account_at};
 ghost use Rattle.mm_quota.specs.Views.{as_account, as_front};
 
-use mm_base::{Bytes, Memory};
+use mm_base::{Bytes, Memory, bytes_of_u64};
+use mm_module::{are_visible, u64_of_bytes};
 
 /// An account: a name of 1 to 32 bytes from 0x21 to 0x7e, a limit of at most 2^48, and what is used of it.
 #[derive(Clone, Copy, Debug)]
@@ -23,25 +23,12 @@ pub fn name_is_formed(bytes: &[u8]) -> bool
     1 <= bytes.len() && bytes.len() <= 32 && are_visible(bytes)
 }
 
-fn are_visible(bytes: &[u8]) -> bool
-    ensures { result ≡ list_all is_visible bytes.now }
-{
-    bytes.iter().all(|byte| 33 <= *byte && *byte <= 126)
-}
-
 /// Whether an account may stand in a ledger.
 #[tactic(auto, unfolding(crate::specs::Table::is_account))]
 pub fn account_is_formed(account: &Account<'_>) -> bool
     ensures { result ≡ is_account (as_account account.now) }
 {
     name_is_formed(account.name) && account.limit <= 1 << 48 && account.used <= account.limit
-}
-
-#[tactic(auto, unfolding(crate::specs::Table::number_in))]
-fn number_at(bytes: &[u8; 8]) -> u64
-    ensures { result ≡ number_in bytes.now }
-{
-    u64::from_be_bytes(*bytes)
 }
 
 /// The account at the front of these bytes, and the bytes behind it.
@@ -59,17 +46,10 @@ pub fn split_account(bytes: &[u8]) -> Option<(Account<'_>, &[u8])>
     let (used, bytes) = bytes.split_first_chunk::<8>()?;
     let account = Account {
         name,
-        limit: number_at(limit),
-        used: number_at(used),
+        limit: u64_of_bytes(limit),
+        used: u64_of_bytes(used),
     };
     Some((account, bytes))
-}
-
-#[tactic(auto, unfolding(crate::specs::Table::number_bytes))]
-fn put_number(into: &mut Bytes, number: u64) -> Result<(), Memory>
-    ensures { OnOk result (into.new ≡ into.old ++ number_bytes number) }
-{
-    into.append(&number.to_be_bytes())
 }
 
 /// Puts an account at the end.
@@ -80,6 +60,6 @@ pub fn put_account(into: &mut Bytes, account: &Account<'_>) -> Result<(), Memory
 {
     into.push(account.name.len() as u8)?;
     into.append(account.name)?;
-    put_number(into, account.limit)?;
-    put_number(into, account.used)
+    into.append(&bytes_of_u64(account.limit))?;
+    into.append(&bytes_of_u64(account.used))
 }

@@ -2,7 +2,7 @@
 
 ghost use Rattle.std.specs.Prelude.{◌≡◌, ◌≤◌, ◌-◌, [], length, take, drop};
 ghost use Rattle.std.specs.Ordering.{is_lt};
-ghost use Rattle.mm_quota.specs.Table.{order_of, total_used, ledger_of, is_state, accounts_from, count_in};
+ghost use Rattle.mm_quota.specs.Table.{order_of, total_used, ledger_of, is_state, accounts_from, of_count_bytes};
 ghost use Rattle.mm_quota.specs.Spelled.{IsSpelled, follow};
 
 use crate::account::{Account, account_is_formed, split_account};
@@ -18,9 +18,9 @@ pub struct Place<'a> {
 }
 
 /// The number of accounts that stands at the front of a state.
-#[tactic(auto, unfolding(crate::specs::Table::count_in))]
+#[tactic(auto, unfolding(crate::specs::Table::of_count_bytes))]
 fn count_at(bytes: &[u8; 2]) -> u16
-    ensures { result ≡ count_in bytes.now }
+    ensures { result ≡ of_count_bytes bytes.now }
 {
     u16::from_be_bytes(*bytes)
 }
@@ -68,7 +68,7 @@ pub fn state_is_spelled(most: u16, state: &[u8]) -> bool
 /// The number of accounts of a state, and their bytes.
 pub fn parts(state: &[u8]) -> (u16, &[u8])
     requires { 2 ≤ length state.now }
-    ensures count { result.0 ≡ count_in (take 2 state.now) }
+    ensures count { result.0 ≡ of_count_bytes (take 2 state.now) }
     ensures body { result.1.now ≡ drop 2 state.now }
 {
     match state.split_first_chunk::<2>() {
@@ -110,12 +110,12 @@ impl<'a> Place<'a> {
     ghost use Rattle.std.specs.Prelude.{◌≡◌};
     ghost use Rattle.mm_quota.specs.Table.{ledger_of};
     ghost use Rattle.mm_quota.specs.Spelled.{IsSpelled};
-    ghost use Rattle.mm_quota.specs.Places.{IsPlace};
+    ghost use Rattle.mm_quota.specs.Places.{IsAccountPlace};
 
     /// The place of a name in a state.
     pub fn of(state: &'a [u8], name: &[u8]) -> Place<'a>
         requires { IsSpelled state.now }
-        ensures { IsPlace name.now (ledger_of state.now) result }
+        ensures { IsAccountPlace name.now (ledger_of state.now) result }
     {
         let (count, body) = parts(state);
         let mut rest = body;

@@ -1,15 +1,14 @@
 //! Requests to a ledger, and what it says.
 
-ghost use Rattle.std.specs.Prelude.{◌≡◌, ◌≤◌, ◌^◌, ◌++◌, IfOk, option_map};
-ghost use Rattle.std.specs.Fmt.{decimal};
+ghost use Rattle.std.specs.Prelude.{◌≡◌, ◌≤◌, ◌^◌, IfOk, option_map};
 ghost use Rattle.std.specs.Option.{ForSome};
 ghost use Rattle.mm_module.specs.Words.{words_of};
 ghost use Rattle.mm_quota.specs.Table.{action_of, request_of, decision_of, text_of, IsUsed};
 ghost use Rattle.mm_quota.specs.Views.{as_account, as_action, as_request, as_says};
 
 use crate::account::{Account, name_is_formed};
-use mm_base::{Bytes, Memory, put_decimal, read_decimal};
-use mm_module::Words;
+use mm_base::{Bytes, Memory, read_decimal};
+use mm_module::{Words, text_and_number};
 use std::alloc::Global;
 
 /// What a request does with the account that it names.
@@ -137,15 +136,6 @@ fn used(account: Account<'_>, amount: u64) -> (Option<Account<'_>>, Says)
     (Some(account), Says::Used(amount))
 }
 
-/// A word and a number.
-fn counted(alloc: Global, word: &[u8], number: u64) -> Result<Bytes, Memory>
-    ensures { IfOk result (λ text. text ≡ word.now ++ decimal number) }
-{
-    let mut text = Bytes::copy_of(alloc, word)?;
-    put_decimal(&mut text, number)?;
-    Ok(text)
-}
-
 /// The text of what is said.
 pub fn text(alloc: Global, says: Says) -> Result<Bytes, Memory>
     ensures { IfOk result (λ text. text ≡ text_of (as_says says)) }
@@ -155,11 +145,11 @@ pub fn text(alloc: Global, says: Says) -> Result<Bytes, Memory>
         Says::Exists => Bytes::copy_of(alloc, b"exists"),
         Says::Full => Bytes::copy_of(alloc, b"full"),
         Says::None => Bytes::copy_of(alloc, b"none"),
-        Says::Used(used) => counted(alloc, b"used ", used),
-        Says::Over(left) => counted(alloc, b"over ", left),
-        Says::Under(used) => counted(alloc, b"under ", used),
-        Says::Left(left) => counted(alloc, b"left ", left),
-        Says::Sum(sum) => counted(alloc, b"sum ", sum),
+        Says::Used(used) => text_and_number(alloc, b"used ", used),
+        Says::Over(left) => text_and_number(alloc, b"over ", left),
+        Says::Under(used) => text_and_number(alloc, b"under ", used),
+        Says::Left(left) => text_and_number(alloc, b"left ", left),
+        Says::Sum(sum) => text_and_number(alloc, b"sum ", sum),
         Says::Bad => Bytes::copy_of(alloc, b"bad"),
     }
 }

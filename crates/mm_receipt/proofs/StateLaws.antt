@@ -5,7 +5,7 @@ use Rattle.mm_module.specs.Bytes.{are_bytes}
 use Rattle.mm_module.specs.Meaning.{Meaning}
 use Rattle.mm_receipt.specs.Receipts.{parts_by, parts_of}
 use Rattle.mm_receipt.specs.Table.{Kept, is_front, kept_of, is_state}
-use Rattle.mm_receipt.specs.ReceiptedLaws.{IsSpelled, IsSpelled-from, kept_of-IsKept}
+use Rattle.mm_receipt.specs.ReceiptedLaws.{SpellsKept, SpellsKept-from, kept_of-IsKept, is-true}
 
 drop-past : (n : ℕ) (xs : List ℕ) → length xs ≤ n → drop n xs ≡ []
 drop-past zero [] short = refl
@@ -29,11 +29,8 @@ unfolding is_state
 spelled-else inner bytes all front =
     ap (λ b. b && (is_front bytes && inner.is_spelled (kept_of bytes).inner)) all ∙ ap (λ b. b && inner.is_spelled (kept_of bytes).inner) front
 
-is-true : (b : Bool) → IsTrue b → b ≡ true
-is-true b is = search (rules, is)
-
-spelled-at : (inner : Meaning) (bytes : List ℕ) → IsTrue (is_state inner bytes) → IsSpelled inner bytes
-spelled-at inner bytes is = IsSpelled-from inner bytes (is-true (is_state inner bytes) is)
+spelled-at : (inner : Meaning) (bytes : List ℕ) → IsTrue (is_state inner bytes) → SpellsKept inner bytes
+spelled-at inner bytes is = SpellsKept-from inner bytes (is-true (is_state inner bytes) is)
 
 -- a spelled state has its front
 pub long-at : (inner : Meaning) (bytes : List ℕ) → IsTrue (is_state inner bytes) → 41 ≤ length bytes

@@ -1,109 +1,59 @@
 -- The laws of a module that gives receipts, from those of the module inside.
-use Rattle.std.specs.Prelude.{◌≡◌, ◌≢◌, ℕ, zero, suc, ◌+◌, ◌%◌, ◌^◌, ◌<◌, ◌≤◌, ◌==◌, ◌&&◌, Bool, true, false, not, nat_le, nat_lt, List, [], ◌∷◌, ◌++◌, length, take, drop, Option, Some, None, Result, Ok, Err, if◌then◌else◌, codes, All, IsTrue, slice_index}
-use Rattle.std.proofs.Common.{refl, sym, ◌∙◌, ap, arith, rules, length-append}
-use Rattle.std.specs.List.{list_all}
-use Rattle.std.specs.Result.{result_ok}
+use Rattle.std.specs.Prelude.{◌≡◌, ◌≢◌, ℕ, ◌+◌, ◌%◌, ◌^◌, ◌≤◌, ◌==◌, ◌&&◌, Bool, true, false, not, nat_le, nat_lt, List, [], ◌∷◌, ◌++◌, length, take, drop, Option, Some, None, if◌then◌else◌, codes, All, IsTrue}
+use Rattle.std.proofs.Common.{refl, ◌∙◌, ap, arith, rules, length-append}
 use Rattle.std.specs.Str.{bytes_eq}
-use Rattle.std.proofs.Math.Seq.{take-append_seam, drop-append_seam}
 use Rattle.std.proofs.lemmas.Bool.Decides.{nat_tests}
 use Rattle.std.proofs.lemmas.List.{length-take-le, length-drop}
-use Rattle.std.proofs.lemmas.List.Elements.{All-append}
 use Rattle.std.proofs.lemmas.List.Folds.{list_all-append}
-use Rattle.std.proofs.lemmas.Nat.{from_be_bytes-to_be_bytes_8}
-use Rattle.hex.specs.Hex.{decode_sized, decode_of, encode_with, encode_lower, lower_digits, IsBytes}
-use Rattle.hex.specs.declared.error.FromHexError.{FromHexError}
-use Rattle.hex.proofs.HexLemmas.{decode_sized-ok, decode_sized-twice, decode_of-ok, length-encode_with}
+use Rattle.hex.specs.Hex.{lower_digits}
+use Rattle.hex.proofs.HexLemmas.{length-encode_with}
 use Rattle.mm_base.specs.Fields.{eight_bytes}
 use Rattle.mm_digest.specs.Hmac.{hmac_of}
 use Rattle.mm_digest.proofs.Lengths.{length-hmac_of}
 use Rattle.mm_module.specs.Bytes.{is_byte, are_bytes}
-use Rattle.mm_module.specs.LineLaws.{is_unbroken, and-true, and-both, is_byte-rem, All-are_bytes, All-is_unbroken}
+use Rattle.mm_module.specs.LineLaws.{is_unbroken, and-true, and-both, All-are_bytes, IsText, IsLine-text, is_unbroken-All}
 use Rattle.mm_module.specs.Meaning.{Meaning, IsLawful, IsShort}
+use Rattle.mm_module.specs.Numbers.{of_eight_bytes}
+use Rattle.mm_module.specs.PartLaws.{take-front, drop-front, are_bytes-take, are_bytes-drop, are_bytes-append, are_bytes-All, length-eight, are_bytes-eight, of_eight_bytes-eight}
+use Rattle.mm_module.specs.ValueLaws.{IsValue, MayBeValue, value_at-value, is_unbroken-encoded}
 use Rattle.mm_module.specs.Values.{value_at}
 use Rattle.mm_module.specs.Words.{words_of}
 use Rattle.mm_receipt.specs.Receipts.{receipt_message, digits_of, receipt_of}
-use Rattle.mm_receipt.specs.Table.{Kept, key_of_words, keyed_text, taken, outcome_of, first_kept, key_bytes, spelling_of, count_in, is_keyed, is_front, kept_by, kept_of, is_state, receipted}
-
--- a key
-pub record IsKey (key : List ℕ) : Type 0 where
-  pub long : length key ≡ 32
-  pub bytes : are_bytes key ≡ true
-
-abbrev pub MayBeKey : Option (List ℕ) → Type 0
-MayBeKey None = Unit {0}
-MayBeKey (Some key) = IsKey key
+use Rattle.mm_receipt.specs.Table.{Kept, key_of_words, keyed_text, taken, outcome_of, first_kept, key_bytes, spelling_of, is_keyed, is_front, kept_by, kept_of, is_state, receipted}
 
 -- what is kept has its form, but for the state inside
 pub record IsKept (kept : Kept) : Type 0 where
   pub few : kept.count ≤ 2 ^ 48
-  pub keyed : MayBeKey kept.key
+  pub keyed : MayBeValue kept.key
 
-bytes-below : (bytes : List ℕ) → IsBytes bytes → are_bytes bytes ≡ true
-bytes-below [] below = refl
-bytes-below (x ∷ xs) below =
-    let small : x < 256 = below 0 in
-    let is : is_byte x ≡ true = grind (arith, nat_tests) in
-    and-both (is_byte x) (are_bytes xs) is (bytes-below xs (λ i. below (suc i)))
-
-decoded-key : (word : List ℕ) (decoded : Result (List ℕ) FromHexError) → decode_sized word 32 ≡ decoded → MayBeKey (result_ok decoded)
-decoded-key word (Ok bytes) is =
-    let double = decode_sized-ok word 32 bytes is in
-    let whole : decode_of word ≡ Ok bytes = sym (decode_sized-twice word 32 double) ∙ is in
-    let read = decode_of-ok word bytes whole in
-    record { long = omega (arith, read.2, double); bytes = bytes-below bytes read.3 }
-decoded-key word (Err fault) is = tt
-
-value-key : (word : List ℕ) → MayBeKey (value_at word)
-unfolding value_at
-value-key word = decoded-key word (decode_sized word 32) refl
-
-named-key : (named : Bool) (digits : List ℕ) → MayBeKey (if named then value_at digits else None)
-named-key true digits = value-key digits
+named-key : (named : Bool) (digits : List ℕ) → MayBeValue (if named then value_at digits else None)
+named-key true digits = value_at-value digits
 named-key false digits = tt
 
-key_of_words-key : (words : List (List ℕ)) → MayBeKey (key_of_words words)
+key_of_words-key : (words : List (List ℕ)) → MayBeValue (key_of_words words)
 key_of_words-key [] = tt
 key_of_words-key (word ∷ []) = tt
 key_of_words-key (word ∷ digits ∷ []) = named-key (bytes_eq word (codes "key")) digits
 key_of_words-key (word ∷ digits ∷ other ∷ more) = tt
 
-counted : (count : ℕ) → count ≤ 2 ^ 48 → (count == 2 ^ 48) ≡ false → count + 1 ≤ 2 ^ 48
-counted count few other = grind (arith, nat_tests)
+one_more : (count : ℕ) → count ≤ 2 ^ 48 → (count == 2 ^ 48) ≡ false → count + 1 ≤ 2 ^ 48
+one_more count few other = grind (arith, nat_tests)
 
-taken-IsKept : (inner : Meaning) (kept : Kept) (request : List ℕ) (key : Option (List ℕ)) → kept.count + 1 ≤ 2 ^ 48 → MayBeKey key → IsKept (taken inner kept request key).0
+taken-IsKept : (inner : Meaning) (kept : Kept) (request : List ℕ) (key : Option (List ℕ)) → kept.count + 1 ≤ 2 ^ 48 → MayBeValue key → IsKept (taken inner kept request key).0
 taken-IsKept inner kept request None few keyed = record { few = few; keyed = key_of_words-key (words_of request) }
 taken-IsKept inner kept request (Some key) few keyed = record { few = few; keyed = keyed }
 
 full-IsKept : (inner : Meaning) (kept : Kept) (request : List ℕ) (full : Bool) → (kept.count == 2 ^ 48) ≡ full → IsKept kept
     → IsKept (if full then (kept, codes "full") else taken inner kept request kept.key).0
 full-IsKept inner kept request true is good = good
-full-IsKept inner kept request false is good = taken-IsKept inner kept request kept.key (counted kept.count good.few is) good.keyed
+full-IsKept inner kept request false is good = taken-IsKept inner kept request kept.key (one_more kept.count good.few is) good.keyed
 
 -- what is kept after a request has its form too
 pub outcome_of-IsKept : (inner : Meaning) (kept : Kept) (request : List ℕ) → IsKept kept → IsKept (outcome_of inner kept request).0
 outcome_of-IsKept inner kept request good = full-IsKept inner kept request (kept.count == 2 ^ 48) refl good
 
--- the front of a list, and what follows
-take-front : (n : ℕ) (front back : List ℕ) → length front ≡ n → take n (front ++ back) ≡ front
-take-front n front back is = rw (← is) (take-append_seam front back)
-
-drop-front : (n : ℕ) (front back : List ℕ) → length front ≡ n → drop n (front ++ back) ≡ back
-drop-front n front back is = rw (← is) (drop-append_seam front back)
-
-length-eight : (count : ℕ) → length (eight_bytes count) ≡ 8
-unfolding eight_bytes
-length-eight count = refl
-
-bytes-eight : (count : ℕ) → are_bytes (eight_bytes count) ≡ true
-unfolding eight_bytes
-bytes-eight count = simp is_byte-rem
-
-count_in-eight : (count : ℕ) → count < 2 ^ 64 → count_in (eight_bytes count) ≡ count
-unfolding count_in eight_bytes
-count_in-eight count small = from_be_bytes-to_be_bytes_8 count small
-
 -- a key and a state inside are read back
-kept_by-joined : (count : ℕ) (key : Option (List ℕ)) (inner : List ℕ) → MayBeKey key → kept_by count (key_bytes key ++ inner) ≡ record { count = count; key = key; inner = inner }
+kept_by-joined : (count : ℕ) (key : Option (List ℕ)) (inner : List ℕ) → MayBeValue key → kept_by count (key_bytes key ++ inner) ≡ record { count = count; key = key; inner = inner }
 kept_by-joined count None inner is = refl
 kept_by-joined count (Some key) inner is = rw (take-front 32 key inner is.long, drop-front 32 key inner is.long) refl
 
@@ -114,20 +64,20 @@ kept_of-spelling_of kept good =
     let behind = key_bytes kept.key ++ kept.inner in
     let front = take-front 8 (eight_bytes kept.count) behind (length-eight kept.count) in
     let back = drop-front 8 (eight_bytes kept.count) behind (length-eight kept.count) in
-    ap (λ (l : List ℕ). kept_by (count_in l) (drop 8 (eight_bytes kept.count ++ behind))) front
-    ∙ ap (λ (l : List ℕ). kept_by (count_in (eight_bytes kept.count)) l) back
-    ∙ ap (λ n. kept_by n behind) (count_in-eight kept.count (omega (arith, good.few)))
+    ap (λ (l : List ℕ). kept_by (of_eight_bytes l) (drop 8 (eight_bytes kept.count ++ behind))) front
+    ∙ ap (λ (l : List ℕ). kept_by (of_eight_bytes (eight_bytes kept.count)) l) back
+    ∙ ap (λ n. kept_by n behind) (of_eight_bytes-eight kept.count (omega (arith, good.few)))
     ∙ kept_by-joined kept.count kept.key kept.inner good.keyed
 
-is_keyed-joined : (key : Option (List ℕ)) (inner : List ℕ) → MayBeKey key → is_keyed (key_bytes key ++ inner) ≡ true
+is_keyed-joined : (key : Option (List ℕ)) (inner : List ℕ) → MayBeValue key → is_keyed (key_bytes key ++ inner) ≡ true
 is_keyed-joined None inner is = refl
 is_keyed-joined (Some key) inner is = refl
 
-length-key_bytes : (key : Option (List ℕ)) → MayBeKey key → length (key_bytes key) ≡ 33
+length-key_bytes : (key : Option (List ℕ)) → MayBeValue key → length (key_bytes key) ≡ 33
 length-key_bytes None is = refl
 length-key_bytes (Some key) is = omega (arith, is.long)
 
-bytes-key_bytes : (key : Option (List ℕ)) → MayBeKey key → are_bytes (key_bytes key) ≡ true
+bytes-key_bytes : (key : Option (List ℕ)) → MayBeValue key → are_bytes (key_bytes key) ≡ true
 bytes-key_bytes None is = refl
 bytes-key_bytes (Some key) is = is.bytes
 
@@ -140,19 +90,12 @@ is_front-spelling_of kept good =
     let front = take-front 8 (eight_bytes kept.count) behind (length-eight kept.count) in
     let back = drop-front 8 (eight_bytes kept.count) behind (length-eight kept.count) in
     let few : nat_le kept.count (2 ^ 48) ≡ true = let most : kept.count ≤ 2 ^ 48 = good.few in grind (arith, nat_tests) in
-    let read : nat_le (count_in (take 8 (eight_bytes kept.count ++ behind))) (2 ^ 48) ≡ true =
-    ap (λ (l : List ℕ). nat_le (count_in l) (2 ^ 48)) front ∙ ap (λ n. nat_le n (2 ^ 48)) (count_in-eight kept.count (omega (arith, good.few))) ∙ few in
+    let read : nat_le (of_eight_bytes (take 8 (eight_bytes kept.count ++ behind))) (2 ^ 48) ≡ true =
+    ap (λ (l : List ℕ). nat_le (of_eight_bytes l) (2 ^ 48)) front ∙ ap (λ n. nat_le n (2 ^ 48)) (of_eight_bytes-eight kept.count (omega (arith, good.few))) ∙ few in
     let keyed : is_keyed (drop 8 (eight_bytes kept.count ++ behind)) ≡ true = ap is_keyed back ∙ is_keyed-joined kept.key kept.inner good.keyed in
     and-both _ _ long (and-both _ _ read keyed)
 
-are_bytes-All : (bytes : List ℕ) → All (λ byte. byte < 256) bytes → are_bytes bytes ≡ true
-are_bytes-All [] all = refl
-are_bytes-All (x ∷ xs) all =
-    let small : x < 256 = all 0 0 (omega arith) in
-    let is : is_byte x ≡ true = grind (arith, nat_tests) in
-    and-both (is_byte x) (are_bytes xs) is (are_bytes-All xs (λ k d inside. all (suc k) d (omega (arith, inside))))
-
-is-true : (b : Bool) → IsTrue b → b ≡ true
+pub is-true : (b : Bool) → IsTrue b → b ≡ true
 is-true b is = search (rules, is)
 
 -- what is kept spells a state, where the state inside is spelled
@@ -160,38 +103,28 @@ pub is_state-spelling_of : (inner : Meaning) → IsLawful inner → (kept : Kept
 unfolding is_state
 is_state-spelling_of inner lawful kept good spelled =
     let bytes : are_bytes kept.inner ≡ true = are_bytes-All kept.inner (lawful.has_bytes kept.inner (search (rules, spelled))) in
-    let behind : are_bytes (key_bytes kept.key ++ kept.inner) ≡ true = list_all-append is_byte (key_bytes kept.key) kept.inner ∙ and-both _ _ (bytes-key_bytes kept.key good.keyed) bytes in
-    let all : are_bytes (spelling_of kept) ≡ true = list_all-append is_byte (eight_bytes kept.count) (key_bytes kept.key ++ kept.inner) ∙ and-both _ _ (bytes-eight kept.count) behind in
+    let behind : are_bytes (key_bytes kept.key ++ kept.inner) ≡ true = are_bytes-append (key_bytes kept.key) kept.inner (bytes-key_bytes kept.key good.keyed) bytes in
+    let all : are_bytes (spelling_of kept) ≡ true = are_bytes-append (eight_bytes kept.count) (key_bytes kept.key ++ kept.inner) (are_bytes-eight kept.count) behind in
     let inside : inner.is_spelled (kept_of (spelling_of kept)).inner ≡ true = ap (λ (k : Kept). inner.is_spelled k.inner) (kept_of-spelling_of kept good) ∙ spelled in
     and-both _ _ all (and-both _ _ (is_front-spelling_of kept good) inside)
 
 -- what a spelled state says
-pub record IsSpelled (inner : Meaning) (bytes : List ℕ) : Type 0 where
+pub record SpellsKept (inner : Meaning) (bytes : List ℕ) : Type 0 where
   pub all : are_bytes bytes ≡ true
   pub long : 41 ≤ length bytes
-  pub few : count_in (take 8 bytes) ≤ 2 ^ 48
+  pub few : of_eight_bytes (take 8 bytes) ≤ 2 ^ 48
   pub spelled : inner.is_spelled (kept_of bytes).inner ≡ true
 
-pub IsSpelled-from : (inner : Meaning) (bytes : List ℕ) → is_state inner bytes ≡ true → IsSpelled inner bytes
+pub SpellsKept-from : (inner : Meaning) (bytes : List ℕ) → is_state inner bytes ≡ true → SpellsKept inner bytes
 unfolding is_state
-IsSpelled-from inner bytes is =
+SpellsKept-from inner bytes is =
     let w = and-true (are_bytes bytes) (is_front bytes && inner.is_spelled (kept_of bytes).inner) is in
     let v = and-true (is_front bytes) (inner.is_spelled (kept_of bytes).inner) w.1 in
-    let u = and-true (nat_le 41 (length bytes)) (nat_le (count_in (take 8 bytes)) (2 ^ 48) && is_keyed (drop 8 bytes)) v.0 in
-    let t = and-true (nat_le (count_in (take 8 bytes)) (2 ^ 48)) (is_keyed (drop 8 bytes)) u.1 in
+    let u = and-true (nat_le 41 (length bytes)) (nat_le (of_eight_bytes (take 8 bytes)) (2 ^ 48) && is_keyed (drop 8 bytes)) v.0 in
+    let t = and-true (nat_le (of_eight_bytes (take 8 bytes)) (2 ^ 48)) (is_keyed (drop 8 bytes)) u.1 in
     record { all = w.0; long = grind (arith, nat_tests); few = grind (arith, nat_tests); spelled = v.1 }
 
-are_bytes-take : (n : ℕ) (bytes : List ℕ) → are_bytes bytes ≡ true → are_bytes (take n bytes) ≡ true
-are_bytes-take zero bytes is = refl
-are_bytes-take (suc n) [] is = refl
-are_bytes-take (suc n) (x ∷ xs) is = let w = and-true (is_byte x) (are_bytes xs) is in and-both (is_byte x) (are_bytes (take n xs)) w.0 (are_bytes-take n xs w.1)
-
-are_bytes-drop : (n : ℕ) (bytes : List ℕ) → are_bytes bytes ≡ true → are_bytes (drop n bytes) ≡ true
-are_bytes-drop zero bytes is = is
-are_bytes-drop (suc n) [] is = refl
-are_bytes-drop (suc n) (x ∷ xs) is = are_bytes-drop n xs (and-true (is_byte x) (are_bytes xs) is).1
-
-key_in-key : (named : Bool) (bytes : List ℕ) → IsKey bytes → MayBeKey (if named then Some bytes else None)
+key_in-key : (named : Bool) (bytes : List ℕ) → IsValue bytes → MayBeValue (if named then Some bytes else None)
 key_in-key true bytes is = is
 key_in-key false bytes is = tt
 
@@ -201,10 +134,10 @@ kept_by-IsKept count (form ∷ rest) few long all =
     record { few = few; keyed = key_in-key (form == 1) (take 32 rest) (record { long = length-take-le 32 rest (omega (arith, long)); bytes = are_bytes-take 32 rest (and-true (is_byte form) (are_bytes rest) all).1 }) }
 
 -- what a spelled state keeps has its form
-pub kept_of-IsKept : (inner : Meaning) (bytes : List ℕ) → IsSpelled inner bytes → IsKept (kept_of bytes)
+pub kept_of-IsKept : (inner : Meaning) (bytes : List ℕ) → SpellsKept inner bytes → IsKept (kept_of bytes)
 unfolding kept_of
 kept_of-IsKept inner bytes is =
-    kept_by-IsKept (count_in (take 8 bytes)) (drop 8 bytes) is.few (omega (arith, length-drop 8 bytes, is.long)) (are_bytes-drop 8 bytes is.all)
+    kept_by-IsKept (of_eight_bytes (take 8 bytes)) (drop 8 bytes) is.few (omega (arith, length-drop 8 bytes, is.long)) (are_bytes-drop 8 bytes is.all)
 
 kept_by-inner : (count : ℕ) (back : List ℕ) → 33 ≤ length back → length back ≡ 33 + length (kept_by count back).inner
 kept_by-inner count [] long = absurd (omega (arith, long))
@@ -213,7 +146,7 @@ kept_by-inner count (form ∷ rest) long = omega (arith, length-drop 32 rest, lo
 -- a state has 41 bytes in front of the one inside
 kept_of-length : (bytes : List ℕ) → 41 ≤ length bytes → length bytes ≡ 41 + length (kept_of bytes).inner
 unfolding kept_of
-kept_of-length bytes long = omega (arith, length-drop 8 bytes, kept_by-inner (count_in (take 8 bytes)) (drop 8 bytes) (omega (arith, length-drop 8 bytes, long)), long)
+kept_of-length bytes long = omega (arith, length-drop 8 bytes, kept_by-inner (of_eight_bytes (take 8 bytes)) (drop 8 bytes) (omega (arith, length-drop 8 bytes, long)), long)
 
 -- the state inside after a request is spelled
 taken-spelled : (inner : Meaning) → IsLawful inner → (kept : Kept) (request : List ℕ) (key : Option (List ℕ)) → inner.is_spelled kept.inner ≡ true → inner.is_spelled (taken inner kept request key).0.inner ≡ true
@@ -225,53 +158,34 @@ full-spelled : (inner : Meaning) → IsLawful inner → (kept : Kept) (request :
 full-spelled inner lawful kept request true spelled = spelled
 full-spelled inner lawful kept request false spelled = taken-spelled inner lawful kept request kept.key spelled
 
--- a text of at most 400 bytes, with no LF
-record IsText (text : List ℕ) : Type 0 where
-  short : length text ≤ 400
-  unbroken : All (λ byte. byte ≢ 10) text
-
-passes_at : (p : ℕ → Bool) (xs : List ℕ) → list_all p xs ≡ true → p 0 ≡ true → (i : ℕ) → p (slice_index xs i) ≡ true
-passes_at p [] all none i = none
-passes_at p (x ∷ xs) all none zero = (and-true (p x) (list_all p xs) all).0
-passes_at p (x ∷ xs) all none (suc i) = passes_at p xs (and-true (p x) (list_all p xs) all).1 none i
-
--- what hexadecimal digits pass, a text of them passes
-passes-encoded : (p : ℕ → Bool) → list_all p lower_digits ≡ true → p 0 ≡ true → (bytes : List ℕ) → list_all p (encode_lower bytes) ≡ true
-unfolding encode_with
-passes-encoded p all none [] = refl
-passes-encoded p all none (b ∷ rest) =
-    and-both _ _ (passes_at p lower_digits all none _) (and-both _ _ (passes_at p lower_digits all none _) (passes-encoded p all none rest))
-
 pub length-digits_of : (key : List ℕ) (position : ℕ) (request said : List ℕ) → length (digits_of key position request said) ≡ 64
 unfolding digits_of
 length-digits_of key position request said = omega (arith, length-encode_with lower_digits (hmac_of key (receipt_message position request said)), length-hmac_of key (receipt_message position request said))
 
 unbroken-digits_of : (key : List ℕ) (position : ℕ) (request said : List ℕ) → is_unbroken (digits_of key position request said) ≡ true
 unfolding digits_of
-unbroken-digits_of key position request said = passes-encoded (λ byte. not (byte == 10)) refl refl _
+unbroken-digits_of key position request said = is_unbroken-encoded _
 
-unbroken-space : is_unbroken (32 ∷ []) ≡ true
-unbroken-space = refl
-
-receipt-IsText : (key : List ℕ) (position : ℕ) (request said : List ℕ) → length said ≤ 256 → All (λ byte. byte ≢ 10) said → IsText (receipt_of key position request said)
+-- what is said has at most 400 bytes, with no LF
+receipt-IsText : (key : List ℕ) (position : ℕ) (request said : List ℕ) → length said ≤ 256 → All (λ byte. byte ≢ 10) said → IsText 400 (receipt_of key position request said)
 receipt-IsText key position request said short unbroken = record {
   short = omega (arith, length-append (digits_of key position request said) (32 ∷ said), length-digits_of key position request said, short);
-  unbroken = All-append (λ byte. byte ≢ 10) (digits_of key position request said) (32 ∷ said) (All-is_unbroken _ (unbroken-digits_of key position request said))
-      (All-append (λ byte. byte ≢ 10) (32 ∷ []) said (All-is_unbroken (32 ∷ []) unbroken-space) unbroken);
+  unbroken = list_all-append (λ byte. not (byte == 10)) (digits_of key position request said) (32 ∷ said)
+      ∙ and-both _ _ (unbroken-digits_of key position request said) (is_unbroken-All said unbroken);
 }
 
-keyed-IsText : (key : Option (List ℕ)) → IsText (keyed_text key)
-keyed-IsText None = record { short = omega arith; unbroken = All-is_unbroken (codes "unkeyed") refl }
-keyed-IsText (Some key) = record { short = omega arith; unbroken = All-is_unbroken (codes "keyed") refl }
+keyed-IsText : (key : Option (List ℕ)) → IsText 400 (keyed_text key)
+keyed-IsText None = record { short = omega arith; unbroken = refl }
+keyed-IsText (Some key) = record { short = omega arith; unbroken = refl }
 
-taken-IsText : (inner : Meaning) → IsLawful inner → IsShort inner → (kept : Kept) (request : List ℕ) (key : Option (List ℕ)) → inner.is_spelled kept.inner ≡ true → IsText (taken inner kept request key).1
+taken-IsText : (inner : Meaning) → IsLawful inner → IsShort inner → (kept : Kept) (request : List ℕ) (key : Option (List ℕ)) → inner.is_spelled kept.inner ≡ true → IsText 400 (taken inner kept request key).1
 taken-IsText inner lawful short kept request None spelled = keyed-IsText (key_of_words (words_of request))
 taken-IsText inner lawful short kept request (Some key) spelled =
     receipt-IsText key (kept.count + 1) request (inner.says kept.inner request) (short.output kept.inner request (search (rules, spelled))) (lawful.says_lines kept.inner request (search (rules, spelled))).unbroken
 
 full-IsText : (inner : Meaning) → IsLawful inner → IsShort inner → (kept : Kept) (request : List ℕ) (full : Bool) → inner.is_spelled kept.inner ≡ true
-    → IsText (if full then (kept, codes "full") else taken inner kept request kept.key).1
-full-IsText inner lawful short kept request true spelled = record { short = omega arith; unbroken = All-is_unbroken (codes "full") refl }
+    → IsText 400 (if full then (kept, codes "full") else taken inner kept request kept.key).1
+full-IsText inner lawful short kept request true spelled = record { short = omega arith; unbroken = refl }
 full-IsText inner lawful short kept request false spelled = taken-IsText inner lawful short kept request kept.key spelled
 
 first-IsKept : (inner : Meaning) → IsKept (first_kept inner)
@@ -281,23 +195,23 @@ limit-least : (wide : Bool) → 65536 ≤ (if wide then 65536 else 1048576)
 limit-least true = omega arith
 limit-least false = omega arith
 
-spelled_at : (inner : Meaning) (state : List ℕ) → is_state inner state ≡ true → IsSpelled inner state
-spelled_at inner state is = IsSpelled-from inner state is
+spelled_at : (inner : Meaning) (state : List ℕ) → is_state inner state ≡ true → SpellsKept inner state
+spelled_at inner state is = SpellsKept-from inner state is
 
 goes-on : (inner : Meaning) → IsLawful inner → (state request : List ℕ) → is_state inner state ≡ true → is_state inner (spelling_of (outcome_of inner (kept_of state) request).0) ≡ true
 goes-on inner lawful state request is =
-    let s = IsSpelled-from inner state is in
+    let s = SpellsKept-from inner state is in
     let k = kept_of-IsKept inner state s in
     is_state-spelling_of inner lawful (outcome_of inner (kept_of state) request).0 (outcome_of-IsKept inner (kept_of state) request k)
     (full-spelled inner lawful (kept_of state) request ((kept_of state).count == 2 ^ 48) s.spelled)
 
-text-at : (inner : Meaning) → IsLawful inner → IsShort inner → (state request : List ℕ) → is_state inner state ≡ true → IsText (outcome_of inner (kept_of state) request).1
+text-at : (inner : Meaning) → IsLawful inner → IsShort inner → (state request : List ℕ) → is_state inner state ≡ true → IsText 400 (outcome_of inner (kept_of state) request).1
 text-at inner lawful short state request is =
-    full-IsText inner lawful short (kept_of state) request ((kept_of state).count == 2 ^ 48) (IsSpelled-from inner state is).spelled
+    full-IsText inner lawful short (kept_of state) request ((kept_of state).count == 2 ^ 48) (SpellsKept-from inner state is).spelled
 
 fits-at : (inner : Meaning) → IsShort inner → (state : List ℕ) → is_state inner state ≡ true → length state ≤ 65041
 fits-at inner short state is =
-    let s = IsSpelled-from inner state is in
+    let s = SpellsKept-from inner state is in
     omega (arith, kept_of-length state s.long, short.state (kept_of state).inner (search (rules, s.spelled)))
 
 -- a module that gives receipts is a module
@@ -306,6 +220,6 @@ receipted_is_lawful inner lawful short = record {
   begins = search (rules, is_state-spelling_of inner lawful (first_kept inner) (first-IsKept inner) (is-true _ lawful.begins));
   goes_on = λ state request is. search (rules, goes-on inner lawful state request (is-true _ is));
   fits = λ state is. omega (arith, fits-at inner short state (is-true _ is), limit-least (nat_lt ((inner.id + 64) % 256) 128));
-  has_bytes = λ state is. All-are_bytes state (IsSpelled-from inner state (is-true _ is)).all;
-  says_lines = λ state request is. let text = text-at inner lawful short state request (is-true _ is) in record { short = omega (arith, text.short); unbroken = text.unbroken };
+  has_bytes = λ state is. All-are_bytes state (SpellsKept-from inner state (is-true _ is)).all;
+  says_lines = λ state request is. IsLine-text 400 _ (omega arith) (text-at inner lawful short state request (is-true _ is));
 }

@@ -1,10 +1,10 @@
 -- A module round another, which counts requests and gives receipts.
 use Rattle.std.specs.Prelude.{ℕ, ◌+◌, ◌%◌, ◌^◌, ◌==◌, ◌&&◌, ◌||◌, Bool, false, nat_le, List, [], ◌∷◌, ◌++◌, length, take, drop, replicate, codes, Option, Some, None, if◌then◌else◌}
-use Rattle.std.specs.Int.{w64, from_be_bytes}
 use Rattle.std.specs.Str.{bytes_eq}
 use Rattle.mm_base.specs.Fields.{eight_bytes}
 use Rattle.mm_module.specs.Bytes.{are_bytes}
 use Rattle.mm_module.specs.Meaning.{Meaning}
+use Rattle.mm_module.specs.Numbers.{of_eight_bytes}
 use Rattle.mm_module.specs.Values.{value_at}
 use Rattle.mm_module.specs.Words.{words_of}
 use Rattle.mm_receipt.specs.Receipts.{receipt_of}
@@ -57,10 +57,6 @@ key_bytes (Some key) = 1 ∷ key
 abbrev pub spelling_of : Kept → List ℕ
 spelling_of kept = eight_bytes kept.count ++ (key_bytes kept.key ++ kept.inner)
 
--- a count of 8 bytes, the greatest first
-unfoldable pub count_in : List ℕ → ℕ
-count_in bytes = from_be_bytes w64 bytes
-
 -- the key, where the byte before it is 01
 abbrev pub key_in : ℕ → List ℕ → Option (List ℕ)
 key_in form bytes = if form == 1 then Some bytes else None
@@ -72,7 +68,7 @@ is_keyed (form ∷ rest) = form == 1 || (form == 0 && bytes_eq (take 32 rest) (r
 
 -- a count and a key in front
 abbrev pub is_front : List ℕ → Bool
-is_front bytes = nat_le 41 (length bytes) && (nat_le (count_in (take 8 bytes)) (2 ^ 48) && is_keyed (drop 8 bytes))
+is_front bytes = nat_le 41 (length bytes) && (nat_le (of_eight_bytes (take 8 bytes)) (2 ^ 48) && is_keyed (drop 8 bytes))
 
 abbrev pub kept_by : ℕ → List ℕ → Kept
 kept_by count [] = record { count = count; key = None; inner = [] }
@@ -80,7 +76,7 @@ kept_by count (form ∷ rest) = record { count = count; key = key_in form (take 
 
 -- what a state keeps
 unfoldable pub kept_of : List ℕ → Kept
-kept_of bytes = kept_by (count_in (take 8 bytes)) (drop 8 bytes)
+kept_of bytes = kept_by (of_eight_bytes (take 8 bytes)) (drop 8 bytes)
 
 -- the bytes spell a state
 unfoldable pub is_state : Meaning → List ℕ → Bool

@@ -1,16 +1,15 @@
 //! A module whose outputs are receipts.
 
 ghost use Rattle.std.specs.Prelude.{◌≡◌, ◌+◌, ◌++◌, ◌<◌, ◌≤◌, ◌^◌, None, Some, IfOk, OnOk, IsTrue, length};
-ghost use Rattle.std.specs.Int.{w64, from_be_bytes};
 ghost use Rattle.mm_module.specs.Meaning.{IsLine};
 ghost use Rattle.mm_module.specs.Words.{words_of};
-ghost use Rattle.mm_receipt.specs.Table.{key_of_words, keyed_text, unkeyed, receipted, stamped, key_bytes, key_in, is_keyed, count_in, is_front, kept_by, kept_of, spelling_of, outcome_of};
+ghost use Rattle.mm_receipt.specs.Table.{key_of_words, keyed_text, unkeyed, receipted, stamped, key_bytes, key_in, is_keyed, is_front, kept_by, kept_of, spelling_of, outcome_of};
 ghost use Rattle.mm_receipt.specs.Views.{as_kept};
 ghost use Rattle.mm_receipt.specs.ReceiptedLaws.{receipted_is_lawful};
 
 use crate::receipt::receipt;
 use mm_base::{Bytes, Memory, bytes_of_u64};
-use mm_module::{Module, Short, Stepped, Words, value_in};
+use mm_module::{LAST_POSITION, Module, Short, Stepped, Words, u64_of_bytes, value_in};
 use std::alloc::Global;
 
 /// A module round another, which counts the requests and says each output of the other with a receipt under a key.
@@ -25,9 +24,6 @@ use std::alloc::Global;
 pub struct Receipted<M: Short> {
     pub inner: M,
 }
-
-/// The most requests that are counted.
-const MOST: u64 = 281474976710656;
 
 /// What a state keeps.
 #[derive(Clone, Copy, Debug)]
@@ -47,17 +43,6 @@ fn key_of(request: &[u8]) -> Option<[u8; 32]>
     }
 }
 
-/// The count in 8 bytes.
-#[tactic(auto, unfolding(crate::specs::Table::count_in))]
-fn read_count(bytes: &[u8]) -> u64
-    requires { length bytes.now ≡ 8 }
-    ensures { result ≡ count_in bytes.now }
-{
-    let mut count = [0; 8];
-    count.copy_from_slice(bytes);
-    u64::from_be_bytes(count)
-}
-
 /// Whether a byte and 32 bytes behind it are no key or a key.
 fn key_is_formed(bytes: &[u8]) -> bool
     requires { 33 ≤ length bytes.now }
@@ -75,7 +60,7 @@ fn front_is_formed(bytes: &[u8]) -> bool
         return false;
     }
     let (count, rest) = bytes.split_at(8);
-    read_count(count) <= MOST && key_is_formed(rest)
+    u64_of_bytes(count) <= LAST_POSITION && key_is_formed(rest)
 }
 
 /// The key of a state, where its byte says that there is one.
@@ -114,7 +99,7 @@ fn read_kept(bytes: &[u8]) -> Kept<'_>
     ensures { as_kept result ≡ kept_of bytes.now }
 {
     let (count, rest) = bytes.split_at(8);
-    kept_behind(read_count(count), rest)
+    kept_behind(u64_of_bytes(count), rest)
 }
 
 /// Puts a byte and a key at the end.
@@ -206,7 +191,7 @@ impl<M: Short> Module for Receipted<M> {
 
     fn step(&self, alloc: Global, state: &[u8], request: &[u8]) -> Result<Stepped, Memory> {
         let kept = read_kept(state);
-        if kept.count == MOST {
+        if kept.count == LAST_POSITION {
             return Ok(Stepped {
                 state: spelled(alloc, kept.count, kept.key, kept.inner)?,
                 output: Bytes::copy_of(alloc, b"full")?,

@@ -19,13 +19,14 @@ use Rattle.mm_module.specs.Batch.{One, Many}
 use Rattle.mm_platform.specs.declared.plan.Meddle.{Meddle}
 use Rattle.mm_platform.specs.declared.plan.Stop.{Stop}
 use Rattle.mm_platform.specs.declared.plan.Stop.TheVariants.{Fail}
+use Rattle.mm_module.specs.Words.{is_space}
 use Rattle.mm_schedule.specs.declared.event.Offer.{Offer}
 use Rattle.mm_schedule.specs.declared.event.Offer.TheVariants.{Last}
 use Rattle.mm_schedule.specs.Events.{Event, Checkpoint, Power}
 use Rattle.mm_schedule.specs.Grammar.{call_at, event_at, failing_at, flip_at, meddle_at, meddles_at, offer_at, prefixed_at, raw_at, stop_at, stop_step_at}
 use Rattle.mm_schedule.specs.Spelling.{SpellsBytes, SpellsEvent, SpellsMeddles, SpellsNumber, SpellsOffer, SpellsPrefix, SpellsStep, SpellsStop, SpellsValue, asks}
 use Rattle.mm_module.specs.Values.{value_at}
-use Rattle.mm_schedule.specs.Words.{◌>>=◌, after, bytes_at, is_space, number_at, step_at, word_at}
+use Rattle.mm_schedule.specs.Words.{◌>>=◌, after, bytes_at, number_at, step_at, word_at}
 
 -- a reading that gave something gave something at its first part
 pub bind-some : {A B : Type 0} (first : Option A) (then : A → Option B) (y : B) → (first >>= then) ≡ Some y → (x : A) × (first ≡ Some x) × (then x ≡ Some y)

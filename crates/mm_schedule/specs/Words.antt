@@ -6,6 +6,7 @@ use Rattle.std.specs.Str.{bytes_eq}
 use Rattle.std.specs.Borrow.{Bor}
 use Rattle.hex.specs.Hex.{decode_of}
 use Rattle.mm_base.specs.Decimals.{number_of}
+use Rattle.mm_module.specs.Words.{is_space}
 
 -- one reading after another
 infixl 10 ◌>>=◌
@@ -20,10 +21,6 @@ in_place parts = (parts.0.now, parts.1.now)
 -- what follows a prefix
 unfoldable pub after : List ℕ → List ℕ → Option (List ℕ)
 after prefix line = if bytes_eq (take (length prefix) line) prefix then Some (drop (length prefix) line) else None
-
--- a space
-abbrev pub is_space : ℕ → Bool
-is_space byte = byte == 32
 
 -- the first word, and what follows the space behind it
 unfoldable pub word_at : List ℕ → Option (List ℕ × List ℕ)

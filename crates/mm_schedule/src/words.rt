@@ -1,15 +1,16 @@
 //! The words of a line, which single spaces part.
 
 ghost use Rattle.std.specs.Prelude.{◌≡◌, option_copied, is_some};
-ghost use Rattle.std.specs.List.{list_all, position};
+ghost use Rattle.std.specs.List.{list_all};
 ghost use Rattle.std.specs.Option.{option_map};
 ghost use Rattle.std.specs.Str.{bytes_eq};
 ghost use Rattle.hex.specs.Hex.{is_hex_digit};
 ghost use Rattle.mm_module.specs.Values.{value_at};
-ghost use Rattle.mm_schedule.specs.Words.{after, bytes_at, in_place, is_space, number_at, step_at, word_at};
+ghost use Rattle.mm_schedule.specs.Words.{after, bytes_at, in_place, number_at, step_at, word_at};
 
 use mm_base::read_decimal;
 use mm_digest::Digest;
+use mm_module::space_in;
 
 /// The greatest number of a schedule.
 const MOST: u64 = 999_999_999;
@@ -27,13 +28,6 @@ pub fn after<'a>(prefix: &[u8], line: &'a [u8]) -> Option<&'a [u8]>
     ensures { option_copied result ≡ after prefix.now line.now }
 {
     line.strip_prefix(prefix)
-}
-
-/// Where the first space is.
-fn space_in(line: &[u8]) -> Option<usize>
-    ensures { result ≡ position is_space line.now }
-{
-    line.iter().position(|byte| *byte == b' ')
 }
 
 /// The first word, and what follows the space behind it.

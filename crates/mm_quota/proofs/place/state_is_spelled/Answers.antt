@@ -1,6 +1,6 @@
 use Rattle.std.proofs.Common.{arith, sym, ap, ◌∙◌}
 use Rattle.mm_module.specs.LineLaws.{are_bytes-Fits}
-use Rattle.mm_quota.specs.Table.{count_in}
+use Rattle.mm_quota.specs.Table.{of_count_bytes}
 use Rattle.mm_quota.proofs.PlaceLaws.{is_state-short, state-within, state-beyond}
 use Rattle.mm_quota.proofs.place.state_is_spelled.Goals as goal
 
@@ -10,9 +10,9 @@ returns-in_default c = let short = c.in_default.ensures.cases in sym (is_state-s
 pub returns-then-count-most : goal.returns-then-count-most
 returns-then-count-most c =
     let front = c.in-Some.ensures.cases in
-    c.accounts_are_spelled.ensures ∙ state-within c.args.most c.count_at-count.result c.args.state.now c.in-Some.body.now (omega (arith, front.2)) (are_bytes-Fits c.args.state.now c.type_inv.state) (c.count_at-count.ensures ∙ ap count_in front.0) front.1 c.if-count-most.true
+    c.accounts_are_spelled.ensures ∙ state-within c.args.most c.count_at-count.result c.args.state.now c.in-Some.body.now (omega (arith, front.2)) (are_bytes-Fits c.args.state.now c.type_inv.state) (c.count_at-count.ensures ∙ ap of_count_bytes front.0) front.1 c.if-count-most.true
 
 pub returns-else-count-most : goal.returns-else-count-most
 returns-else-count-most c =
     let front = c.in-Some.ensures.cases in
-    state-beyond c.args.most c.count_at-count.result c.args.state.now (omega (arith, front.2)) (are_bytes-Fits c.args.state.now c.type_inv.state) (c.count_at-count.ensures ∙ ap count_in front.0) c.if-count-most.false
+    state-beyond c.args.most c.count_at-count.result c.args.state.now (omega (arith, front.2)) (are_bytes-Fits c.args.state.now c.type_inv.state) (c.count_at-count.ensures ∙ ap of_count_bytes front.0) c.if-count-most.false

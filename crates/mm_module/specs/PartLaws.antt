@@ -1,0 +1,73 @@
+-- Laws of the parts of byte lists, for the laws of modules.
+use Rattle.std.specs.Prelude.{◌≡◌, ℕ, zero, suc, ◌^◌, ◌<◌, true, nat_le, List, [], ◌∷◌, ◌++◌, length, take, drop, All}
+use Rattle.std.proofs.Common.{refl, ◌∙◌, arith, get_or}
+use Rattle.std.specs.List.{list_all}
+use Rattle.std.proofs.Math.Seq.{take-append_seam, drop-append_seam}
+use Rattle.std.proofs.lemmas.Bool.Decides.{nat_tests}
+use Rattle.std.proofs.lemmas.List.Folds.{list_all-append}
+use Rattle.std.proofs.lemmas.Nat.{be_bytes_8, from_be_bytes-to_be_bytes_8}
+use Rattle.mm_base.specs.Fields.{eight_bytes}
+use Rattle.mm_module.specs.Bytes.{is_byte, are_bytes}
+use Rattle.mm_module.specs.LineLaws.{and-true, and-both, is_byte-rem}
+use Rattle.mm_module.specs.Numbers.{of_eight_bytes}
+use Rattle.mm_module.specs.Visible.{is_visible}
+
+-- the front of a list, and what follows
+pub take-front : (n : ℕ) (front back : List ℕ) → length front ≡ n → take n (front ++ back) ≡ front
+take-front n front back is = rw (← is) (take-append_seam front back)
+
+pub drop-front : (n : ℕ) (front back : List ℕ) → length front ≡ n → drop n (front ++ back) ≡ back
+drop-front n front back is = rw (← is) (drop-append_seam front back)
+
+-- the bytes of each part are bytes
+pub are_bytes-take : (n : ℕ) (bytes : List ℕ) → are_bytes bytes ≡ true → are_bytes (take n bytes) ≡ true
+are_bytes-take zero bytes is = refl
+are_bytes-take (suc n) [] is = refl
+are_bytes-take (suc n) (x ∷ xs) is = let w = and-true (is_byte x) (are_bytes xs) is in and-both (is_byte x) (are_bytes (take n xs)) w.0 (are_bytes-take n xs w.1)
+
+pub are_bytes-drop : (n : ℕ) (bytes : List ℕ) → are_bytes bytes ≡ true → are_bytes (drop n bytes) ≡ true
+are_bytes-drop zero bytes is = is
+are_bytes-drop (suc n) [] is = refl
+are_bytes-drop (suc n) (x ∷ xs) is = are_bytes-drop n xs (and-true (is_byte x) (are_bytes xs) is).1
+
+-- and those of parts that are put together
+pub are_bytes-append : (xs ys : List ℕ) → are_bytes xs ≡ true → are_bytes ys ≡ true → are_bytes (xs ++ ys) ≡ true
+are_bytes-append xs ys is_xs is_ys = list_all-append is_byte xs ys ∙ and-both _ _ is_xs is_ys
+
+-- numbers below 256 are bytes, and a byte list has them at each place
+pub are_bytes-All : (bytes : List ℕ) → All (λ byte. byte < 256) bytes → are_bytes bytes ≡ true
+are_bytes-All [] all = refl
+are_bytes-All (x ∷ xs) all =
+    let small : x < 256 = all 0 0 (omega arith) in
+    let is : is_byte x ≡ true = grind (arith, nat_tests) in
+    and-both (is_byte x) (are_bytes xs) is (are_bytes-All xs (λ k d inside. all (suc k) d (omega (arith, inside))))
+
+pub get_or-small : (bytes : List ℕ) → are_bytes bytes ≡ true → (i : ℕ) → get_or bytes i 0 < 256
+get_or-small [] is i = omega arith
+get_or-small (x ∷ xs) is zero = let w = and-true (is_byte x) (are_bytes xs) is in grind (arith, nat_tests)
+get_or-small (x ∷ xs) is (suc i) = get_or-small xs (and-true (is_byte x) (are_bytes xs) is).1 i
+
+-- visible bytes are bytes
+pub are_bytes-visible : (bytes : List ℕ) → list_all is_visible bytes ≡ true → are_bytes bytes ≡ true
+are_bytes-visible [] is = refl
+are_bytes-visible (x ∷ xs) is =
+    let w = and-true (is_visible x) (list_all is_visible xs) is in
+    let v = and-true (nat_le 33 x) (nat_le x 126) w.0 in
+    and-both (is_byte x) (are_bytes xs) (grind (arith, nat_tests)) (are_bytes-visible xs w.1)
+
+-- eight bytes and their number
+pub length-eight : (n : ℕ) → length (eight_bytes n) ≡ 8
+unfolding eight_bytes
+length-eight n = refl
+
+pub are_bytes-eight : (n : ℕ) → are_bytes (eight_bytes n) ≡ true
+unfolding eight_bytes
+are_bytes-eight n = simp is_byte-rem
+
+pub of_eight_bytes-eight : (n : ℕ) → n < 2 ^ 64 → of_eight_bytes (eight_bytes n) ≡ n
+unfolding of_eight_bytes eight_bytes
+of_eight_bytes-eight n small = from_be_bytes-to_be_bytes_8 n small
+
+pub eight-of_eight_bytes : (bytes : List ℕ) → length bytes ≡ 8 → are_bytes bytes ≡ true → eight_bytes (of_eight_bytes bytes) ≡ bytes
+unfolding of_eight_bytes eight_bytes
+eight-of_eight_bytes bytes eight is = be_bytes_8 bytes _ eight (get_or-small bytes is) refl
