@@ -10,8 +10,6 @@ use Rattle.std.proofs.lemmas.List.{length-append}
 use Rattle.std.proofs.lemmas.List.Elements.{recursion_from_All}
 use Rattle.sha2.specs.Sha256.{sha256}
 use Rattle.mm_base.specs.Input.{IsUnbroken, joined}
-use Rattle.mm_base.specs.Streams.{Sends}
-use Rattle.mm_base.specs.declared.fault.WriteFault.{WriteFault}
 use Rattle.mm_digest.specs.declared.digest.Digest.{Digest}
 use Rattle.mm_schedule.specs.declared.header.Header.{Header}
 use Rattle.mm_schedule.specs.declared.reply.Reply.{Reply}
@@ -283,12 +281,6 @@ begins number count header few =
 pub behind_first : (number count : ℕ) (header : Header)
     → line_at (schedule_text number count header) ≡ Some (header_text header, joined (schedule_lines number count header))
 behind_first number count header = line_again (header_text header) (joined (schedule_lines number count header)) (header-unbroken header)
-
--- ---- what was written whole
-
-pub sent_whole : (old new bytes : List ℕ) (done : Unit {0}) → (let all : Result (Unit {0}) WriteFault = Ok done in Sends (Some old) (Some new) bytes all) → new ≡ old ++ bytes
-sent_whole old new bytes done sends =
-    sends.appended ∙ ap (λ (more : List ℕ). old ++ more) (sym (sends.parts ∙ ap (λ (more : List ℕ). sends.sent ++ more) sends.whole ∙ append-nil sends.sent))
 
 -- a summary by its parts
 pub told_at : (header : Header) (lines : List (List ℕ)) (r : Running) (counts : Counts) (committed issued : ℕ) (digest : Digest) (text : List ℕ)

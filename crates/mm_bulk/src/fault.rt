@@ -3,7 +3,7 @@
 ghost use Rattle.std.specs.Prelude.{◌≡◌};
 ghost use Rattle.mm_bulk.specs.declared.fault.BulkFault.TheVariants.{Memory as memory};
 
-use mm_base::{Memory, WriteFault};
+use mm_base::Memory;
 use thiserror::Error;
 
 /// Why a schedule was not run to its end.
@@ -21,15 +21,6 @@ impl From<Memory> for BulkFault {
     ghost from_gives = { λ _ fault. fault ≡ memory };
 
     fn from(_fault: Memory) -> BulkFault {
-        BulkFault::Memory
-    }
-}
-
-/// Replies go to memory, so a write fails where that is wanting.
-impl From<WriteFault> for BulkFault {
-    ghost from_gives = { λ _ fault. fault ≡ memory };
-
-    fn from(_fault: WriteFault) -> BulkFault {
         BulkFault::Memory
     }
 }

@@ -8,7 +8,6 @@ mod run;
 mod summary;
 #[cfg(test)]
 mod tests;
-mod text_sink;
 
 pub use counts::Counts;
 pub use fault::BulkFault;

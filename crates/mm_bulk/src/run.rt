@@ -17,11 +17,11 @@ use crate::counts::Counts;
 use crate::fault::BulkFault;
 use crate::lines::first_line;
 use crate::summary::Summary;
-use crate::text_sink::TextSink;
+use mm_base::Bytes;
 use mm_digest::Digest;
 use mm_gen::generate;
 use mm_play::{Refused, TakeFault};
-use mm_replay::{Progress, write_reply};
+use mm_replay::{Progress, put_reply};
 use mm_schedule::{EventFault, Header, Reply, read_event};
 use sha2::{Digest as _, Sha256};
 use std::alloc::Global;
@@ -55,11 +55,11 @@ fn run_schedule(
     let mut rest = behind_header(schedule.as_slice());
     let mut progress = Progress::begin(alloc, header)?;
     let mut counts = Counts::none();
-    let mut replies = TextSink::new(alloc);
+    let mut replies = Bytes::new(alloc);
     'lines: while let Some((line, behind)) = first_line(rest) {
         let reply = answered(alloc, line, &mut progress)?;
         counts.count(&reply);
-        write_reply(&reply, &mut replies)?;
+        put_reply(&reply, &mut replies)?;
         rest = behind;
     }
     progress.close(&mut replies)?;

@@ -23,7 +23,6 @@ stage_of (Some phase) = phase_of phase
 abbrev pub StepsBy : {A : Type 0} → (A → Stage) → Result (List ℕ × Stage) Refused → Result A TakeFault → Type 0
 StepsBy stage answer (Ok next) = answer ≡ Ok ([], stage next)
 StepsBy stage answer (Err fault.Memory) = Unit {0}
-StepsBy stage answer (Err fault.WriteFault) = ⊥
 StepsBy stage answer (Err (fault.Refused why)) = answer ≡ Err why
 
 abbrev pub Steps : Result (List ℕ × Stage) Refused → Result Phase TakeFault → Type 0
@@ -39,6 +38,5 @@ ComparesLine answer result = StepsBy InReplies answer result
 abbrev pub IsEventOf : Option Event → Result CodeEvent TakeFault → Type 0
 IsEventOf found (Ok event) = found ≡ Some (event_of event)
 IsEventOf found (Err fault.Memory) = Unit {0}
-IsEventOf found (Err fault.WriteFault) = ⊥
 IsEventOf found (Err (fault.Refused Bad)) = found ≡ None
 IsEventOf found (Err (fault.Refused Much)) = ⊥

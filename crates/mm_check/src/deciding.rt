@@ -6,7 +6,7 @@ ghost use Rattle.mm_check.specs.Lists.{pair_of};
 ghost use Rattle.mm_check.specs.Deciding.{Stands, IsDecided, premise_by, forged_then};
 
 use crate::guards::first_secured;
-use crate::lines::{put_end, put_reply};
+use crate::lines::{put_last, put_reply};
 use crate::messages::Numbers;
 use crate::verdicts::Premise;
 use mm_base::{Bytes, Memory};
@@ -100,7 +100,7 @@ impl Deciding {
     {
         let secured = first_secured(alloc, header.variant, events)?;
         let premise = self.premise(secured);
-        put_end(
+        put_last(
             alloc,
             &mut self.lines,
             self.expecting.committed(),

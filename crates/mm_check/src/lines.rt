@@ -1,14 +1,11 @@
 //! The lines of replies.
 
-ghost use Rattle.std.specs.Prelude.{◌≡◌, ◌<◌, ◌++◌, ◌∷◌, [], Some, OnOk, IfOk, length, take, slice_get};
+ghost use Rattle.std.specs.Prelude.{◌≡◌, ◌<◌, ◌++◌, ◌∷◌, [], Some, OnOk, IfOk, length, slice_get};
 ghost use Rattle.mm_schedule.specs.Replies.{IsPrintable, end_line, lines_of};
 
 use mm_base::{Bytes, Memory};
-use mm_schedule::{Reply, print_end, print_line, reply_lines};
+use mm_schedule::{Reply, put_end, put_line, reply_lines};
 use std::alloc::Global;
-
-/// The most bytes of a line of a reply, its LF included.
-const LINE_ROOM: usize = 4200;
 
 /// The line of a reply with this index, its LF included.
 fn line_of(alloc: Global, reply: &Reply, index: usize) -> Result<Bytes, Memory>
@@ -16,10 +13,9 @@ fn line_of(alloc: Global, reply: &Reply, index: usize) -> Result<Bytes, Memory>
     requires printable { IsPrintable reply.now }
     ensures { IfOk result (λ line. slice_get (lines_of reply.now) index ≡ Some line) }
 {
-    let mut room = [0; LINE_ROOM];
-    let length = print_line(reply, index, &mut room);
-    let (front, _) = room.split_at(length);
-    Bytes::copy_of(alloc, front)
+    let mut line = Bytes::new(alloc);
+    put_line(reply, index, &mut line)?;
+    Ok(line)
 }
 
 /// Puts a line at the end.
@@ -43,7 +39,7 @@ pub(crate) fn put_reply(alloc: Global, lines: &mut Vec<Bytes>, reply: &Reply) ->
 }
 
 /// Puts the line `end N K` at the end.
-pub(crate) fn put_end(
+pub(crate) fn put_last(
     alloc: Global,
     lines: &mut Vec<Bytes>,
     committed: u64,
@@ -51,9 +47,7 @@ pub(crate) fn put_end(
 ) -> Result<(), Memory>
     ensures { OnOk result (lines.new.items ≡ lines.old.items ++ end_line committed issued ∷ []) }
 {
-    let mut room = [0; LINE_ROOM];
-    let length = print_end(committed, issued, &mut room);
-    let (front, _) = room.split_at(length);
-    let line = Bytes::copy_of(alloc, front)?;
+    let mut line = Bytes::new(alloc);
+    put_end(committed, issued, &mut line)?;
     put(lines, line)
 }

@@ -10,7 +10,7 @@ ghost use Rattle.mm_check.specs.Verdicts.{Concludes};
 use crate::comparing::Comparing;
 use crate::reading::Reading;
 use crate::verdicts::Verdicts;
-use mm_base::{Memory, Sink, WriteFault};
+use mm_base::{Bytes, Memory};
 use mm_play::{Player, Refused, TakeFault};
 use mm_schedule::read_header;
 use std::alloc::Global;
@@ -90,16 +90,16 @@ impl Player for CheckPlayer {
 
     ghost lines_left = { check_left };
 
-    fn take<K: Sink>(&mut self, alloc: Global, line: &[u8], _out: &mut K) -> Result<(), TakeFault> {
+    fn take(&mut self, alloc: Global, line: &[u8]) -> Result<Bytes, TakeFault> {
         let phase = step(alloc, self.phase.take(), line)?;
         self.phase = Some(phase);
-        Ok(())
+        Ok(Bytes::new(alloc))
     }
 
-    fn close<K: Sink>(&self, _out: &mut K) -> Result<bool, WriteFault> {
+    fn close(&self, alloc: Global) -> Result<Option<Bytes>, Memory> {
         match &self.phase {
-            Some(_) => Ok(true),
-            None => Ok(false),
+            Some(_) => Ok(Some(Bytes::new(alloc))),
+            None => Ok(None),
         }
     }
 

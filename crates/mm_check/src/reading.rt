@@ -12,7 +12,7 @@ ghost use Rattle.mm_check.specs.Deciding.{IsDecided};
 
 use crate::deciding::{Decided, decide};
 use crate::difference::difference;
-use crate::lines::{put_end, put_reply};
+use crate::lines::{put_last, put_reply};
 use crate::verdicts::Verdicts;
 use mm_base::{Bytes, Memory};
 use mm_play::{Refused, TakeFault};
@@ -118,7 +118,7 @@ impl Reading {
     {
         let decided = decide(alloc, &self.header, self.events.as_slice())?;
         let report = self.progress.report();
-        put_end(alloc, &mut self.told, report.committed, report.issued)?;
+        put_last(alloc, &mut self.told, report.committed, report.issued)?;
         Ok(Verdicts {
             premise: decided.premise,
             agreement: difference(self.told.as_slice(), decided.lines.as_slice()),

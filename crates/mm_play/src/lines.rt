@@ -1,80 +1,171 @@
 //! The loop over the lines of an input.
 
-ghost use Rattle.std.specs.Prelude.{◌≡◌, ◌+◌, ◌≤◌, ◌<◌, ◌^◌, ℕ, List, length};
+ghost use Rattle.std.specs.Prelude.{◌≡◌, ◌+◌, ◌≤◌, ◌<◌, ◌^◌, ℕ, List, false, [], length, OnOk};
 ghost use Rattle.std.specs.Io.KnownBytes.{Appends, IsAtEnd};
-ghost use Rattle.mm_play.specs.Turns.{Answers, Ends, Turns};
+ghost use Rattle.mm_base.specs.Faults.{CountsFaults};
+ghost use Rattle.mm_base.specs.Input.{IsUnbroken};
+ghost use Rattle.mm_base.specs.Streams.{Sends};
+ghost use Rattle.mm_play.specs.Turns.{Advances, Answers, Ends, SendsDue, SendsThen, Turns};
 ghost use Rattle.mm_play.specs.Plays.{Plays, IsBlamed, is_read_fault, is_write_fault};
 
 use crate::player::{Player, Refused, TakeFault};
-use mm_base::{LineFault, LineReader, Read, ReplayFault, Sink, Source};
+use mm_base::{
+    Bytes, LineFault, LineReader, Read, ReplayFault, Sink, Source, WriteFault, write_all,
+};
 use std::alloc::Global;
 
 /// The most bytes of a line, its LF apart.
 const LINE_LIMIT: usize = 8400;
 
-/// Has the line of this number answered.
-fn answer_line<P: Player, K: Sink>(
+/// Where so many bytes are pending they are sent, though more lines are at hand.
+const MANY_PENDING: usize = 65536;
+
+/// Has the line of this number answered, and puts the reply behind what is pending.
+fn answer_line<P: Player>(
     alloc: Global,
     number: u32,
     line: &[u8],
     player: &mut P,
-    out: &mut K,
+    pending: &mut Bytes,
 ) -> Result<bool, ReplayFault>
     requires { length line.now ≤ 8400 }
-    ensures answers { (sent : List ℕ) × Appends (K.received out.old) (K.received out.new) sent
-        × Answers number (P.answer player.old line.now) player.new sent result }
-    ensures wrote { IsBlamed (is_write_fault result) (K.faults out.old) (K.faults out.new) }
+    ensures { Answers number (P.answer player.old line.now) player.new pending.old pending.new result }
 {
-    match player.take(alloc, line, out) {
-        Ok(()) => Ok(true),
+    match player.take(alloc, line) {
+        Ok(reply) => match pending.append(reply.as_slice()) {
+            Ok(()) => Ok(true),
+            Err(_) => Err(ReplayFault::Memory),
+        },
         Err(TakeFault::Memory) => Err(ReplayFault::Memory),
-        Err(TakeFault::WriteFault) => Err(ReplayFault::WriteFault),
         Err(TakeFault::Refused(Refused::Bad)) => Err(ReplayFault::BadLine { line: number }),
         Err(TakeFault::Refused(Refused::Much)) => Err(ReplayFault::TooMuch),
     }
 }
 
-/// Has the last lines written, at the end of an input whose next line would have this number.
-fn end_input<P: Player, K: Sink>(
+/// Puts the last lines behind what is pending, at the end of an input whose next line would have this number.
+fn end_input<P: Player>(
+    alloc: Global,
     number: u32,
+    player: &P,
+    pending: &mut Bytes,
+) -> Result<bool, ReplayFault>
+    ensures { Ends number (P.closing player.now) pending.old pending.new result }
+{
+    match player.close(alloc) {
+        Ok(Some(last)) => match pending.append(last.as_slice()) {
+            Ok(()) => Ok(false),
+            Err(_) => Err(ReplayFault::Memory),
+        },
+        Ok(None) => Err(ReplayFault::BadLine { line: number }),
+        Err(_) => Err(ReplayFault::Memory),
+    }
+}
+
+/// Reads a line and has it answered, or meets the end of the input. Answers whether lines may follow. Where the source
+/// may be asked for bytes, since no whole line is held, nothing is pending.
+fn answer_next<P: Player, S: Source>(
+    alloc: Global,
+    number: u32,
+    reader: &mut LineReader,
     player: &mut P,
+    input: &mut S,
+    pending: &mut Bytes,
+) -> Result<bool, ReplayFault>
+    requires { IsUnbroken reader.old → pending.old ≡ [] }
+    ensures advances { Advances P.answer P.closing number player.old player.new (S.left input.old) (S.left input.new)
+        reader.old reader.new pending.old pending.new result }
+    ensures read { IsBlamed (is_read_fault result) (S.faults input.old) (S.faults input.new) }
+    ensures unwritten { is_write_fault result ≡ false }
+{
+    match reader.next(input, LINE_LIMIT) {
+        Ok(Read::Line(line)) => answer_line(alloc, number, line, player, pending),
+        Ok(Read::Tail) => Err(ReplayFault::BadLine { line: number }),
+        Ok(Read::End) => end_input(alloc, number, player, pending),
+        Err(LineFault::ReadFault) => Err(ReplayFault::ReadFault),
+        Err(LineFault::LineLong) => Err(ReplayFault::LineLong { line: number }),
+    }
+}
+
+/// Sends what is pending. Nothing is pending then, nor after `WriteFault`.
+fn send<K: Sink>(alloc: Global, pending: &mut Bytes, out: &mut K) -> Result<(), WriteFault>
+    ensures none { pending.new ≡ [] }
+    ensures sent { Sends (K.received out.old) (K.received out.new) pending.old result }
+    ensures counted { CountsFaults (K.faults out.old) (K.faults out.new) result }
+{
+    let sent = write_all(out, pending.as_slice());
+    *pending = Bytes::new(alloc);
+    sent
+}
+
+/// Sends what is pending where no whole line is held, or where much is pending.
+fn send_due<K: Sink>(
+    alloc: Global,
+    reader: &mut LineReader,
+    pending: &mut Bytes,
+    out: &mut K,
+) -> Result<(), WriteFault>
+    ensures same { reader.new ≡ reader.old }
+    ensures sent { SendsDue (K.received out.old) (K.received out.new) pending.old pending.new result }
+    ensures none { OnOk result (IsUnbroken reader.old → pending.new ≡ []) }
+    ensures counted { CountsFaults (K.faults out.old) (K.faults out.new) result }
+{
+    let is_held = reader.has_line();
+    if is_held && pending.as_slice().len() < MANY_PENDING {
+        return Ok(());
+    }
+    send(alloc, pending, out)
+}
+
+/// Sends what is pending, and hands on what came.
+fn send_then<K: Sink>(
+    alloc: Global,
+    came: Result<bool, ReplayFault>,
+    pending: &mut Bytes,
     out: &mut K,
 ) -> Result<bool, ReplayFault>
-    ensures ends { (sent : List ℕ) × Appends (K.received out.old) (K.received out.new) sent
-        × Ends number P.closing player.old player.new sent result }
+    requires { is_write_fault came ≡ false }
+    ensures none { pending.new ≡ [] }
+    ensures sent { SendsThen came (K.received out.old) (K.received out.new) pending.old result }
     ensures wrote { IsBlamed (is_write_fault result) (K.faults out.old) (K.faults out.new) }
 {
-    match player.close(out) {
-        Ok(true) => Ok(false),
-        Ok(false) => Err(ReplayFault::BadLine { line: number }),
+    match send(alloc, pending, out) {
+        Ok(()) => came,
         Err(_) => Err(ReplayFault::WriteFault),
     }
 }
 
-/// One turn: a line is read and answered, or the input ends. Answers whether lines may follow.
+/// One turn: a line is read and answered, or the input ends. Answers whether lines may follow; where none does, nothing
+/// is pending.
 fn turn<P: Player, S: Source, K: Sink>(
     alloc: Global,
     number: u32,
     reader: &mut LineReader,
     player: &mut P,
     input: &mut S,
+    pending: &mut Bytes,
     out: &mut K,
 ) -> Result<bool, ReplayFault>
     ensures turns { Turns P.answer P.closing number player.old player.new (S.left input.old) (S.left input.new)
-        reader.old reader.new (K.received out.old) (K.received out.new) result }
+        reader.old reader.new (K.received out.old) (K.received out.new) pending.old pending.new result }
     ensures read { IsBlamed (is_read_fault result) (S.faults input.old) (S.faults input.new) }
     ensures wrote { IsBlamed (is_write_fault result) (K.faults out.old) (K.faults out.new) }
 {
-    match reader.next(input, LINE_LIMIT) {
-        Ok(Read::Line(line)) => answer_line(alloc, number, line, player, out),
-        Ok(Read::Tail) => Err(ReplayFault::BadLine { line: number }),
-        Ok(Read::End) => end_input(number, player, out),
-        Err(LineFault::ReadFault) => Err(ReplayFault::ReadFault),
-        Err(LineFault::LineLong) => Err(ReplayFault::LineLong { line: number }),
+    match send_due(alloc, reader, pending, out) {
+        Ok(()) => {}
+        Err(_) => return Err(ReplayFault::WriteFault),
+    }
+    match answer_next(alloc, number, reader, player, input, pending) {
+        Ok(true) => Ok(true),
+        Ok(false) => send_then(alloc, Ok(false), pending, out),
+        Err(fault) => match fault {
+            ReplayFault::ReadFault => Err(ReplayFault::ReadFault),
+            _ => send_then(alloc, Err(fault), pending, out),
+        },
     }
 }
 
-/// Answers each line of the input before it reads the next, and writes the last lines at the end.
+/// Answers each line of the input, and writes the last lines at the end. The replies to the lines at hand go out
+/// together; each is out before the input is asked for more.
 ///
 /// After `ReadFault` each whole line that was taken is answered.
 pub fn play<P: Player, S: Source, K: Sink>(
@@ -89,8 +180,9 @@ pub fn play<P: Player, S: Source, K: Sink>(
     ensures wrote { IsBlamed (is_write_fault result) (K.faults out.old) (K.faults out.new) }
 {
     let mut reader = LineReader::new(alloc)?;
+    let mut pending = Bytes::new(alloc);
     let mut number: u32 = 1;
-    'lines: while turn(alloc, number, &mut reader, player, input, out)? {
+    'lines: while turn(alloc, number, &mut reader, player, input, &mut pending, out)? {
         number += 1;
     }
     Ok(())

@@ -1,11 +1,10 @@
 //! Who answers the lines of an input.
 
-ghost use Rattle.std.specs.Prelude.{◌≡◌, ◌≤◌, ◌<◌, ◌^◌, ℕ, List, Option, Result, Ok, length};
+ghost use Rattle.std.specs.Prelude.{◌≡◌, ◌≤◌, ◌<◌, ◌^◌, ℕ, List, Option, Result, Ok, length, IfOk};
 ghost use Rattle.mm_play.specs.declared.player.Refused.{Refused};
-ghost use Rattle.mm_play.specs.Takes.{Takes, Closes, CountsWrites};
-ghost use Rattle.mm_base.specs.Faults.{CountsFaults};
+ghost use Rattle.mm_play.specs.Takes.{Takes};
 
-use mm_base::{Memory, Sink, WriteFault};
+use mm_base::{Bytes, Memory};
 use std::alloc::Global;
 
 /// Why a player refuses a line.
@@ -22,8 +21,6 @@ pub enum Refused {
 pub enum TakeFault {
     /// Want of memory.
     Memory,
-    /// The output failed within the reply.
-    WriteFault,
     /// The line is refused.
     Refused(Refused),
 }
@@ -39,16 +36,14 @@ pub trait Player {
     /// How many more lines it answers, at most.
     ghost lines_left: { Self → ℕ };
 
-    /// Answers a line of at most 8,400 bytes, and writes the reply.
-    fn take<K: Sink>(&mut self, alloc: Global, line: &[u8], out: &mut K) -> Result<(), TakeFault>
+    /// Answers a line of at most 8,400 bytes by its reply.
+    fn take(&mut self, alloc: Global, line: &[u8]) -> Result<Bytes, TakeFault>
         requires { length line.now ≤ 8400 }
-        ensures takes { Takes (answer self.old line.now) self.new (K.received out.old) (K.received out.new) result }
-        ensures counted { CountsWrites (K.faults out.old) (K.faults out.new) result };
+        ensures { Takes (answer self.old line.now) self.new result };
 
-    /// Writes the last lines, where the input may end here; else answers false.
-    fn close<K: Sink>(&self, out: &mut K) -> Result<bool, WriteFault>
-        ensures closes { Closes (closing self.now) (K.received out.old) (K.received out.new) result }
-        ensures counted { CountsFaults (K.faults out.old) (K.faults out.new) result };
+    /// The last lines. None where the input may not end here.
+    fn close(&self, alloc: Global) -> Result<Option<Bytes>, Memory>
+        ensures { IfOk result (λ last. last ≡ closing self.now) };
 
     /// Each answered line is one fewer.
     ghost counts_down: { (it next : Self) (line reply : List ℕ) → answer it line ≡ Ok (reply, next) → lines_left next < lines_left it };

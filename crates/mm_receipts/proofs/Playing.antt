@@ -1,22 +1,18 @@
 -- What a check does with a line, with the end of an input, and with a whole input.
-use Rattle.std.proofs.Common.{◌≡◌, ◌∙◌, false, ℕ, List, ◌++◌, Option, Some, None, Result, Ok, Err, refl, sym, ap, subst}
-use Rattle.std.specs.Io.KnownBytes.{Appends}
-use Rattle.mm_base.specs.Streams.{Sends}
-use Rattle.mm_base.specs.declared.fault.WriteFault as write
+use Rattle.std.proofs.Common.{◌≡◌, ◌∙◌, ℕ, List, ◌++◌, Option, Some, None, Result, Ok, Err, refl, sym, ap, subst}
 use Rattle.mm_base.specs.declared.replay_fault.ReplayFault.{ReplayFault}
 use Rattle.mm_play.specs.declared.player.Refused.{Refused}
 use Rattle.mm_play.specs.declared.player.TakeFault.{TakeFault}
 use Rattle.mm_play.specs.declared.player.TakeFault.TheVariants as fault
 use Rattle.mm_play.specs.Play.{Told, run, run_of}
 use Rattle.mm_play.specs.Plays.{IsUnrefused, Settles, Plays}
-use Rattle.mm_play.specs.Takes.{Takes, IsFrontOf}
+use Rattle.mm_play.specs.Takes.{Takes}
 use Rattle.mm_play.specs.Tells.{Answered, Finished, RefusesMuch}
 use Rattle.mm_play.proofs.Completing.{completed, settles_err}
 use Rattle.mm_play.proofs.Telling.{tells_by, tells_more}
 use Rattle.mm_receipts.specs.declared.pair.Asked.{Asked}
-use Rattle.mm_receipts.specs.declared.pair.Verdict.{Verdict}
 use Rattle.mm_receipts.specs.declared.report.ReceiptReport.{ReceiptReport}
-use Rattle.mm_receipts.specs.Checking.{Tally, Checking, is_too_much, verdict_of, verdict_text, after_pair, second_answer, settles, receipts_answer, receipts_closing, closing_at, last_line, first_checking}
+use Rattle.mm_receipts.specs.Checking.{Tally, Checking, second_answer, settles, receipts_answer, receipts_closing, closing_at, last_line, first_checking}
 use Rattle.mm_receipts.specs.Reports.{AnswersHonestly, Checks, ChecksHonestly, Counts, EndsHonestly}
 use Rattle.mm_receipts.proofs.HonestLaws.{honest}
 
@@ -25,35 +21,13 @@ settled-answer : (it : Checking) (old : Tally) (asked : Asked) (line : List ℕ)
 settled-answer it old asked line answer is said =
     ap (λ (c : Checking). receipts_answer c line) is ∙ ap settles said
 
-pub takes-second : (it : Checking) (old : Tally) (asked : Asked) (line : List ℕ) (new : Tally) (next : Checking) (received received' : Option (List ℕ)) (result : Result (Unit {0}) TakeFault)
+pub takes-second : (it : Checking) (old : Tally) (asked : Asked) (line : List ℕ) (new : Tally) (next : Checking) (result : Result (List ℕ) TakeFault)
     → it ≡ record { tally = old; asked = Some asked } → record { tally = new; asked = None } ≡ next
-    → Takes (second_answer old asked line) new received received' result → Takes (receipts_answer it line) next received received' result
-takes-second it old asked line new next received received' (Ok done) is then t =
-    (t.0, settled-answer it old asked line (Ok (t.0, new)) is t.1 ∙ ap (λ (c : Checking). Ok (t.0, c)) then, t.2)
-takes-second it old asked line new next received received' (Err fault.Memory) is then t = t
-takes-second it old asked line new next received received' (Err fault.WriteFault) is then t =
-    (t.0, record { tally = t.1; asked = None }, t.2, settled-answer it old asked line (Ok (t.0, t.1)) is t.3, t.4, t.5)
-takes-second it old asked line new next received received' (Err (fault.Refused why)) is then t =
-    (settled-answer it old asked line (Err why) is t.0, t.1)
-
--- a front of a pair's line went out
-pub second-cut : (old : Tally) (asked : Asked) (line text : List ℕ) (verdict : Verdict) (received now : Option (List ℕ)) (result : Result (Unit {0}) write.WriteFault)
-    → is_too_much old line ≡ false → verdict ≡ verdict_of old asked line → text ≡ verdict_text asked.position verdict → Sends received now text result
-    → (reply : List ℕ) × (after : Tally) × (sent : List ℕ) × (second_answer old asked line ≡ Ok (reply, after)) × IsFrontOf sent reply × Appends received now sent
-second-cut old asked line text verdict received now result room judged written s =
-    let v = verdict_of old asked line in
-    let e : text ≡ verdict_text asked.position v = written ∙ ap (λ (w : Verdict). verdict_text asked.position w) judged in
-    (verdict_text asked.position v, after_pair old asked line v, s.sent, rw room refl, (s.unsent, sym s.parts ∙ e), s.appended)
-
--- the last line, or a front of it, went out
-pub cut-closing : (it : Checking) (tally : Tally) (asked : Option Asked) (good pairs : ℕ) (old new : Option (List ℕ)) (result : Result (Unit {0}) write.WriteFault)
-    → record { tally = tally; asked = asked } ≡ it → asked ≡ None → good ≡ tally.good → pairs ≡ tally.pairs → Sends old new (last_line good pairs) result
-    → (last : List ℕ) × (sent : List ℕ) × (receipts_closing it ≡ Some last) × IsFrontOf sent last × Appends old new sent
-cut-closing it tally asked good pairs old new result view none goods all s =
-    let e : receipts_closing it ≡ Some (last_line tally.good tally.pairs) =
-    ap receipts_closing (sym view) ∙ ap (λ (a : Option Asked). receipts_closing (record { tally = tally; asked = a })) none in
-    let f : last_line good pairs ≡ last_line tally.good tally.pairs = ap (λ n. last_line n pairs) goods ∙ ap (λ n. last_line tally.good n) all in
-    (last_line good pairs, s.sent, e ∙ ap (λ (l : List ℕ). Some l) (sym f), (s.unsent, sym s.parts), s.appended)
+    → Takes (second_answer old asked line) new result → Takes (receipts_answer it line) next result
+takes-second it old asked line new next (Ok reply) is then t =
+    settled-answer it old asked line (Ok (reply, new)) is t ∙ ap (λ (c : Checking). Ok (reply, c)) then
+takes-second it old asked line new next (Err fault.Memory) is then t = tt
+takes-second it old asked line new next (Err (fault.Refused why)) is then t = settled-answer it old asked line (Err why) is t
 
 abbrev lines_run : List ℕ → List (List ℕ) → Told Checking
 lines_run key lines = run receipts_answer 1 (first_checking key) lines

@@ -14,7 +14,6 @@ tallied tally = record { key = tally.key; known = tally.known.entries; good = ta
 abbrev pub IsFirst : Result (Asked × checking.Tally) Refused → checking.Tally → Result Asked TakeFault → Type 0
 IsFirst answer next (Ok asked) = answer ≡ Ok (asked, next)
 IsFirst answer next (Err fault.Memory) = Unit {0}
-IsFirst answer next (Err fault.WriteFault) = ⊥
 IsFirst answer next (Err (fault.Refused why)) = answer ≡ Err why
 
 -- a request that waits has at most 4,096 bytes

@@ -6,7 +6,7 @@ mod pair;
 mod player;
 mod report;
 mod tally;
-mod write;
+mod text;
 
 pub use player::receipts;
 pub use report::ReceiptReport;

@@ -11,8 +11,8 @@ ghost use Rattle.mm_receipts.specs.Reports.{Checks, ChecksHonestly, Counts};
 use crate::pair::Asked;
 use crate::report::ReceiptReport;
 use crate::tally::Tally;
-use crate::write::write_last;
-use mm_base::{ReplayFault, Sink, Source, WriteFault};
+use crate::text::last_text;
+use mm_base::{Bytes, Memory, ReplayFault, Sink, Source};
 use mm_play::{Player, TakeFault, play};
 use std::alloc::Global;
 use std::marker::Model;
@@ -39,25 +39,25 @@ impl Player for ReceiptPlayer {
 
     ghost lines_left = { lines_left_at };
 
-    fn take<K: Sink>(&mut self, alloc: Global, line: &[u8], out: &mut K) -> Result<(), TakeFault> {
+    fn take(&mut self, alloc: Global, line: &[u8]) -> Result<Bytes, TakeFault> {
         match self.asked.take() {
             None => {
                 let asked = self.tally.first(alloc, line)?;
                 self.asked = Some(asked);
-                Ok(())
+                Ok(Bytes::new(alloc))
             }
-            Some(asked) => self.tally.second(alloc, asked, line, out),
+            Some(asked) => self.tally.second(alloc, asked, line),
         }
     }
 
-    fn close<K: Sink>(&self, out: &mut K) -> Result<bool, WriteFault> {
+    fn close(&self, alloc: Global) -> Result<Option<Bytes>, Memory> {
         match &self.asked {
             None => {
                 let (good, pairs) = self.tally.counts();
-                write_last(good, pairs, out)?;
-                Ok(true)
+                let last = last_text(alloc, good, pairs)?;
+                Ok(Some(last))
             }
-            Some(_) => Ok(false),
+            Some(_) => Ok(None),
         }
     }
 
@@ -99,7 +99,7 @@ fn checked<S: Source, K: Sink>(
 
 /// Checks receipts under a key of 32 bytes: pairs of lines, `P REQUEST` with P a decimal from 1 to 281474976710656 and
 /// a request of at most 4,096 bytes, and then the output. Each pair is answered `no form`, `no tag`, `clash P` or
-/// `good P` before the next line is read, and at the end of the input stands the line `end G N`: G of N pairs were good.
+/// `good P` before the input is asked for more, and at its end stands the line `end G N`: G of N pairs were good.
 ///
 /// `clash P` comes exactly where the output is a receipt, and an earlier good pair of P had another request or output.
 /// `LineLong` comes exactly where a line has more than 8,400 bytes, `BadLine` where a first line has another form, a

@@ -6,8 +6,8 @@ ghost use Rattle.mm_module.specs.Words.{is_space};
 ghost use Rattle.mm_receipts.specs.Checking.{asked_at, compared};
 
 use crate::pair::{Asked, Pair, Verdict};
-use crate::write::text_of;
-use mm_base::{Bytes, Memory, Sink, read_decimal, write_all};
+use crate::text::text_of;
+use mm_base::{Bytes, Memory, read_decimal};
 use mm_play::{Refused, TakeFault};
 use mm_receipt::{NotReceipt, verify};
 use std::alloc::Global;
@@ -48,7 +48,7 @@ fn space_in(line: &[u8]) -> Option<usize>
 impl Tally {
     ghost use Rattle.mm_receipts.specs.Checking.{is_too_much, first_tally, first_answer, verdict_of, counted_in, remembered, after_pair, second_answer};
     ghost use Rattle.mm_receipts.specs.Tallies.{tallied, IsFirst};
-    ghost use Rattle.mm_play.specs.Takes.{Takes, CountsWrites};
+    ghost use Rattle.mm_play.specs.Takes.{Takes};
 
     /// Nothing was found yet. Takes no memory.
     pub fn new(alloc: Global, key: &[u8; 32]) -> Tally
@@ -162,18 +162,10 @@ impl Tally {
     }
 
     /// Answers a pair by its second line.
-    pub fn second<K: Sink>(
-        &mut self,
-        alloc: Global,
-        asked: Asked,
-        line: &[u8],
-        out: &mut K,
-    ) -> Result<(), TakeFault>
+    pub fn second(&mut self, alloc: Global, asked: Asked, line: &[u8]) -> Result<Bytes, TakeFault>
         requires line { length line.now ≤ 8400 }
         requires short { length asked.request ≤ 4096 }
-        ensures takes { Takes (second_answer (tallied self.old) asked line.now) (tallied self.new)
-            (K.received out.old) (K.received out.new) result }
-        ensures counted { CountsWrites (K.faults out.old) (K.faults out.new) result }
+        ensures { Takes (second_answer (tallied self.old) asked line.now) (tallied self.new) result }
     {
         if self.is_full(line) {
             return Err(TakeFault::Refused(Refused::Much));
@@ -184,12 +176,8 @@ impl Tally {
             Err(_) => return Err(TakeFault::Memory),
         };
         match self.settle(alloc, asked, line, verdict) {
-            Ok(()) => {}
-            Err(_) => return Err(TakeFault::Memory),
-        }
-        match write_all(out, text.as_slice()) {
-            Ok(()) => Ok(()),
-            Err(_) => Err(TakeFault::WriteFault),
+            Ok(()) => Ok(text),
+            Err(_) => Err(TakeFault::Memory),
         }
     }
 }

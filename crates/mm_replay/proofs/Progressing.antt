@@ -17,15 +17,8 @@ use Rattle.mm_schedule.specs.declared.reply.Reply.{Reply}
 use Rattle.mm_model.specs.Moves.{Digests}
 use Rattle.mm_run.specs.Held.{Held, instance_of, within_bits, having_read, Follows, Wants}
 use Rattle.mm_run.specs.Held as held
-use Rattle.std.specs.Io.KnownBytes.{Appends}
-use Rattle.mm_base.specs.Streams.{Sends}
-use Rattle.mm_base.specs.declared.fault.WriteFault.{WriteFault}
-use Rattle.mm_play.specs.declared.player.Refused.{Refused}
-use Rattle.mm_play.specs.declared.player.Refused.TheVariants.{Much}
 use Rattle.mm_replay.specs.Issues.{Issues}
-use Rattle.mm_play.specs.Takes.{IsFrontOf}
-use Rattle.mm_replay.specs.Text.{text_of}
-use Rattle.mm_replay.specs.Schedule.{Running, outcome_in, after_event, is_too_much, event_answer, Stage, InEvents}
+use Rattle.mm_replay.specs.Schedule.{Running, outcome_in, after_event}
 use Rattle.mm_replay.proofs.Issuing.{outcome_issues}
 
 -- a count of few requests is no greatest one
@@ -117,27 +110,3 @@ counted_on old new count n added w len some none is = elim w [
         let one : sum_by length (x ∷ []) ≡ length x = omega arith in
         let sums : sum_by length new ≡ sum_by length old + sum_by length (x ∷ []) = ap (sum_by length) same ∙ sum_by-append length old (x ∷ []) in
         omega (arith, some x at, is, sums, one)
-
--- an event within the limits is answered
-pub answered : (r : Running) (line : List ℕ) (found : Option Event) (event : Event) → found ≡ Some event → is_too_much r line ≡ false
-    → event_answer r line found ≡ Ok (text_of (outcome_in r event).reply, InEvents (after_event r line event))
-answered r line found event is few = ap (event_answer r line) is ∙ by_room (is_too_much r line) few
-  where
-    answer : Bool → Result (List ℕ × Stage) Refused
-    answer much = cond much (Err Much) (Ok (text_of (outcome_in r event).reply, InEvents (after_event r line event)))
-
-    by_room : (much : Bool) → much ≡ false → answer much ≡ answer false
-    by_room much h = ap answer h
-
--- the reply, or a front of it, went out
-pub cut_reply : (r : Running) (line : List ℕ) (found : Option Event) (event : Event) (said : Reply) (old new : Option (List ℕ)) (result : Result (Unit {0}) WriteFault)
-    → found ≡ Some event → is_too_much r line ≡ false → said ≡ (outcome_in r event).reply → Sends old new (text_of said) result
-    → (reply : List ℕ) × (after : Stage) × (sent : List ℕ) × (event_answer r line found ≡ Ok (reply, after)) × IsFrontOf sent reply × Appends old new sent
-cut_reply r line found event said old new result is few says s = (
-  text_of (outcome_in r event).reply,
-  InEvents (after_event r line event),
-  s.sent,
-  answered r line found event is few,
-  (s.unsent, sym s.parts ∙ ap text_of says),
-  s.appended,
-)

@@ -1,12 +1,5 @@
 -- A replay of a whole schedule, from what the loop over its lines did.
 use Rattle.std.proofs.Common.{◌≡◌, ◌∙◌, ℕ, List, length, Option, Some, Result, Ok, Err, sym, ap, subst}
-use Rattle.std.specs.Io.KnownBytes.{Appends}
-use Rattle.mm_base.specs.Streams.{Sends}
-use Rattle.mm_base.specs.declared.fault.WriteFault as write
-use Rattle.mm_schedule.specs.Replies.{end_line}
-use Rattle.mm_replay.specs.declared.progress.Progress.{Progress}
-use Rattle.mm_replay.specs.Progress.{stage_of}
-use Rattle.mm_play.specs.Takes.{IsFrontOf}
 use Rattle.mm_base.specs.declared.replay_fault.ReplayFault.{ReplayFault}
 use Rattle.mm_run.specs.Laws.{BasicIsExpected, OptIsExpected, ExpectedRuns}
 use Rattle.mm_replay.specs.declared.report.Report.{Report}
@@ -68,10 +61,3 @@ pub unrefused : (left left' received received' : Option (List ℕ)) (result : Re
     → (bytes : List ℕ) (end : Stage) → left ≡ Some bytes → (run_of (schedule_answer header_at) schedule_closing AtHeader bytes).outcome ≡ Ok end → IsUnrefused result
 unrefused left left' received received' result r bytes end is ran =
     completed lines_run whole_run r.next left left' r.taken r.sent result r.consumed r.settled bytes end is ran
-
--- the last line, or a front of it, went out
-pub cut_closing : (stage : Stage) (progress : Option Progress) (r : Progress) (old new : Option (List ℕ)) (result : Result (Unit {0}) write.WriteFault)
-    → stage_of progress ≡ stage → progress ≡ Some r → Sends old new (end_line r.world.digests.count (length r.world.issued)) result
-    → (last : List ℕ) × (sent : List ℕ) × (schedule_closing stage ≡ Some last) × IsFrontOf sent last × Appends old new sent
-cut_closing stage progress r old new result view is s =
-    (end_line r.world.digests.count (length r.world.issued), s.sent, ap schedule_closing (sym view ∙ ap stage_of is), (s.unsent, sym s.parts), s.appended)

@@ -28,7 +28,6 @@ stage_of (Some progress) = InEvents (running progress)
 abbrev pub Begins : Result (List ℕ × Stage) Refused → Result Progress TakeFault → Type 0
 Begins answer (Ok progress) = answer ≡ Ok ([], InEvents (running progress))
 Begins answer (Err fault.Memory) = Unit {0}
-Begins answer (Err fault.WriteFault) = ⊥
 Begins answer (Err (fault.Refused why)) = answer ≡ Err why
 
 -- The event of this line was answered, or it is one too many and nothing has changed.
@@ -36,6 +35,5 @@ abbrev pub AnswersEvent : Running → Running → List ℕ → Event → Result 
 AnswersEvent old new line event (Ok reply) =
     (is_too_much old line ≡ false) × (reply ≡ (outcome_in old event).reply) × (new ≡ after_event old line event)
 AnswersEvent old new line event (Err fault.Memory) = Unit {0}
-AnswersEvent old new line event (Err fault.WriteFault) = ⊥
 AnswersEvent old new line event (Err (fault.Refused Bad)) = ⊥
 AnswersEvent old new line event (Err (fault.Refused Much)) = (is_too_much old line ≡ true) × (new ≡ old)

@@ -1,12 +1,12 @@
-//! Schedules, from bytes to bytes: each line is answered before the next is read.
+//! Schedules, from bytes to bytes: each line is answered before the input is asked for more.
 #![tactic(auto)]
 
 mod progress;
+mod put;
 mod report;
 mod schedules;
-mod write;
 
 pub use progress::Progress;
+pub use put::put_reply;
 pub use report::Report;
 pub use schedules::replay;
-pub use write::{write_end, write_reply};

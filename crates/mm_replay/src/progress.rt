@@ -1,13 +1,13 @@
 //! A replay among its events.
 
-ghost use Rattle.std.specs.Prelude.{◌≡◌, ◌≤◌, ◌<◌, ◌+◌, ◌*◌, ◌^◌, length, IfOk, OnOk, false, ℕ, List, Some, None, slice_get};
+ghost use Rattle.std.specs.Prelude.{◌≡◌, ◌≤◌, ◌<◌, ◌+◌, ◌*◌, ◌^◌, length, IfOk, OnOk, ◌++◌, false, ℕ, List, Some, None, slice_get};
 ghost use Rattle.std.specs.List.{sum_by};
 
+use crate::put::put_reply;
 use crate::report::Report;
-use crate::write::{write_end, write_reply};
-use mm_base::{Memory, Sink, WriteFault};
+use mm_base::{Bytes, Memory};
 use mm_play::{Refused, TakeFault};
-use mm_schedule::{Event, EventFault, Header, Reply, read_event};
+use mm_schedule::{Event, EventFault, Header, Reply, put_end, read_event};
 use mm_world::World;
 use std::alloc::Global;
 
@@ -53,9 +53,7 @@ impl Progress {
     ghost use Rattle.mm_schedule.specs.Events.{event_of};
     ghost use Rattle.mm_schedule.specs.Grammar.{event_at};
     ghost use Rattle.mm_schedule.specs.Replies.{IsPrintable, end_line};
-    ghost use Rattle.mm_base.specs.Streams.{Sends};
-    ghost use Rattle.mm_base.specs.Faults.{CountsFaults};
-    ghost use Rattle.mm_play.specs.Takes.{Takes, CountsWrites};
+    ghost use Rattle.mm_play.specs.Takes.{Takes};
     ghost use Rattle.mm_replay.specs.Replays.{Reports};
 
     /// A replay at its first event.
@@ -115,17 +113,10 @@ impl Progress {
         }
     }
 
-    /// Answers an event line.
-    pub fn take<K: Sink>(
-        &mut self,
-        alloc: Global,
-        line: &[u8],
-        out: &mut K,
-    ) -> Result<(), TakeFault>
+    /// Answers an event line by its reply.
+    pub fn take(&mut self, alloc: Global, line: &[u8]) -> Result<Bytes, TakeFault>
         requires { length line.now ≤ 8400 }
-        ensures takes { Takes (event_answer (running self.old) line.now (event_at line.now)) (InEvents (running self.new))
-            (K.received out.old) (K.received out.new) result }
-        ensures counted { CountsWrites (K.faults out.old) (K.faults out.new) result }
+        ensures { Takes (event_answer (running self.old) line.now (event_at line.now)) (InEvents (running self.new)) result }
     {
         let event = match read_event(alloc, line) {
             Ok(event) => event,
@@ -136,19 +127,18 @@ impl Progress {
             Ok(reply) => reply,
             Err(fault) => return Err(fault),
         };
-        match write_reply(&reply, out) {
-            Ok(()) => Ok(()),
-            Err(_) => Err(TakeFault::WriteFault),
+        let mut text = Bytes::new(alloc);
+        match put_reply(&reply, &mut text) {
+            Ok(()) => Ok(text),
+            Err(_) => Err(TakeFault::Memory),
         }
     }
 
-    /// Writes the last line.
-    pub fn close<K: Sink>(&self, out: &mut K) -> Result<(), WriteFault>
-        ensures sent { Sends (K.received out.old) (K.received out.new)
-            (end_line (running self.now).digests.count (length (running self.now).issued)) result }
-        ensures counted { CountsFaults (K.faults out.old) (K.faults out.new) result }
+    /// Puts the last line at the end.
+    pub fn close(&self, into: &mut Bytes) -> Result<(), Memory>
+        ensures { OnOk result (into.new ≡ into.old ++ end_line (running self.now).digests.count (length (running self.now).issued)) }
     {
-        write_end(self.world.committed(), self.world.issued(), out)
+        put_end(self.world.committed(), self.world.issued(), into)
     }
 
     /// How many requests were committed and snapshots issued.

@@ -11,7 +11,7 @@ ghost use Rattle.mm_replay.specs.Replays.{Replays, Reports};
 
 use crate::progress::Progress;
 use crate::report::Report;
-use mm_base::{ReplayFault, Sink, Source, WriteFault};
+use mm_base::{Bytes, Memory, ReplayFault, Sink, Source};
 use mm_play::{Player, Refused, TakeFault, play};
 use mm_run::{basic_is_expected, expected_runs, opt_is_expected};
 use mm_schedule::read_header;
@@ -73,23 +73,24 @@ impl Player for SchedulePlayer {
 
     ghost lines_left = { lines_left_at };
 
-    fn take<K: Sink>(&mut self, alloc: Global, line: &[u8], out: &mut K) -> Result<(), TakeFault> {
+    fn take(&mut self, alloc: Global, line: &[u8]) -> Result<Bytes, TakeFault> {
         match &mut self.progress {
-            Some(progress) => progress.take(alloc, line, out),
+            Some(progress) => progress.take(alloc, line),
             None => {
                 self.progress = Some(begin(alloc, line)?);
-                Ok(())
+                Ok(Bytes::new(alloc))
             }
         }
     }
 
-    fn close<K: Sink>(&self, out: &mut K) -> Result<bool, WriteFault> {
+    fn close(&self, alloc: Global) -> Result<Option<Bytes>, Memory> {
         match &self.progress {
             Some(progress) => {
-                progress.close(out)?;
-                Ok(true)
+                let mut last = Bytes::new(alloc);
+                progress.close(&mut last)?;
+                Ok(Some(last))
             }
-            None => Ok(false),
+            None => Ok(None),
         }
     }
 
@@ -98,8 +99,8 @@ impl Player for SchedulePlayer {
     ghost few = { schedule_is_short };
 }
 
-/// Replays a schedule: its header line, and then its event lines. Each reply is written before the next line is
-/// read, and at the end of the input the line `end N K`: N requests committed, K snapshots issued.
+/// Replays a schedule: its header line, and then its event lines. Each reply is written before the input is asked for
+/// more, and at the end of the input the line `end N K`: N requests committed, K snapshots issued.
 ///
 /// `LineLong` comes exactly where a line has more than 8,400 bytes, `BadLine` where it is outside the grammar, has no
 /// LF, or is missing, and `TooMuch` where it is event 20,001, or where the event lines and the snapshots issued have

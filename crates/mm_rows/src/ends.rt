@@ -186,6 +186,8 @@ fn fails_to_write(
     replies: &[u8],
 ) -> Result<bool, Fail> {
     let mut streams = sound();
+    // byte by byte, so that each reply is a call of its own
+    streams.piece = 1;
     let calls = [call];
     streams.failing_writes = &calls;
     let told = replay_over(alloc, schedule, &streams)?;

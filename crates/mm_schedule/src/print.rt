@@ -77,7 +77,9 @@ fn print_kept(way: Way, position: u64, into: &mut [u8; 4200]) -> usize
     put(into, at, b"\n")
 }
 
-fn print_told(again: bool, position: u64, output: &[u8], into: &mut [u8; 4200]) -> usize
+/// Writes the line of a position and its output with its LF to the front of `into`, and answers its length. Takes no
+/// memory.
+pub fn print_told(again: bool, position: u64, output: &[u8], into: &mut [u8; 4200]) -> usize
     requires { length output.now ≤ 4096 }
     ensures within { result ≤ 4200 }
     ensures line { take result into.new ≡ told_line again position output.now }
@@ -89,7 +91,8 @@ fn print_told(again: bool, position: u64, output: &[u8], into: &mut [u8; 4200]) 
     put(into, at, b"\n")
 }
 
-fn told_word(again: bool) -> &'static [u8]
+/// The word of a request that is told, for the first time or again.
+pub(crate) fn told_word(again: bool) -> &'static [u8]
     ensures { result.now ≡ told_text again }
 {
     if again { b"again " } else { b"ok " }

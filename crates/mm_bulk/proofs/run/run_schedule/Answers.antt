@@ -5,7 +5,7 @@ use Rattle.mm_gen.specs.Schedules.{schedule_lines}
 use Rattle.mm_replay.specs.Progress.{running}
 use Rattle.mm_replay.specs.Schedule.{Running}
 use Rattle.mm_bulk.specs.LineBreaks.{line_at}
-use Rattle.mm_bulk.proofs.Tallying.{behind_first, ended, goes_on, next, sent_whole, starts, stops, told_at, within}
+use Rattle.mm_bulk.proofs.Tallying.{behind_first, ended, goes_on, next, starts, stops, told_at, within}
 use Rattle.mm_bulk.proofs.run.run_schedule.Goals as goal
 
 pub lines-init : goal.lines-init
@@ -27,18 +27,18 @@ answered-requires-clause-known c = (next _ _ _ _ _ c.in-Some.line.now c.in-Some.
 pub count-requires : goal.count-requires
 count-requires c = (next _ _ _ _ _ c.in-Some.line.now c.in-Some.behind.now c.lines.invariant.going (sym c.in-Some.ensures)).room
 
-pub lines-smaller-in_ok-write_reply : goal.lines-smaller-in_ok-write_reply
-lines-smaller-in_ok-write_reply c = (next _ _ _ _ _ c.in-Some.line.now c.in-Some.behind.now c.lines.invariant.going (sym c.in-Some.ensures)).less
+pub lines-smaller-in_ok-put_reply : goal.lines-smaller-in_ok-put_reply
+lines-smaller-in_ok-put_reply c = (next _ _ _ _ _ c.in-Some.line.now c.in-Some.behind.now c.lines.invariant.going (sym c.in-Some.ensures)).less
 
 pub lines-smaller : goal.lines-smaller
 lines-smaller c = (next _ _ _ _ _ c.in-Some.line.now c.in-Some.behind.now c.lines.invariant.going (sym c.in-Some.ensures)).less
 
-pub lines-preserved-in_ok-write_reply : goal.lines-preserved-in_ok-write_reply
-lines-preserved-in_ok-write_reply c =
+pub lines-preserved-in_ok-put_reply : goal.lines-preserved-in_ok-put_reply
+lines-preserved-in_ok-put_reply c =
     let step = next _ _ _ _ _ c.in-Some.line.now c.in-Some.behind.now c.lines.invariant.going (sym c.in-Some.ensures) in
     record {
       going = goes_on _ _ _ (running c.answered.new.progress) _ _ _ _ c.in-Some.line.now c.in-Some.behind.now c.in_ok-reply.reply step
-          c.in_ok-reply.ensures.reply c.count.ensures.counted (sent_whole _ _ _ _ c.in_ok-write_reply.ensures.sent);
+          c.in_ok-reply.ensures.reply c.count.ensures.counted c.in_ok-put_reply.ensures;
       header = step.header c.in_ok-reply.reply (running c.answered.new.progress) c.in_ok-reply.ensures.reply ∙ c.lines.invariant.header;
     }
 
@@ -47,18 +47,17 @@ lines-preserved c =
     let step = next _ _ _ _ _ c.in-Some.line.now c.in-Some.behind.now c.lines.invariant.going (sym c.in-Some.ensures) in
     record {
       going = goes_on _ _ _ (running c.answered.new.progress) _ _ _ _ c.in-Some.line.now c.in-Some.behind.now c.in_ok-reply.reply step
-          c.in_ok-reply.ensures.reply c.count.ensures.counted (sent_whole _ _ _ _ c.in_ok-write_reply.ensures.sent);
+          c.in_ok-reply.ensures.reply c.count.ensures.counted c.in_ok-put_reply.ensures;
       header = step.header c.in_ok-reply.reply (running c.answered.new.progress) c.in_ok-reply.ensures.reply ∙ c.lines.invariant.header;
     }
 
 pub returns-clause-sums : goal.returns-clause-sums
 returns-clause-sums c =
-    let made = ended _ _ (running c.lines.progress) c.lines.counts c.lines.replies.text c.lines.invariant.going (sym c.in_default.ensures) in
-    let sent = sent_whole _ _ _ _ c.in_ok-close.ensures.sent in
+    let made = ended _ _ (running c.lines.progress) c.lines.counts c.lines.replies c.lines.invariant.going (sym c.in_default.ensures) in
     told_at c.args.header.now (schedule_lines c.args.number c.args.count c.args.header.now) (running c.lines.progress) c.lines.counts
-    c.report-report.result.committed c.report-report.result.issued c.digest_of.result c.lines.replies.text
+    c.report-report.result.committed c.report-report.result.issued c.digest_of.result c.lines.replies
     c.lines.invariant.header c.report-report.ensures.0 c.report-report.ensures.1
-    (c.digest_of.ensures ∙ ap sha256 (c.as_slice-2.ensures ∙ sent)) made
+    (c.digest_of.ensures ∙ ap sha256 (c.as_slice-2.ensures.value ∙ c.in_ok-close.ensures)) made
 
 pub returns-in_err-reply-clause-limit : goal.returns-in_err-reply-clause-limit
 returns-in_err-reply-clause-limit c =

@@ -6,7 +6,7 @@ use Rattle.mm_bulk.proofs.run.run_schedule.Given as goal
 
 abbrev pub invariant-lines : goal.invariant-lines
 invariant-lines l = record {
-  going : Going (schedule_lines l.number l.count l.header) l.rest (running l.progress) l.counts l.replies.text;
+  going : Going (schedule_lines l.number l.count l.header) l.rest (running l.progress) l.counts l.replies;
   header : (running l.progress).header ≡ l.header;
 }
 

@@ -1,6 +1,6 @@
-use Rattle.std.proofs.Common.{◌<◌, ◌∙◌, ap, Ok, arith}
+use Rattle.std.proofs.Common.{◌<◌, ◌∙◌, refl, ap, Ok, arith}
 use Rattle.std.proofs.lemmas.Result.{err_from_is_err_and}
-use Rattle.mm_play.proofs.Stands.{stands_on, plays_stopped, plays_ended, plays_nothing, answered_line}
+use Rattle.mm_play.proofs.Stands.{stands_first, stands_on, plays_stopped, plays_ended, plays_nothing, answered_line}
 use Rattle.mm_play.proofs.lines.play.Goals as goal
 
 pub returns-in_err-reader-clause-plays : goal.returns-in_err-reader-clause-plays
@@ -12,15 +12,23 @@ pub returns-in_err-turn-clause-plays : goal.returns-in_err-turn-clause-plays
 returns-in_err-turn-clause-plays g c =
     let p = err_from_is_err_and c.from_residual-in_err-turn.result c.from_residual-in_err-turn.ensures.1 in
     rw (p.1, p.2) (plays_stopped g.P.Player.answer g.P.Player.closing c.args.player.now c.lines.player c.turn.new.player c.lines.number
-    _ _ _ _ _ _ c.lines.reader c.turn.new.reader c.turn.result _ c.lines.invariant.stands c.turn.ensures.turns c.in_err-turn.was)
+    _ _ _ _ _ _ c.lines.reader c.turn.new.reader c.lines.pending c.turn.new.pending c.turn.result _ c.lines.invariant.stands c.turn.ensures.turns c.in_err-turn.was)
+
+pub lines-init : goal.lines-init
+lines-init g c = record {
+  stands = stands_first g.P.Player.answer c.args.player.now _ _ c.in_ok-reader.reader c.new-pending.result c.in_ok-reader.ensures c.new-pending.ensures;
+  input = refl;
+  output = refl;
+  few = omega (arith, g.met.P.Player.few c.args.player.now);
+}
 
 pub lines-preserved : goal.lines-preserved
 lines-preserved g c =
     let went = c.in_ok-turn.was ∙ ap Ok c.if-branch.true in
     let s = stands_on g.P.Player.answer g.P.Player.closing c.args.player.now c.lines.player c.turn.new.player c.lines.number
-    _ _ _ _ _ _ c.lines.reader c.turn.new.reader c.turn.result c.lines.invariant.stands c.turn.ensures.turns went in
+    _ _ _ _ _ _ c.lines.reader c.turn.new.reader c.lines.pending c.turn.new.pending c.turn.result c.lines.invariant.stands c.turn.ensures.turns went in
     let a = answered_line g.P.Player.answer g.P.Player.closing c.lines.player c.turn.new.player c.lines.number
-    _ _ _ _ c.lines.reader c.turn.new.reader c.turn.result c.turn.ensures.turns went in
+    _ _ _ _ c.lines.reader c.turn.new.reader c.lines.pending c.turn.new.pending c.turn.result c.turn.ensures.turns went in
     let fewer : g.P.Player.lines_left c.turn.new.player < g.P.Player.lines_left c.lines.player =
     g.met.P.Player.counts_down c.lines.player c.turn.new.player a.0 a.1 a.2 in
     record {
@@ -33,4 +41,4 @@ lines-preserved g c =
 pub returns-clause-plays : goal.returns-clause-plays
 returns-clause-plays g c =
     plays_ended g.P.Player.answer g.P.Player.closing c.args.player.now c.lines.player c.turn.new.player c.lines.number
-    _ _ _ _ _ _ c.lines.reader c.turn.new.reader c.turn.result c.lines.invariant.stands c.turn.ensures.turns (c.in_ok-turn.was ∙ ap Ok c.if-branch.false)
+    _ _ _ _ _ _ c.lines.reader c.turn.new.reader c.lines.pending c.turn.new.pending c.turn.result c.lines.invariant.stands c.turn.ensures.turns (c.in_ok-turn.was ∙ ap Ok c.if-branch.false)

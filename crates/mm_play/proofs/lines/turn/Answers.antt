@@ -1,22 +1,35 @@
-use Rattle.mm_play.proofs.TurnLemmas.{turned_by_line, turned_by_tail, turned_by_end, turned_by_long}
+use Rattle.std.proofs.Common.{◌∙◌, false, ap, Ok, Err}
+use Rattle.mm_play.proofs.Turning.{turn_cut, turn_unread, turn_ends}
 use Rattle.mm_play.proofs.lines.turn.Goals as goal
 
-pub returns-in-Ok-Line-clause-turns : goal.returns-in-Ok-Line-clause-turns
-returns-in-Ok-Line-clause-turns g c =
-    turned_by_line g.P.Player.answer g.P.Player.closing c.args.number c.args.player.now c.answer_line.new.player _ _ _ _ _ _ c.answer_line.result
-    c.next.result c.in-Ok-Line.field-0 c.in-Ok-Line.line c.next.follows.holds-at-none c.in-Ok-Line.is c.in-Ok-Line.field-0-is c.answer_line.ensures.answers
+pub returns-in-Err-clause-turns : goal.returns-in-Err-clause-turns
+returns-in-Err-clause-turns g c =
+    turn_cut g.P.Player.answer g.P.Player.closing c.args.number c.args.player.now _ c.args.reader.now c.send_due.new.reader _ _
+    c.args.pending.now c.send_due.new.pending c.send_due.result c.in-Err.field-0 c.send_due.ensures.sent c.in-Err.is
 
-pub returns-in-Ok-Tail-clause-turns : goal.returns-in-Ok-Tail-clause-turns
-returns-in-Ok-Tail-clause-turns g c =
-    turned_by_tail g.P.Player.answer g.P.Player.closing c.args.number c.args.player.now _ _ _ _ _
-    c.next.result c.in-Ok-Tail.field-0 c.next.follows.holds-at-none c.in-Ok-Tail.is c.in-Ok-Tail.field-0-is
+pub returns-in-Ok-false-clause-turns : goal.returns-in-Ok-false-clause-turns
+returns-in-Ok-false-clause-turns g c =
+    turn_ends g.P.Player.answer g.P.Player.closing c.args.number c.args.player.now c.answer_next.new.player _ _
+    c.args.reader.now c.send_due.new.reader c.answer_next.new.reader _ _ _
+    c.args.pending.now c.send_due.new.pending c.answer_next.new.pending c.send_then.new.pending
+    c.send_due.result c.in-Ok.field-0 c.answer_next.result (Ok false) c.send_then.result
+    c.send_due.ensures.same c.send_due.ensures.sent c.in-Ok.is c.answer_next.ensures.advances (c.in-Ok-false.is ∙ ap Ok c.in-Ok-false.field-0-test)
+    c.send_then.ensures.sent c.send_then.ensures.none
 
-pub returns-in-Ok-End-clause-turns : goal.returns-in-Ok-End-clause-turns
-returns-in-Ok-End-clause-turns g c =
-    turned_by_end g.P.Player.answer g.P.Player.closing c.args.number c.args.player.now c.end_input.new.player _ _ _ _ _ _ c.end_input.result
-    c.next.result c.in-Ok-End.field-0 c.next.follows.holds-at-none c.in-Ok-End.is c.in-Ok-End.field-0-is c.end_input.ensures.ends
+pub returns-in-ReadFault-clause-turns : goal.returns-in-ReadFault-clause-turns
+returns-in-ReadFault-clause-turns g c =
+    turn_unread g.P.Player.answer g.P.Player.closing c.args.number c.args.player.now c.answer_next.new.player _ _
+    c.args.reader.now c.send_due.new.reader c.answer_next.new.reader _ _
+    c.args.pending.now c.send_due.new.pending c.answer_next.new.pending
+    c.send_due.result c.in-Ok.field-0 c.answer_next.result
+    c.send_due.ensures.same c.send_due.ensures.sent c.in-Ok.ensures.none c.in-Ok.is c.answer_next.ensures.advances
+    (c.in-Err-answer_next.is ∙ ap Err c.in-ReadFault.is)
 
-pub returns-in-Err-LineLong-clause-turns : goal.returns-in-Err-LineLong-clause-turns
-returns-in-Err-LineLong-clause-turns g c =
-    turned_by_long g.P.Player.answer g.P.Player.closing c.args.number c.args.player.now _ _ _ _ _
-    c.next.result c.in-Err-LineLong.field-0 c.next.follows.holds-at-none c.in-Err-LineLong.is c.in-Err-LineLong.field-0-is
+pub returns-in_default-clause-turns : goal.returns-in_default-clause-turns
+returns-in_default-clause-turns g c =
+    turn_ends g.P.Player.answer g.P.Player.closing c.args.number c.args.player.now c.answer_next.new.player _ _
+    c.args.reader.now c.send_due.new.reader c.answer_next.new.reader _ _ _
+    c.args.pending.now c.send_due.new.pending c.answer_next.new.pending c.send_then-in_default.new.pending
+    c.send_due.result c.in-Ok.field-0 c.answer_next.result (Err c.in-Err-answer_next.fault) c.send_then-in_default.result
+    c.send_due.ensures.same c.send_due.ensures.sent c.in-Ok.is c.answer_next.ensures.advances c.in-Err-answer_next.is
+    c.send_then-in_default.ensures.sent c.send_then-in_default.ensures.none

@@ -1,14 +1,12 @@
-//! Replies as they go out.
+//! Replies as text.
 
 ghost use Rattle.std.specs.Prelude.{◌≡◌, ◌++◌, ◌∷◌, [], IfOk};
 ghost use Rattle.std.specs.Fmt.{decimal};
-ghost use Rattle.mm_base.specs.Faults.{CountsFaults};
-ghost use Rattle.mm_base.specs.Streams.{Sends};
 ghost use Rattle.mm_receipts.specs.Checking.{verdict_text, last_line};
 
 use crate::pair::Verdict;
-use mm_base::{Bytes, Memory, Sink, WriteFault, put_decimal, write_all};
-use mm_schedule::print_end;
+use mm_base::{Bytes, Memory, put_decimal};
+use mm_schedule::put_end;
 use std::alloc::Global;
 
 /// A word, a position and LF.
@@ -33,16 +31,11 @@ pub fn text_of(alloc: Global, position: u64, verdict: Verdict) -> Result<Bytes, 
     }
 }
 
-/// The most bytes of the last line, its LF included.
-const LINE_ROOM: usize = 4200;
-
-/// Writes the line `end G N`.
-pub fn write_last<K: Sink>(good: u32, pairs: u32, out: &mut K) -> Result<(), WriteFault>
-    ensures sent { Sends (K.received out.old) (K.received out.new) (last_line good pairs) result }
-    ensures counted { CountsFaults (K.faults out.old) (K.faults out.new) result }
+/// The line `end G N`, with its LF.
+pub fn last_text(alloc: Global, good: u32, pairs: u32) -> Result<Bytes, Memory>
+    ensures { IfOk result (λ text. text ≡ last_line good pairs) }
 {
-    let mut line = [0; LINE_ROOM];
-    let length = print_end(u64::from(good), pairs, &mut line);
-    let (front, _) = line.split_at(length);
-    write_all(out, front)
+    let mut text = Bytes::new(alloc);
+    put_end(u64::from(good), pairs, &mut text)?;
+    Ok(text)
 }

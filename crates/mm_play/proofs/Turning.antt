@@ -1,0 +1,219 @@
+-- A turn: what was pending before it may be sent first, and nothing is pending where it ends the run.
+use Rattle.std.proofs.Common.{◌≡◌, ◌∙◌, ◌≢◌, ◌+◌, ℕ, Bool, true, false, List, [], ◌∷◌, ◌++◌, length, Result, Ok, Err, OnOk, OnErr, Option, refl, sym, ap, subst, append_assoc, append-nil, inl, inr}
+use Rattle.std.specs.Io.KnownBytes.{Appends}
+use Rattle.std.proofs.KnownBytes.{Appends-trans, Consumes-nil}
+use Rattle.std.proofs.Math.Seq.{take-append_seam}
+use Rattle.std.proofs.lemmas.List.Elements.{All-take}
+use Rattle.mm_base.specs.Input.{IsUnbroken}
+use Rattle.mm_base.specs.declared.fault.WriteFault as write
+use Rattle.mm_base.specs.declared.replay_fault.ReplayFault.{ReplayFault}
+use Rattle.mm_base.specs.declared.replay_fault.ReplayFault.TheVariants.{Memory, ReadFault, WriteFault, BadLine, LineLong, TooMuch}
+use Rattle.mm_play.specs.declared.player.Refused.{Refused}
+use Rattle.mm_play.specs.Play.{Told, told, stopped, after_writing, run_from}
+use Rattle.mm_play.specs.Takes.{IsFrontOf}
+use Rattle.mm_play.specs.Plays.{ForWhole}
+use Rattle.mm_play.specs.Turns.{Went, Advances, SendsDue, SendsThen, IsSent, Turns}
+use Rattle.mm_play.proofs.Runs.{run_from-answered}
+use Rattle.mm_play.proofs.Telling.{for_whole}
+
+-- ---- fronts
+
+-- a front of some bytes is a front of these and more
+front_of_more : (sent bytes more : List ℕ) → IsFrontOf sent bytes → IsFrontOf sent (bytes ++ more)
+front_of_more sent bytes more h = (h.0 ++ more, sym (append_assoc sent h.0 more) ∙ ap (λ b. b ++ more) h.1)
+
+-- the same bytes stand in front of both
+pub front_after : (sent more all : List ℕ) → IsFrontOf more all → IsFrontOf (sent ++ more) (sent ++ all)
+front_after sent more all h = (h.0, append_assoc sent more h.0 ∙ ap (λ b. sent ++ b) h.1)
+
+front_of_front : (a b c : List ℕ) → IsFrontOf a b → IsFrontOf b c → IsFrontOf a c
+front_of_front a b c first second = subst (λ (x : List ℕ). IsFrontOf a x) second.1 (front_of_more a b second.0 first)
+
+-- ---- bytes that were pending first
+
+went_behind : {P : Type 0} (answer : P → List ℕ → Result (List ℕ × P) Refused) (rest : List ℕ → Told P) (number : ℕ) (player next : P)
+    (left : Option (List ℕ)) (bytes held pending said front : List ℕ) (result : Result Bool ReplayFault)
+    → Went answer rest number player next left bytes held pending said result
+    → Went answer rest number player next left bytes held (front ++ pending) (front ++ said) result
+went_behind answer rest number player next left bytes held pending said front (Ok true) w = record {
+  line = w.line;
+  reply = w.reply;
+  unbroken = w.unbroken;
+  short = w.short;
+  cut = w.cut;
+  answered = w.answered;
+  said_behind = ap (λ b. front ++ b) w.said_behind ∙ sym (append_assoc front pending w.reply);
+}
+went_behind answer rest number player next left bytes held pending said front (Ok false) w =
+    (w.0, w.1, w.2, ap (λ b. front ++ b) w.3 ∙ sym (append_assoc front pending w.1))
+went_behind answer rest number player next left bytes held pending said front (Err ReadFault) w = (ap (λ b. front ++ b) w.0, w.1)
+went_behind answer rest number player next left bytes held pending said front (Err WriteFault) w =
+    for_whole left bytes (λ input. IsFrontOf said (pending ++ (rest input).written)) (λ input. IsFrontOf (front ++ said) ((front ++ pending) ++ (rest input).written))
+    (λ input h. subst (λ (b : List ℕ). IsFrontOf (front ++ said) b) (sym (append_assoc front pending (rest input).written))
+    (front_after front said (pending ++ (rest input).written) h)) w
+went_behind answer rest number player next left bytes held pending said front (Err Memory) w = ap (λ b. front ++ b) w
+went_behind answer rest number player next left bytes held pending said front (Err (BadLine n)) w = (ap (λ b. front ++ b) w.0, w.1)
+went_behind answer rest number player next left bytes held pending said front (Err (LineLong n)) w = (ap (λ b. front ++ b) w.0, w.1)
+went_behind answer rest number player next left bytes held pending said front (Err TooMuch) w = (ap (λ b. front ++ b) w.0, w.1)
+
+-- ---- a front of what is pending is a front of what the run writes
+
+abbrev IsCut : {P : Type 0} → (List ℕ → Told P) → List ℕ → List ℕ → List ℕ → Type 0
+IsCut rest pending sent input = IsFrontOf sent (pending ++ (rest input).written)
+
+-- nothing was answered
+cut_unanswered : {P : Type 0} (rest : List ℕ → Told P) (left : Option (List ℕ)) (bytes pending said sent : List ℕ)
+    → said ≡ pending → IsFrontOf sent said → ForWhole left bytes (IsCut rest pending sent)
+cut_unanswered rest left bytes pending said sent same front =
+    inl (λ more. front_of_more sent pending (rest (bytes ++ more)).written (subst (λ (b : List ℕ). IsFrontOf sent b) same front))
+
+-- some bytes are what the run writes first
+cut_reply : {P : Type 0} (pending said sent reply : List ℕ) (t more : Told P)
+    → said ≡ pending ++ reply → t ≡ after_writing reply more → IsFrontOf sent said → IsFrontOf sent (pending ++ t.written)
+cut_reply {P} pending said sent reply t more behind is front =
+    subst (λ (u : Told P). IsFrontOf sent (pending ++ u.written)) (sym is)
+    (subst (λ (b : List ℕ). IsFrontOf sent b) (append_assoc pending reply more.written)
+    (front_of_more sent (pending ++ reply) more.written (subst (λ (b : List ℕ). IsFrontOf sent b) behind front)))
+
+went_cut : {P : Type 0} (answer : P → List ℕ → Result (List ℕ × P) Refused) (closing : P → Option (List ℕ)) (number : ℕ) (player next : P)
+    (left : Option (List ℕ)) (bytes held pending said sent : List ℕ) (result : Result Bool ReplayFault)
+    → Went answer (run_from answer closing number player) number player next left bytes held pending said result → IsFrontOf sent said
+    → ForWhole left bytes (IsCut (run_from answer closing number player) pending sent)
+went_cut answer closing number player next left bytes held pending said sent (Ok true) w front =
+    inl (λ more. cut_reply pending said sent w.reply (run_from answer closing number player (bytes ++ more)) (run_from answer closing (number + 1) next (held ++ more)) w.said_behind
+    (ap (run_from answer closing number player) (ap (λ b. b ++ more) w.cut ∙ append_assoc w.line (10 ∷ held) more)
+    ∙ run_from-answered answer closing number player w.line (held ++ more) w.reply next w.unbroken w.short w.answered) front)
+went_cut {P} answer closing number player next left bytes held pending said sent (Ok false) w front =
+    inr (
+      w.0,
+      subst (λ (t : Told P). IsFrontOf sent (pending ++ t.written)) (sym w.2) (subst (λ (b : List ℕ). IsFrontOf sent b) w.3 front),
+    )
+went_cut answer closing number player next left bytes held pending said sent (Err ReadFault) w front =
+    cut_unanswered (run_from answer closing number player) left bytes pending said sent w.0 front
+went_cut answer closing number player next left bytes held pending said sent (Err WriteFault) w front =
+    for_whole left bytes (IsCut (run_from answer closing number player) pending said) (IsCut (run_from answer closing number player) pending sent)
+    (λ input h. front_of_front sent said (pending ++ (run_from answer closing number player input).written) front h) w
+went_cut answer closing number player next left bytes held pending said sent (Err Memory) w front =
+    cut_unanswered (run_from answer closing number player) left bytes pending said sent w front
+went_cut answer closing number player next left bytes held pending said sent (Err (BadLine n)) w front =
+    cut_unanswered (run_from answer closing number player) left bytes pending said sent w.0 front
+went_cut answer closing number player next left bytes held pending said sent (Err (LineLong n)) w front =
+    cut_unanswered (run_from answer closing number player) left bytes pending said sent w.0 front
+went_cut answer closing number player next left bytes held pending said sent (Err TooMuch) w front =
+    cut_unanswered (run_from answer closing number player) left bytes pending said sent w.0 front
+
+-- ---- turns
+
+-- what was sent first, and what was pending still
+due_sent : (received received' : Option (List ℕ)) (pending pending' : List ℕ) (due : Result (Unit {0}) write.WriteFault) (done : Unit {0})
+    → SendsDue received received' pending pending' due → due ≡ Ok done
+    → (sent : List ℕ) × Appends received received' sent × (pending ≡ sent ++ pending')
+due_sent received received' pending pending' due done m is =
+    let kept : m.unsent ≡ pending' = subst (λ (r : Result (Unit {0}) write.WriteFault). OnOk r (m.unsent ≡ pending')) is m.kept in
+    (m.sent, m.appended, m.parts ∙ ap (λ b. m.sent ++ b) kept)
+
+-- the sink failed before the line was read
+pub turn_cut : {P : Type 0} (answer : P → List ℕ → Result (List ℕ × P) Refused) (closing : P → Option (List ℕ)) (number : ℕ) (player : P)
+    (left : Option (List ℕ)) (held held' : List ℕ) (received received' : Option (List ℕ)) (pending pending' : List ℕ) (due : Result (Unit {0}) write.WriteFault) (fault : write.WriteFault)
+    → SendsDue received received' pending pending' due → due ≡ Err fault
+    → Turns answer closing number player player left left held held' received received' pending pending' (Err WriteFault)
+turn_cut answer closing number player left held held' received received' pending pending' due fault m is =
+    let none : pending' ≡ [] = subst (λ (r : Result (Unit {0}) write.WriteFault). OnErr r (pending' ≡ [])) is m.lost in
+    let all : m.sent ++ pending' ≡ m.sent = ap (λ b. m.sent ++ b) none ∙ append-nil m.sent in
+    record {
+      taken = [];
+      sent = m.sent;
+      consumed = Consumes-nil left;
+      appended = m.appended;
+      went = inl (λ more. front_of_more (m.sent ++ pending') pending _ (subst (λ (b : List ℕ). IsFrontOf b pending) (sym all) (m.unsent, sym m.parts)));
+      is_sent = none;
+    }
+
+-- lines may follow
+pub turn_goes : {P : Type 0} (answer : P → List ℕ → Result (List ℕ × P) Refused) (closing : P → Option (List ℕ)) (number : ℕ) (player next : P)
+    (left left' : Option (List ℕ)) (held here held' : List ℕ) (received received' : Option (List ℕ)) (pending waiting pending' : List ℕ)
+    (due : Result (Unit {0}) write.WriteFault) (done : Unit {0}) (came : Result Bool ReplayFault)
+    → here ≡ held → SendsDue received received' pending waiting due → due ≡ Ok done
+    → Advances answer closing number player next left left' here held' waiting pending' came → came ≡ Ok true
+    → Turns answer closing number player next left left' held held' received received' pending pending' (Ok true)
+turn_goes answer closing number player next left left' held here held' received received' pending waiting pending' due done came same m is a came_is =
+    let rest = run_from answer closing number player in
+    let w = due_sent received received' pending waiting due done m is in
+    let b = subst (λ (h : List ℕ). Advances answer closing number player next left left' h held' waiting pending' came) same a in
+    let went = went_behind answer rest number player next left' (held ++ b.taken) held' waiting pending' w.0 came b.went in
+    record {
+      taken = b.taken;
+      sent = w.0;
+      consumed = b.consumed;
+      appended = w.1;
+      went = subst (λ (r : Result Bool ReplayFault). Went answer rest number player next left' (held ++ b.taken) held' pending (w.0 ++ pending') r) came_is
+          (subst (λ (p : List ℕ). Went answer rest number player next left' (held ++ b.taken) held' p (w.0 ++ pending') came) (sym w.2) went);
+      is_sent = tt;
+    }
+
+unbroken_front : (held taken : List ℕ) → IsUnbroken (held ++ taken) → IsUnbroken held
+unbroken_front held taken h = subst IsUnbroken (take-append_seam held taken) (All-take (λ (b : ℕ). b ≢ 10) (length held) (held ++ taken) h)
+
+-- the source failed: nothing is pending
+pub turn_unread : {P : Type 0} (answer : P → List ℕ → Result (List ℕ × P) Refused) (closing : P → Option (List ℕ)) (number : ℕ) (player next : P)
+    (left left' : Option (List ℕ)) (held here held' : List ℕ) (received received' : Option (List ℕ)) (pending waiting pending' : List ℕ)
+    (due : Result (Unit {0}) write.WriteFault) (done : Unit {0}) (came : Result Bool ReplayFault)
+    → here ≡ held → SendsDue received received' pending waiting due → (IsUnbroken held → waiting ≡ []) → due ≡ Ok done
+    → Advances answer closing number player next left left' here held' waiting pending' came → came ≡ Err ReadFault
+    → Turns answer closing number player next left left' held held' received received' pending pending' (Err ReadFault)
+turn_unread answer closing number player next left left' held here held' received received' pending waiting pending' due done came same m none is a came_is =
+    let rest = run_from answer closing number player in
+    let w = due_sent received received' pending waiting due done m is in
+    let b = subst (λ (h : List ℕ). Advances answer closing number player next left left' h held' waiting pending' came) same a in
+    let failed = subst (λ (r : Result Bool ReplayFault). Went answer rest number player next left' (held ++ b.taken) held' waiting pending' r) came_is b.went in
+    let went = went_behind answer rest number player next left' (held ++ b.taken) held' waiting pending' w.0 (Err ReadFault) failed in
+    record {
+      taken = b.taken;
+      sent = w.0;
+      consumed = b.consumed;
+      appended = w.1;
+      went = subst (λ (p : List ℕ). Went answer rest number player next left' (held ++ b.taken) held' p (w.0 ++ pending') (Err ReadFault)) (sym w.2) went;
+      is_sent = failed.0 ∙ none (unbroken_front held b.taken failed.1);
+    }
+
+none_is_sent : (pending : List ℕ) (result : Result Bool ReplayFault) → pending ≡ [] → IsSent pending result
+none_is_sent pending (Ok true) none = tt
+none_is_sent pending (Ok false) none = none
+none_is_sent pending (Err fault) none = none
+
+-- all was sent, or the sink failed
+pub turn_ends : {P : Type 0} (answer : P → List ℕ → Result (List ℕ × P) Refused) (closing : P → Option (List ℕ)) (number : ℕ) (player next : P)
+    (left left' : Option (List ℕ)) (held here held' : List ℕ) (received received' received'' : Option (List ℕ)) (pending waiting more pending' : List ℕ)
+    (due : Result (Unit {0}) write.WriteFault) (done : Unit {0}) (found came result : Result Bool ReplayFault)
+    → here ≡ held → SendsDue received received' pending waiting due → due ≡ Ok done
+    → Advances answer closing number player next left left' here held' waiting more found → found ≡ came
+    → SendsThen came received' received'' more result → pending' ≡ []
+    → Turns answer closing number player next left left' held held' received received'' pending pending' result
+turn_ends answer closing number player next left left' held here held' received received' received'' pending waiting more pending' due done found came result same m is a found_is s none =
+    let rest = run_from answer closing number player in
+    let w = due_sent received received' pending waiting due done m is in
+    let b = subst (λ (r : Result Bool ReplayFault). Advances answer closing number player next left left' held held' waiting more r) found_is
+    (subst (λ (h : List ℕ). Advances answer closing number player next left left' h held' waiting more found) same a) in
+    let bytes = held ++ b.taken in
+    let behind = went_behind answer rest number player next left' bytes held' waiting more w.0 came b.went in
+    let went = subst (λ (p : List ℕ). Went answer rest number player next left' bytes held' p (w.0 ++ more) came) (sym w.2) behind in
+    let all : (w.0 ++ s.sent) ++ pending' ≡ w.0 ++ s.sent = ap (λ p. (w.0 ++ s.sent) ++ p) none ∙ append-nil (w.0 ++ s.sent) in
+    record {
+      taken = b.taken;
+      sent = w.0 ++ s.sent;
+      consumed = b.consumed;
+      appended = Appends-trans received received' received'' w.0 s.sent w.1 s.appended;
+      went = elim s.then_so [
+        | inl whole ↦
+            let sent : w.0 ++ more ≡ (w.0 ++ s.sent) ++ pending' =
+            ap (λ p. w.0 ++ p) (s.parts ∙ ap (λ p. s.sent ++ p) whole.1 ∙ append-nil s.sent) ∙ sym all in
+            subst (λ (r : Result Bool ReplayFault). Went answer rest number player next left' bytes held' pending ((w.0 ++ s.sent) ++ pending') r) (sym whole.0)
+            (subst (λ (p : List ℕ). Went answer rest number player next left' bytes held' pending p came) sent went)
+        | inr cut ↦
+            let front : IsFrontOf ((w.0 ++ s.sent) ++ pending') (w.0 ++ more) =
+            subst (λ (p : List ℕ). IsFrontOf p (w.0 ++ more)) (sym all) (front_after w.0 s.sent more (s.unsent, sym s.parts)) in
+            subst (λ (r : Result Bool ReplayFault). Went answer rest number player next left' bytes held' pending ((w.0 ++ s.sent) ++ pending') r) (sym cut)
+            (went_cut answer closing number player next left' bytes held' pending (w.0 ++ more) ((w.0 ++ s.sent) ++ pending') came went front)
+      ];
+      is_sent = none_is_sent pending' result none;
+    }

@@ -1,0 +1,19 @@
+//! Replies as text.
+
+ghost use Rattle.std.specs.Prelude.{◌≡◌, ◌++◌, OnOk};
+ghost use Rattle.mm_schedule.specs.Replies.{IsPrintable};
+ghost use Rattle.mm_replay.specs.Text.{text_of};
+
+use mm_base::{Bytes, Memory};
+use mm_schedule::{Reply, put_line, reply_lines};
+
+/// Puts the lines of a reply at the end.
+pub fn put_reply(reply: &Reply, into: &mut Bytes) -> Result<(), Memory>
+    requires { IsPrintable reply.now }
+    ensures { OnOk result (into.new ≡ into.old ++ text_of reply.now) }
+{
+    'lines: for index in 0..reply_lines(reply) {
+        put_line(reply, index, into)?;
+    }
+    Ok(())
+}
