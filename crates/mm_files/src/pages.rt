@@ -59,7 +59,12 @@ impl<R: Files> PageDevice for FilePages<'_, R> {
 
     fn set_length(&mut self, slot: u8, length: u32) -> Result<(), Failed> {
         self.length_writes = self.length_writes.saturating_add(1);
-        let outcome = self.slots.set_length(slot, length);
+        let outcome = self.slots.set_length(slot, u64::from(length));
+        counted(&mut self.faults, outcome)
+    }
+
+    fn sync(&mut self, slot: u8) -> Result<(), Failed> {
+        let outcome = self.slots.sync(slot);
         counted(&mut self.faults, outcome)
     }
 }

@@ -12,10 +12,10 @@ use Rattle.mm_store.specs.Calls.{putting}
 use Rattle.mm_store.proofs.SlotLaws.{slot_in-with_slot, with_slot-twice, with_slot-same, putting-twice}
 use Rattle.mm_pages.specs.Bytes.{resized, page_of, with_page, page_count}
 use Rattle.mm_pages.specs.Paged.{Paged}
-use Rattle.mm_pages.specs.Calls.{WritesPage, ReadsLength, changing}
+use Rattle.mm_pages.specs.Calls.{WritesPage, ReadsLength, Syncs, changing}
 use Rattle.mm_pages.specs.Counts.{counted_by, may_be, look_at, looks_at, change_of, changes_of, one_if}
 use Rattle.mm_pages.specs.Rows.{Rows, row_in, with_row, kept_of, digest_of, keeping, digests_of, DropsPage}
-use Rattle.mm_pages.specs.Puts.{IsInStep, HoldsPage, IsPutAt, FailsIn, Fails, PutsThere, PutsOne, IsFilled, FillsSlot, PutsFirst, IsOneMoreAtMost, Fits, PutsAll, PutsBytes}
+use Rattle.mm_pages.specs.Puts.{IsInStep, HoldsPage, IsPutAt, FailsIn, Fails, PutsThere, PutsOne, IsFilled, FillsSlot, PutsFirst, IsOneMoreAtMost, Fits, FitsLength, PutsAll, PutsBytes}
 use Rattle.mm_pages.proofs.BytesLaws.{get_or-page_of, page_of-same, with_page-before, with_page-within, with_page-after, resized-same, resized-length}
 use Rattle.mm_pages.proofs.RowLaws.{row_in-with_row, with_row-twice, with_row-same, keeping-next, keeping-alike, kept_of-next, length-digests_of, take-digests_of}
 use Rattle.mm_pages.proofs.CountLaws.{counted_by-add, both_right, same_bytes, no_change, a_change, changes_of-same}
@@ -369,6 +369,36 @@ length_failed slot old new fault r = record {
       λ honest.
       let stay = slots_stay slot old.slots in
       (stay.0, ap (λ (x : Paged). x.slots) r.same ∙ stay.1);
+}
+
+-- slots of which one changed are slots with some bytes of its own put in place
+slots_changed : (slot : ℕ) (change : List ℕ → List ℕ) (slots : Option Slots) →
+    (left : List ℕ) × (changing slot change slots ≡ putting slot left slots)
+slots_changed slot change None = ([], refl)
+slots_changed slot change (Some told) = (change (slot_in told slot), refl)
+
+-- a length that is fitted, and then synced or not
+pub fits_synced : (slot size : ℕ) (old mid new : Paged) (result : Result Unit Failed) → Fits slot size old mid →
+    Syncs slot mid new result → FitsLength slot size old new result
+fits_synced slot size old mid new (Ok done) f s = record {
+  honest = ap (λ (x : Paged). x.is_honest) s.same ∙ f.honest;
+  faults = s.counted_faults.kept ∙ f.faults;
+  reads = ap (λ (x : Paged). x.page_reads) s.same ∙ f.reads;
+  writes = ap (λ (x : Paged). x.page_writes) s.same ∙ f.writes;
+  lengths =
+      subst (λ n. IsOneMoreAtMost old.length_writes n) (sym (ap (λ (x : Paged). x.length_writes) s.same)) f.lengths;
+  settled = λ told e l. ap (λ (x : Paged). x.length_writes) s.same ∙ f.settled told e l;
+  slots = λ honest. s.leaves (f.honest ∙ honest) ∙ f.slots honest;
+}
+fits_synced slot size old mid new (Err fault) f s = record {
+  honest = ap (λ (x : Paged). x.is_honest) s.same ∙ f.honest;
+  faults = subst (λ n. Rose n new.faults) f.faults s.counted_faults.failed;
+  leaves =
+      λ honest.
+      let before = slots_changed slot (resized size) old.slots in
+      let left = s.leaves (f.honest ∙ honest) in
+      (left.0, left.1 ∙ ap (λ (x : Option Slots). putting slot left.0 x) (f.slots honest ∙ before.1)
+      ∙ putting-twice slot before.0 left.0 old.slots);
 }
 
 -- what is in a slot whose pages are those of the bytes, once it has their length

@@ -38,3 +38,13 @@ pub record SetsLength (slot size : ℕ) (old new : Paged) (result : Result Unit 
   pub same : new ≡ record old { slots = new.slots; faults = new.faults; length_writes = counted old.length_writes }
   pub counted_faults : CountsFaults old.faults new.faults result
   pub leaves : old.is_honest ≡ true → LeavesSlot slot (resized size) old.slots new.slots result
+
+-- what a sync of a slot of an honest device leaves: all as it was after Ok, and any bytes there after it failed
+abbrev pub KeepsSlot : ℕ → Option Slots → Option Slots → Result Unit Failed → Type 0
+KeepsSlot slot old new (Ok _) = new ≡ old
+KeepsSlot slot old new (Err _) = (left : List ℕ) × (new ≡ putting slot left old)
+
+pub record Syncs (slot : ℕ) (old new : Paged) (result : Result Unit Failed) : Type 0 where
+  pub same : new ≡ record old { slots = new.slots; faults = new.faults }
+  pub counted_faults : CountsFaults old.faults new.faults result
+  pub leaves : old.is_honest ≡ true → KeepsSlot slot old.slots new.slots result

@@ -60,3 +60,8 @@ after_reading s (Err _) = failed s
 abbrev pub after_changing : ℕ → (List ℕ → List ℕ) → Sheets → Result Unit Failed → Sheets
 after_changing slot change s (Ok _) = record (called s) { slots = with_slot s.slots slot (change (slot_in s.slots slot)) }
 after_changing slot change s (Err _) = failed_in slot s
+
+-- after a sync of a slot
+abbrev pub after_syncing : ℕ → Sheets → Result Unit Failed → Sheets
+after_syncing slot s (Ok _) = called s
+after_syncing slot s (Err _) = failed_in slot s

@@ -2,12 +2,13 @@
 
 ghost use Rattle.std.specs.Prelude.{◌<◌, ◌≤◌};
 ghost use Rattle.mm_pages.specs.Paged.{Paged};
-ghost use Rattle.mm_pages.specs.Calls.{ReadsLength, ReadsPage, WritesPage, SetsLength};
+ghost use Rattle.mm_pages.specs.Calls.{ReadsLength, ReadsPage, WritesPage, SetsLength, Syncs};
 
 use mm_base::Failed;
 
 /// Four slots, numbered from 0 to 3, each a list of at most 1,100,032 bytes that is read and written by
-/// pages of 256. Bytes past a slot's end read as zero.
+/// pages of 256. Bytes past a slot's end read as zero. What is written may wait to be on the disk until the slot is
+/// synced.
 ///
 /// `pages` is what the device holds: the slots where it tells them, whether it is honest, and its counts of
 /// faults and of calls.
@@ -38,4 +39,9 @@ pub trait PageDevice {
         requires slot { slot < 4 }
         requires most { length ≤ 1100032 }
         ensures sets { SetsLength slot length (pages self.old) (pages self.new) result };
+
+    /// Lets what was written to the slot be on the disk. After `Failed` the slot may have any bytes.
+    fn sync(&mut self, slot: u8) -> Result<(), Failed>
+        requires { slot < 4 }
+        ensures syncs { Syncs slot (pages self.old) (pages self.new) result };
 }

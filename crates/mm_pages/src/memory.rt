@@ -4,8 +4,8 @@ ghost use Rattle.std.specs.Prelude.{◌≡◌, ◌↔◌, ◌<◌, ◌≤◌, �
 ghost use Rattle.mm_base.specs.Faults.{counted};
 ghost use Rattle.mm_store.specs.Slots.{slot_in, with_slot};
 ghost use Rattle.mm_pages.specs.Bytes.{resized, with_page};
-ghost use Rattle.mm_pages.specs.Calls.{ReadsLength, ReadsPage, WritesPage, SetsLength};
-ghost use Rattle.mm_pages.specs.Sheets.{blank, paged_by, called, failed, failed_in, after_reading, after_changing};
+ghost use Rattle.mm_pages.specs.Calls.{ReadsLength, ReadsPage, WritesPage, SetsLength, Syncs};
+ghost use Rattle.mm_pages.specs.Sheets.{blank, paged_by, called, failed, failed_in, after_reading, after_changing, after_syncing};
 
 use crate::device::PageDevice;
 use crate::page::{PAGE, page_of};
@@ -357,6 +357,18 @@ impl PageDevice for MemPages {
             return Err(Failed);
         }
         self.slots.resize(slot, length as usize);
+        Ok(())
+    }
+
+    fn sync(&mut self, slot: u8) -> Result<(), Failed>
+        requires { slot < 4 }
+        ensures syncs { Syncs slot (paged_by self.old) (paged_by self.new) result }
+        ensures failing { IsErr result ↔ (self.old.ahead ≡ 1) }
+        ensures after { self.new ≡ after_syncing slot self.old result }
+    {
+        if self.is_to_fail_in(slot) {
+            return Err(Failed);
+        }
         Ok(())
     }
 }

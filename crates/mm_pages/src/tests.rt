@@ -105,7 +105,7 @@ fn reads_after(
     ))
 }
 
-// Each of the five calls of a write fails in turn, or none: of the slot nothing is known then, and of the
+// Each of the six calls of a write fails in turn, or none: of the slot nothing is known then, and of the
 // others all. Bytes of which no page was known are all read back, and bytes whose pages all have another
 // digest are not.
 #[test]
@@ -113,7 +113,7 @@ fn a_failed_write_drops_what_was_known_of_its_slot(rt: HostRuntime) -> Result<()
     let zeros = vec![in rt.alloc(); 0u8; 600]?;
     let ones = vec![in rt.alloc(); 1u8; 600]?;
     let mut store = empty(rt.alloc())?;
-    for call in 0..6u64 {
+    for call in 0..7u64 {
         let expected = if call == 0 {
             (false, 0, 0)
         } else {

@@ -25,7 +25,7 @@ pub fn put_bytes<D: PageDevice>(
 {
     put_pages(device, digests, slot, bytes)?;
     digests.cut(slot, page_count(bytes.len()));
-    fit_length(device, slot, bytes.len() as u32)
+    fit_and_sync(device, slot, bytes.len() as u32)
 }
 
 // Puts the pages of these bytes, one after another.
@@ -101,6 +101,16 @@ fn may_be(kept: Option<Digest>, digest: &Digest) -> bool
         None => true,
         Some(kept) => kept.bytes == digest.bytes,
     }
+}
+
+// Gives the slot this length, and lets what was written to it be on the disk.
+fn fit_and_sync<D: PageDevice>(device: &mut D, slot: u8, length: u32) -> Result<(), Failed>
+    requires slot { slot < 4 }
+    requires most { length ≤ 1100000 }
+    ensures { FitsLength slot length (D.pages device.old) (D.pages device.new) result }
+{
+    fit_length(device, slot, length)?;
+    device.sync(slot)
 }
 
 // Gives the slot this length, where it has another.

@@ -52,21 +52,30 @@ impl<'r> Watched<'r> {
         Ok(format!(in self.rt.alloc(); "{}/{name}", self.folder.as_str())?)
     }
 
-    // Writes a call down. An error where it is to fail.
+    // Writes a call down, a space before it. An error where it is to fail.
     fn put(&self, what: &str, name: &str) -> io::Result<()> {
         let Ok(mut calls) = self.calls.try_borrow_mut() else {
             return Err(io::Error::from(ErrorKind::Other));
         };
+        calls.push_str(" ")?;
         calls.push_str(what)?;
         calls.push_str(" ")?;
         calls.push_str(name)?;
-        calls.push_str("\n")?;
         let ahead = self.ahead.get();
         self.ahead.set(ahead.saturating_sub(1));
         if ahead == 1 {
             return Err(io::Error::from(ErrorKind::Other));
         }
         Ok(())
+    }
+
+    // Writes down of how many bytes a call is.
+    fn put_count(&self, count: u64) -> io::Result<()> {
+        let text = format!(in self.rt.alloc(); " {count}")?;
+        let Ok(mut calls) = self.calls.try_borrow_mut() else {
+            return Err(io::Error::from(ErrorKind::Other));
+        };
+        Ok(calls.push_str(text.as_str())?)
     }
 }
 
@@ -155,6 +164,7 @@ impl Read for WatchedFile<'_> {
 impl Write for WatchedFile<'_> {
     fn write(&mut self, buf: &[u8]) -> io::Result<usize> {
         self.watched.put("write", self.name.as_str())?;
+        self.watched.put_count(buf.len() as u64)?;
         self.file.write(buf)
     }
 
@@ -178,6 +188,7 @@ impl OpenFile for WatchedFile<'_> {
 
     fn set_len(&self, size: u64) -> io::Result<()> {
         self.watched.put("cut", self.name.as_str())?;
+        self.watched.put_count(size)?;
         self.file.set_len(size)
     }
 

@@ -19,6 +19,6 @@ ends_by slot bytes old mid new rows some after (Err fault) f r g =
 pub returns : goal.returns
 returns g c =
     ends_by c.args.slot c.args.bytes.now _ _ _ c.args.digests.now c.put_pages.new.digests c.cut.new.self
-    c.fit_length.result c.in_ok-put_pages.ensures
+    c.fit_and_sync.result c.in_ok-put_pages.ensures
     (c.cut.ensures ∙ ap (λ n. with_row c.put_pages.new.digests c.args.slot (take n (row_in c.put_pages.new.digests c.args.slot))) c.page_count.ensures)
-    c.fit_length.ensures
+    c.fit_and_sync.ensures
