@@ -1,5 +1,5 @@
 -- Basic: what a refused call leaves and says, and the callers' clauses where they end with an error.
-use Rattle.std.proofs.Common.{◌≡◌, ℕ, Bool, true, false, List, [], ◌∷◌, ◌++◌, map, Option, None, Some, Result, Ok, Err, refl, sym, ap, ◌∙◌, subst}
+use Rattle.std.proofs.Common.{◌≡◌, ℕ, Bool, true, false, List, [], ◌++◌, map, None, Result, Ok, Err, refl, sym, ap, ◌∙◌, subst}
 use Rattle.mm_digest.specs.declared.variant.Variant.TheVariants.{Basic}
 use Rattle.mm_platform.specs.declared.fault.StepFault.{StepFault}
 use Rattle.mm_platform.specs.Standing.{Standing}
@@ -9,7 +9,6 @@ use Rattle.mm_model.specs.Instance.{Instance, basic}
 use Rattle.mm_model.specs.History.{History, Move, Foreign}
 use Rattle.mm_model.specs.Fit.{IsFit}
 use Rattle.mm_model.specs.Long.{is_long}
-use Rattle.mm_model.specs.Places.{issued}
 use Rattle.mm_model.specs.Standing.{StandsFor}
 use Rattle.mm_model.specs.Steps.{Reads, ask_steps}
 use Rattle.mm_model.specs.declared.answer.Answer.{Answer}
@@ -23,7 +22,7 @@ use Rattle.mm_call.specs.Found.{Found, found_at, found_in, is_fresh}
 use Rattle.mm_call.specs.Leaving.{Blames, whole, whole_in}
 use Rattle.mm_call.specs.Levels.{by_lists, all_made}
 use Rattle.mm_call.specs.Refusals.{fault_of, fault_in}
-use Rattle.mm_call.proofs.Walks.{finished, taking, taking_is, foreign_made}
+use Rattle.mm_call.proofs.Walks.{finished, taking, foreign_made}
 use Rattle.mm_basic.specs.Asks.{Calls}
 use Rattle.mm_callers.specs.Basic.{AreAsked, AsksAgain, AsksTwice, in_first}
 use Rattle.mm_callers.proofs.Calls.{is_asked, names_made, Comes, comes}

@@ -1,5 +1,5 @@
 -- The clauses of callers of Opt, from those of their calls.
-use Rattle.std.proofs.Common.{◌≡◌, ℕ, ◌≤◌, ◌^◌, Bool, true, false, List, ◌++◌, length, Some, Result, Ok, Err, refl, sym, ap, ◌∙◌, subst}
+use Rattle.std.proofs.Common.{◌≡◌, ℕ, ◌≤◌, ◌^◌, Bool, true, false, List, ◌++◌, length, Some, Result, Ok, refl, sym, ap, ◌∙◌, subst}
 use Rattle.mm_digest.specs.declared.variant.Variant.TheVariants.{Opt}
 use Rattle.mm_digest.specs.Messages.{zero_bytes, start_of, extended_message}
 use Rattle.mm_digest.proofs.Lengths.{length-zero_bytes, length-start_of}

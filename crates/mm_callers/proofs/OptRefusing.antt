@@ -1,5 +1,5 @@
 -- Opt: what a refused call leaves and says, and the callers' clauses where they end with an error.
-use Rattle.std.proofs.Common.{◌≡◌, ℕ, Bool, true, false, List, [], ◌∷◌, ◌++◌, map, Option, None, Some, Result, Ok, Err, refl, sym, ap, ◌∙◌, subst}
+use Rattle.std.proofs.Common.{◌≡◌, ℕ, Bool, true, false, List, [], ◌∷◌, ◌++◌, map, None, Some, Result, Ok, Err, refl, sym, ap, ◌∙◌, subst}
 use Rattle.std.proofs.lemmas.List.{append-nil}
 use Rattle.mm_digest.specs.declared.variant.Variant.TheVariants.{Opt}
 use Rattle.mm_platform.specs.declared.fault.StepFault.{StepFault}
@@ -22,7 +22,7 @@ use Rattle.mm_model.specs.declared.refusal.Refusal.TheVariants.{Device, Long}
 use Rattle.mm_call.specs.Asked.{IsAsked}
 use Rattle.mm_call.specs.Called.{called, seen_at}
 use Rattle.mm_call.specs.CallsOn.{CallsOn}
-use Rattle.mm_call.specs.Courses.{End, Done, Fails as FailsAs, Fate, Walked, after_step, walk}
+use Rattle.mm_call.specs.Courses.{End, Done, Fails as FailsAs, Fate, Walked, walk}
 use Rattle.mm_call.specs.Found.{Found, found_at, found_in, is_fresh}
 use Rattle.mm_call.specs.Leaving.{Blames, whole, whole_in}
 use Rattle.mm_call.specs.Levels.{by_lists, all_made}
@@ -35,7 +35,7 @@ use Rattle.mm_call.proofs.Tied.{opt_tied}
 use Rattle.mm_call.proofs.Walks.{finished, changing, asks, opt_commits, foreign_first}
 use Rattle.mm_opt.specs.Asks.{Calls}
 use Rattle.mm_callers.specs.Basic.{AreAsked, in_first}
-use Rattle.mm_callers.specs.Opt.{AreShown, AreAskedNext, AsksOnce, AsksTwice}
+use Rattle.mm_callers.specs.Opt.{AreShown, AsksOnce, AsksTwice}
 use Rattle.mm_callers.proofs.Calls.{Comes}
 use Rattle.mm_callers.proofs.Refusing.{Fails, fails, said_by, calm_then, IsCalm, Fell, fell_long, refuses_once, refuses_again, refuses_next}
 use Rattle.mm_callers.proofs.Twice.{once_after, answered_at}

@@ -1,6 +1,6 @@
 -- What a refused call leaves and says, in either variant.
-use Rattle.std.proofs.Common.{◌≡◌, ℕ, ◌+◌, ◌≤◌, Bool, true, false, List, [], ◌∷◌, ◌++◌, Option, None, Some, Result, Ok, Err, refl, sym, ap, ◌∙◌, subst, inl, inr, arith}
-use Rattle.std.specs.Prelude.{if◌then◌else◌, min}
+use Rattle.std.proofs.Common.{◌≡◌, ℕ, ◌≤◌, Bool, true, false, List, [], ◌∷◌, ◌++◌, Option, None, Some, Result, Ok, Err, refl, sym, ap, ◌∙◌, subst, inl, inr, arith}
+use Rattle.std.specs.Prelude.{if◌then◌else◌}
 use Rattle.mm_base.specs.Faults.{counted, Rose}
 use Rattle.mm_platform.specs.declared.fault.StepFault.{StepFault}
 use Rattle.mm_platform.specs.Standing.{Standing}
@@ -13,7 +13,7 @@ use Rattle.mm_model.specs.Places.{Names, issued}
 use Rattle.mm_model.specs.Standing.{StandsFor, issued_bytes}
 use Rattle.mm_model.specs.declared.answer.BatchAnswer.{BatchAnswer}
 use Rattle.mm_model.specs.declared.refusal.Refusal.{Refusal}
-use Rattle.mm_model.specs.declared.refusal.Refusal.TheVariants.{Memory, Long, Device}
+use Rattle.mm_model.specs.declared.refusal.Refusal.TheVariants.{Long, Device}
 use Rattle.mm_seal.specs.Snapshot.{sealed_of}
 use Rattle.mm_call.specs.Called.{ended_by, told}
 use Rattle.mm_call.specs.Found.{Found, found_at, found_in, is_fresh}
