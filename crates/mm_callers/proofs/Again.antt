@@ -68,7 +68,7 @@ once meaning key all others asked y old new offer request answer c s a =
     answers_by (basic meaning key) y o.after new offer (One request) answer o.stands o.comes
 
 -- no offer names two ends
-apart : (batches : List Batch) (b : Batch) → total_of batches ≡ total_of (batches ++ b ∷ []) → ⊥
+pub apart : (batches : List Batch) (b : Batch) → total_of batches ≡ total_of (batches ++ b ∷ []) → ⊥
 apart batches b e = absurd (omega (arith, e, total-push batches b, size_of-pos b))
 
 -- the second call, by what the first left

@@ -1,12 +1,16 @@
 pub mod Calls
 pub mod Again
 pub mod Twice
+pub mod Refusing
+pub mod Counting
 pub mod Asking
+pub mod BasicRefusing
 pub mod OptCalls
 pub mod OptAlike
 pub mod OptShown
 pub mod OptLeaves
 pub mod OptAsking
+pub mod OptRefusing
 pub mod Completing
 pub mod OptComplete
 pub mod OptClosing

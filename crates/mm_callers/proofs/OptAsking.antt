@@ -1,5 +1,5 @@
 -- The clauses of callers of Opt, from those of their calls.
-use Rattle.std.proofs.Common.{◌≡◌, ℕ, ◌≤◌, ◌^◌, Bool, true, false, List, ◌++◌, length, Some, Result, Ok, Err, refl, sym, ap, ◌∙◌, subst}
+use Rattle.std.proofs.Common.{◌≡◌, ℕ, ◌≤◌, ◌^◌, Bool, true, false, List, ◌++◌, length, Some, Result, Ok, refl, sym, ap, ◌∙◌, subst}
 use Rattle.mm_digest.specs.declared.variant.Variant.TheVariants.{Opt}
 use Rattle.mm_digest.specs.Messages.{zero_bytes, start_of, extended_message}
 use Rattle.mm_digest.proofs.Lengths.{length-zero_bytes, length-start_of}
@@ -26,7 +26,7 @@ use Rattle.mm_model.specs.declared.refusal.Refusal.{Refusal}
 use Rattle.mm_call.specs.Asked.{right_messages}
 use Rattle.mm_call.specs.CallsOn.{CallsOn}
 use Rattle.mm_call.specs.Found.{right_content}
-use Rattle.mm_call.specs.Leaving.{whole, whole_in}
+use Rattle.mm_call.specs.Leaving.{whole}
 use Rattle.mm_call.specs.Tied.{standing_items}
 use Rattle.mm_opt.specs.Asks.{Calls}
 use Rattle.mm_callers.specs.Basic.{AreAsked, IsOnce, AnswersNext}
@@ -36,18 +36,18 @@ use Rattle.mm_callers.proofs.Again.{twice_by}
 use Rattle.mm_callers.proofs.Twice.{right_of, listed_by, once_after, answered_at, not_again}
 use Rattle.mm_callers.proofs.OptCalls.{answered_short}
 use Rattle.mm_callers.proofs.OptAlike.{Alike, still, grown_by, issued_alike}
-use Rattle.mm_callers.proofs.OptLeaves.{hands, call_goes_on, last, asked_again}
+use Rattle.mm_callers.proofs.OptLeaves.{Left, hands, call_goes_on, last, asked_again}
 
--- a call that is made again after a device's fault
-pub asked_after_fault : (meaning : Meaning) (old middle new : Standing) (offer request : List ℕ) (first result : Result Answer Refusal) → (is_long (One request) ≡ false → CallsOn Opt meaning old middle offer (One request) (whole_in first)) → Calls meaning middle new offer (One request) (whole_in result) → (is_long (One request) ≡ false → CallsOn Opt meaning middle new offer (One request) (whole_in result)) → AsksOnce meaning old new offer request result
-asked_after_fault meaning old middle new offer request first (Err why) f calls goes = tt
-asked_after_fault meaning old middle new offer request first (Ok answer) f calls goes = λ key barrier y all others asked items more s known ends a shown_so.
+-- a call that is made again after a device's fault, where it answers
+pub answered_after_fault : (meaning : Meaning) (old middle new : Standing) (offer request : List ℕ) (first : Result BatchAnswer Refusal) (answer : Answer) → (is_long (One request) ≡ false → CallsOn Opt meaning old middle offer (One request) first) → Calls meaning middle new offer (One request) (Ok (whole answer))
+    → (is_long (One request) ≡ false → CallsOn Opt meaning middle new offer (One request) (Ok (whole answer))) → AsksOnce meaning old new offer request (Ok answer)
+answered_after_fault meaning old middle new offer request first answer f calls goes key barrier y all others asked items more s known ends a shown_so =
     let short = answered_short meaning middle new offer (One request) (whole answer) calls in
-    let h = hands meaning key barrier all others asked y old middle new offer request (whole_in first) items more (f short)
+    let h = hands meaning key barrier all others asked y old middle new offer request first items more (f short)
     (call_goes_on meaning key barrier all others asked middle new offer request (Ok (whole answer)) (goes short)) s known ends a shown_so in
     let l = last meaning key barrier all others asked h.left.after middle new offer request (Ok (whole answer)) h.items h.more (goes short) h.left.stands h.known h.ends
-    (asked_again meaning key barrier all others asked y middle offer request (whole_in first) h.left a) h.shown_are in
-    twice_by (opt meaning key barrier) y h.left.after l.after new offer (One request) (whole_in first) (whole answer) l.stands h.left.comes l.comes
+    (asked_again meaning key barrier all others asked y middle offer request first h.left a) h.shown_are in
+    twice_by (opt meaning key barrier) y h.left.after l.after new offer (One request) first (whole answer) l.stands h.left.comes l.comes
 
 -- the snapshot of an answer says what the history issues
 
@@ -92,6 +92,29 @@ next_by i y middle after new offer first second answer once s says (grown conten
   run = record { after = after; stands = s; batches_are = more; answer_is = gives answer refl };
 }
 
+-- the first snapshot says where the first call came to, and what is asked of the second call holds there
+pub asked_next : (meaning : Meaning) → IsLawful meaning → (key barrier : List ℕ) (all others : List (List ℕ)) (asked : List Batch) (y : History) (middle : Standing) (offer next first second : List ℕ) (one : BatchAnswer)
+    → (left : Left meaning key barrier all others asked y middle offer first (Ok one)) → IsFit (One first) one → next ≡ one.snapshot
+    → AreAsked all others asked (opt meaning key barrier) y offer (One first) → AreAskedNext all asked (opt meaning key barrier) y (One first) (One second)
+    → ((content : Content) → IsRight (opt meaning key barrier) next content → issued (opt meaning key barrier) left.after ≡ content) × AreAsked all others asked (opt meaning key barrier) left.after next (One second)
+asked_next meaning lawful key barrier all others asked y middle offer next first second one left fit e a n =
+    let i : Instance = opt meaning key barrier in
+    let after : History = left.after in
+    let at = answered_at i y after offer (One first) one left.comes in
+    let is : IsContent (issued i after) = issued_content meaning lawful key barrier after (subst (λ (p : ℕ). p ≤ 2 ^ 48) at.0 fit.most) in
+    let says : (content : Content) → IsRight i next content → issued i after ≡ content = λ content right. issued_once meaning key barrier next after content is (e ∙ at.1) right in
+    let next_asked : AreAsked all others asked i after next (One second) = record {
+      clear = a.clear;
+      apart = a.apart;
+      within = left.within;
+      is_asked = n.is_asked;
+      genuine = λ content right. subst (λ (x : Content). Names i after x) (says content right) (opt_issued meaning key barrier after left.within.sound (left.clean one refl));
+      offered = listed_by i after (One second) all (right_content i next) (λ content is_said.
+          subst (λ (x : Content). Within (right_messages i (One second) (Some x)) all) (says content (right_of i next (parts_of i.variant i.meaning.id next) refl content is_said))
+          (next_listed meaning key barrier all asked y after (One first) (One second) n left.alike));
+    } in
+    (says, next_asked)
+
 twice_shown : (meaning : Meaning) → IsLawful meaning → (key barrier : List ℕ) (all others : List (List ℕ)) (asked : List Batch) (y : History) (old middle new : Standing) (offer next first second : List ℕ) (one answer : BatchAnswer) (items more : List Item) → CallsOn Opt meaning old middle offer (One first) (Ok one) → IsFit (One first) one → next ≡ one.snapshot → CallsOn Opt meaning middle new next (One second) (Ok answer)
     → StandsFor (opt meaning key barrier) old y → old.items ≡ Some items → new.items ≡ Some (standing_items y.is_open items ++ more)
     → AreAsked all others asked (opt meaning key barrier) y offer (One first) → AreAskedNext all asked (opt meaning key barrier) y (One first) (One second) → AreShown all others (opt meaning key barrier) y more
@@ -101,25 +124,13 @@ twice_shown meaning lawful key barrier all others asked y old middle new offer n
     let h = hands meaning key barrier all others asked y old middle new offer first (Ok one) items more c
     (call_goes_on meaning key barrier all others asked middle new next second (Ok answer) d) s known ends a shown_so in
     let after : History = h.left.after in
-    let at = answered_at i y after offer (One first) one h.left.comes in
-    let is : IsContent (issued i after) = issued_content meaning lawful key barrier after (subst (λ (p : ℕ). p ≤ 2 ^ 48) at.0 fit.most) in
-    let says : (content : Content) → IsRight i next content → issued i after ≡ content = λ content right. issued_once meaning key barrier next after content is (e ∙ at.1) right in
-    let next_asked : AreAsked all others asked i after next (One second) = record {
-      clear = a.clear;
-      apart = a.apart;
-      within = h.left.within;
-      is_asked = n.is_asked;
-      genuine = λ content right. subst (λ (x : Content). Names i after x) (says content right) (opt_issued meaning key barrier after h.left.within.sound (h.left.clean one refl));
-      offered = listed_by i after (One second) all (right_content i next) (λ content is_said.
-          subst (λ (x : Content). Within (right_messages i (One second) (Some x)) all) (says content (right_of i next (parts_of i.variant i.meaning.id next) refl content is_said))
-          (next_listed meaning key barrier all asked y after (One first) (One second) n h.left.alike));
-    } in
-    let l = last meaning key barrier all others asked after middle new next second (Ok answer) h.items h.more d h.left.stands h.known h.ends next_asked h.shown_are in
-    next_by i y after l.after new next (One first) (One second) answer (once_after i y after offer (One first) one h.left.comes) l.stands says l.comes
+    let asked_so = asked_next meaning lawful key barrier all others asked y middle offer next first second one h.left fit e a n in
+    let l = last meaning key barrier all others asked after middle new next second (Ok answer) h.items h.more d h.left.stands h.known h.ends asked_so.1 h.shown_are in
+    next_by i y after l.after new next (One first) (One second) answer (once_after i y after offer (One first) one h.left.comes) l.stands asked_so.0 l.comes
 
-pub asked_twice : (meaning : Meaning) → IsLawful meaning → (old middle new : Standing) (offer next first second : List ℕ) (one : Answer) (result : Result Answer Refusal) → Calls meaning old middle offer (One first) (Ok (whole one)) → (is_long (One first) ≡ false → CallsOn Opt meaning old middle offer (One first) (Ok (whole one))) → IsFit (One first) (whole one) → next ≡ one.snapshot → Calls meaning middle new next (One second) (whole_in result) → (is_long (One second) ≡ false → CallsOn Opt meaning middle new next (One second) (whole_in result)) → AsksTwice meaning old new offer first second result
-asked_twice meaning lawful old middle new offer next first second one (Err why) calls goes fit e then goes_on = tt
-asked_twice meaning lawful old middle new offer next first second one (Ok answer) calls goes fit e then goes_on = λ key barrier y all others asked items more s known ends a n shown_so.
+pub answered_twice : (meaning : Meaning) → IsLawful meaning → (old middle new : Standing) (offer next first second : List ℕ) (one answer : Answer) → Calls meaning old middle offer (One first) (Ok (whole one)) → (is_long (One first) ≡ false → CallsOn Opt meaning old middle offer (One first) (Ok (whole one)))
+    → IsFit (One first) (whole one) → next ≡ one.snapshot → Calls meaning middle new next (One second) (Ok (whole answer)) → (is_long (One second) ≡ false → CallsOn Opt meaning middle new next (One second) (Ok (whole answer))) → AsksTwice meaning old new offer first second (Ok answer)
+answered_twice meaning lawful old middle new offer next first second one answer calls goes fit e then goes_on key barrier y all others asked items more s known ends a n shown_so =
     twice_shown meaning lawful key barrier all others asked y old middle new offer next first second (whole one) (whole answer) items more
     (goes (answered_short meaning old middle offer (One first) (whole one) calls)) fit e
     (goes_on (answered_short meaning middle new next (One second) (whole answer) then)) s known ends a n shown_so

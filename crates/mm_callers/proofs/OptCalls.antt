@@ -37,7 +37,7 @@ use Rattle.mm_call.specs.Found.{Found, found_at, found_from, found_in, is_fresh}
 use Rattle.mm_call.specs.Courses.{Course, Walked, walk}
 use Rattle.mm_call.specs.Called.{called, ended_by, told}
 use Rattle.mm_call.specs.CallsOn.{CallsOn}
-use Rattle.mm_call.specs.Leaving.{whole, whole_in}
+use Rattle.mm_call.specs.Leaving.{whole}
 use Rattle.mm_call.specs.Standing.{shown}
 use Rattle.mm_call.specs.Asked.{counted_part, counted_moves, moves_messages, foreign_in, IsAsked}
 use Rattle.mm_call.specs.Tied.{foreign_of, standing_items, Tied, shows, nothing}
@@ -220,9 +220,8 @@ short_by true meaning old new offer b answer e c = let f : Ok answer ≡ Err ref
 pub answered_short : (meaning : Meaning) (old new : Standing) (offer : List ℕ) (b : Batch) (answer : BatchAnswer) → Calls meaning old new offer b (Ok answer) → is_long b ≡ false
 answered_short meaning old new offer b answer c = short_by (is_long b) meaning old new offer b answer refl c
 
--- the caller's clause
-pub asked_once : (meaning : Meaning) (old new : Standing) (offer request : List ℕ) (result : Result Answer Refusal) → Calls meaning old new offer (One request) (whole_in result) → (is_long (One request) ≡ false → CallsOn Opt meaning old new offer (One request) (whole_in result)) → AsksOnce meaning old new offer request result
-asked_once meaning old new offer request (Err why) calls goes = tt
-asked_once meaning old new offer request (Ok answer) calls goes = λ key barrier y all others asked items more s known ends a shown_so.
+-- the caller's clause, where it answers
+pub answered_once : (meaning : Meaning) (old new : Standing) (offer request : List ℕ) (answer : Answer) → Calls meaning old new offer (One request) (Ok (whole answer)) → (is_long (One request) ≡ false → CallsOn Opt meaning old new offer (One request) (Ok (whole answer))) → AsksOnce meaning old new offer request (Ok answer)
+answered_once meaning old new offer request answer calls goes key barrier y all others asked items more s known ends a shown_so =
     once_shown meaning key barrier all others asked y old new offer request (whole answer) items more
     (goes (answered_short meaning old new offer (One request) (whole answer) calls)) s known ends a shown_so

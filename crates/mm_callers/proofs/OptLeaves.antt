@@ -58,7 +58,7 @@ whole_walk (Some fault) level seen s b found moves answer e = absurd (cc)
 whole_walk None level seen s b found moves answer e = refl
 
 -- what a walk commits, on the history
-alike_of : (meaning : Meaning) (key barrier : List ℕ) (y : History) (b : Batch) (fresh : Bool) (w : Walked) → Commits b fresh w → closes w.moves ≡ false → Alike meaning key barrier y b (all_made (by_lists (opt meaning key barrier)) y w.moves)
+pub alike_of : (meaning : Meaning) (key barrier : List ℕ) (y : History) (b : Batch) (fresh : Bool) (w : Walked) → Commits b fresh w → closes w.moves ≡ false → Alike meaning key barrier y b (all_made (by_lists (opt meaning key barrier)) y w.moves)
 alike_of meaning key barrier y b fresh w (nothing none unless) e = still (alike_still meaning key barrier w.moves y none e)
 alike_of meaning key barrier y b fresh w (batch one is) e = grown_by (alike_one meaning key barrier w.moves y b one e)
 
@@ -69,7 +69,7 @@ clean_by meaning key barrier y sees after b same clean (grown_by e) =
     ap (λ (c : List (List Entry)). has_value (joined c)) (same_closed meaning key barrier y after b e ∙ sym same) ∙ clean
 
 -- others' values before the reading steps close nothing
-seen_closes : (v w : List (List ℕ)) → closes (map Foreign v ++ (map Foreign w ++ [])) ≡ false
+pub seen_closes : (v w : List (List ℕ)) → closes (map Foreign v ++ (map Foreign w ++ [])) ≡ false
 seen_closes v w = foreign_closes v (map Foreign w ++ []) (foreign_closes w [] refl)
 
 module _ (meaning : Meaning) (key barrier : List ℕ) (all others : List (List ℕ)) (asked : List Batch) where

@@ -32,7 +32,7 @@ use Rattle.mm_call.specs.Found.{content_if_right, right_content}
 use Rattle.mm_call.proofs.Reading.{is_right}
 use Rattle.mm_callers.specs.Basic.{AreAsked, AreAskedNext, IsOnce, AnswersNext}
 use Rattle.mm_callers.proofs.Calls.{Comes, kept, grown}
-use Rattle.mm_callers.proofs.Again.{one_call}
+use Rattle.mm_callers.proofs.Again.{After, one_call}
 
 -- an offer that is looked at as a right one is right
 
@@ -99,11 +99,12 @@ next_by meaning key y middle after new offer first second answer once s says (gr
   run = record { after = after; stands = s; batches_are = more; answer_is = gives answer refl };
 }
 
-pub twice : (meaning : Meaning) → IsLawful meaning → (key : List ℕ) (all others : List (List ℕ)) (asked : List Batch) (y : History) (old middle new : Standing) (offer next first second : List ℕ) (one answer : BatchAnswer) → CallsOn Basic meaning old middle offer (One first) (Ok one) → IsFit (One first) one → next ≡ one.snapshot → CallsOn Basic meaning middle new next (One second) (Ok answer)
-    → StandsFor (basic meaning key) old y → AreAsked all others asked (basic meaning key) y offer (One first) → AreAskedNext all asked (basic meaning key) y (One first) (One second) → AnswersNext (basic meaning key) y new (One first) (One second) answer
-twice meaning lawful key all others asked y old middle new offer next first second one answer c fit e d s a n =
+-- the first snapshot says where the first call came to, and what is asked of the second call holds there
+pub asked_next : (meaning : Meaning) → IsLawful meaning → (key : List ℕ) (all others : List (List ℕ)) (asked : List Batch) (y : History) (middle : Standing) (offer next first second : List ℕ) (one : BatchAnswer)
+    → (o : After all others asked (basic meaning key) y middle offer (One first) (Ok one)) → IsFit (One first) one → next ≡ one.snapshot → AreAsked all others asked (basic meaning key) y offer (One first) → AreAskedNext all asked (basic meaning key) y (One first) (One second)
+    → ((content : Content) → IsRight (basic meaning key) next content → issued (basic meaning key) o.after ≡ content) × AreAsked all others asked (basic meaning key) o.after next (One second)
+asked_next meaning lawful key all others asked y middle offer next first second one o fit e a n =
     let i : Instance = basic meaning key in
-    let o = one_call meaning key all others asked y old middle offer first (Ok one) c s a in
     let at = answered_at i y o.after offer (One first) one o.comes in
     let is : IsContent (issued i o.after) = issued_content meaning lawful key o.after (subst (λ (p : ℕ). p ≤ 2 ^ 48) at.0 fit.most) in
     let once : IsOnce y.batches (One first) o.after.batches = once_after i y o.after offer (One first) one o.comes in
@@ -118,5 +119,13 @@ twice meaning lawful key all others asked y old middle new offer next first seco
           subst (λ (x : Content). Within (right_messages i (One second) (Some x)) all) (says content (right_of i next (parts_of i.variant i.meaning.id next) refl content is_said))
           (next_listed all asked i y (One first) (One second) o.after.batches n once, tt));
     } in
-    let p = one_call meaning key all others asked o.after middle new next second (Ok answer) d o.stands next_asked in
-    next_by meaning key y o.after p.after new next (One first) (One second) answer once p.stands says p.comes
+    (says, next_asked)
+
+pub twice : (meaning : Meaning) → IsLawful meaning → (key : List ℕ) (all others : List (List ℕ)) (asked : List Batch) (y : History) (old middle new : Standing) (offer next first second : List ℕ) (one answer : BatchAnswer) → CallsOn Basic meaning old middle offer (One first) (Ok one) → IsFit (One first) one → next ≡ one.snapshot → CallsOn Basic meaning middle new next (One second) (Ok answer)
+    → StandsFor (basic meaning key) old y → AreAsked all others asked (basic meaning key) y offer (One first) → AreAskedNext all asked (basic meaning key) y (One first) (One second) → AnswersNext (basic meaning key) y new (One first) (One second) answer
+twice meaning lawful key all others asked y old middle new offer next first second one answer c fit e d s a n =
+    let i : Instance = basic meaning key in
+    let o = one_call meaning key all others asked y old middle offer first (Ok one) c s a in
+    let asked_so = asked_next meaning lawful key all others asked y middle offer next first second one o fit e a n in
+    let p = one_call meaning key all others asked o.after middle new next second (Ok answer) d o.stands asked_so.1 in
+    next_by meaning key y o.after p.after new next (One first) (One second) answer (once_after i y o.after offer (One first) one o.comes) p.stands asked_so.0 p.comes

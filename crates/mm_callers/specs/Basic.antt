@@ -1,21 +1,27 @@
 -- What callers of Basic get, by lists alone.
-use Rattle.std.specs.Prelude.{◌≡◌, ℕ, Bool, false, List, [], ◌∷◌, ◌++◌, Result, Ok, Err, ◌⊎◌}
+use Rattle.std.specs.Prelude.{◌≡◌, ℕ, Bool, false, List, [], ◌∷◌, ◌++◌, Option, None, Some, Result, Ok, Err, ◌⊎◌, if◌then◌else◌}
 use Rattle.std.specs.List.{Contains}
+use Rattle.mm_base.specs.Faults.{Rose}
+use Rattle.mm_platform.specs.declared.fault.StepFault.{StepFault}
 use Rattle.mm_platform.specs.Standing.{Standing}
 use Rattle.mm_module.specs.Meaning.{Meaning}
 use Rattle.mm_module.specs.Batch.{Batch, One}
 use Rattle.mm_model.specs.Chains.{link_message, summary_of}
 use Rattle.mm_model.specs.Instance.{Instance, basic}
 use Rattle.mm_model.specs.History.{History}
+use Rattle.mm_model.specs.Long.{is_long}
 use Rattle.mm_model.specs.Messages.{Within, IsClear, AreNoGuards}
-use Rattle.mm_model.specs.Standing.{StandsFor, IsGenuine}
+use Rattle.mm_model.specs.Standing.{StandsFor, IsGenuine, issued_bytes}
 use Rattle.mm_model.specs.declared.answer.Answer.{Answer}
 use Rattle.mm_model.specs.declared.answer.BatchAnswer.{BatchAnswer}
 use Rattle.mm_model.specs.declared.refusal.Refusal.{Refusal}
+use Rattle.mm_model.specs.declared.refusal.Refusal.TheVariants.{Memory, Long}
 use Rattle.mm_call.specs.Answers.{answer_on}
 use Rattle.mm_call.specs.Asked.{IsWithin, right_messages}
-use Rattle.mm_call.specs.Found.{right_content}
+use Rattle.mm_call.specs.Found.{Found, found_at, right_content}
 use Rattle.mm_call.specs.Leaving.{whole}
+use Rattle.mm_call.specs.Levels.{by_lists}
+use Rattle.mm_call.specs.Refusals.{fault_of}
 
 -- What is asked of a history, an offer and a batch. Nothing is asked of what others do, nor of steps: Basic never reads
 -- the register.
@@ -49,9 +55,43 @@ pub record AnswersOnce (i : Instance) (y : History) (new : Standing) (b : Batch)
   pub once : IsOnce y.batches b batches
   pub run : IsOfRun i new batches b answer.again answer
 
+-- what a call finds at a history: its refusal, or an offer that is accepted
+abbrev pub finds : Instance → History → List ℕ → Batch → Result Found Refusal
+finds i y offer b = if is_long b then Err Long else found_at i (by_lists i) y b offer
+
+-- The refusal is the one that is found; want of memory comes only where the offer is accepted.
+abbrev pub SaysFound : Result Found Refusal → Refusal → Type 0
+SaysFound (Err is) why = why ≡ is
+SaysFound (Ok found) why = why ≡ Memory
+
+-- So it is unless a device's fault is handed on.
+abbrev pub Says : Option StepFault → Result Found Refusal → Refusal → Type 0
+Says (Some fault) found why = Unit {0}
+Says None found why = SaysFound found why
+
+-- After an error the platform stands for a history of which the same holds as was asked, so that the call may be made
+-- again.
+pub record Stays (all others : List (List ℕ)) (asked : List Batch) (i : Instance) (new : Standing) (offer : List ℕ) (b : Batch) : Type 0 where
+  pub after : History
+  pub stands : StandsFor i new after
+  pub asked_then : AreAsked all others asked i after offer b
+
+-- The batches are as before; or this one was committed too, and a fault was counted.
+abbrev pub IsLeft : List Batch → Batch → List Batch → Standing → Standing → Type 0
+IsLeft before b after old new = (after ≡ before) ⊎ ((after ≡ before ++ b ∷ []) × Rose old.faults new.faults)
+
+-- A call ended with an error, as did what was made of it once more after a fault: what stands, and what is told.
+pub record Refuses (all others : List (List ℕ)) (asked : List Batch) (i : Instance) (y : History) (old new : Standing) (offer : List ℕ) (b : Batch) (why : Refusal) : Type 0 where
+  pub stays : Stays all others asked i new offer b
+  pub left : IsLeft y.batches b stays.after.batches old new
+  pub says : Says (fault_of why) (finds i stays.after offer b) why
+
 -- a call that is made once more after a device's fault
 abbrev pub AsksAgain : Meaning → Standing → Standing → List ℕ → List ℕ → Result Answer Refusal → Type 0
-AsksAgain meaning old new offer request (Err why) = Unit {0}
+AsksAgain meaning old new offer request (Err why) =
+    (key : List ℕ) (y : History) (all others : List (List ℕ)) (asked : List Batch) →
+    StandsFor (basic meaning key) old y → AreAsked all others asked (basic meaning key) y offer (One request) →
+    Refuses all others asked (basic meaning key) y old new offer (One request) why
 AsksAgain meaning old new offer request (Ok answer) =
     (key : List ℕ) (y : History) (all others : List (List ℕ)) (asked : List Batch) →
     StandsFor (basic meaning key) old y → AreAsked all others asked (basic meaning key) y offer (One request) →
@@ -69,9 +109,22 @@ pub record AnswersNext (i : Instance) (y : History) (new : Standing) (first seco
   pub once : IsOnce y.batches first batches
   pub run : IsOfRun i new (batches ++ second ∷ []) second false answer
 
+-- Two calls, the second on the snapshot of the first answer, ended with an error: the first was refused; or it was
+-- answered, so that the first batch was committed once, and the second was refused on the snapshot of that place.
+pub data RefusesNext (all others : List (List ℕ)) (asked : List Batch) (i : Instance) (y : History) (old new : Standing) (offer : List ℕ) (first second : Batch) (why : Refusal) : Type 0 where
+  in_first : Refuses all others asked i y old new offer first why → RefusesNext all others asked i y old new offer first second why
+  in_second : (batches : List Batch) → IsOnce y.batches first batches → (stays : Stays all others asked i new offer first)
+      → IsLeft batches second stays.after.batches old new
+      → Says (fault_of why) (finds i stays.after (issued_bytes i stays.after) second) why
+      → RefusesNext all others asked i y old new offer first second why
+
 -- two calls, the second on the snapshot of the first answer
 abbrev pub AsksTwice : Meaning → Standing → Standing → List ℕ → List ℕ → List ℕ → Result Answer Refusal → Type 0
-AsksTwice meaning old new offer first second (Err why) = Unit {0}
+AsksTwice meaning old new offer first second (Err why) =
+    (key : List ℕ) (y : History) (all others : List (List ℕ)) (asked : List Batch) →
+    StandsFor (basic meaning key) old y → AreAsked all others asked (basic meaning key) y offer (One first) →
+    AreAskedNext all asked (basic meaning key) y (One first) (One second) →
+    RefusesNext all others asked (basic meaning key) y old new offer (One first) (One second) why
 AsksTwice meaning old new offer first second (Ok answer) =
     (key : List ℕ) (y : History) (all others : List (List ℕ)) (asked : List Batch) →
     StandsFor (basic meaning key) old y → AreAsked all others asked (basic meaning key) y offer (One first) →

@@ -20,7 +20,7 @@ use Rattle.mm_model.specs.declared.refusal.Refusal.TheVariants.{Memory}
 use Rattle.mm_call.specs.Asked.{counted_part}
 use Rattle.mm_call.specs.Leaving.{whole, whole_in, IsAnswered}
 use Rattle.mm_call.specs.Tied.{standing_items, foreign_of}
-use Rattle.mm_callers.specs.Basic.{AreAsked, AnswersOnce, AnswersNext, IsOfRun}
+use Rattle.mm_callers.specs.Basic.{AreAsked, AnswersOnce, AnswersNext, IsOfRun, Refuses, RefusesNext}
 use Rattle.mm_callers.specs.Complete.{IsWelcome, batches_then}
 
 -- What is asked of the items that the register shows at exit, behind those that counted at entry: their messages, one
@@ -31,7 +31,11 @@ pub record AreShown (all others : List (List ℕ)) (i : Instance) (y : History) 
 
 -- One call, or one that is made again after a device's fault; inside a segment or across an opening.
 abbrev pub AsksOnce : Meaning → Standing → Standing → List ℕ → List ℕ → Result Answer Refusal → Type 0
-AsksOnce meaning old new offer request (Err why) = Unit {0}
+AsksOnce meaning old new offer request (Err why) =
+    (key barrier : List ℕ) (y : History) (all others : List (List ℕ)) (asked : List Batch) (items more : List Item) →
+    StandsFor (opt meaning key barrier) old y → old.items ≡ Some items → new.items ≡ Some (standing_items y.is_open items ++ more) →
+    AreAsked all others asked (opt meaning key barrier) y offer (One request) → AreShown all others (opt meaning key barrier) y more →
+    Refuses all others asked (opt meaning key barrier) y old new offer (One request) why
 AsksOnce meaning old new offer request (Ok answer) =
     (key barrier : List ℕ) (y : History) (all others : List (List ℕ)) (asked : List Batch) (items more : List Item) →
     StandsFor (opt meaning key barrier) old y → old.items ≡ Some items → new.items ≡ Some (standing_items y.is_open items ++ more) →
@@ -47,7 +51,12 @@ pub record AreAskedNext (all : List (List ℕ)) (asked : List Batch) (i : Instan
 
 -- two calls, the second on the snapshot of the first answer; inside a segment or across an opening
 abbrev pub AsksTwice : Meaning → Standing → Standing → List ℕ → List ℕ → List ℕ → Result Answer Refusal → Type 0
-AsksTwice meaning old new offer first second (Err why) = Unit {0}
+AsksTwice meaning old new offer first second (Err why) =
+    (key barrier : List ℕ) (y : History) (all others : List (List ℕ)) (asked : List Batch) (items more : List Item) →
+    StandsFor (opt meaning key barrier) old y → old.items ≡ Some items → new.items ≡ Some (standing_items y.is_open items ++ more) →
+    AreAsked all others asked (opt meaning key barrier) y offer (One first) →
+    AreAskedNext all asked (opt meaning key barrier) y (One first) (One second) → AreShown all others (opt meaning key barrier) y more →
+    RefusesNext all others asked (opt meaning key barrier) y old new offer (One first) (One second) why
 AsksTwice meaning old new offer first second (Ok answer) =
     (key barrier : List ℕ) (y : History) (all others : List (List ℕ)) (asked : List Batch) (items more : List Item) →
     StandsFor (opt meaning key barrier) old y → old.items ≡ Some items → new.items ≡ Some (standing_items y.is_open items ++ more) →

@@ -1,7 +1,11 @@
 //! Callers of Basic.
 
 ghost use Rattle.std.specs.Prelude.{◌≡◌};
+ghost use Rattle.mm_digest.specs.declared.variant.Variant.TheVariants.{Basic};
+ghost use Rattle.mm_module.specs.Batch.{One};
+ghost use Rattle.mm_call.specs.Leaving.{whole_in};
 ghost use Rattle.mm_callers.specs.Basic.{AsksAgain, AsksTwice};
+ghost use Rattle.mm_callers.specs.Counts.{CountsAgain, CountsNext};
 
 use mm_basic::ask;
 use mm_model::{Answer, Refusal};
@@ -18,8 +22,10 @@ pub fn ask_again<M: Module, P: Platform>(
     offer: &[u8],
     request: &[u8],
 ) -> Result<Answer, Refusal>
-    ensures { AsksAgain (M.meaning «module».now) (P.standing platform.old) (P.standing platform.new)
+    ensures again { AsksAgain (M.meaning «module».now) (P.standing platform.old) (P.standing platform.new)
         offer.now request.now result }
+    ensures counts { CountsAgain Basic (One request.now) (P.standing platform.old) (P.standing platform.new)
+        (whole_in result) }
 {
     match ask(alloc, module, platform, offer, request) {
         Ok(answer) => Ok(answer),
@@ -37,8 +43,10 @@ pub fn ask_twice<M: Module, P: Platform>(
     first: &[u8],
     second: &[u8],
 ) -> Result<Answer, Refusal>
-    ensures { AsksTwice (M.meaning «module».now) (P.standing platform.old) (P.standing platform.new)
+    ensures twice { AsksTwice (M.meaning «module».now) (P.standing platform.old) (P.standing platform.new)
         offer.now first.now second.now result }
+    ensures counts { CountsNext Basic (One first.now) (One second.now) (P.standing platform.old)
+        (P.standing platform.new) (whole_in result) }
 {
     match ask(alloc, module, platform, offer, first) {
         Err(refusal) => Err(refusal),

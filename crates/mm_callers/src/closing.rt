@@ -1,6 +1,8 @@
 //! A caller of Opt that closes the segment between a request and the same request once more.
 
+ghost use Rattle.mm_module.specs.Batch.{One};
 ghost use Rattle.mm_callers.specs.Closing.{NeverTwice, RepeatsBehind};
+ghost use Rattle.mm_callers.specs.Counts.{CountsRepeat};
 
 use mm_model::{Answer, Refusal};
 use mm_module::Module;
@@ -37,6 +39,7 @@ pub fn ask_close_repeat<M: Module, P: Platform>(
         offer.now request.now result }
     ensures never_twice { NeverTwice (M.meaning «module».now) (P.standing platform.old) (P.standing platform.new)
         offer.now request.now result }
+    ensures counts { CountsRepeat (One request.now) (P.standing platform.old) (P.standing platform.new) result }
 {
     match ask(alloc, module, platform, offer, request) {
         Err(refusal) => Err(Halted::Asking(refusal)),

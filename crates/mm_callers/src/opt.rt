@@ -1,5 +1,9 @@
 //! Callers of Opt.
 
+ghost use Rattle.mm_digest.specs.declared.variant.Variant.TheVariants.{Opt};
+ghost use Rattle.mm_module.specs.Batch.{One};
+ghost use Rattle.mm_call.specs.Leaving.{whole_in};
+ghost use Rattle.mm_callers.specs.Counts.{Counts, CountsAgain, CountsNext};
 ghost use Rattle.mm_callers.specs.Opt.{AsksOnce, AsksByQuietPlan, AsksInMemory, AsksTwice, AsksWelcome};
 
 use mm_model::{Answer, Refusal};
@@ -22,6 +26,7 @@ pub fn ask_once<M: Module, P: Platform>(
         offer.now request.now result }
     ensures complete { AsksByQuietPlan (M.meaning «module».now) (P.standing platform.old) (P.standing platform.new)
         offer.now request.now result }
+    ensures counts { Counts Opt (One request.now) (P.standing platform.old) (P.standing platform.new) (whole_in result) }
 {
     ask(alloc, module, platform, offer, request)
 }
@@ -35,7 +40,8 @@ pub fn ask_in_memory<M: Module>(
     offer: &[u8],
     request: &[u8],
 ) -> Result<Answer, Refusal>
-    ensures { AsksInMemory (M.meaning «module».now) platform.old platform.new offer.now request.now result }
+    ensures complete { AsksInMemory (M.meaning «module».now) platform.old platform.new offer.now request.now result }
+    ensures counts { Counts Opt (One request.now) platform.old platform.new (whole_in result) }
 {
     platform.end_plan();
     ask_once(alloc, module, platform, offer, request)
@@ -55,6 +61,8 @@ pub fn ask_after_fault<M: Module, P: Platform>(
         offer.now request.now result }
     ensures complete { AsksByQuietPlan (M.meaning «module».now) (P.standing platform.old) (P.standing platform.new)
         offer.now request.now result }
+    ensures counts { CountsAgain Opt (One request.now) (P.standing platform.old) (P.standing platform.new)
+        (whole_in result) }
 {
     match ask(alloc, module, platform, offer, request) {
         Ok(answer) => Ok(answer),
@@ -72,8 +80,10 @@ pub fn ask_twice<M: Module, P: Platform>(
     first: &[u8],
     second: &[u8],
 ) -> Result<Answer, Refusal>
-    ensures { AsksTwice (M.meaning «module».now) (P.standing platform.old) (P.standing platform.new)
+    ensures twice { AsksTwice (M.meaning «module».now) (P.standing platform.old) (P.standing platform.new)
         offer.now first.now second.now result }
+    ensures counts { CountsNext Opt (One first.now) (One second.now) (P.standing platform.old)
+        (P.standing platform.new) (whole_in result) }
 {
     match ask(alloc, module, platform, offer, first) {
         Err(refusal) => Err(refusal),

@@ -1,3 +1,7 @@
+use Rattle.std.proofs.Common.{Ok, Err, refl}
+use Rattle.mm_call.specs.Leaving.{whole}
+use Rattle.mm_callers.specs.Counts.{in_first, in_closing, in_second, replied}
+use Rattle.mm_callers.proofs.Counting.{opt_counts}
 use Rattle.mm_callers.proofs.OptRepeatAsking.{repeats_behind, never_twice}
 use Rattle.mm_callers.proofs.closing.ask_close_repeat.Goals as goal
 
@@ -12,3 +16,33 @@ returns-in-Ok-ask-clause-never_twice g c =
     never_twice (g.M.Module.meaning c.args.module.now) (g.P.Device.standing c.args.platform.now) (g.P.Device.standing c.ask.new.platform)
     (g.P.Device.standing c.checkpoint.new.platform) (g.P.Device.standing c.ask-in-Ok-checkpoint.new.platform) c.args.offer.now c.args.request.now
     c.in-Ok.first c.in-Ok-ask.second c.in-Ok-checkpoint.field-0 c.in-Ok.ensures.calls c.in-Ok.ensures.goes c.in-Ok-checkpoint.ensures.goes c.in-Ok-ask.ensures.goes
+
+pub returns-in-Err-clause-counts : goal.returns-in-Err-clause-counts
+returns-in-Err-clause-counts g c =
+    in_first c.in-Err.refusal refl (opt_counts (g.M.Module.meaning c.args.module.now) (g.P.Device.standing c.args.platform.now) (g.P.Device.standing c.ask.new.platform)
+    c.args.offer.now c.args.request.now (Err c.in-Err.refusal) c.in-Err.ensures.calls c.in-Err.ensures.steps c.in-Err.ensures.faults)
+
+pub returns-in-Err-checkpoint-clause-counts : goal.returns-in-Err-checkpoint-clause-counts
+returns-in-Err-checkpoint-clause-counts g c =
+    in_closing c.in-Err-checkpoint.refusal refl (g.P.Device.standing c.ask.new.platform) (whole c.in-Ok.first)
+    (opt_counts (g.M.Module.meaning c.args.module.now) (g.P.Device.standing c.args.platform.now) (g.P.Device.standing c.ask.new.platform)
+    c.args.offer.now c.args.request.now (Ok c.in-Ok.first) c.in-Ok.ensures.calls c.in-Ok.ensures.steps c.in-Ok.ensures.faults)
+    (record { steps = c.in-Err-checkpoint.ensures.steps; faults = c.in-Err-checkpoint.ensures.faults })
+
+pub returns-in-Err-ask-clause-counts : goal.returns-in-Err-ask-clause-counts
+returns-in-Err-ask-clause-counts g c =
+    in_second c.in-Err-ask.refusal refl (g.P.Device.standing c.ask.new.platform) (g.P.Device.standing c.checkpoint.new.platform) (whole c.in-Ok.first) c.in-Ok-checkpoint.field-0
+    (opt_counts (g.M.Module.meaning c.args.module.now) (g.P.Device.standing c.args.platform.now) (g.P.Device.standing c.ask.new.platform)
+    c.args.offer.now c.args.request.now (Ok c.in-Ok.first) c.in-Ok.ensures.calls c.in-Ok.ensures.steps c.in-Ok.ensures.faults)
+    (record { steps = c.in-Ok-checkpoint.ensures.steps; faults = c.in-Ok-checkpoint.ensures.faults })
+    (opt_counts (g.M.Module.meaning c.args.module.now) (g.P.Device.standing c.checkpoint.new.platform) (g.P.Device.standing c.ask-in-Ok-checkpoint.new.platform)
+    c.args.offer.now c.args.request.now (Err c.in-Err-ask.refusal) c.in-Err-ask.ensures.calls c.in-Err-ask.ensures.steps c.in-Err-ask.ensures.faults)
+
+pub returns-in-Ok-ask-clause-counts : goal.returns-in-Ok-ask-clause-counts
+returns-in-Ok-ask-clause-counts g c =
+    replied c.in-Ok.first c.in-Ok-ask.second refl (g.P.Device.standing c.ask.new.platform) (g.P.Device.standing c.checkpoint.new.platform) c.in-Ok-checkpoint.field-0
+    (opt_counts (g.M.Module.meaning c.args.module.now) (g.P.Device.standing c.args.platform.now) (g.P.Device.standing c.ask.new.platform)
+    c.args.offer.now c.args.request.now (Ok c.in-Ok.first) c.in-Ok.ensures.calls c.in-Ok.ensures.steps c.in-Ok.ensures.faults)
+    (record { steps = c.in-Ok-checkpoint.ensures.steps; faults = c.in-Ok-checkpoint.ensures.faults })
+    (opt_counts (g.M.Module.meaning c.args.module.now) (g.P.Device.standing c.checkpoint.new.platform) (g.P.Device.standing c.ask-in-Ok-checkpoint.new.platform)
+    c.args.offer.now c.args.request.now (Ok c.in-Ok-ask.second) c.in-Ok-ask.ensures.calls c.in-Ok-ask.ensures.steps c.in-Ok-ask.ensures.faults)

@@ -1,0 +1,68 @@
+-- What callers count: their calls' steps, and the faults of devices, told and recovered.
+use Rattle.std.specs.Prelude.{◌≡◌, Bool, true, false, None, Result, Ok, Err}
+use Rattle.mm_digest.specs.declared.variant.Variant.{Variant}
+use Rattle.mm_digest.specs.declared.variant.Variant.TheVariants.{Basic, Opt}
+use Rattle.mm_platform.specs.declared.fault.StepFault.{StepFault}
+use Rattle.mm_platform.specs.Standing.{Standing}
+use Rattle.mm_module.specs.Batch.{Batch}
+use Rattle.mm_model.specs.Long.{is_long}
+use Rattle.mm_model.specs.declared.answer.Answer.{Answer}
+use Rattle.mm_model.specs.declared.answer.BatchAnswer.{BatchAnswer}
+use Rattle.mm_model.specs.declared.refusal.Refusal.{Refusal}
+use Rattle.mm_model.specs.declared.refusal.Refusal.TheVariants.{Device, Long}
+use Rattle.mm_call.specs.Leaving.{Blames, whole}
+use Rattle.mm_call.specs.Refusals.{fault_in}
+use Rattle.mm_basic.specs.Asks.{StepsBy as BasicSteps}
+use Rattle.mm_opt.specs.Asks.{StepsBy as OptSteps}
+use Rattle.mm_opt.specs.Checkpoints.{ClosingStepsBy, closing_fault_in}
+use Rattle.mm_opt.specs.declared.segment.Checkpointed.{Checkpointed}
+use Rattle.mm_opt.specs.declared.segment.CheckpointRefusal.{CheckpointRefusal}
+use Rattle.mm_callers.specs.declared.closing.Replies.{Replies}
+use Rattle.mm_callers.specs.declared.closing.Halted.{Halted}
+use Rattle.mm_callers.specs.declared.closing.Halted.TheVariants.{Asking, Closing}
+
+-- the steps of a call, by what it gives
+abbrev pub StepsOf : Variant → Result BatchAnswer Refusal → Standing → Standing → Type 0
+StepsOf Basic result old new = BasicSteps result old new
+StepsOf Opt result old new = OptSteps result old new
+
+-- Of a batch that is too long, none.
+abbrev pub StepsFor : Bool → Variant → Result BatchAnswer Refusal → Standing → Standing → Type 0
+StepsFor true variant result old new = (result ≡ Err Long) × (new.steps ≡ old.steps) × (new.writes ≡ old.writes)
+StepsFor false variant result old new = StepsOf variant result old new
+
+-- One call counts its steps, and a fault exactly where it hands one on.
+pub record Counts (variant : Variant) (b : Batch) (old new : Standing) (result : Result BatchAnswer Refusal) : Type 0 where
+  pub steps : StepsFor (is_long b) variant result old new
+  pub faults : Blames (fault_in result) old.faults new.faults
+
+-- One call, which hands on no fault; or, where it handed one on, another. So a fault is told only where two were counted.
+pub data CountsAgain (variant : Variant) (b : Batch) (old new : Standing) (result : Result BatchAnswer Refusal) : Type 0 where
+  at_once : fault_in result ≡ None → Counts variant b old new result → CountsAgain variant b old new result
+  again : (middle : Standing) (fault : StepFault) → Counts variant b old middle (Err (Device fault))
+      → Counts variant b middle new result → CountsAgain variant b old new result
+
+-- One call, which was refused; or, where it was answered, another.
+pub data CountsNext (variant : Variant) (first second : Batch) (old new : Standing) (result : Result BatchAnswer Refusal) : Type 0 where
+  alone : (why : Refusal) → result ≡ Err why → Counts variant first old new result
+      → CountsNext variant first second old new result
+  both : (middle : Standing) (answer : BatchAnswer) → Counts variant first old middle (Ok answer)
+      → Counts variant second middle new result → CountsNext variant first second old new result
+
+-- So does a checkpoint.
+pub record CountsClosing (old new : Standing) (result : Result Checkpointed CheckpointRefusal) : Type 0 where
+  pub steps : ClosingStepsBy result old new
+  pub faults : Blames (closing_fault_in result) old.faults new.faults
+
+-- A call; where it was answered, a checkpoint; and where that was made, the call once more. An error is that of the last
+-- of these.
+pub data CountsRepeat (b : Batch) (old new : Standing) (result : Result Replies Halted) : Type 0 where
+  in_first : (why : Refusal) → result ≡ Err (Asking why) → Counts Opt b old new (Err why) → CountsRepeat b old new result
+  in_closing : (why : CheckpointRefusal) → result ≡ Err (Closing why) → (answered : Standing) (first : BatchAnswer)
+      → Counts Opt b old answered (Ok first) → CountsClosing answered new (Err why) → CountsRepeat b old new result
+  in_second : (why : Refusal) → result ≡ Err (Asking why) → (answered closed : Standing) (first : BatchAnswer) (said : Checkpointed)
+      → Counts Opt b old answered (Ok first) → CountsClosing answered closed (Ok said) → Counts Opt b closed new (Err why)
+      → CountsRepeat b old new result
+  replied : (first second : Answer) → result ≡ Ok (record { first = first; second = second }) → (answered closed : Standing) (said : Checkpointed)
+      → Counts Opt b old answered (Ok (whole first)) → CountsClosing answered closed (Ok said)
+      → Counts Opt b closed new (Ok (whole second)) → CountsRepeat b old new result
