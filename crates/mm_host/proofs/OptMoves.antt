@@ -1,10 +1,11 @@
 -- The moves of a call of Opt may be made, so what a snapshot names is named after them too.
-use Rattle.std.proofs.Common.{ℕ, ◌≡◌, ◌+◌, ◌^◌, Bool, true, false, ◌&&◌, List, [], ◌∷◌, ◌++◌, Result, Ok, Err, refl, sym, ap, ◌∙◌, subst, append_assoc, arith}
+use Rattle.std.proofs.Common.{ℕ, ◌≡◌, ◌+◌, ◌^◌, Bool, true, false, ◌&&◌, List, [], ◌∷◌, ◌++◌, map, Result, Ok, Err, refl, sym, ap, ◌∙◌, subst, append_assoc, arith}
 use Rattle.std.specs.Prelude.{if◌then◌else◌, nat_eq, nat_le}
 use Rattle.std.specs.List.{AllByRecursion, Contains}
 use Rattle.std.specs.Str.{bytes_eq}
 use Rattle.std.proofs.lemmas.List.Elements.{Contains-append_right}
-use Rattle.mm_digest.specs.declared.variant.Variant.TheVariants.{Opt}
+use Rattle.mm_digest.specs.declared.variant.Variant.{Variant}
+use Rattle.mm_digest.specs.declared.variant.Variant.TheVariants.{Basic, Opt}
 use Rattle.mm_digest.specs.Messages.{extended_message}
 use Rattle.mm_module.specs.Meaning.{Meaning}
 use Rattle.mm_module.specs.Batch.{Batch, size_of}
@@ -13,21 +14,22 @@ use Rattle.mm_seal.specs.declared.snapshot.PartsFault.TheVariants.{Form, Kind}
 use Rattle.mm_seal.specs.Snapshot.{Content, Snapshot, tag_of}
 use Rattle.mm_seal.specs.Parts.{parts_of}
 use Rattle.mm_model.specs.Chains.{guard, guard_message, register_of, own_values}
-use Rattle.mm_model.specs.History.{History, Move, Reset, moved, total_of}
+use Rattle.mm_model.specs.History.{Entry, History, Move, Commit, Foreign, Placed, Reset, Close, Power, committed, joined, moved, total_of}
 use Rattle.mm_model.specs.Instance.{Instance, opt}
 use Rattle.mm_model.specs.Judge.{is_last, judged, judge}
-use Rattle.mm_model.specs.Life.{Life, Live, Spoiled, Lost as LostLife, life_of, is_lost}
+use Rattle.mm_model.specs.Life.{Life, Live, Spoiled, Lost as LostLife, life_of, is_lost, has_value}
 use Rattle.mm_model.specs.Moves.{MayMove, Brings}
 use Rattle.mm_model.specs.Places.{Names}
 use Rattle.mm_model.specs.Sound.{IsSound}
 use Rattle.mm_model.specs.Steps.{Step, Reads, Changes, Writes, ask_steps}
+use Rattle.mm_model.specs.declared.answer.BatchAnswer.{BatchAnswer}
 use Rattle.mm_model.specs.declared.refusal.Refusal.{Refusal}
 use Rattle.mm_model.specs.declared.refusal.Refusal.TheVariants as refusal
 use Rattle.mm_model.proofs.Moves.{sound_moved}
 use Rattle.mm_model.proofs.Named.{opt_names}
 use Rattle.mm_call.specs.Asked.{foreign_in}
-use Rattle.mm_call.specs.Called.{called}
-use Rattle.mm_call.specs.Courses.{Fate, Course, walk}
+use Rattle.mm_call.specs.Called.{called, told}
+use Rattle.mm_call.specs.Courses.{Fate, Course, Walked, walk, closes}
 use Rattle.mm_call.specs.Found.{Found, found_from, found_at, found_in, is_fresh}
 use Rattle.mm_call.specs.Levels.{by_lists, all_made}
 use Rattle.mm_call.specs.Order.{admitted, examined}
@@ -39,6 +41,8 @@ use Rattle.mm_call.proofs.OptReady.{IsDue, ready_inside, ready_opening}
 use Rattle.mm_call.proofs.OptShut.{reset_may}
 use Rattle.mm_call.proofs.OptWalks.{AllFine, AreOwn, Ready, walk_fine}
 use Rattle.mm_call.proofs.Walks.{taking, changing, asks}
+use Rattle.mm_callers.proofs.Calls.{answered_only}
+use Rattle.mm_callers.proofs.OptAlike.{foreign_closes, opt_closes}
 
 -- moves that may be made one after another
 AllMay : Instance → History → List Move → Type 0
@@ -165,3 +169,37 @@ named_after meaning key barrier y c offer b content sound n =
     let i : Instance = opt meaning key barrier in
     let found : Result Found Refusal = found_in (found_at i (by_lists i) (all_made (by_lists i) y (before c)) b offer) c.lacks in
     names_made meaning key barrier (walk c.fates 1 (ask_steps Opt y.is_open (is_fresh found) b)).moves y content sound (ask_may meaning key barrier y c offer b) n
+
+commit_keeps : (variant : Variant) (flag : Bool) (y : History) (b : Batch) → (committed variant flag y b).closed ≡ y.closed
+commit_keeps Basic flag y b = refl
+commit_keeps Opt true y b = refl
+commit_keeps Opt false y b = refl
+
+-- What is answered was found in a history whose closed segments hold no value that stands for no batch, and a call closes none.
+closed_same : (i : Instance) (moves : List Move) (y : History) → closes moves ≡ false → (all_made (by_lists i) y moves).closed ≡ y.closed
+closed_same i [] y e = refl
+closed_same i (Commit b ∷ moves) y e = closed_same i moves (moved i y (Commit b)) e ∙ commit_keeps i.variant y.is_open y b
+closed_same i (Foreign v ∷ moves) y e = closed_same i moves (moved i y (Foreign v)) e
+closed_same i (Placed b ∷ moves) y e = closed_same i moves (moved i y (Placed b)) e
+closed_same i (Reset ∷ moves) y e = closed_same i moves (moved i y Reset) e
+closed_same i (Close ∷ moves) y e = absurd (cc)
+closed_same i (Power ∷ moves) y e = closed_same i moves (moved i y Power) e
+
+pub answered_clean : (meaning : Meaning) (key barrier : List ℕ) (y : History) (c : Course) (offer : List ℕ) (b : Batch) (answer : BatchAnswer)
+    → told (called (opt meaning key barrier) (by_lists (opt meaning key barrier)) y c offer b).ending ≡ Ok answer
+    → has_value (joined (called (opt meaning key barrier) (by_lists (opt meaning key barrier)) y c offer b).state.closed) ≡ false
+answered_clean meaning key barrier y c offer b answer gives =
+    let i : Instance = opt meaning key barrier in
+    let v : List (List ℕ) = (c.fates 1).brings in
+    let w : List (List ℕ) = (c.fates 2).brings in
+    let first : List Move = map Foreign v ++ (map Foreign w ++ []) in
+    let sees : History = all_made (by_lists i) y first in
+    let found : Result Found Refusal = found_in (found_at i (by_lists i) sees b offer) c.lacks in
+    let walked : Walked = walk c.fates 1 (ask_steps Opt y.is_open (is_fresh found) b) in
+    let end : History = all_made (by_lists i) y walked.moves in
+    let it = answered_only walked.broken i sees end b found walked.moves answer gives in
+    let live = live_found meaning key barrier sees b offer it.it (unlacked (found_at i (by_lists i) sees b offer) c.lacks it.it it.found_is) in
+    let quiet : closes walked.moves ≡ false = ap (λ (s : List Step). closes (walk c.fates 1 s).moves) (asks y.is_open (is_fresh found) b) ∙ opt_closes c.fates y.is_open (is_fresh found) b in
+    ap (λ (segments : List (List Entry)). has_value (joined segments))
+    (closed_same i walked.moves y quiet ∙ sym (closed_same i first y (foreign_closes v (map Foreign w ++ []) (foreign_closes w [] refl))))
+    ∙ live.clean
