@@ -153,7 +153,7 @@ module _ (all others : List (List ℕ)) (asked : List Batch) (i : Instance) (y :
   asked_at p e = asked_of all others asked i y slots before old p can e (fits_at p e).1
 
 -- Nothing more is asked to be known.
-abbrev NoMore : History → Type 0
+abbrev pub NoMore : History → Type 0
 NoMore after = Unit {0}
 
 basic_leads : (meaning : Meaning) → IsLawful meaning → (key : List ℕ) (all others : List (List ℕ)) (asked : List Batch) (y : History) (slots : Slots) (before after : Standing) (old : Kept) (result : Result Resumed HostFault) (can : CanRecover all others asked (basic meaning key) y slots before old)

@@ -9,6 +9,7 @@ mod First
 mod SettingUp
 mod OptMoves
 mod BothRecovering
+mod Leading
 mod Recording
 mod Turning
 mod Lining

@@ -36,7 +36,7 @@ length-summary_of : (id : ℕ) (batches : List Batch) → length (summary_of id 
 unfolding summary_of
 length-summary_of id batches = length-after link_message (start_of Basic id) batches (length-start_of Basic id)
 
-basic_content : (meaning : Meaning) → IsLawful meaning → (key : List ℕ) (y : History) → total_of y.batches ≤ 2 ^ 48 → IsContent (issued (basic meaning key) y)
+pub basic_content : (meaning : Meaning) → IsLawful meaning → (key : List ℕ) (y : History) → total_of y.batches ≤ 2 ^ 48 → IsContent (issued (basic meaning key) y)
 basic_content meaning lawful key y fits = record {
   place = length-summary_of meaning.id y.batches;
   position = fits;

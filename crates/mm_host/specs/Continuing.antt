@@ -108,15 +108,15 @@ MayBeUntold (Err TooMuch) = ⊥
 
 -- A refusal is a device's fault; or in Opt it tells how the history has ended.
 abbrev pub RefusesAs : {T : Type 0} → Result T SessionFault → Life → Type 0
-RefusesAs (Ok it) life = Unit {0}
-RefusesAs (Err Memory) life = Unit {0}
-RefusesAs (Err Store) life = Unit {0}
-RefusesAs (Err (Refused why)) life = IsRefusedAs why life
-RefusesAs (Err WriteFault) life = Unit {0}
-RefusesAs (Err ReadFault) life = Unit {0}
-RefusesAs (Err (LineLong line)) life = Unit {0}
-RefusesAs (Err (BadLine line)) life = Unit {0}
-RefusesAs (Err TooMuch) life = Unit {0}
+RefusesAs (Ok it) _ = Unit {0}
+RefusesAs (Err Memory) _ = Unit {0}
+RefusesAs (Err Store) _ = Unit {0}
+RefusesAs (Err (Refused why)) how = IsRefusedAs why how
+RefusesAs (Err WriteFault) _ = Unit {0}
+RefusesAs (Err ReadFault) _ = Unit {0}
+RefusesAs (Err (LineLong line)) _ = Unit {0}
+RefusesAs (Err (BadLine line)) _ = Unit {0}
+RefusesAs (Err TooMuch) _ = Unit {0}
 
 -- one request more than those told is committed, the one in hand
 pub record HasUntold (hand : List ℕ → Type 0) (result : Result Unit SessionFault) (requests after : List (List ℕ)) : Type 0 where
