@@ -1,5 +1,6 @@
 -- Recovery in either variant: what the call for the request that waits leads to.
-use Rattle.std.proofs.Common.{◌≡◌, ℕ, ◌-◌, List, [], ◌++◌, map, Option, None, Some, Result, Ok, Err, refl, sym, ◌∙◌, subst}
+use Rattle.std.proofs.Common.{◌≡◌, ◌≢◌, ℕ, ◌-◌, List, [], ◌∷◌, ◌++◌, map, Option, None, Some, Result, Ok, Err, refl, sym, ◌∙◌, subst, inl, inr}
+use Rattle.std.specs.Prelude.{◌⊎◌}
 use Rattle.mm_digest.specs.declared.variant.Variant.{Variant}
 use Rattle.mm_digest.specs.declared.variant.Variant.TheVariants.{Basic, Opt}
 use Rattle.mm_platform.specs.Standing.{Item, Standing}
@@ -7,8 +8,8 @@ use Rattle.mm_module.specs.Meaning.{Meaning, IsLawful}
 use Rattle.mm_module.specs.Batch.{Batch, One}
 use Rattle.mm_seal.specs.Snapshot.{Content}
 use Rattle.mm_model.specs.Instance.{Instance, basic, opt}
-use Rattle.mm_model.specs.History.{History, Move, Foreign}
-use Rattle.mm_model.specs.Life.{life_of}
+use Rattle.mm_model.specs.History.{History, Move, Commit, Foreign, moved}
+use Rattle.mm_model.specs.Life.{Lost as LostLife, life_of}
 use Rattle.mm_model.specs.Moves.{digests_of}
 use Rattle.mm_model.specs.Places.{Names}
 use Rattle.mm_model.specs.Standing.{StandsFor}
@@ -16,7 +17,7 @@ use Rattle.mm_model.specs.declared.answer.Answer.{Answer}
 use Rattle.mm_model.specs.declared.answer.BatchAnswer.{BatchAnswer}
 use Rattle.mm_model.specs.declared.refusal.Refusal.{Refusal}
 use Rattle.mm_call.specs.Asked.{IsAsked, IsWithin}
-use Rattle.mm_call.specs.Called.{called}
+use Rattle.mm_call.specs.Called.{called, told}
 use Rattle.mm_call.specs.CallsOn.{CallsOn}
 use Rattle.mm_call.specs.Levels.{by_lists, by_digests, all_made}
 use Rattle.mm_call.specs.Leaving.{whole_in}
@@ -26,10 +27,12 @@ use Rattle.mm_call.proofs.Continuing.{stands_at}
 use Rattle.mm_call.proofs.Moving.{same_batches}
 use Rattle.mm_call.proofs.OptLaw.{before as seen_before}
 use Rattle.mm_call.proofs.Tied.{opt_tied}
+use Rattle.mm_call.proofs.OptShut.{bare}
 use Rattle.mm_call.proofs.Walks.{foreign_first}
 use Rattle.mm_callers.specs.Basic.{AreAsked}
 use Rattle.mm_callers.specs.Opt.{AreShown}
 use Rattle.mm_callers.proofs.Calls.{is_asked as basic_asked, names_made, Comes, comes as basic_comes}
+use Rattle.mm_callers.proofs.OptAlike.{Alike, still, grown_by}
 use Rattle.mm_callers.proofs.OptCalls.{asked_of as asked_by_items, comes}
 use Rattle.mm_store.specs.Kept.{Kept}
 use Rattle.mm_store.specs.Pending.{Pending}
@@ -40,10 +43,30 @@ use Rattle.mm_host.specs.Asking.{IsCall}
 use Rattle.mm_host.specs.Fitting.{offer_slot, FitsBy}
 use Rattle.mm_host.specs.Recovery.{CanRecover, Recovers}
 use Rattle.mm_host.specs.Resumes.{Resumes}
+use Rattle.mm_host.proofs.Awaited.{grows}
 use Rattle.mm_host.proofs.Machining.{IsIssued, issued_in_basic, issued_in_opt}
-use Rattle.mm_host.proofs.OptMoves.{answered_clean, named_after}
+use Rattle.mm_host.proofs.OptMoves.{alike_after, answered_clean, named_after, stays_powered}
 use Rattle.mm_host.proofs.Refusing.{MayRefuse, IsOffered, offered_then, waiting_most, basic_keeps, opt_keeps, basic_refused, opt_refused}
 use Rattle.mm_host.proofs.Recovering.{Left, LeadsOn, asked_of, recovers_by}
+
+-- Two histories are the same but for others' values.
+abbrev pub IsSame : Variant → History → History → Type 0
+IsSame Basic y z = y.batches ≡ z.batches
+IsSame Opt y z = bare y ≡ bare z
+
+-- It grew by the request that waits, or by nothing.
+abbrev pub IsGrownBy : Instance → History → Option Pending → History → Type 0
+IsGrownBy i y waiting after =
+    IsSame i.variant after y
+    ⊎ ((p : Pending) × (waiting ≡ Some p) × IsSame i.variant after (moved i y (Commit (One p.request))))
+
+basic_grown : (meaning : Meaning) (key : List ℕ) (y after : History) (p : Pending) → (after.batches ≡ y.batches) ⊎ (after.batches ≡ y.batches ++ One p.request ∷ []) → IsGrownBy (basic meaning key) y (Some p) after
+basic_grown meaning key y after p (inl e) = inl e
+basic_grown meaning key y after p (inr e) = inr (p, refl, e)
+
+pub opt_grown : (meaning : Meaning) (key barrier : List ℕ) (y after : History) (p : Pending) → Alike meaning key barrier y (One p.request) after → IsGrownBy (opt meaning key barrier) y (Some p) after
+opt_grown meaning key barrier y after p (still e) = inl e
+opt_grown meaning key barrier y after p (grown_by e) = inr (p, refl, e)
 
 -- what one call for the request that waits comes to by lists
 pub record Called (all others : List (List ℕ)) (asked : List Batch) (i : Instance) (y : History) (standing : Standing) (offer : List ℕ) (p : Pending) (gives : Result BatchAnswer Refusal) : Type 0 where
@@ -55,6 +78,8 @@ pub record Called (all others : List (List ℕ)) (asked : List Batch) (i : Insta
   pub only : (why : Refusal) → gives ≡ Err why → fault_of why ≡ None → after.batches ≡ y.batches
   pub refuses : (why : Refusal) → gives ≡ Err why → MayRefuse why (life_of i.variant after)
   pub issues : (answer : BatchAnswer) → gives ≡ Ok answer → IsIssued i after
+  pub grown : IsGrownBy i y (Some p) after
+  pub powered : life_of i.variant y ≢ LostLife → life_of i.variant after ≢ LostLife
 
 pub basic_called : (meaning : Meaning) → IsLawful meaning → (key : List ℕ) (all others : List (List ℕ)) (asked : List Batch) (y : History) (old new : Standing) (offer : List ℕ) (p : Pending) (gives : Result BatchAnswer Refusal)
     → CallsOn Basic meaning old new offer (One p.request) gives → StandsFor (basic meaning key) old y → AreAsked all others asked (basic meaning key) y offer (One p.request)
@@ -78,6 +103,8 @@ basic_called meaning lawful key all others asked y old new offer p gives c s a f
           (offered_then i y (all_made (by_lists i) y (map Foreign values ++ [])) p offer
           (same_batches i (map Foreign values ++ []) y (foreign_first values [])) f) (sym k.gives ∙ e);
       issues = λ (answer : BatchAnswer) (e : gives ≡ Ok answer). issued_in_basic meaning lawful key o.state;
+      grown = basic_grown meaning key y o.state p (grows i y p offer o.state (told o.ending) (basic_comes meaning key all others asked y c.course offer (One p.request) a));
+      powered = λ h e. cc;
     }
 
 pub opt_called : (meaning : Meaning) → IsLawful meaning → (key barrier : List ℕ) (all others : List (List ℕ)) (asked : List Batch) (y : History) (old new : Standing) (offer : List ℕ) (p : Pending) (gives : Result BatchAnswer Refusal) (items more : List Item)
@@ -110,6 +137,8 @@ opt_called meaning lawful key barrier all others asked y old new offer p gives i
           (same_batches i (map Foreign v ++ (map Foreign w ++ [])) y (foreign_first v (map Foreign w ++ []) ∙ foreign_first w [])) f) (sym k.gives ∙ e);
       issues = λ (answer : BatchAnswer) (e : gives ≡ Ok answer).
           issued_in_opt meaning lawful key barrier o.state k.within.sound (answered_clean meaning key barrier y c.course offer (One p.request) answer (sym k.gives ∙ e));
+      grown = opt_grown meaning key barrier y o.state p (alike_after meaning key barrier y c.course offer (One p.request));
+      powered = λ h. stays_powered meaning key barrier y c.course offer (One p.request) h;
     }
 
 -- it leads on from slots that fit
@@ -130,6 +159,7 @@ module _ (all others : List (List ℕ)) (asked : List Batch) (i : Instance) (y :
       only = o.only;
       refuses = o.refuses;
       issues = o.issues;
+      powered = o.powered;
       is = e;
       is_waiting = can.fits.is_waiting;
       awaited = (fits_at p e).0;

@@ -1,22 +1,23 @@
 -- What the calls of a session lead to, in one form for both variants.
-use Rattle.std.proofs.Common.{◌≡◌, ℕ, ◌≤◌, ◌^◌, Bool, true, false, ◌||◌, List, [], ◌∷◌, ◌++◌, length, Option, Some, Result, Err, refl, sym, ap, ◌∙◌, subst, inl, inr, append_assoc, arith}
+use Rattle.std.proofs.Common.{◌≡◌, ◌≢◌, ℕ, ◌+◌, ◌≤◌, ◌^◌, Bool, true, false, ◌||◌, List, [], ◌∷◌, ◌++◌, length, Option, None, Some, Result, Ok, Err, refl, sym, ap, ◌∙◌, subst, inl, inr, append_assoc, arith}
 use Rattle.std.specs.Prelude.{◌⊎◌}
 use Rattle.std.specs.List.{AllByRecursion}
 use Rattle.std.specs.Option.{option_map}
-use Rattle.std.proofs.lemmas.List.{append-nil}
-use Rattle.mm_digest.specs.Messages.{zero_bytes}
+use Rattle.std.proofs.lemmas.List.{append-nil, append_cancel_right}
+use Rattle.mm_digest.specs.Messages.{extended_message, zero_bytes}
 use Rattle.mm_digest.specs.declared.variant.Variant.{Variant}
 use Rattle.mm_digest.specs.declared.variant.Variant.TheVariants.{Basic, Opt}
-use Rattle.mm_platform.specs.Standing.{Item, Standing}
+use Rattle.mm_platform.specs.Standing.{Item, Standing, values_of}
 use Rattle.mm_module.specs.Meaning.{Meaning, IsLawful}
 use Rattle.mm_module.specs.Batch.{Batch, One}
 use Rattle.mm_seal.specs.declared.snapshot.Place.{Place}
 use Rattle.mm_seal.specs.declared.snapshot.Place.TheVariants.{Basic as InBasic, Opt as InOpt}
 use Rattle.mm_seal.specs.Snapshot.{Content, IsContent}
-use Rattle.mm_model.specs.Chains.{summary_of}
+use Rattle.mm_model.specs.Chains.{summary_of, trail}
 use Rattle.mm_model.specs.Instance.{Instance, basic, opt}
-use Rattle.mm_model.specs.History.{Entry, Own, Value, History, Commit, first_history, joined, moved, total_of}
-use Rattle.mm_model.specs.Life.{is_empty, has_value}
+use Rattle.mm_model.specs.History.{Entry, Own, Value, History, Commit, committed, first_history, joined, moved, register_value_of, total_of}
+use Rattle.mm_model.specs.Life.{Lost as LostLife, are_own, has_value, is_empty, life_by, life_of}
+use Rattle.mm_model.specs.Messages.{Within}
 use Rattle.mm_model.specs.Moves.{Digests}
 use Rattle.mm_model.specs.Places.{IsPoint, at_anchor, in_closed, in_current, IsPlaceOf, Names, anchor_after, digest_of, issued}
 use Rattle.mm_model.specs.Sound.{IsSound, batches_in}
@@ -27,7 +28,7 @@ use Rattle.mm_model.specs.declared.refusal.Refusal.{Refusal}
 use Rattle.mm_model.proofs.Batches.{total-nil}
 use Rattle.mm_model.proofs.Histories.{has_value-append}
 use Rattle.mm_model.proofs.Lists.{each_left}
-use Rattle.mm_call.specs.Asked.{IsLedTo}
+use Rattle.mm_call.specs.Asked.{IsLedTo, counted_part}
 use Rattle.mm_call.specs.Called.{called, seen_at}
 use Rattle.mm_call.specs.CallsOn.{CallsOn}
 use Rattle.mm_call.specs.Courses.{walk, closes}
@@ -35,17 +36,18 @@ use Rattle.mm_call.specs.Found.{found_at, found_in, is_fresh}
 use Rattle.mm_call.specs.Levels.{by_digests, all_made}
 use Rattle.mm_call.specs.Standing.{StandsAt, shown}
 use Rattle.mm_call.specs.Tied.{standing_items}
-use Rattle.mm_call.proofs.OptShut.{bare}
+use Rattle.mm_call.proofs.OptShut.{bare, counted_open}
 use Rattle.mm_call.proofs.Walks.{asks}
 use Rattle.mm_callers.specs.Basic.{AreAsked}
 use Rattle.mm_callers.specs.Opt.{AreShown}
 use Rattle.mm_callers.proofs.OptAlike.{Alike, still, grown_by, alike_commit, clean_open, issued_alike, names_after, opened, opt_closes, same_closed}
 use Rattle.mm_callers.proofs.OptAsking.{issued_content}
-use Rattle.mm_callers.proofs.OptLeaves.{GoesOn, hands}
-use Rattle.mm_callers.proofs.OptShown.{flag_kept, pushed_open}
+use Rattle.mm_callers.proofs.OptLeaves.{GoesOn, Hands, hands}
+use Rattle.mm_callers.proofs.OptShown.{flag_kept, pushed_open, shown_front}
+use Rattle.mm_callers.proofs.Twice.{answered_at}
 use Rattle.mm_store.specs.Pending.{Pending}
-use Rattle.mm_host.proofs.Awaited.{grows}
-use Rattle.mm_host.proofs.BothRecovering.{Called, basic_called, opt_called}
+use Rattle.mm_host.proofs.Awaited.{one_more}
+use Rattle.mm_host.proofs.BothRecovering.{Called, IsGrownBy, IsSame, basic_called, opt_called, opt_grown}
 use Rattle.mm_host.proofs.Machining.{basic_content, issued_in_opt}
 use Rattle.mm_host.proofs.Refusing.{IsOffered}
 
@@ -116,20 +118,10 @@ opt_reach meaning key barrier old new offer request gives c = λ d s f items kno
 goes_on : (meaning : Meaning) (key barrier : List ℕ) (all others : List (List ℕ)) (asked : List Batch) (old new : Standing) → Reaches Opt (opt meaning key barrier) old new → GoesOn meaning key barrier all others asked old new
 goes_on meaning key barrier all others asked old new r = λ d s f items known. let x = r d s f items known in (x.more, x.shows)
 
--- Two histories are the same but for others' values; or the second is so where the first may be gone on with.
-abbrev pub IsSame : Variant → History → History → Type 0
-IsSame Basic y z = y.batches ≡ z.batches
-IsSame Opt y z = bare y ≡ bare z
-
+-- The second is the first but for others' values, where the first may be gone on with.
 abbrev pub IsLike : Variant → History → History → Type 0
 IsLike Basic y z = y.batches ≡ z.batches
 IsLike Opt y z = has_value (joined y.closed) ≡ false → bare y ≡ bare z
-
--- It grew by the request that waits, or by nothing.
-abbrev pub IsGrownBy : Instance → History → Option Pending → History → Type 0
-IsGrownBy i y waiting after =
-    IsSame i.variant after y
-    ⊎ ((p : Pending) × (waiting ≡ Some p) × IsSame i.variant after (moved i y (Commit (One p.request))))
 
 -- What is known of the history after a call between others.
 abbrev pub IsBetween : List (List ℕ) → List (List ℕ) → Instance → History → Option Pending → Standing → Standing → History → Type 0
@@ -160,10 +152,6 @@ pub record Laws (all others : List (List ℕ)) (asked : List Batch) (i : Instanc
 
 -- Basic
 
-basic_grown : (meaning : Meaning) (key : List ℕ) (y after : History) (p : Pending) → (after.batches ≡ y.batches) ⊎ (after.batches ≡ y.batches ++ One p.request ∷ []) → IsGrownBy (basic meaning key) y (Some p) after
-basic_grown meaning key y after p (inl e) = inl e
-basic_grown meaning key y after p (inr e) = inr (p, refl, e)
-
 with_batches : List Batch → History
 with_batches bs = record first_history { batches = bs }
 
@@ -183,7 +171,7 @@ basic_laws meaning lawful key all others asked final = record {
   lawful = lawful;
   between = λ y old middle offer p gives c s a f shows reaches ok.
       let o = basic_called meaning lawful key all others asked y old middle offer p gives c s a f in
-      (o, (tt, basic_grown meaning key y o.after p (grows (basic meaning key) y p offer o.after gives o.comes)));
+      (o, (tt, o.grown));
   last = λ y old offer p gives c s a f shows. basic_called meaning lawful key all others asked y old final offer p gives c s a f;
   reach = λ old new offer request gives c. tt;
   formed = λ y most. basic_content meaning lawful key y most;
@@ -282,32 +270,115 @@ opt_place meaning key barrier y named (InOpt a b) sound p e =
 
 -- Opt: a call
 
-opt_grown : (meaning : Meaning) (key barrier : List ℕ) (y after : History) (p : Pending) → Alike meaning key barrier y (One p.request) after → IsGrownBy (opt meaning key barrier) y (Some p) after
-opt_grown meaning key barrier y after p (still e) = inl e
-opt_grown meaning key barrier y after p (grown_by e) = inr (p, refl, e)
+same_items : {xs ys : List Item} → Some xs ≡ Some ys → xs ≡ ys
+same_items e = cc
+
+same_value : {x y : List ℕ} → Some x ≡ Some y → x ≡ y
+same_value e = cc
+
+push_batches : (flag : Bool) (y : History) (b : Batch) → (committed Opt flag y b).batches ≡ y.batches ++ b ∷ []
+push_batches true y b = refl
+push_batches false y b = refl
+
+shut_by : (flag bare own marred : Bool) → flag ≡ false → life_by flag bare own marred ≢ LostLife
+shut_by true bare own marred e = absurd (cc)
+shut_by false bare own false e = λ l. cc
+shut_by false bare own true e = λ l. cc
+
+shut_powered : (y : History) → y.is_open ≡ false → life_of Opt y ≢ LostLife
+shut_powered y e = shut_by y.is_open (is_empty y.items) (are_own y.items y.current) (has_value (joined y.closed)) e
+
+module _ (meaning : Meaning) (lawful : IsLawful meaning) (key barrier : List ℕ) (all others : List (List ℕ)) (asked : List Batch) (final : Standing) (y : History) (old middle : Standing) (offer : List ℕ) (p : Pending) (answer : BatchAnswer) (c : CallsOn Opt meaning old middle offer (One p.request) (Ok answer)) (s : StandsFor (opt meaning key barrier) old y) (a : AreAsked all others asked (opt meaning key barrier) y offer (One p.request)) (f : IsOffered (opt meaning key barrier) y p offer) (shows : ShowsAt all others (opt meaning key barrier) y old final) where
+  -- a call that was answered, with others behind it
+  abbrev Between : Type 0
+  Between = (o : Called all others asked (opt meaning key barrier) y middle offer p (Ok answer)) × IsBetween all others (opt meaning key barrier) y (Some p) middle final o.after
+
+  abbrev Handed : Type 0
+  Handed = Hands meaning key barrier all others asked y middle final offer p.request (Ok answer) shows.more
+
+  -- no segment is open after it
+  between_shut : (h : Handed) → h.left.after.is_open ≡ false → Between
+  between_shut h e = (
+    record {
+      after = h.left.after;
+      stands = h.left.stands;
+      within = h.left.within;
+      names = λ content n. names_after meaning key barrier y h.left.after (One p.request) content a.within.sound h.left.within.sound h.left.alike n;
+      comes = h.left.comes;
+      only = λ why e. absurd (cc);
+      refuses = λ why e. absurd (cc);
+      issues = λ answer e. issued_in_opt meaning lawful key barrier h.left.after h.left.within.sound (h.left.clean answer e);
+      grown = opt_grown meaning key barrier y h.left.after p h.left.alike;
+      powered = λ w. shut_powered h.left.after e;
+    },
+    (
+      record { items = h.items; known = h.known; more = h.more; ends = h.ends; shown_are = h.shown_are },
+      opt_grown meaning key barrier y h.left.after p h.left.alike,
+    ),
+  )
+
+  -- whether a segment is open after it follows from the answer's position
+  open_by : (after then_is : History) → Alike meaning key barrier y (One p.request) after → IsGrownBy (opt meaning key barrier) y (Some p) then_is → total_of after.batches ≡ total_of then_is.batches → after.is_open ≡ true → then_is.is_open ≡ true
+  open_by after then_is (still e) (inl same) t is = ap (λ (x : History). x.is_open) (same ∙ sym e) ∙ is
+  open_by after then_is (grown_by e) (inl same) t is =
+      let more : total_of after.batches ≡ total_of y.batches + 1 =
+      ap (λ (x : History). total_of x.batches) e ∙ ap total_of (push_batches y.is_open y (One p.request)) ∙ one_more y.batches p.request in
+      let none : total_of then_is.batches ≡ total_of y.batches = ap (λ (x : History). total_of x.batches) same in
+      absurd (omega (arith, t, more, none))
+  open_by after then_is alike (inr g) t is = opened meaning key barrier y then_is (One g.0.request) g.2
+
+  -- a segment is open after it
+  between_open : (h : Handed) → h.left.after.is_open ≡ true → Between
+  between_open h e =
+      let i : Instance = opt meaning key barrier in
+      let pushed = h.pushed e in
+      let there : Some (h.items ++ h.more) ≡ Some (standing_items y.is_open shows.items ++ shows.more) =
+      ap (λ (flag : Bool). Some (standing_items flag h.items ++ h.more)) (sym e) ∙ sym h.ends ∙ shows.ends in
+      let reach : h.items ++ h.more ≡ (standing_items y.is_open shows.items ++ pushed.front) ++ h.more =
+      same_items there ∙ ap (λ (xs : List Item). standing_items y.is_open shows.items ++ xs) (sym pushed.whole) ∙ sym (append_assoc (standing_items y.is_open shows.items) pushed.front h.more) in
+      let items : h.items ≡ standing_items y.is_open shows.items ++ pushed.front = append_cancel_right h.items (standing_items y.is_open shows.items ++ pushed.front) h.more reach in
+      let o = opt_called meaning lawful key barrier all others asked y old middle offer p (Ok answer) shows.items pushed.front c s a shows.known
+      (h.known ∙ ap (λ (xs : List Item). Some xs) items)
+      (shown_front all others i y pushed.front h.more (subst (λ (xs : List Item). AreShown all others i y xs) (sym pushed.whole) shows.shown_are)) f in
+      let total : total_of h.left.after.batches ≡ total_of o.after.batches =
+      sym (answered_at i y h.left.after offer (One p.request) answer h.left.comes).0 ∙ (answered_at i y o.after offer (One p.request) answer o.comes).0 in
+      let is_open : o.after.is_open ≡ true = open_by h.left.after o.after h.left.alike o.grown total e in
+      let same : Some (register_value_of i h.left.after) ≡ Some (register_value_of i o.after) = sym h.left.stands.register ∙ o.stands.register in
+      let register : register_value_of i (counted_part h.left.after) ≡ register_value_of i (counted_part o.after) =
+      ap (register_value_of i) (counted_open h.left.after e) ∙ same_value same ∙ sym (ap (register_value_of i) (counted_open o.after is_open)) in (
+        o,
+        (
+          record {
+            items = h.items;
+            known = h.known;
+            more = h.more;
+            ends = h.ends ∙ ap (λ (flag : Bool). Some (standing_items flag h.items ++ h.more)) (e ∙ sym is_open);
+            shown_are = record {
+              messages = subst (λ (r : List ℕ). Within (trail extended_message r (values_of h.more)) all) register h.shown_are.messages;
+              values = h.shown_are.values;
+            };
+          },
+          o.grown,
+        ),
+      )
+
+  between_by : (h : Handed) (flag : Bool) → h.left.after.is_open ≡ flag → Between
+  between_by h true e = between_open h e
+  between_by h false e = between_shut h e
+
+  between : Reaches Opt (opt meaning key barrier) middle final → Between
+  between reaches =
+      let h = hands meaning key barrier all others asked y old middle final offer p.request (Ok answer) shows.items shows.more c
+      (goes_on meaning key barrier all others asked middle final reaches) s shows.known shows.ends a shows.shown_are in
+      between_by h h.left.after.is_open refl
 
 opt_between : (meaning : Meaning) → IsLawful meaning → (key barrier : List ℕ) (all others : List (List ℕ)) (asked : List Batch) (final : Standing) (y : History) (old middle : Standing) (offer : List ℕ) (p : Pending) (gives : Result BatchAnswer Refusal)
     → CallsOn Opt meaning old middle offer (One p.request) gives → StandsFor (opt meaning key barrier) old y → AreAsked all others asked (opt meaning key barrier) y offer (One p.request)
-    → ShowsAt all others (opt meaning key barrier) y old final → Reaches Opt (opt meaning key barrier) middle final → ((why : Refusal) → gives ≡ Err why → ⊥)
+    → IsOffered (opt meaning key barrier) y p offer → ShowsAt all others (opt meaning key barrier) y old final → Reaches Opt (opt meaning key barrier) middle final → ((why : Refusal) → gives ≡ Err why → ⊥)
     → (o : Called all others asked (opt meaning key barrier) y middle offer p gives) × IsBetween all others (opt meaning key barrier) y (Some p) middle final o.after
-opt_between meaning lawful key barrier all others asked final y old middle offer p gives c s a shows reaches ok =
-    let h = hands meaning key barrier all others asked y old middle final offer p.request gives shows.items shows.more c
-    (goes_on meaning key barrier all others asked middle final reaches) s shows.known shows.ends a shows.shown_are in (
-      record {
-        after = h.left.after;
-        stands = h.left.stands;
-        within = h.left.within;
-        names = λ content n. names_after meaning key barrier y h.left.after (One p.request) content a.within.sound h.left.within.sound h.left.alike n;
-        comes = h.left.comes;
-        only = λ why e. absurd (ok why e);
-        refuses = λ why e. absurd (ok why e);
-        issues = λ answer e. issued_in_opt meaning lawful key barrier h.left.after h.left.within.sound (h.left.clean answer e);
-      },
-      (
-        record { items = h.items; known = h.known; more = h.more; ends = h.ends; shown_are = h.shown_are },
-        opt_grown meaning key barrier y h.left.after p h.left.alike,
-      ),
-    )
+opt_between meaning lawful key barrier all others asked final y old middle offer p (Ok answer) c s a f shows reaches ok =
+    between meaning lawful key barrier all others asked final y old middle offer p answer c s a f shows reaches
+opt_between meaning lawful key barrier all others asked final y old middle offer p (Err why) c s a f shows reaches ok = absurd (ok why refl)
 
 opt_grow : (meaning : Meaning) (key barrier : List ℕ) (y z after : History) (b : Batch) → IsSound after → (has_value (joined y.closed) ≡ false → bare y ≡ bare z)
     → bare after ≡ bare (moved (opt meaning key barrier) y (Commit b)) → bare after ≡ bare (moved (opt meaning key barrier) z (Commit b))
@@ -320,7 +391,7 @@ pub opt_laws : (meaning : Meaning) → IsLawful meaning → (key barrier : List 
 opt_laws meaning lawful key barrier all others asked final = record {
   lawful = lawful;
   between = λ y old middle offer p gives c s a f shows reaches ok.
-      opt_between meaning lawful key barrier all others asked final y old middle offer p gives c s a shows reaches ok;
+      opt_between meaning lawful key barrier all others asked final y old middle offer p gives c s a f shows reaches ok;
   last = λ y old offer p gives c s a f shows.
       opt_called meaning lawful key barrier all others asked y old final offer p gives shows.items shows.more c s a shows.known shows.ends shows.shown_are f;
   reach = λ old new offer request gives c. opt_reach meaning key barrier old new offer request gives c;

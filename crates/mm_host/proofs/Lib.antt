@@ -10,6 +10,7 @@ mod SettingUp
 mod OptMoves
 mod BothRecovering
 mod Leading
+mod Unspoiled
 mod Recording
 mod Turning
 mod Lining

@@ -13,7 +13,7 @@ use Rattle.mm_seal.specs.Parts.{parts_of}
 use Rattle.mm_seal.specs.Snapshot.{Content}
 use Rattle.mm_model.specs.Instance.{Instance}
 use Rattle.mm_model.specs.History.{History, requests_of, total_of}
-use Rattle.mm_model.specs.Life.{Life, life_of}
+use Rattle.mm_model.specs.Life.{Life, Lost as LostLife, life_of}
 use Rattle.mm_model.specs.Messages.{Within, IsClear, AreNoGuards, offer_messages}
 use Rattle.mm_model.specs.Places.{issued}
 use Rattle.mm_model.specs.Standing.{StandsFor, IsRight, issued_bytes}
@@ -107,6 +107,7 @@ pub record LineComes (all others : List (List ℕ)) (asked : List Batch) (i : In
   pub grown : (after.batches ≡ y.batches) ⊎ (after.batches ≡ y.batches ++ One line ∷ [])
   pub only : (after.batches ≡ y.batches) ⊎ MayCommit came
   pub refuses : IsRefusedBy came (life_of i.variant after)
+  pub powered : life_of i.variant y ≢ LostLife → life_of i.variant after ≢ LostLife
   pub goes : LineGoesBy i y after slots_after kept line came
 
 -- the messages of the offer are in the list, by the place that it says
@@ -197,6 +198,7 @@ by_recovery all others asked i y slots next standing kept came e r = record {
   grown = r.grown;
   only = r.only;
   refuses = refused_of i y slots (Some next) r.after came r.comes;
+  powered = r.powered;
   goes = goes_by all others asked i y slots next standing kept came e r;
 }
 
@@ -234,6 +236,7 @@ module _ (More : History → Type 0) (all others : List (List ℕ)) (asked : Lis
       grown = inl refl;
       only = inl refl;
       refuses = u;
+      powered = λ h. h;
       goes = tt;
     },
     tt,

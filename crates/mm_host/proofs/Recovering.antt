@@ -1,5 +1,5 @@
 -- Every exit of a recovery leaves slots that fit the history.
-use Rattle.std.proofs.Common.{◌≡◌, ℕ, ◌-◌, ◌%◌, true, List, Option, None, Some, Result, Ok, Err, refl, sym, ap, ◌∙◌, subst, inl, inr, ◌≤◌, ◌^◌, length, take, IfOk, arith}
+use Rattle.std.proofs.Common.{◌≡◌, ◌≢◌, ℕ, ◌-◌, ◌%◌, true, List, Option, None, Some, Result, Ok, Err, refl, sym, ap, ◌∙◌, subst, inl, inr, ◌≤◌, ◌^◌, length, take, IfOk, arith}
 use Rattle.std.specs.Prelude.{◌⊎◌}
 use Rattle.mm_digest.specs.declared.variant.Variant.{Variant}
 use Rattle.mm_platform.specs.Standing.{Standing}
@@ -12,7 +12,7 @@ use Rattle.mm_model.specs.Places.{Names}
 use Rattle.mm_model.specs.Standing.{StandsFor, IsRight}
 use Rattle.mm_model.specs.declared.answer.Answer.{Answer}
 use Rattle.mm_model.specs.declared.answer.BatchAnswer.{BatchAnswer}
-use Rattle.mm_model.specs.Life.{life_of}
+use Rattle.mm_model.specs.Life.{Lost as LostLife, life_of}
 use Rattle.mm_model.specs.declared.refusal.Refusal.{Refusal}
 use Rattle.mm_model.specs.declared.refusal.Refusal.TheVariants as refusal
 use Rattle.mm_call.specs.Asked.{IsWithin}
@@ -107,6 +107,7 @@ still all others asked i y slots before after old new result can s t h n g c = r
   honest = h;
   newest = n;
   holds = g;
+  powered = λ h. h;
   only = inl refl;
   comes = c;
 }
@@ -155,6 +156,7 @@ pub record Left (all others : List (List ℕ)) (asked : List Batch) (i : Instanc
   pub only : (why : Refusal) → gives ≡ Err why → fault_of why ≡ None → after.batches ≡ y.batches
   pub refuses : (why : Refusal) → gives ≡ Err why → MayRefuse why (life_of i.variant after)
   pub issues : (answer : BatchAnswer) → gives ≡ Ok answer → IsIssued i after
+  pub powered : life_of i.variant y ≢ LostLife → life_of i.variant after ≢ LostLife
   pub is : waiting ≡ Some p
   pub is_waiting : IsWaiting (seen_in slots 2) (seen_in slots 3) waiting
   pub awaited : IsAwaited y p
@@ -186,6 +188,7 @@ settle all others asked i y slots other waiting p standing gives kept result l e
   honest = h;
   newest = n;
   holds = g;
+  powered = l.powered;
   only = o;
   comes = c;
 }
@@ -200,21 +203,21 @@ keep_exit : (More : History → Type 0) (all others : List (List ℕ)) (asked : 
 unfolding settle
 keep_exit More all others asked i y slots waiting p standing answer (Ok it) old new l m h t e size g w a = (
   settle all others asked i y slots (with_slot slots (p.position % 2) answer.snapshot) waiting p standing (Ok (whole answer)) new (Ok (Answered answer)) l
-  (elsewhere_put slots p answer.snapshot (awaited_least y p l.awaited))
-  (w.leaves h ∙ ap (λ (s : Option Slots). putting (p.position % 2) answer.snapshot s) t) (w.honest ∙ h)
-  (subst (λ (n : ℕ). seen_in (with_slot slots (p.position % 2) answer.snapshot) (n % 2) ≡ answer.snapshot) (sym e) (seen_put slots (p.position % 2) answer.snapshot size)) g (inr tt) a,
+      (elsewhere_put slots p answer.snapshot (awaited_least y p l.awaited))
+      (w.leaves h ∙ ap (λ (s : Option Slots). putting (p.position % 2) answer.snapshot s) t) (w.honest ∙ h)
+      (subst (λ (n : ℕ). seen_in (with_slot slots (p.position % 2) answer.snapshot) (n % 2) ≡ answer.snapshot) (sym e) (seen_put slots (p.position % 2) answer.snapshot size)) g (inr tt) a,
   m,
 )
 keep_exit More all others asked i y slots waiting p standing answer (Err fault.Memory) old new l m h t e size g w a = (
   settle all others asked i y slots slots waiting p standing (Ok (whole answer)) new (Err (store_fault_as fault.Memory)) l
-  (elsewhere_same slots p) (w.leaves h ∙ t) (w.honest ∙ h) tt tt (inr tt) tt,
+      (elsewhere_same slots p) (w.leaves h ∙ t) (w.honest ∙ h) tt tt (inr tt) tt,
   tt,
 )
 keep_exit More all others asked i y slots waiting p standing answer (Err fault.Failed) old new l m h t e size g w a =
     let left = w.leaves h in (
       settle all others asked i y slots (with_slot slots (p.position % 2) left.0) waiting p standing (Ok (whole answer)) new (Err (store_fault_as fault.Failed)) l
-      (elsewhere_put slots p left.0 (awaited_least y p l.awaited))
-      (left.1 ∙ ap (λ (s : Option Slots). putting (p.position % 2) left.0 s) t) (w.honest ∙ h) tt tt (inr tt) tt,
+          (elsewhere_put slots p left.0 (awaited_least y p l.awaited))
+          (left.1 ∙ ap (λ (s : Option Slots). putting (p.position % 2) left.0 s) t) (w.honest ∙ h) tt tt (inr tt) tt,
       tt,
     )
 
@@ -250,7 +253,7 @@ pub ask_exit : (More : History → Type 0) (all others : List (List ℕ)) (asked
 ask_exit More all others asked i lawful y slots waiting p standing (Err why) old new result l m fit h t g =
     subst (λ (r : Result Resumed HostFault). Recovered More all others asked i y slots waiting standing new r) (sym g.1) (
       settle all others asked i y slots slots waiting p standing (Err why) new (Err (refused_as why)) l
-      (elsewhere_same slots p) (ap (λ (k : Kept). k.slots) g.0 ∙ t) (ap (λ (k : Kept). k.is_honest) g.0 ∙ h) tt tt (only_by all others asked i y slots waiting p standing why (fault_of why) refl l) (refused_comes i y slots waiting l.after why (l.refuses why refl)),
+          (elsewhere_same slots p) (ap (λ (k : Kept). k.slots) g.0 ∙ t) (ap (λ (k : Kept). k.is_honest) g.0 ∙ h) tt tt (only_by all others asked i y slots waiting p standing why (fault_of why) refl l) (refused_comes i y slots waiting l.after why (l.refuses why refl)),
       tt,
     )
 ask_exit More all others asked i lawful y slots waiting p standing (Ok answer) old new result l m fit h t g =
@@ -307,7 +310,7 @@ module _ (More : History → Type 0) (variant : Variant) (all others : List (Lis
   start_exit (Ok bytes) old new m e s t h r =
       let f : FitsBy i slots y None = subst (λ (w : Option Pending). FitsBy i slots y w) e can.fits.fits in (
         still all others asked i y slots before after first new (Ok (Start bytes)) can s (r.slots ∙ t) (r.honest ∙ h) (sym (r.gives slots t))
-        (subst (λ (x : List ℕ). Holds i y x 0) (sym (r.gives slots t)) f.1) (e, r.gives slots t),
+            (subst (λ (x : List ℕ). Holds i y x 0) (sym (r.gives slots t)) f.1) (e, r.gives slots t),
         m s,
       )
   start_exit (Err why) old new m e s t h r = still_exit why new s (r.slots ∙ t) (r.honest ∙ h)

@@ -16,7 +16,7 @@ use Rattle.mm_seal.specs.Snapshot.{Content}
 use Rattle.mm_seal.proofs.SealLaws.{sealed_once}
 use Rattle.mm_model.specs.Instance.{Instance, basic, opt}
 use Rattle.mm_model.specs.History.{History, Commit, committed, first_history, moved, requests_of, total_of}
-use Rattle.mm_model.specs.Life.{Life, life_of}
+use Rattle.mm_model.specs.Life.{Life, Lost as LostLife, life_of}
 use Rattle.mm_model.specs.Messages.{IsClear, AreNoGuards}
 use Rattle.mm_model.specs.Places.{issued}
 use Rattle.mm_model.specs.Standing.{StandsFor, IsRight, issued_bytes}
@@ -48,11 +48,12 @@ use Rattle.mm_host.specs.Saying.{Says, comes_as, position_at, snapshot_at, text_
 use Rattle.mm_host.specs.Serving.{AfterRecord, AsksLine, Place, Served, Serves, lines_served, record_for}
 use Rattle.mm_host.specs.Sessions.{AfterResume, BeginsWith, Ends, GoesOn, IsAtRest, Stops, StopsAtOnce, StopsInLine}
 use Rattle.mm_host.proofs.Awaited.{one_more}
-use Rattle.mm_host.proofs.BothRecovering.{NoMore, asked_at, left_by, offered_at}
-use Rattle.mm_host.proofs.Leading.{IsBetween, IsGrownBy, IsSame, IsLike, Laws, Reaches, Shows, basic_laws, opt_laws, reach_same, reach_then}
+use Rattle.mm_host.proofs.BothRecovering.{IsGrownBy, IsSame, NoMore, asked_at, left_by, offered_at}
+use Rattle.mm_host.proofs.Leading.{IsBetween, IsLike, Laws, Reaches, Shows, basic_laws, opt_laws, reach_same, reach_then}
 use Rattle.mm_host.proofs.LineStep.{IsReady, IsRefusedBy, IsSettledAt, MayFollow, line_between, line_last, no_refusal, refused_of, same_pending}
 use Rattle.mm_host.proofs.Machining.{RunsOver-append, steps_again, steps_fresh}
 use Rattle.mm_host.proofs.Recovering.{LeadsOn, recovers_by}
+use Rattle.mm_host.proofs.Unspoiled.{unspoiled}
 
 -- what waited and was answered
 
@@ -223,6 +224,7 @@ module _ (all others : List (List ℕ)) (asked : List Batch) (i : Instance) (fin
     ready : IsReady all others asked i after then_is to final
     run : RunsOver i.meaning (requests_of y.batches) calls (requests_of after.batches)
     follow : AreToFollow all asked i then_is rest
+    powered : life_of i.variant y ≢ LostLife → life_of i.variant after ≢ LostLife
 
   -- the history after a line that was answered is the one that grew by it
   grown_same : (y z after : History) (next : Pending) (line : List ℕ) → next.request ≡ line → IsLedTo i.variant after → IsLike i.variant y z → after.batches ≡ y.batches ++ One line ∷ [] → IsGrownBy i y (Some next) after → IsSame i.variant after (moved i z (Commit (One line)))
@@ -251,6 +253,7 @@ module _ (all others : List (List ℕ)) (asked : List Batch) (i : Instance) (fin
     ready = subst (λ (p : Place). IsReady all others asked i y z p final) (sym h) s;
     run = refl;
     follow = f;
+    powered = λ p. p;
   }
   lines_come y z from to (c ∷ calls) rest clear apart s f h reaches =
       let next : Place = record { platform = h.platform; store = h.store; last = Answered c.answer } in
@@ -281,6 +284,7 @@ module _ (all others : List (List ℕ)) (asked : List Batch) (i : Instance) (fin
         ready = r.ready;
         run = (requests_of l.after.batches, l.goes.step, r.run);
         follow = r.follow;
+        powered = λ p. r.powered (l.powered p);
       }
 
   -- where a session stands once what waits is answered
@@ -288,6 +292,7 @@ module _ (all others : List (List ℕ)) (asked : List Batch) (i : Instance) (fin
     after : History
     ready : IsReady all others asked i after (history_then i y waiting) at final
     run : RunsOver i.meaning (requests_of y.batches) (told_first waiting at.last) (requests_of after.batches)
+    powered : life_of i.variant y ≢ LostLife → life_of i.variant after ≢ LostLife
 
   -- a recovery that the session goes on from
   abbrev Began : History → Slots → Option Pending → Standing → Kept → Resumed → Type 0
@@ -334,6 +339,7 @@ module _ (all others : List (List ℕ)) (asked : List Batch) (i : Instance) (fin
           shows = m.1.0;
         };
         run = ap requests_of r.grown;
+        powered = r.powered;
       }
   begins_start y slots (Some p) standing kept first none m = absurd (cc)
 
@@ -372,6 +378,7 @@ module _ (all others : List (List ℕ)) (asked : List Batch) (i : Instance) (fin
           shows = m.1.0;
         };
         run = answered_first i y r.after q answer f.0 here answers r.grown;
+        powered = r.powered;
       }
 
   begins : (y : History) (slots : Slots) (before : Standing) (old : Kept) (can : CanRecover all others asked i y slots before old) (standing : Standing) (kept : Kept) (first : Resumed) → Began y slots can.fits.waiting standing kept first → BeginsAt y can.fits.waiting (record { platform = standing; store = kept; last = first })
@@ -381,8 +388,8 @@ module _ (all others : List (List ℕ)) (asked : List Batch) (i : Instance) (fin
       begins_answered y slots can.fits.waiting standing kept answer m.0.comes.p m.0.comes.waits can.fits.fits m m.0.comes.position m.0.comes.answer_is
 
   -- it rests where it stands
-  rests_at : (y z : History) (at : Place) (new : Kept) (sent : List ℕ) (told : List Served) (hand : List ℕ → Type 0) (result : Result Unit SessionFault) → IsSettledAt all others asked i z at → RunsOver i.meaning (requests_of y.batches) told (requests_of z.batches) → IsAtRest at final new sent → RefusesAs result (life_of i.variant z) → ContinuesTo all others asked i y final new told hand result
-  rests_at y z at new sent told hand result s r e u = record {
+  rests_at : (y z : History) (at : Place) (new : Kept) (sent : List ℕ) (told : List Served) (hand : List ℕ → Type 0) (result : Result Unit SessionFault) → IsSettledAt all others asked i z at → RunsOver i.meaning (requests_of y.batches) told (requests_of z.batches) → (life_of i.variant y ≢ LostLife → life_of i.variant z ≢ LostLife) → IsAtRest at final new sent → RefusesAs result (life_of i.variant z) → ContinuesTo all others asked i y final new told hand result
+  rests_at y z at new sent told hand result s r p e u = record {
     after = z;
     stands = subst (λ (x : Standing). StandsFor i x z) (sym e.platform) s.stands;
     within = s.within;
@@ -394,13 +401,15 @@ module _ (all others : List (List ℕ)) (asked : List Batch) (i : Instance) (fin
     run = r;
     committed = inl refl;
     refuses = u;
+    unspoiled = unspoiled i.variant others z s.within.sound s.within.outside;
+    powered = p;
   }
 
   stops_in : (y z zz : History) (number : ℕ) (at : Place) (new : Kept) (more rest sent : List ℕ) (told : List Served) (hand : List ℕ → Type 0) (fault : SessionFault)
-      → IsClear all → AreNoGuards i.barrier others asked → IsReady all others asked i z zz at final → RunsOver i.meaning (requests_of y.batches) told (requests_of z.batches)
+      → IsClear all → AreNoGuards i.barrier others asked → IsReady all others asked i z zz at final → RunsOver i.meaning (requests_of y.batches) told (requests_of z.batches) → (life_of i.variant y ≢ LostLife → life_of i.variant z ≢ LostLife)
       → AreToFollow all asked i zz (lines_of (more ++ rest)) → ((line held : List ℕ) → BeginsWith more line held → hand line)
       → StopsInLine i.variant i.meaning number at final new more sent fault → ContinuesTo all others asked i y final new told hand (Err fault)
-  stops_in y z zz number at new more rest sent told hand fault clear apart s r f in_hand e =
+  stops_in y z zz number at new more rest sent told hand fault clear apart s r p f in_hand e =
       let lines : lines_of (more ++ rest) ≡ e.line ∷ lines_of (e.held ++ rest) =
       ap (λ (b : List ℕ). lines_of (b ++ rest)) e.begins.cut ∙ ap lines_of (append_assoc e.line (10 ∷ e.held) rest) ∙ lines_of-line e.line (e.held ++ rest) e.begins.within.unbroken in
       let g : AreToFollow all asked i zz (e.line ∷ lines_of (e.held ++ rest)) = subst (λ (ls : List (List ℕ)). AreToFollow all asked i zz ls) lines f in
@@ -418,27 +427,29 @@ module _ (all others : List (List ℕ)) (asked : List Batch) (i : Instance) (fin
         run = r;
         committed = line_committed z l.after e.line e.came sent fault hand (in_hand e.line e.held e.begins) e.says l.only l.grown;
         refuses = refuses_says e.came sent fault (life_of i.variant l.after) e.says l.refuses;
+        unspoiled = unspoiled i.variant others l.after l.within.sound l.within.outside;
+        powered = λ k. l.powered (p k);
       }
 
   stops_by : (y z zz : History) (number : ℕ) (at : Place) (new : Kept) (left : Option (List ℕ)) (more rest sent : List ℕ) (told : List Served) (hand : List ℕ → Type 0) (fault : SessionFault)
-      → IsClear all → AreNoGuards i.barrier others asked → IsReady all others asked i z zz at final → RunsOver i.meaning (requests_of y.batches) told (requests_of z.batches)
+      → IsClear all → AreNoGuards i.barrier others asked → IsReady all others asked i z zz at final → RunsOver i.meaning (requests_of y.batches) told (requests_of z.batches) → (life_of i.variant y ≢ LostLife → life_of i.variant z ≢ LostLife)
       → AreToFollow all asked i zz (lines_of (more ++ rest)) → ((line held : List ℕ) → BeginsWith more line held → hand line)
       → Stops i.variant i.meaning number at final new left more sent fault → ContinuesTo all others asked i y final new told hand (Err fault)
-  stops_by y z zz number at new left more rest sent told hand Memory clear apart s r f h e = stops_in y z zz number at new more rest sent told hand Memory clear apart s r f h e
-  stops_by y z zz number at new left more rest sent told hand Store clear apart s r f h e = stops_in y z zz number at new more rest sent told hand Store clear apart s r f h e
-  stops_by y z zz number at new left more rest sent told hand (Refused why) clear apart s r f h e = stops_in y z zz number at new more rest sent told hand (Refused why) clear apart s r f h e
-  stops_by y z zz number at new left more rest sent told hand WriteFault clear apart s r f h e = stops_in y z zz number at new more rest sent told hand WriteFault clear apart s r f h e
-  stops_by y z zz number at new left more rest sent told hand ReadFault clear apart s r f h e = rests_at y z at new sent told hand (Err ReadFault) s.settled r e.0 tt
-  stops_by y z zz number at new left more rest sent told hand (BadLine line) clear apart s r f h e = rests_at y z at new sent told hand (Err (BadLine line)) s.settled r e.0 tt
-  stops_by y z zz number at new left more rest sent told hand (LineLong line) clear apart s r f h e = rests_at y z at new sent told hand (Err (LineLong line)) s.settled r e.0 tt
-  stops_by y z zz number at new left more rest sent told hand TooMuch clear apart s r f h e = rests_at y z at new sent told hand (Err TooMuch) s.settled r e.0 tt
+  stops_by y z zz number at new left more rest sent told hand Memory clear apart s r p f h e = stops_in y z zz number at new more rest sent told hand Memory clear apart s r p f h e
+  stops_by y z zz number at new left more rest sent told hand Store clear apart s r p f h e = stops_in y z zz number at new more rest sent told hand Store clear apart s r p f h e
+  stops_by y z zz number at new left more rest sent told hand (Refused why) clear apart s r p f h e = stops_in y z zz number at new more rest sent told hand (Refused why) clear apart s r p f h e
+  stops_by y z zz number at new left more rest sent told hand WriteFault clear apart s r p f h e = stops_in y z zz number at new more rest sent told hand WriteFault clear apart s r p f h e
+  stops_by y z zz number at new left more rest sent told hand ReadFault clear apart s r p f h e = rests_at y z at new sent told hand (Err ReadFault) s.settled r p e.0 tt
+  stops_by y z zz number at new left more rest sent told hand (BadLine line) clear apart s r p f h e = rests_at y z at new sent told hand (Err (BadLine line)) s.settled r p e.0 tt
+  stops_by y z zz number at new left more rest sent told hand (LineLong line) clear apart s r p f h e = rests_at y z at new sent told hand (Err (LineLong line)) s.settled r p e.0 tt
+  stops_by y z zz number at new left more rest sent told hand TooMuch clear apart s r p f h e = rests_at y z at new sent told hand (Err TooMuch) s.settled r p e.0 tt
 
   ends_by : (y z zz : History) (number : ℕ) (at : Place) (new : Kept) (left : Option (List ℕ)) (more rest sent : List ℕ) (told : List Served) (hand : List ℕ → Type 0) (result : Result Unit SessionFault)
-      → IsClear all → AreNoGuards i.barrier others asked → IsReady all others asked i z zz at final → RunsOver i.meaning (requests_of y.batches) told (requests_of z.batches)
+      → IsClear all → AreNoGuards i.barrier others asked → IsReady all others asked i z zz at final → RunsOver i.meaning (requests_of y.batches) told (requests_of z.batches) → (life_of i.variant y ≢ LostLife → life_of i.variant z ≢ LostLife)
       → AreToFollow all asked i zz (lines_of (more ++ rest)) → ((line held : List ℕ) → BeginsWith more line held → hand line)
       → Ends i.variant i.meaning number at final new left more sent result → ContinuesTo all others asked i y final new told hand result
-  ends_by y z zz number at new left more rest sent told hand (Ok it) clear apart s r f h e = rests_at y z at new sent told hand (Ok it) s.settled r e.0 tt
-  ends_by y z zz number at new left more rest sent told hand (Err fault) clear apart s r f h e = stops_by y z zz number at new left more rest sent told hand fault clear apart s r f h e
+  ends_by y z zz number at new left more rest sent told hand (Ok it) clear apart s r p f h e = rests_at y z at new sent told hand (Ok it) s.settled r p e.0 tt
+  ends_by y z zz number at new left more rest sent told hand (Err fault) clear apart s r p f h e = stops_by y z zz number at new left more rest sent told hand fault clear apart s r p f h e
 
   -- from where it began
 
@@ -463,7 +474,7 @@ module _ (all others : List (List ℕ)) (asked : List Batch) (i : Instance) (fin
       ends_by y a.after a.then_is (length l.calls + 1) l.at new left l.more input_is.rest l.last
       (told_first can.can.fits.waiting g.first ++ l.calls) (λ (request : List ℕ). (held : List ℕ) × BeginsWith l.more request held) result can.can.clear can.can.apart a.ready
       (RunsOver-append i.meaning (requests_of y.batches) (requests_of b.after.batches) (requests_of a.after.batches) (told_first can.can.fits.waiting g.first) l.calls b.run a.run)
-      a.follow (λ (line held : List ℕ) (w : BeginsWith l.more line held). (held, w)) l.ends
+      (λ p. a.powered (b.powered p)) a.follow (λ (line held : List ℕ) (w : BeginsWith l.more line held). (held, w)) l.ends
 
   stops_first : (y : History) (slots : Slots) (waiting : Option Pending) (kept : Kept) (begun : Result Resumed HostFault) (sent : List ℕ) (fault : SessionFault) (hand : List ℕ → Type 0) → ((p : Pending) → waiting ≡ Some p → hand p.request)
       → RecoversTo all others asked i y slots waiting final kept begun → Says begun sent (Err fault)
@@ -480,6 +491,8 @@ module _ (all others : List (List ℕ)) (asked : List Batch) (i : Instance) (fin
     run = refl;
     committed = waiting_committed y r.after waiting begun sent fault hand h s r.only r.grown;
     refuses = refuses_says begun sent fault (life_of i.variant r.after) s (refused_of i y slots waiting r.after begun r.comes);
+    unspoiled = unspoiled i.variant others r.after r.within.sound r.within.outside;
+    powered = r.powered;
   }
 
   stops_at_once : (y : History) (slots : Slots) (waiting : Option Pending) (store new : Kept) (begun : Result Resumed HostFault) (taken sent : List ℕ) (result : Result Unit SessionFault) (hand : List ℕ → Type 0) → ((p : Pending) → waiting ≡ Some p → hand p.request)

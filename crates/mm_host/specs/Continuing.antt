@@ -11,7 +11,7 @@ use Rattle.mm_module.specs.Meaning.{Meaning}
 use Rattle.mm_module.specs.Batch.{Batch, One}
 use Rattle.mm_model.specs.Instance.{Instance, basic, opt}
 use Rattle.mm_model.specs.History.{History, Commit, first_history, moved, requests_of, total_of}
-use Rattle.mm_model.specs.Life.{Life, life_of}
+use Rattle.mm_model.specs.Life.{Life, Spoiled, Lost as LostLife, life_of}
 use Rattle.mm_model.specs.Messages.{Within, offer_messages}
 use Rattle.mm_model.specs.Places.{issued}
 use Rattle.mm_model.specs.Standing.{StandsFor}
@@ -127,7 +127,8 @@ pub record HasUntold (hand : List ℕ → Type 0) (result : Result Unit SessionF
 
 -- From a history: what was told is one run of the module behind the history's requests. The platform stands for a history
 -- of that run's requests, or of those and the one in hand. The slots fit it, so that the session may be gone on with. A
--- refusal is a device's fault, or tells how that history has ended.
+-- refusal is a device's fault, or tells how that history has ended; and it isn't spoiled where no value of others counts,
+-- nor lost where it wasn't before.
 pub record ContinuesTo (all others : List (List ℕ)) (asked : List Batch) (i : Instance) (y : History) (standing : Standing) (kept : Kept) (told : List Served) (hand : List ℕ → Type 0) (result : Result Unit SessionFault) : Type 0 where
   pub after : History
   pub stands : StandsFor i standing after
@@ -140,6 +141,8 @@ pub record ContinuesTo (all others : List (List ℕ)) (asked : List Batch) (i : 
   pub run : RunsOver i.meaning (requests_of y.batches) told requests
   pub committed : (requests_of after.batches ≡ requests) ⊎ HasUntold hand result requests (requests_of after.batches)
   pub refuses : RefusesAs result (life_of i.variant after)
+  pub unspoiled : others ≡ [] → life_of i.variant after ≢ Spoiled
+  pub powered : life_of i.variant y ≢ LostLife → life_of i.variant after ≢ LostLife
 
 -- Over an honest store and an input that tell what they hold: by whatever steps the session went, from every history. Over
 -- a platform of Basic under every key; over one of Opt under every key and barrier, where what others did is known by the
