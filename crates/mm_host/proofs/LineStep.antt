@@ -84,23 +84,23 @@ refused_of i y slots waiting after (Err host.Store) c = tt
 refused_of i y slots waiting after (Err (host.Refused why)) c = c
 
 -- a line that was answered
-pub record LineGoes (i : Instance) (y after : History) (slots : Slots) (kept : Kept) (line : List ℕ) (answer : Answer) : Type 0 where
-  pub honest : kept.is_honest ≡ true
+pub record LineGoes (i : Instance) (y after : History) (slots : Slots) (line : List ℕ) (answer : Answer) : Type 0 where
   pub settled : Settled i after slots (Answered answer)
   pub more : after.batches ≡ y.batches ++ One line ∷ []
   pub issued_is : answer.snapshot ≡ issued_bytes i after
   pub step : StepsOn i.meaning (requests_of y.batches) (One line) (reply_of answer) (requests_of after.batches)
 
-abbrev pub LineGoesBy : Instance → History → History → Slots → Kept → List ℕ → Result Resumed HostFault → Type 0
-LineGoesBy i y after slots kept line (Ok (Start first)) = ⊥
-LineGoesBy i y after slots kept line (Ok (Answered answer)) = LineGoes i y after slots kept line answer
-LineGoesBy i y after slots kept line (Err why) = Unit {0}
+abbrev pub LineGoesBy : Instance → History → History → Slots → List ℕ → Result Resumed HostFault → Type 0
+LineGoesBy i y after slots line (Ok (Start first)) = ⊥
+LineGoesBy i y after slots line (Ok (Answered answer)) = LineGoes i y after slots line answer
+LineGoesBy i y after slots line (Err why) = Unit {0}
 
 pub record LineComes (all others : List (List ℕ)) (asked : List Batch) (i : Instance) (y : History) (line : List ℕ) (standing : Standing) (kept : Kept) (came : Result Resumed HostFault) : Type 0 where
   pub after : History
   pub stands : StandsFor i standing after
   pub within : IsWithinAll all others asked i after
   pub slots_after : Slots
+  pub honest : kept.is_honest ≡ true
   pub told : kept.slots ≡ Some slots_after
   pub fits : IsNotBeyond slots_after (total_of after.batches + 1) → Fits i slots_after after
   pub whole : came ≢ Err host.Store → Fits i slots_after after
@@ -108,7 +108,7 @@ pub record LineComes (all others : List (List ℕ)) (asked : List Batch) (i : In
   pub only : (after.batches ≡ y.batches) ⊎ MayCommit came
   pub refuses : IsRefusedBy came (life_of i.variant after)
   pub powered : life_of i.variant y ≢ LostLife → life_of i.variant after ≢ LostLife
-  pub goes : LineGoesBy i y after slots_after kept line came
+  pub goes : LineGoesBy i y after slots_after line came
 
 -- the messages of the offer are in the list, by the place that it says
 offer_listed : (i : Instance) (y : History) (offer : List ℕ) (place : SealedPlace) (b : Batch) (all : List (List ℕ)) → ((content : Content) → IsRight i offer content → content.place ≡ place) → Within (offer_messages i place b) all → Within (right_messages i b (right_content i offer)) all
@@ -160,7 +160,7 @@ not_before n m e = grind (arith, nat_tests, e)
 pub same_pending : (p q : Pending) → Some p ≡ Some q → q ≡ p
 same_pending p q e = cc
 
-goes_by : (all others : List (List ℕ)) (asked : List Batch) (i : Instance) (y : History) (slots : Slots) (next : Pending) (standing : Standing) (kept : Kept) (came : Result Resumed HostFault) → next.position ≡ total_of y.batches + 1 → (r : RecoversTo all others asked i y slots (Some next) standing kept came) → LineGoesBy i y r.after r.slots_after kept next.request came
+goes_by : (all others : List (List ℕ)) (asked : List Batch) (i : Instance) (y : History) (slots : Slots) (next : Pending) (standing : Standing) (kept : Kept) (came : Result Resumed HostFault) → next.position ≡ total_of y.batches + 1 → (r : RecoversTo all others asked i y slots (Some next) standing kept came) → LineGoesBy i y r.after r.slots_after next.request came
 goes_by all others asked i y slots next standing kept (Err why) e r = tt
 goes_by all others asked i y slots next standing kept (Ok (Start first)) e r = let none : Some next ≡ None = r.comes.0 in absurd (cc)
 goes_by all others asked i y slots next standing kept (Ok (Answered answer)) e r =
@@ -173,7 +173,6 @@ goes_by all others asked i y slots next standing kept (Ok (Answered answer)) e r
     a.answer_is ∙ ap (λ (p : Pending). answer_on i r.after (One p.request) (nat_eq a.p.position (total_of y.batches))) same ∙ ap (λ (flag : Bool). answer_on i r.after (One next.request) flag) fresh in
     let at : answer.position ≡ total_of r.after.batches = ap (λ (b : BatchAnswer). b.position) answers in
     record {
-      honest = r.honest;
       settled = record {
         fits = r.fits;
         recorded = ap position_of r.same_wait ∙ here ∙ sym at;
@@ -192,6 +191,7 @@ by_recovery all others asked i y slots next standing kept came e r = record {
   stands = r.stands;
   within = r.within;
   slots_after = r.slots_after;
+  honest = r.honest;
   told = r.told;
   fits = λ n. r.fits;
   whole = λ n. r.fits;
@@ -223,13 +223,14 @@ LeadsLine More all others asked i y p before after came =
 
 module _ (More : History → Type 0) (all others : List (List ℕ)) (asked : List Batch) (i : Instance) (lawful : IsLawful i.meaning) (y : History) (at : Place) where
   -- the record isn't written whole
-  unwritten : (after : Standing) (new : Kept) (line : List ℕ) (slots : Slots) (why : HostFault) → IsSettledAt all others asked i y at → after ≡ at.platform → new.slots ≡ Some slots → (IsNotBeyond slots (total_of y.batches + 1) → Fits i slots y) → (why ≢ host.Store → Fits i slots y) → IsRefusedBy (Err why) (life_of i.variant y) → LineCame More all others asked i y line after new (Err why)
-  unwritten after new line slots why s same told fits whole u = (
+  unwritten : (after : Standing) (new : Kept) (line : List ℕ) (slots : Slots) (why : HostFault) → IsSettledAt all others asked i y at → after ≡ at.platform → new.is_honest ≡ true → new.slots ≡ Some slots → (IsNotBeyond slots (total_of y.batches + 1) → Fits i slots y) → (why ≢ host.Store → Fits i slots y) → IsRefusedBy (Err why) (life_of i.variant y) → LineCame More all others asked i y line after new (Err why)
+  unwritten after new line slots why s same honest told fits whole u = (
     record {
       after = y;
       stands = subst (λ (x : Standing). StandsFor i x y) (sym same) s.stands;
       within = s.within;
       slots_after = slots;
+      honest = honest;
       told = told;
       fits = fits;
       whole = λ n. whole (λ (e : why ≡ host.Store). n (ap (λ (f : HostFault). Err f) e));
@@ -250,14 +251,14 @@ module _ (More : History → Type 0) (all others : List (List ℕ)) (asked : Lis
   unfolding by_recovery
   after_record z (Err fault.Memory) after middle new line came clear apart s placed f leads w g =
       subst (λ (r : Result Resumed HostFault). LineCame More all others asked i y line after new r) (sym g.2)
-      (unwritten after new line s.slots host.Memory s g.0
+      (unwritten after new line s.slots host.Memory s g.0 (ap (λ (k : Kept). k.is_honest) g.1 ∙ w.honest ∙ s.honest)
       (ap (λ (k : Kept). k.slots) g.1 ∙ w.leaves s.honest ∙ s.told) (λ n. s.settled.fits) (λ n. s.settled.fits) tt)
   after_record z (Err fault.Failed) after middle new line came clear apart s placed f leads w g =
       let left = w.leaves s.honest in
       let position : ℕ = position_at at.last in
       let slots : Slots = with_slot s.slots (2 + (position + 1) % 2) left.0 in
       subst (λ (r : Result Resumed HostFault). LineCame More all others asked i y line after new r) (sym g.2)
-      (unwritten after new line slots host.Store s g.0
+      (unwritten after new line slots host.Store s g.0 (ap (λ (k : Kept). k.is_honest) g.1 ∙ w.honest ∙ s.honest)
       (ap (λ (k : Kept). k.slots) g.1 ∙ left.1 ∙ ap (λ (x : Option Slots). putting (2 + (position + 1) % 2) left.0 x) s.told)
       (torn_fits i y s.slots slots position left.0 s.settled.fits s.settled.recorded s.settled.at_end (newest_holds i y s.slots at.last s.settled) (put_next s.slots position left.0))
       (λ (n : host.Store ≢ host.Store). absurd (n refl)) tt)

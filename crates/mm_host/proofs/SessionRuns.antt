@@ -266,7 +266,7 @@ module _ (all others : List (List ℕ)) (asked : List Batch) (i : Instance) (fin
       let here : IsReady all others asked i l.after z_then next final = record {
         settled = record {
           slots = l.slots_after;
-          honest = l.goes.honest;
+          honest = l.honest;
           told = l.told;
           stands = l.stands;
           within = l.within;
@@ -394,6 +394,7 @@ module _ (all others : List (List ℕ)) (asked : List Batch) (i : Instance) (fin
     stands = subst (λ (x : Standing). StandsFor i x z) (sym e.platform) s.stands;
     within = s.within;
     slots_after = s.slots;
+    honest = ap (λ (k : Kept). k.is_honest) e.store ∙ s.honest;
     slots_told = ap (λ (k : Kept). k.slots) e.store ∙ s.told;
     fits = λ n. s.settled.fits;
     whole = λ n. s.settled.fits;
@@ -420,6 +421,7 @@ module _ (all others : List (List ℕ)) (asked : List Batch) (i : Instance) (fin
         stands = l.stands;
         within = l.within;
         slots_after = l.slots_after;
+        honest = l.honest;
         slots_told = l.told;
         fits = l.fits;
         whole = λ n. l.whole (λ (c : e.came ≡ Err host.Store). n (ap (λ (x : SessionFault). Err x) (store_came e.came sent fault e.says c)));
@@ -484,6 +486,7 @@ module _ (all others : List (List ℕ)) (asked : List Batch) (i : Instance) (fin
     stands = r.stands;
     within = r.within;
     slots_after = r.slots_after;
+    honest = r.honest;
     slots_told = r.told;
     fits = λ n. r.fits;
     whole = λ n. r.fits;

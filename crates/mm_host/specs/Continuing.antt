@@ -1,6 +1,6 @@
--- What a session comes to by lists alone, in either variant: its replies are those of one run of the module, and the slots
--- that it leaves fit the history that the platform stands for.
-use Rattle.std.specs.Prelude.{◌≡◌, ◌≢◌, ◌+◌, ◌-◌, ◌<◌, ◌≤◌, ◌^◌, ℕ, List, [], ◌∷◌, ◌++◌, Option, None, Some, Result, Ok, Err, IsSome, nat_eq, if◌then◌else◌, ◌⊎◌}
+-- What a session comes to by lists alone, in either variant: its replies are those of one run of the module, and the
+-- slots that it leaves fit the history that the platform stands for.
+use Rattle.std.specs.Prelude.{◌≡◌, ◌≢◌, ◌+◌, ◌-◌, ◌<◌, ◌≤◌, ◌^◌, ℕ, List, [], ◌∷◌, ◌++◌, Option, None, Some, Result, Ok, Err, IsSome, true, nat_eq, if◌then◌else◌, ◌⊎◌}
 use Rattle.std.proofs.Common.{inl, inr}
 use Rattle.std.specs.List.{Contains}
 use Rattle.mm_base.specs.Input.{lines_of}
@@ -37,8 +37,8 @@ use Rattle.mm_host.specs.Serving.{Served}
 use Rattle.mm_host.specs.Sessions.{AfterResume, BeginsWith, Sessions}
 use Rattle.mm_host.specs.Waiting.{IsWaiting}
 
--- What is asked of requests that are to follow a history, one after another: each is among those asked, the messages of a
--- call that offers the snapshot of the end are in the list, and there is a position for it.
+-- What is asked of requests that are to follow a history, one after another: each is among those asked, the messages of
+-- a call that offers the snapshot of the end are in the list, and there is a position for it.
 abbrev pub AreToFollow : List (List ℕ) → List Batch → Instance → History → List (List ℕ) → Type 0
 AreToFollow all asked i y [] = Unit {0}
 AreToFollow all asked i y (line ∷ lines) =
@@ -126,14 +126,15 @@ pub record HasUntold (hand : List ℕ → Type 0) (result : Result Unit SessionF
   pub grown : after ≡ requests ++ request ∷ []
 
 -- From a history: what was told is one run of the module behind the history's requests. The platform stands for a history
--- of that run's requests, or of those and the one in hand. The slots fit it, so that the session may be gone on with. A
--- refusal is a device's fault, or tells how that history has ended; and it isn't spoiled where no value of others counts,
+-- of that run's requests, or of those and the one in hand. The slots fit it, so that the session may be gone on with.
+-- A refusal is a device's fault, or tells how that history has ended; it isn't spoiled where no value of others counts,
 -- nor lost where it wasn't before.
 pub record ContinuesTo (all others : List (List ℕ)) (asked : List Batch) (i : Instance) (y : History) (standing : Standing) (kept : Kept) (told : List Served) (hand : List ℕ → Type 0) (result : Result Unit SessionFault) : Type 0 where
   pub after : History
   pub stands : StandsFor i standing after
   pub within : IsWithin all others asked i after
   pub slots_after : Slots
+  pub honest : kept.is_honest ≡ true
   pub slots_told : kept.slots ≡ Some slots_after
   pub fits : IsNotBeyond slots_after (total_of after.batches + 1) → Fits i slots_after after
   pub whole : result ≢ Err Store → Fits i slots_after after
@@ -144,9 +145,9 @@ pub record ContinuesTo (all others : List (List ℕ)) (asked : List Batch) (i : 
   pub unspoiled : others ≡ [] → life_of i.variant after ≢ Spoiled
   pub powered : life_of i.variant y ≢ LostLife → life_of i.variant after ≢ LostLife
 
--- Over an honest store and an input that tell what they hold: by whatever steps the session went, from every history. Over
--- a platform of Basic under every key; over one of Opt under every key and barrier, where what others did is known by the
--- items that the register shows at the session's end behind those that counted at its start.
+-- Over an honest store and an input that tell what they hold: by whatever steps the session went, from every history.
+-- Over a platform of Basic under every key; over one of Opt under every key and barrier, where what others did is known
+-- by the items that the register shows at the session's end behind those that counted at its start.
 abbrev pub Continues : Variant → Meaning → Standing → Standing → Kept → Kept → Option (List ℕ) → Option (List ℕ) → Option (List ℕ) → Option (List ℕ) → Result Unit SessionFault → Type 0
 Continues Basic meaning before after old new left left' received received' result =
     (s : Sessions Basic meaning before after old new left left' received received' result)

@@ -86,8 +86,8 @@ MayCommit (Err Store) = Unit {0}
 MayCommit (Err (Refused why)) = IsSome (fault_of why)
 
 -- Whatever it gives, the platform stands for a history that grew by the request that waits or by nothing, and the slots
--- fit that one; so it may be called again. What was asked of the history holds of it too. The newest snapshot is in the slot
--- of its position's parity, and it names that position of the history. It loses no power.
+-- fit that one; so it may be called again. What was asked of the history holds of it too. The newest snapshot is in the
+-- slot of its position's parity, and names that position of the history. No power is lost by it.
 pub record RecoversTo (all others : List (List ℕ)) (asked : List Batch) (i : Instance) (y : History) (slots : Slots) (waiting : Option Pending) (standing : Standing) (kept : Kept) (result : Result Resumed HostFault) : Type 0 where
   pub after : History
   pub stands : StandsFor i standing after
