@@ -1,14 +1,15 @@
 -- Recovery in either variant: what the call for the request that waits leads to.
-use Rattle.std.proofs.Common.{◌≡◌, ℕ, ◌-◌, List, [], ◌++◌, map, Option, None, Some, Result, Err, refl, sym, ◌∙◌, subst}
+use Rattle.std.proofs.Common.{◌≡◌, ◌≢◌, ℕ, ◌-◌, List, [], ◌∷◌, ◌++◌, map, Option, None, Some, Result, Ok, Err, refl, sym, ◌∙◌, subst, inl, inr}
+use Rattle.std.specs.Prelude.{◌⊎◌}
 use Rattle.mm_digest.specs.declared.variant.Variant.{Variant}
 use Rattle.mm_digest.specs.declared.variant.Variant.TheVariants.{Basic, Opt}
 use Rattle.mm_platform.specs.Standing.{Item, Standing}
-use Rattle.mm_module.specs.Meaning.{Meaning}
+use Rattle.mm_module.specs.Meaning.{Meaning, IsLawful}
 use Rattle.mm_module.specs.Batch.{Batch, One}
 use Rattle.mm_seal.specs.Snapshot.{Content}
 use Rattle.mm_model.specs.Instance.{Instance, basic, opt}
-use Rattle.mm_model.specs.History.{History, Move, Foreign}
-use Rattle.mm_model.specs.Life.{life_of}
+use Rattle.mm_model.specs.History.{History, Move, Commit, Foreign, moved}
+use Rattle.mm_model.specs.Life.{Lost as LostLife, life_of}
 use Rattle.mm_model.specs.Moves.{digests_of}
 use Rattle.mm_model.specs.Places.{Names}
 use Rattle.mm_model.specs.Standing.{StandsFor}
@@ -16,7 +17,7 @@ use Rattle.mm_model.specs.declared.answer.Answer.{Answer}
 use Rattle.mm_model.specs.declared.answer.BatchAnswer.{BatchAnswer}
 use Rattle.mm_model.specs.declared.refusal.Refusal.{Refusal}
 use Rattle.mm_call.specs.Asked.{IsAsked, IsWithin}
-use Rattle.mm_call.specs.Called.{called}
+use Rattle.mm_call.specs.Called.{called, told}
 use Rattle.mm_call.specs.CallsOn.{CallsOn}
 use Rattle.mm_call.specs.Levels.{by_lists, by_digests, all_made}
 use Rattle.mm_call.specs.Leaving.{whole_in}
@@ -26,10 +27,12 @@ use Rattle.mm_call.proofs.Continuing.{stands_at}
 use Rattle.mm_call.proofs.Moving.{same_batches}
 use Rattle.mm_call.proofs.OptLaw.{before as seen_before}
 use Rattle.mm_call.proofs.Tied.{opt_tied}
+use Rattle.mm_call.proofs.OptShut.{bare}
 use Rattle.mm_call.proofs.Walks.{foreign_first}
 use Rattle.mm_callers.specs.Basic.{AreAsked}
 use Rattle.mm_callers.specs.Opt.{AreShown}
 use Rattle.mm_callers.proofs.Calls.{is_asked as basic_asked, names_made, Comes, comes as basic_comes}
+use Rattle.mm_callers.proofs.OptAlike.{Alike, still, grown_by}
 use Rattle.mm_callers.proofs.OptCalls.{asked_of as asked_by_items, comes}
 use Rattle.mm_store.specs.Kept.{Kept}
 use Rattle.mm_store.specs.Pending.{Pending}
@@ -40,24 +43,48 @@ use Rattle.mm_host.specs.Asking.{IsCall}
 use Rattle.mm_host.specs.Fitting.{offer_slot, FitsBy}
 use Rattle.mm_host.specs.Recovery.{CanRecover, Recovers}
 use Rattle.mm_host.specs.Resumes.{Resumes}
-use Rattle.mm_host.proofs.OptMoves.{named_after}
+use Rattle.mm_host.proofs.Awaited.{grows}
+use Rattle.mm_host.proofs.Machining.{IsIssued, issued_in_basic, issued_in_opt}
+use Rattle.mm_host.proofs.OptMoves.{alike_after, answered_clean, named_after, stays_powered}
 use Rattle.mm_host.proofs.Refusing.{MayRefuse, IsOffered, offered_then, waiting_most, basic_keeps, opt_keeps, basic_refused, opt_refused}
 use Rattle.mm_host.proofs.Recovering.{Left, LeadsOn, asked_of, recovers_by}
 
--- what one call for the request that waits comes to by lists
-record Called (all others : List (List ℕ)) (asked : List Batch) (i : Instance) (y : History) (standing : Standing) (offer : List ℕ) (p : Pending) (gives : Result BatchAnswer Refusal) : Type 0 where
-  after : History
-  stands : StandsFor i standing after
-  within : IsWithin all others asked i after
-  names : (content : Content) → Names i y content → Names i after content
-  comes : Comes i y offer (One p.request) after gives
-  only : (why : Refusal) → gives ≡ Err why → fault_of why ≡ None → after.batches ≡ y.batches
-  refuses : (why : Refusal) → gives ≡ Err why → MayRefuse why (life_of i.variant after)
+-- Two histories are the same but for others' values.
+abbrev pub IsSame : Variant → History → History → Type 0
+IsSame Basic y z = y.batches ≡ z.batches
+IsSame Opt y z = bare y ≡ bare z
 
-basic_called : (meaning : Meaning) (key : List ℕ) (all others : List (List ℕ)) (asked : List Batch) (y : History) (old new : Standing) (offer : List ℕ) (p : Pending) (gives : Result BatchAnswer Refusal)
+-- It grew by the request that waits, or by nothing.
+abbrev pub IsGrownBy : Instance → History → Option Pending → History → Type 0
+IsGrownBy i y waiting after =
+    IsSame i.variant after y
+    ⊎ ((p : Pending) × (waiting ≡ Some p) × IsSame i.variant after (moved i y (Commit (One p.request))))
+
+basic_grown : (meaning : Meaning) (key : List ℕ) (y after : History) (p : Pending) → (after.batches ≡ y.batches) ⊎ (after.batches ≡ y.batches ++ One p.request ∷ []) → IsGrownBy (basic meaning key) y (Some p) after
+basic_grown meaning key y after p (inl e) = inl e
+basic_grown meaning key y after p (inr e) = inr (p, refl, e)
+
+pub opt_grown : (meaning : Meaning) (key barrier : List ℕ) (y after : History) (p : Pending) → Alike meaning key barrier y (One p.request) after → IsGrownBy (opt meaning key barrier) y (Some p) after
+opt_grown meaning key barrier y after p (still e) = inl e
+opt_grown meaning key barrier y after p (grown_by e) = inr (p, refl, e)
+
+-- what one call for the request that waits comes to by lists
+pub record Called (all others : List (List ℕ)) (asked : List Batch) (i : Instance) (y : History) (standing : Standing) (offer : List ℕ) (p : Pending) (gives : Result BatchAnswer Refusal) : Type 0 where
+  pub after : History
+  pub stands : StandsFor i standing after
+  pub within : IsWithin all others asked i after
+  pub names : (content : Content) → Names i y content → Names i after content
+  pub comes : Comes i y offer (One p.request) after gives
+  pub only : (why : Refusal) → gives ≡ Err why → fault_of why ≡ None → after.batches ≡ y.batches
+  pub refuses : (why : Refusal) → gives ≡ Err why → MayRefuse why (life_of i.variant after)
+  pub issues : (answer : BatchAnswer) → gives ≡ Ok answer → IsIssued i after
+  pub grown : IsGrownBy i y (Some p) after
+  pub powered : life_of i.variant y ≢ LostLife → life_of i.variant after ≢ LostLife
+
+pub basic_called : (meaning : Meaning) → IsLawful meaning → (key : List ℕ) (all others : List (List ℕ)) (asked : List Batch) (y : History) (old new : Standing) (offer : List ℕ) (p : Pending) (gives : Result BatchAnswer Refusal)
     → CallsOn Basic meaning old new offer (One p.request) gives → StandsFor (basic meaning key) old y → AreAsked all others asked (basic meaning key) y offer (One p.request)
     → IsOffered (basic meaning key) y p offer → Called all others asked (basic meaning key) y new offer p gives
-basic_called meaning key all others asked y old new offer p gives c s a f =
+basic_called meaning lawful key all others asked y old new offer p gives c s a f =
     let i : Instance = basic meaning key in
     let o = called i (by_lists i) y c.course offer (One p.request) in
     let k = c.continues key key y all others asked s (basic_asked meaning key all others asked y c.course offer (One p.request) a) in
@@ -75,13 +102,16 @@ basic_called meaning key all others asked y old new offer p gives c s a f =
           basic_refused meaning key y c.course p offer why
           (offered_then i y (all_made (by_lists i) y (map Foreign values ++ [])) p offer
           (same_batches i (map Foreign values ++ []) y (foreign_first values [])) f) (sym k.gives ∙ e);
+      issues = λ (answer : BatchAnswer) (e : gives ≡ Ok answer). issued_in_basic meaning lawful key o.state;
+      grown = basic_grown meaning key y o.state p (grows i y p offer o.state (told o.ending) (basic_comes meaning key all others asked y c.course offer (One p.request) a));
+      powered = λ h e. cc;
     }
 
-opt_called : (meaning : Meaning) (key barrier : List ℕ) (all others : List (List ℕ)) (asked : List Batch) (y : History) (old new : Standing) (offer : List ℕ) (p : Pending) (gives : Result BatchAnswer Refusal) (items more : List Item)
+pub opt_called : (meaning : Meaning) → IsLawful meaning → (key barrier : List ℕ) (all others : List (List ℕ)) (asked : List Batch) (y : History) (old new : Standing) (offer : List ℕ) (p : Pending) (gives : Result BatchAnswer Refusal) (items more : List Item)
     → CallsOn Opt meaning old new offer (One p.request) gives → StandsFor (opt meaning key barrier) old y → AreAsked all others asked (opt meaning key barrier) y offer (One p.request)
     → old.items ≡ Some items → new.items ≡ Some (standing_items y.is_open items ++ more) → AreShown all others (opt meaning key barrier) y more
     → IsOffered (opt meaning key barrier) y p offer → Called all others asked (opt meaning key barrier) y new offer p gives
-opt_called meaning key barrier all others asked y old new offer p gives items more c s a known ends shown_so f =
+opt_called meaning lawful key barrier all others asked y old new offer p gives items more c s a known ends shown_so f =
     let i : Instance = opt meaning key barrier in
     let o = called i (by_lists i) y c.course offer (One p.request) in
     let moves : List Move = (called i (by_digests i) (digests_of i y) c.course offer (One p.request)).moves in
@@ -105,60 +135,78 @@ opt_called meaning key barrier all others asked y old new offer p gives items mo
           opt_refused meaning key barrier y c.course p offer why
           (offered_then i y (all_made (by_lists i) y (seen_before c.course)) p offer
           (same_batches i (map Foreign v ++ (map Foreign w ++ [])) y (foreign_first v (map Foreign w ++ []) ∙ foreign_first w [])) f) (sym k.gives ∙ e);
+      issues = λ (answer : BatchAnswer) (e : gives ≡ Ok answer).
+          issued_in_opt meaning lawful key barrier o.state k.within.sound (answered_clean meaning key barrier y c.course offer (One p.request) answer (sym k.gives ∙ e));
+      grown = opt_grown meaning key barrier y o.state p (alike_after meaning key barrier y c.course offer (One p.request));
+      powered = λ h. stays_powered meaning key barrier y c.course offer (One p.request) h;
     }
 
 -- it leads on from slots that fit
-left_by : (all others : List (List ℕ)) (asked : List Batch) (i : Instance) (y : History) (slots : Slots) (before after : Standing) (old : Kept) (p : Pending) (gives : Result BatchAnswer Refusal) (can : CanRecover all others asked i y slots before old) → can.fits.waiting ≡ Some p
-    → FitsBy i slots y (Some p) → Called all others asked i y after (seen_in slots (offer_slot p)) p gives → Left all others asked i y slots can.fits.waiting p after gives
-left_by all others asked i y slots before after old p gives can e f o = record {
-  after = o.after;
-  stands = o.stands;
-  within = o.within;
-  names = o.names;
-  comes = o.comes;
-  only = o.only;
-  refuses = o.refuses;
-  is = e;
-  is_waiting = can.fits.is_waiting;
-  awaited = f.0;
-  holds = f.1;
-}
+module _ (all others : List (List ℕ)) (asked : List Batch) (i : Instance) (y : History) (slots : Slots) (before : Standing) (old : Kept) (can : CanRecover all others asked i y slots before old) where
+  pub fits_at : (p : Pending) → can.fits.waiting ≡ Some p → FitsBy i slots y (Some p)
+  fits_at p e = subst (λ (w : Option Pending). FitsBy i slots y w) e can.fits.fits
 
-fits_at : (all others : List (List ℕ)) (asked : List Batch) (i : Instance) (y : History) (slots : Slots) (before : Standing) (old : Kept) (p : Pending) (can : CanRecover all others asked i y slots before old) → can.fits.waiting ≡ Some p → FitsBy i slots y (Some p)
-fits_at all others asked i y slots before old p can e = subst (λ (w : Option Pending). FitsBy i slots y w) e can.fits.fits
+  pub left_by : (More : History → Type 0) (after : Standing) (p : Pending) (gives : Result BatchAnswer Refusal) → can.fits.waiting ≡ Some p
+      → (o : Called all others asked i y after (seen_in slots (offer_slot p)) p gives) → More o.after
+      → (l : Left all others asked i y slots can.fits.waiting p after gives) × More l.after
+  left_by More after p gives e o m = (
+    record {
+      after = o.after;
+      stands = o.stands;
+      within = o.within;
+      names = o.names;
+      comes = o.comes;
+      only = o.only;
+      refuses = o.refuses;
+      issues = o.issues;
+      powered = o.powered;
+      is = e;
+      is_waiting = can.fits.is_waiting;
+      awaited = (fits_at p e).0;
+      holds = (fits_at p e).1;
+    },
+    m,
+  )
 
-offered_at : (all others : List (List ℕ)) (asked : List Batch) (i : Instance) (y : History) (slots : Slots) (before : Standing) (old : Kept) (p : Pending) (can : CanRecover all others asked i y slots before old) → can.fits.waiting ≡ Some p → FitsBy i slots y (Some p)
-    → IsOffered i y p (seen_in slots (offer_slot p))
-offered_at all others asked i y slots before old p can e f = record {
-  content = f.1.content;
-  right = f.1.right;
-  at = f.1.at;
-  awaited = f.0;
-  most = waiting_most (seen_in slots 2) (seen_in slots 3) can.fits.waiting p can.fits.is_waiting e;
-}
+  pub offered_at : (p : Pending) → can.fits.waiting ≡ Some p → IsOffered i y p (seen_in slots (offer_slot p))
+  offered_at p e =
+      let f = fits_at p e in
+      record {
+        content = f.1.content;
+        right = f.1.right;
+        at = f.1.at;
+        awaited = f.0;
+        most = waiting_most (seen_in slots 2) (seen_in slots 3) can.fits.waiting p can.fits.is_waiting e;
+      }
 
-pub basic_leads : (meaning : Meaning) (key : List ℕ) (all others : List (List ℕ)) (asked : List Batch) (y : History) (slots : Slots) (before after : Standing) (old : Kept) (can : CanRecover all others asked (basic meaning key) y slots before old)
-    → LeadsOn all others asked Basic (basic meaning key) y slots can.fits.waiting before after
-basic_leads meaning key all others asked y slots before after old can = λ p call e c.
+  pub asked_at : (p : Pending) → can.fits.waiting ≡ Some p → AreAsked all others asked i y (seen_in slots (offer_slot p)) (One p.request)
+  asked_at p e = asked_of all others asked i y slots before old p can e (fits_at p e).1
+
+-- Nothing more is asked to be known.
+abbrev pub NoMore : History → Type 0
+NoMore after = Unit {0}
+
+basic_leads : (meaning : Meaning) → IsLawful meaning → (key : List ℕ) (all others : List (List ℕ)) (asked : List Batch) (y : History) (slots : Slots) (before after : Standing) (old : Kept) (result : Result Resumed HostFault) (can : CanRecover all others asked (basic meaning key) y slots before old)
+    → LeadsOn NoMore all others asked Basic (basic meaning key) y slots can.fits.waiting before after result
+basic_leads meaning lawful key all others asked y slots before after old result can = λ p call e told c.
     let i : Instance = basic meaning key in
-    let f = fits_at all others asked i y slots before old p can e in
-    left_by all others asked i y slots before after old p (whole_in call) can e f
-    (basic_called meaning key all others asked y before after (seen_in slots (offer_slot p)) p (whole_in call) c.goes can.stands
-    (asked_of all others asked i y slots before old p can e f.1) (offered_at all others asked i y slots before old p can e f))
+    left_by all others asked i y slots before old can NoMore after p (whole_in call) e
+    (basic_called meaning lawful key all others asked y before after (seen_in slots (offer_slot p)) p (whole_in call) c.goes can.stands
+    (asked_at all others asked i y slots before old can p e) (offered_at all others asked i y slots before old can p e)) tt
 
-opt_leads : (meaning : Meaning) (key barrier : List ℕ) (all others : List (List ℕ)) (asked : List Batch) (y : History) (slots : Slots) (before after : Standing) (old : Kept) (items more : List Item) (can : CanRecover all others asked (opt meaning key barrier) y slots before old)
+opt_leads : (meaning : Meaning) → IsLawful meaning → (key barrier : List ℕ) (all others : List (List ℕ)) (asked : List Batch) (y : History) (slots : Slots) (before after : Standing) (old : Kept) (items more : List Item) (result : Result Resumed HostFault) (can : CanRecover all others asked (opt meaning key barrier) y slots before old)
     → before.items ≡ Some items → after.items ≡ Some (standing_items y.is_open items ++ more) → AreShown all others (opt meaning key barrier) y more
-    → LeadsOn all others asked Opt (opt meaning key barrier) y slots can.fits.waiting before after
-opt_leads meaning key barrier all others asked y slots before after old items more can known ends shown_so = λ p call e c.
+    → LeadsOn NoMore all others asked Opt (opt meaning key barrier) y slots can.fits.waiting before after result
+opt_leads meaning lawful key barrier all others asked y slots before after old items more result can known ends shown_so = λ p call e told c.
     let i : Instance = opt meaning key barrier in
-    let f = fits_at all others asked i y slots before old p can e in
-    left_by all others asked i y slots before after old p (whole_in call) can e f
-    (opt_called meaning key barrier all others asked y before after (seen_in slots (offer_slot p)) p (whole_in call) items more c.goes can.stands
-    (asked_of all others asked i y slots before old p can e f.1) known ends shown_so (offered_at all others asked i y slots before old p can e f))
+    left_by all others asked i y slots before old can NoMore after p (whole_in call) e
+    (opt_called meaning lawful key barrier all others asked y before after (seen_in slots (offer_slot p)) p (whole_in call) items more c.goes can.stands
+    (asked_at all others asked i y slots before old can p e) known ends shown_so (offered_at all others asked i y slots before old can p e)) tt
 
-pub recovers : (variant : Variant) (meaning : Meaning) (before after : Standing) (old new : Kept) (result : Result Resumed HostFault) → Resumes variant meaning before after old new result → Recovers variant meaning before after old new result
-recovers Basic meaning before after old new result r = λ key y slots all others asked can.
-    recovers_by Basic all others asked (basic meaning key) y slots before after old new result can (basic_leads meaning key all others asked y slots before after old can) r
-recovers Opt meaning before after old new result r = λ key barrier y slots all others asked items more can known ends shown_so.
-    recovers_by Opt all others asked (opt meaning key barrier) y slots before after old new result can
-    (opt_leads meaning key barrier all others asked y slots before after old items more can known ends shown_so) r
+pub recovers : (variant : Variant) (meaning : Meaning) → IsLawful meaning → (before after : Standing) (old new : Kept) (result : Result Resumed HostFault) → Resumes variant meaning before after old new result → Recovers variant meaning before after old new result
+recovers Basic meaning lawful before after old new result r = λ key y slots all others asked can.
+    (recovers_by NoMore Basic all others asked (basic meaning key) lawful y slots before after old can new result (λ e. tt)
+    (basic_leads meaning lawful key all others asked y slots before after old result can) r).0
+recovers Opt meaning lawful before after old new result r = λ key barrier y slots all others asked items more can known ends shown_so.
+    (recovers_by NoMore Opt all others asked (opt meaning key barrier) lawful y slots before after old can new result (λ e. tt)
+    (opt_leads meaning lawful key barrier all others asked y slots before after old items more result can known ends shown_so) r).0

@@ -9,6 +9,8 @@ mod First
 mod SettingUp
 mod OptMoves
 mod BothRecovering
+mod Leading
+mod Unspoiled
 mod Recording
 mod Turning
 mod Lining

@@ -1,25 +1,29 @@
 -- An answer by lists is a step of the machine, and its snapshot names the end of the history.
 use Rattle.std.proofs.Common.{◌≡◌, ◌∙◌, ◌+◌, ◌-◌, ◌≤◌, ◌^◌, ℕ, Bool, true, false, List, [], ◌∷◌, ◌++◌, length, refl, sym, ap, subst, arith}
-use Rattle.mm_digest.specs.declared.variant.Variant.TheVariants.{Basic}
+use Rattle.mm_digest.specs.declared.variant.Variant.{Variant}
+use Rattle.mm_digest.specs.declared.variant.Variant.TheVariants.{Basic, Opt}
 use Rattle.mm_digest.specs.Messages.{start_of}
 use Rattle.mm_digest.proofs.Lengths.{length-start_of}
 use Rattle.mm_module.specs.Meaning.{Meaning, IsLawful, state_after}
 use Rattle.mm_module.specs.Batch.{Batch, One}
 use Rattle.mm_module.proofs.RunLaws.{state_after-is_spelled}
-use Rattle.mm_seal.specs.Snapshot.{IsContent}
+use Rattle.mm_seal.specs.Snapshot.{IsContent, variant_of}
 use Rattle.mm_model.specs.Chains.{link_message, summary_of}
-use Rattle.mm_model.specs.Instance.{Instance, basic}
-use Rattle.mm_model.specs.History.{History, requests_of, total_of}
-use Rattle.mm_model.specs.Places.{issued}
+use Rattle.mm_model.specs.Instance.{Instance, basic, opt}
+use Rattle.mm_model.specs.History.{History, joined, requests_of, total_of}
+use Rattle.mm_model.specs.Life.{has_value}
+use Rattle.mm_model.specs.Places.{Names, issued, issued_place}
+use Rattle.mm_model.specs.Sound.{IsSound}
 use Rattle.mm_model.specs.Standing.{issued_bytes}
 use Rattle.mm_model.proofs.Chains.{length-after}
 use Rattle.mm_model.proofs.MovedDigests.{total-push}
-use Rattle.mm_model.proofs.Named.{basic_issued}
+use Rattle.mm_model.proofs.Named.{basic_issued, opt_issued}
 use Rattle.mm_model.specs.declared.answer.Answer.{Answer}
 use Rattle.mm_model.specs.declared.answer.BatchAnswer.{BatchAnswer}
 use Rattle.mm_call.specs.Answers.{answer_on}
 use Rattle.mm_call.specs.Leaving.{whole}
 use Rattle.mm_call.proofs.Calling.{requests-push, said_last}
+use Rattle.mm_callers.proofs.OptAsking.{issued_content as opt_content}
 use Rattle.mm_schedule.specs.Machine.{StepsOn}
 use Rattle.mm_schedule.specs.declared.reply.Reply.TheVariants.{Told}
 use Rattle.mm_host.specs.Continuing.{RunsOver, reply_of}
@@ -32,24 +36,43 @@ length-summary_of : (id : ℕ) (batches : List Batch) → length (summary_of id 
 unfolding summary_of
 length-summary_of id batches = length-after link_message (start_of Basic id) batches (length-start_of Basic id)
 
-issued_content : (meaning : Meaning) → IsLawful meaning → (key : List ℕ) (y : History) → total_of y.batches ≤ 2 ^ 48 → IsContent (issued (basic meaning key) y)
-issued_content meaning lawful key y fits = record {
+pub basic_content : (meaning : Meaning) → IsLawful meaning → (key : List ℕ) (y : History) → total_of y.batches ≤ 2 ^ 48 → IsContent (issued (basic meaning key) y)
+basic_content meaning lawful key y fits = record {
   place = length-summary_of meaning.id y.batches;
   position = fits;
   state = lawful.fits (state_after meaning (requests_of y.batches)) (state_after-is_spelled meaning lawful (requests_of y.batches));
 }
 
-pub holds_issued : (meaning : Meaning) → IsLawful meaning → (key : List ℕ) (y : History) (bytes : List ℕ) (position : ℕ) → total_of y.batches ≤ 2 ^ 48 → bytes ≡ issued_bytes (basic meaning key) y → position ≡ total_of y.batches → Holds (basic meaning key) y bytes position
-holds_issued meaning lawful key y bytes position fits is at = record {
-  content = issued (basic meaning key) y;
+-- What the history issues has its sizes, and names its end.
+pub record IsIssued (i : Instance) (y : History) : Type 0 where
+  pub formed : total_of y.batches ≤ 2 ^ 48 → IsContent (issued i y)
+  pub names : Names i y (issued i y)
+
+pub issued_in_basic : (meaning : Meaning) → IsLawful meaning → (key : List ℕ) (y : History) → IsIssued (basic meaning key) y
+issued_in_basic meaning lawful key y = record { formed = λ fits. basic_content meaning lawful key y fits; names = basic_issued meaning key y }
+
+pub issued_in_opt : (meaning : Meaning) → IsLawful meaning → (key barrier : List ℕ) (y : History) → IsSound y → has_value (joined y.closed) ≡ false → IsIssued (opt meaning key barrier) y
+issued_in_opt meaning lawful key barrier y sound clean = record {
+  formed = λ fits. opt_content meaning lawful key barrier y fits;
+  names = opt_issued meaning key barrier y sound clean;
+}
+
+placed_as : (variant : Variant) (flag : Bool) (i : Instance) (y : History) → variant_of (issued_place variant flag i y) ≡ variant
+placed_as Basic flag i y = refl
+placed_as Opt true i y = refl
+placed_as Opt false i y = refl
+
+pub holds_issued : (i : Instance) → IsLawful i.meaning → (y : History) (bytes : List ℕ) (position : ℕ) → IsIssued i y → total_of y.batches ≤ 2 ^ 48 → bytes ≡ issued_bytes i y → position ≡ total_of y.batches → Holds i y bytes position
+holds_issued i lawful y bytes position issues fits is at = record {
+  content = issued i y;
   right = record {
-    formed = issued_content meaning lawful key y fits;
+    formed = issues.formed fits;
     sealed = is;
-    variant = refl;
+    variant = placed_as i.variant y.is_open i y;
     id = refl;
-    state = state_after-is_spelled meaning lawful (requests_of y.batches);
+    state = state_after-is_spelled i.meaning lawful (requests_of y.batches);
   };
-  names = basic_issued meaning key y;
+  names = issues.names;
   at = sym at;
 }
 

@@ -1,10 +1,11 @@
 -- The moves of a call of Opt may be made, so what a snapshot names is named after them too.
-use Rattle.std.proofs.Common.{ℕ, ◌≡◌, ◌+◌, ◌^◌, Bool, true, false, ◌&&◌, List, [], ◌∷◌, ◌++◌, Result, Ok, Err, refl, sym, ap, ◌∙◌, subst, append_assoc, arith}
+use Rattle.std.proofs.Common.{ℕ, ◌≡◌, ◌≢◌, ◌+◌, ◌^◌, Bool, true, false, ◌&&◌, List, [], ◌∷◌, ◌++◌, map, Result, Ok, Err, refl, sym, ap, ◌∙◌, subst, append_assoc, arith}
 use Rattle.std.specs.Prelude.{if◌then◌else◌, nat_eq, nat_le}
 use Rattle.std.specs.List.{AllByRecursion, Contains}
 use Rattle.std.specs.Str.{bytes_eq}
 use Rattle.std.proofs.lemmas.List.Elements.{Contains-append_right}
-use Rattle.mm_digest.specs.declared.variant.Variant.TheVariants.{Opt}
+use Rattle.mm_digest.specs.declared.variant.Variant.{Variant}
+use Rattle.mm_digest.specs.declared.variant.Variant.TheVariants.{Basic, Opt}
 use Rattle.mm_digest.specs.Messages.{extended_message}
 use Rattle.mm_module.specs.Meaning.{Meaning}
 use Rattle.mm_module.specs.Batch.{Batch, size_of}
@@ -13,21 +14,22 @@ use Rattle.mm_seal.specs.declared.snapshot.PartsFault.TheVariants.{Form, Kind}
 use Rattle.mm_seal.specs.Snapshot.{Content, Snapshot, tag_of}
 use Rattle.mm_seal.specs.Parts.{parts_of}
 use Rattle.mm_model.specs.Chains.{guard, guard_message, register_of, own_values}
-use Rattle.mm_model.specs.History.{History, Move, Reset, moved, total_of}
+use Rattle.mm_model.specs.History.{Entry, Own, Value, History, Move, Commit, Foreign, Placed, Reset, Close, Power, committed, joined, moved, renamed, total_of}
 use Rattle.mm_model.specs.Instance.{Instance, opt}
 use Rattle.mm_model.specs.Judge.{is_last, judged, judge}
-use Rattle.mm_model.specs.Life.{Life, Live, Spoiled, Lost as LostLife, life_of, is_lost}
-use Rattle.mm_model.specs.Moves.{MayMove, Brings}
+use Rattle.mm_model.specs.Life.{Life, Live, Spoiled, Lost as LostLife, are_own, has_value, is_empty, is_lost, life_by, life_of}
+use Rattle.mm_model.specs.Moves.{MayMove, IsAllowed, Brings}
 use Rattle.mm_model.specs.Places.{Names}
 use Rattle.mm_model.specs.Sound.{IsSound}
 use Rattle.mm_model.specs.Steps.{Step, Reads, Changes, Writes, ask_steps}
+use Rattle.mm_model.specs.declared.answer.BatchAnswer.{BatchAnswer}
 use Rattle.mm_model.specs.declared.refusal.Refusal.{Refusal}
 use Rattle.mm_model.specs.declared.refusal.Refusal.TheVariants as refusal
 use Rattle.mm_model.proofs.Moves.{sound_moved}
 use Rattle.mm_model.proofs.Named.{opt_names}
 use Rattle.mm_call.specs.Asked.{foreign_in}
-use Rattle.mm_call.specs.Called.{called}
-use Rattle.mm_call.specs.Courses.{Fate, Course, walk}
+use Rattle.mm_call.specs.Called.{called, told}
+use Rattle.mm_call.specs.Courses.{End, Done, Fails, Fate, Course, Walked, after_step, step_moves, walk, closes}
 use Rattle.mm_call.specs.Found.{Found, found_from, found_at, found_in, is_fresh}
 use Rattle.mm_call.specs.Levels.{by_lists, all_made}
 use Rattle.mm_call.specs.Order.{admitted, examined}
@@ -38,7 +40,9 @@ use Rattle.mm_call.proofs.OptLaw.{before, sight, sight_is}
 use Rattle.mm_call.proofs.OptReady.{IsDue, ready_inside, ready_opening}
 use Rattle.mm_call.proofs.OptShut.{reset_may}
 use Rattle.mm_call.proofs.OptWalks.{AllFine, AreOwn, Ready, walk_fine}
-use Rattle.mm_call.proofs.Walks.{taking, changing, asks}
+use Rattle.mm_call.proofs.Walks.{Commits, nothing, batch, opt_commits, taking, changing, asks}
+use Rattle.mm_callers.proofs.Calls.{answered_only}
+use Rattle.mm_callers.proofs.OptAlike.{Alike, still, grown_by, alike_one, alike_still, foreign_closes, opt_closes}
 
 -- moves that may be made one after another
 AllMay : Instance → History → List Move → Type 0
@@ -165,3 +169,159 @@ named_after meaning key barrier y c offer b content sound n =
     let i : Instance = opt meaning key barrier in
     let found : Result Found Refusal = found_in (found_at i (by_lists i) (all_made (by_lists i) y (before c)) b offer) c.lacks in
     names_made meaning key barrier (walk c.fates 1 (ask_steps Opt y.is_open (is_fresh found) b)).moves y content sound (ask_may meaning key barrier y c offer b) n
+
+commit_keeps : (variant : Variant) (flag : Bool) (y : History) (b : Batch) → (committed variant flag y b).closed ≡ y.closed
+commit_keeps Basic flag y b = refl
+commit_keeps Opt true y b = refl
+commit_keeps Opt false y b = refl
+
+-- What is answered was found in a history whose closed segments hold no value that stands for no batch; a call closes none.
+closed_same : (i : Instance) (moves : List Move) (y : History) → closes moves ≡ false → (all_made (by_lists i) y moves).closed ≡ y.closed
+closed_same i [] y e = refl
+closed_same i (Commit b ∷ moves) y e = closed_same i moves (moved i y (Commit b)) e ∙ commit_keeps i.variant y.is_open y b
+closed_same i (Foreign v ∷ moves) y e = closed_same i moves (moved i y (Foreign v)) e
+closed_same i (Placed b ∷ moves) y e = closed_same i moves (moved i y (Placed b)) e
+closed_same i (Reset ∷ moves) y e = closed_same i moves (moved i y Reset) e
+closed_same i (Close ∷ moves) y e = absurd (cc)
+closed_same i (Power ∷ moves) y e = closed_same i moves (moved i y Power) e
+
+pub answered_clean : (meaning : Meaning) (key barrier : List ℕ) (y : History) (c : Course) (offer : List ℕ) (b : Batch) (answer : BatchAnswer)
+    → told (called (opt meaning key barrier) (by_lists (opt meaning key barrier)) y c offer b).ending ≡ Ok answer
+    → has_value (joined (called (opt meaning key barrier) (by_lists (opt meaning key barrier)) y c offer b).state.closed) ≡ false
+answered_clean meaning key barrier y c offer b answer gives =
+    let i : Instance = opt meaning key barrier in
+    let v : List (List ℕ) = (c.fates 1).brings in
+    let w : List (List ℕ) = (c.fates 2).brings in
+    let first : List Move = map Foreign v ++ (map Foreign w ++ []) in
+    let sees : History = all_made (by_lists i) y first in
+    let found : Result Found Refusal = found_in (found_at i (by_lists i) sees b offer) c.lacks in
+    let walked : Walked = walk c.fates 1 (ask_steps Opt y.is_open (is_fresh found) b) in
+    let end : History = all_made (by_lists i) y walked.moves in
+    let it = answered_only walked.broken i sees end b found walked.moves answer gives in
+    let live = live_found meaning key barrier sees b offer it.it (unlacked (found_at i (by_lists i) sees b offer) c.lacks it.it it.found_is) in
+    let quiet : closes walked.moves ≡ false = ap (λ (s : List Step). closes (walk c.fates 1 s).moves) (asks y.is_open (is_fresh found) b) ∙ opt_closes c.fates y.is_open (is_fresh found) b in
+    ap (λ (segments : List (List Entry)). has_value (joined segments))
+    (closed_same i walked.moves y quiet ∙ sym (closed_same i first y (foreign_closes v (map Foreign w ++ []) (foreign_closes w [] refl))))
+    ∙ live.clean
+
+-- A call loses no power.
+
+abbrev loses : List Move → Bool
+loses [] = false
+loses (Commit b ∷ moves) = loses moves
+loses (Foreign v ∷ moves) = loses moves
+loses (Placed b ∷ moves) = loses moves
+loses (Reset ∷ moves) = loses moves
+loses (Close ∷ moves) = loses moves
+loses (Power ∷ moves) = true
+
+loses-append : (xs ys : List Move) → loses xs ≡ false → loses ys ≡ false → loses (xs ++ ys) ≡ false
+loses-append [] ys e f = f
+loses-append (Commit b ∷ xs) ys e f = loses-append xs ys e f
+loses-append (Foreign v ∷ xs) ys e f = loses-append xs ys e f
+loses-append (Placed b ∷ xs) ys e f = loses-append xs ys e f
+loses-append (Reset ∷ xs) ys e f = loses-append xs ys e f
+loses-append (Close ∷ xs) ys e f = loses-append xs ys e f
+loses-append (Power ∷ xs) ys e f = absurd (cc)
+
+loses-foreign : (values : List (List ℕ)) → loses (map Foreign values) ≡ false
+loses-foreign [] = refl
+loses-foreign (v ∷ values) = loses-foreign values
+
+abbrev KeepsPower : List Step → Type 0
+KeepsPower [] = Unit {0}
+KeepsPower (Reads ∷ steps) = KeepsPower steps
+KeepsPower (Changes m ∷ steps) = (loses (m ∷ []) ≡ false) × KeepsPower steps
+KeepsPower (Writes m ∷ steps) = (loses (m ∷ []) ≡ false) × KeepsPower steps
+
+loses_step : (step : Step) → (made : Bool) (values : List (List ℕ)) → KeepsPower (step ∷ []) → loses (step_moves step made values) ≡ false
+loses_step Reads made values k = loses-foreign values
+loses_step (Changes m) true values k = loses-append (map Foreign values) (m ∷ []) (loses-foreign values) k.0
+loses_step (Changes m) false values k = loses-append (map Foreign values) [] (loses-foreign values) refl
+loses_step (Writes m) true values k = loses-append (m ∷ []) (map Foreign values) k.0 (loses-foreign values)
+loses_step (Writes m) false values k = loses-foreign values
+
+loses_after : (step : Step) (values : List (List ℕ)) (ends : End) (rest : Walked) → KeepsPower (step ∷ []) → loses rest.moves ≡ false → loses (after_step step values ends rest).moves ≡ false
+loses_after step values Done rest k e = loses-append (step_moves step true values) rest.moves (loses_step step true values k) e
+loses_after step values (Fails fault made) rest k e = loses_step step made values k
+
+loses_walk : (fates : ℕ → Fate) (steps : List Step) (n : ℕ) → KeepsPower steps → loses (walk fates n steps).moves ≡ false
+loses_walk fates [] n k = refl
+loses_walk fates (Reads ∷ steps) n k = loses_after Reads (fates n).brings (fates n).ends (walk fates (n + 1) steps) tt (loses_walk fates steps (n + 1) k)
+loses_walk fates (Changes m ∷ steps) n k = loses_after (Changes m) (fates n).brings (fates n).ends (walk fates (n + 1) steps) (k.0, tt) (loses_walk fates steps (n + 1) k.1)
+loses_walk fates (Writes m ∷ steps) n k = loses_after (Writes m) (fates n).brings (fates n).ends (walk fates (n + 1) steps) (k.0, tt) (loses_walk fates steps (n + 1) k.1)
+
+asks_powered : (flag fresh : Bool) (b : Batch) → KeepsPower (ask_steps Opt flag fresh b)
+asks_powered true true b = (refl, tt)
+asks_powered true false b = tt
+asks_powered false true b = (refl, (refl, (refl, tt)))
+asks_powered false false b = tt
+
+-- while a segment is open the register isn't empty
+abbrev IsPowered : History → Type 0
+IsPowered y = y.is_open ≡ true → is_empty y.items ≡ false
+
+pushed_items : (items : List Entry) (x : Entry) → is_empty (items ++ x ∷ []) ≡ false
+pushed_items [] x = refl
+pushed_items (y ∷ items) x = refl
+
+renamed_items : (items : List Entry) (b : Batch) → is_empty (renamed items b) ≡ false
+renamed_items [] b = refl
+renamed_items (x ∷ []) b = refl
+renamed_items (x ∷ y ∷ items) b = refl
+
+committed_items : (flag : Bool) (y : History) (b : Batch) → is_empty (committed Opt flag y b).items ≡ false
+committed_items true y b = pushed_items y.items (Own b)
+committed_items false y b = renamed_items y.items b
+
+powered_made : (meaning : Meaning) (key barrier : List ℕ) (moves : List Move) (y : History) → loses moves ≡ false → AllMay (opt meaning key barrier) y moves → IsPowered y → IsPowered (all_made (by_lists (opt meaning key barrier)) y moves)
+unfolding AllMay
+powered_made meaning key barrier [] y e may h = h
+powered_made meaning key barrier (Commit b ∷ moves) y e may h =
+    powered_made meaning key barrier moves (moved (opt meaning key barrier) y (Commit b)) e may.1 (λ _. committed_items y.is_open y b)
+powered_made meaning key barrier (Foreign v ∷ moves) y e may h =
+    powered_made meaning key barrier moves (moved (opt meaning key barrier) y (Foreign v)) e may.1 (λ _. pushed_items y.items (Value v))
+powered_made meaning key barrier (Placed b ∷ moves) y e may h =
+    powered_made meaning key barrier moves (moved (opt meaning key barrier) y (Placed b)) e may.1 (λ _. pushed_items y.items (Value (guard barrier b)))
+powered_made meaning key barrier (Reset ∷ moves) y e may h =
+    powered_made meaning key barrier moves (moved (opt meaning key barrier) y Reset) e may.1
+    (λ is. absurd (subst (λ (f : Bool). IsAllowed Opt f (opt meaning key barrier) y Reset) is may.0))
+powered_made meaning key barrier (Close ∷ moves) y e may h =
+    powered_made meaning key barrier moves (moved (opt meaning key barrier) y Close) e may.1 (λ is. let clash : false ≡ true = is in absurd (cc))
+powered_made meaning key barrier (Power ∷ moves) y e may h = absurd (cc)
+
+not_lost : (flag bare own marred : Bool) → (flag ≡ true → bare ≡ false) → life_by flag bare own marred ≢ LostLife
+not_lost true true own marred h = let clash : true ≡ false = h refl in absurd (cc)
+not_lost true false true false h = λ e. cc
+not_lost true false true true h = λ e. cc
+not_lost true false false marred h = λ e. cc
+not_lost false bare own false h = λ e. cc
+not_lost false bare own true h = λ e. cc
+
+was_powered : (flag bare own marred : Bool) → life_by flag bare own marred ≢ LostLife → flag ≡ true → bare ≡ false
+was_powered true true own marred h e = absurd (h refl)
+was_powered true false own marred h e = refl
+was_powered false bare own marred h e = absurd (cc)
+
+pub stays_powered : (meaning : Meaning) (key barrier : List ℕ) (y : History) (c : Course) (offer : List ℕ) (b : Batch) → life_of Opt y ≢ LostLife
+    → life_of Opt (called (opt meaning key barrier) (by_lists (opt meaning key barrier)) y c offer b).state ≢ LostLife
+stays_powered meaning key barrier y c offer b h =
+    let i : Instance = opt meaning key barrier in
+    let found : Result Found Refusal = found_in (found_at i (by_lists i) (all_made (by_lists i) y (before c)) b offer) c.lacks in
+    let moves : List Move = (walk c.fates 1 (ask_steps Opt y.is_open (is_fresh found) b)).moves in
+    let end : History = all_made (by_lists i) y moves in
+    let powered : IsPowered end = powered_made meaning key barrier moves y (loses_walk c.fates (ask_steps Opt y.is_open (is_fresh found) b) 1 (asks_powered y.is_open (is_fresh found) b))
+    (ask_may meaning key barrier y c offer b) (was_powered y.is_open (is_empty y.items) (are_own y.items y.current) (has_value (joined y.closed)) h) in
+    not_lost end.is_open (is_empty end.items) (are_own end.items end.current) (has_value (joined end.closed)) powered
+
+-- A call leaves all but the items as they were, or commits the batch.
+alike_by : (meaning : Meaning) (key barrier : List ℕ) (y : History) (b : Batch) (fresh : Bool) (w : Walked) → Commits b fresh w → closes w.moves ≡ false → Alike meaning key barrier y b (all_made (by_lists (opt meaning key barrier)) y w.moves)
+alike_by meaning key barrier y b fresh w (nothing none unless) e = still (alike_still meaning key barrier w.moves y none e)
+alike_by meaning key barrier y b fresh w (batch one is) e = grown_by (alike_one meaning key barrier w.moves y b one e)
+
+pub alike_after : (meaning : Meaning) (key barrier : List ℕ) (y : History) (c : Course) (offer : List ℕ) (b : Batch) → Alike meaning key barrier y b (called (opt meaning key barrier) (by_lists (opt meaning key barrier)) y c offer b).state
+alike_after meaning key barrier y c offer b =
+    let i : Instance = opt meaning key barrier in
+    let fresh : Bool = is_fresh (found_in (found_at i (by_lists i) (all_made (by_lists i) y (before c)) b offer) c.lacks) in
+    subst (λ (steps : List Step). Alike meaning key barrier y b (all_made (by_lists i) y (walk c.fates 1 steps).moves)) (sym (asks y.is_open fresh b))
+    (alike_by meaning key barrier y b fresh (walk c.fates 1 (Reads ∷ Reads ∷ changing y.is_open fresh b)) (opt_commits c.fates y.is_open fresh b) (opt_closes c.fates y.is_open fresh b))

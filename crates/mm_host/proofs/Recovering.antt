@@ -1,17 +1,18 @@
 -- Every exit of a recovery leaves slots that fit the history.
-use Rattle.std.proofs.Common.{◌≡◌, ℕ, ◌-◌, ◌%◌, true, List, Option, None, Some, Result, Ok, Err, refl, sym, ap, ◌∙◌, subst, inl, inr, ◌≤◌, length, take, IfOk, arith}
+use Rattle.std.proofs.Common.{◌≡◌, ◌≢◌, ℕ, ◌-◌, ◌%◌, true, List, Option, None, Some, Result, Ok, Err, refl, sym, ap, ◌∙◌, subst, inl, inr, ◌≤◌, ◌^◌, length, take, IfOk, arith}
 use Rattle.std.specs.Prelude.{◌⊎◌}
 use Rattle.mm_digest.specs.declared.variant.Variant.{Variant}
 use Rattle.mm_platform.specs.Standing.{Standing}
+use Rattle.mm_module.specs.Meaning.{IsLawful}
 use Rattle.mm_module.specs.Batch.{Batch, One}
 use Rattle.mm_seal.specs.Snapshot.{Content}
 use Rattle.mm_model.specs.Instance.{Instance}
-use Rattle.mm_model.specs.History.{History}
+use Rattle.mm_model.specs.History.{History, total_of}
 use Rattle.mm_model.specs.Places.{Names}
 use Rattle.mm_model.specs.Standing.{StandsFor, IsRight}
 use Rattle.mm_model.specs.declared.answer.Answer.{Answer}
 use Rattle.mm_model.specs.declared.answer.BatchAnswer.{BatchAnswer}
-use Rattle.mm_model.specs.Life.{life_of}
+use Rattle.mm_model.specs.Life.{Lost as LostLife, life_of}
 use Rattle.mm_model.specs.declared.refusal.Refusal.{Refusal}
 use Rattle.mm_model.specs.declared.refusal.Refusal.TheVariants as refusal
 use Rattle.mm_call.specs.Asked.{IsWithin}
@@ -41,6 +42,7 @@ use Rattle.mm_host.specs.Asking.{IsCall}
 use Rattle.mm_host.specs.Fitting.{offer_slot, Holds, IsAwaited, FitsBy}
 use Rattle.mm_host.specs.Recovery.{IsAskedFor, CanRecover, IsGrown, AnswersAt, ComesTo, MayCommit, RecoversTo}
 use Rattle.mm_host.proofs.Slots.{IsElsewhere, elsewhere_same, elsewhere_put}
+use Rattle.mm_host.proofs.Machining.{IsIssued, holds_issued}
 use Rattle.mm_host.proofs.Refusing.{MayRefuse}
 use Rattle.mm_host.proofs.Awaited.{awaited_least, still_awaited, grows, answered_at}
 
@@ -92,8 +94,8 @@ grown_none : (y : History) (waiting : Option Pending) → IsGrown y waiting y
 grown_none y None = refl
 grown_none y (Some p) = inl refl
 
-still : (all others : List (List ℕ)) (asked : List Batch) (i : Instance) (y : History) (slots : Slots) (before after : Standing) (old new : Kept) (result : Result Resumed HostFault) (can : CanRecover all others asked i y slots before old) → after ≡ before → new.slots ≡ Some slots → new.is_honest ≡ true → IfOk result (λ resumed. seen_in slots (position_at resumed % 2) ≡ snapshot_at resumed) → ComesTo i y slots can.fits.waiting y result → RecoversTo all others asked i y slots can.fits.waiting after new result
-still all others asked i y slots before after old new result can s t h n c = record {
+still : (all others : List (List ℕ)) (asked : List Batch) (i : Instance) (y : History) (slots : Slots) (before after : Standing) (old new : Kept) (result : Result Resumed HostFault) (can : CanRecover all others asked i y slots before old) → after ≡ before → new.slots ≡ Some slots → new.is_honest ≡ true → IfOk result (λ resumed. seen_in slots (position_at resumed % 2) ≡ snapshot_at resumed) → IfOk result (λ resumed. Holds i y (snapshot_at resumed) (position_at resumed)) → ComesTo i y slots can.fits.waiting y result → RecoversTo all others asked i y slots can.fits.waiting after new result
+still all others asked i y slots before after old new result can s t h n g c = record {
   after = y;
   stands = subst (λ (x : Standing). StandsFor i x y) (sym s) can.stands;
   within = can.within;
@@ -104,15 +106,13 @@ still all others asked i y slots before after old new result can s t h n c = rec
   same_wait = refl;
   honest = h;
   newest = n;
+  holds = g;
+  powered = λ h. h;
   only = inl refl;
   comes = c;
 }
 
--- a store's fault comes to nothing more, nor does want of memory in the call
-store_comes : (i : Instance) (y : History) (slots : Slots) (waiting : Option Pending) (after : History) (why : StoreFault) → ComesTo i y slots waiting after (Err (store_fault_as why))
-store_comes i y slots waiting after fault.Memory = tt
-store_comes i y slots waiting after fault.Failed = tt
-
+-- nothing more is known where memory was wanting in the call
 refused_comes : (i : Instance) (y : History) (slots : Slots) (waiting : Option Pending) (after : History) (why : Refusal) → MayRefuse why (life_of i.variant after) → ComesTo i y slots waiting after (Err (refused_as why))
 refused_comes i y slots waiting after refusal.Memory h = tt
 refused_comes i y slots waiting after refusal.Long (inl e) = absurd (cc)
@@ -155,13 +155,15 @@ pub record Left (all others : List (List ℕ)) (asked : List Batch) (i : Instanc
   pub comes : Comes i y (seen_in slots (offer_slot p)) (One p.request) after gives
   pub only : (why : Refusal) → gives ≡ Err why → fault_of why ≡ None → after.batches ≡ y.batches
   pub refuses : (why : Refusal) → gives ≡ Err why → MayRefuse why (life_of i.variant after)
+  pub issues : (answer : BatchAnswer) → gives ≡ Ok answer → IsIssued i after
+  pub powered : life_of i.variant y ≢ LostLife → life_of i.variant after ≢ LostLife
   pub is : waiting ≡ Some p
   pub is_waiting : IsWaiting (seen_in slots 2) (seen_in slots 3) waiting
   pub awaited : IsAwaited y p
   pub holds : Holds i y (seen_in slots (offer_slot p)) (p.position - 1)
 
-settle : (all others : List (List ℕ)) (asked : List Batch) (i : Instance) (y : History) (slots other : Slots) (waiting : Option Pending) (p : Pending) (standing : Standing) (gives : Result BatchAnswer Refusal) (kept : Kept) (result : Result Resumed HostFault) (l : Left all others asked i y slots waiting p standing gives) → IsElsewhere slots other p → kept.slots ≡ Some other → kept.is_honest ≡ true → IfOk result (λ resumed. seen_in other (position_at resumed % 2) ≡ snapshot_at resumed) → (l.after.batches ≡ y.batches) ⊎ MayCommit result → ComesTo i y slots waiting l.after result → RecoversTo all others asked i y slots waiting standing kept result
-settle all others asked i y slots other waiting p standing gives kept result l e t h n o c = record {
+settle : (all others : List (List ℕ)) (asked : List Batch) (i : Instance) (y : History) (slots other : Slots) (waiting : Option Pending) (p : Pending) (standing : Standing) (gives : Result BatchAnswer Refusal) (kept : Kept) (result : Result Resumed HostFault) (l : Left all others asked i y slots waiting p standing gives) → IsElsewhere slots other p → kept.slots ≡ Some other → kept.is_honest ≡ true → IfOk result (λ resumed. seen_in other (position_at resumed % 2) ≡ snapshot_at resumed) → IfOk result (λ resumed. Holds i l.after (snapshot_at resumed) (position_at resumed)) → (l.after.batches ≡ y.batches) ⊎ MayCommit result → ComesTo i y slots waiting l.after result → RecoversTo all others asked i y slots waiting standing kept result
+settle all others asked i y slots other waiting p standing gives kept result l e t h n g o c = record {
   after = l.after;
   stands = l.stands;
   within = l.within;
@@ -185,25 +187,39 @@ settle all others asked i y slots other waiting p standing gives kept result l e
   same_wait = refl;
   honest = h;
   newest = n;
+  holds = g;
+  powered = l.powered;
   only = o;
   comes = c;
 }
 
+-- What came, with more that is known of the history where it is gone on with.
+abbrev pub Recovered : (More : History → Type 0) (all others : List (List ℕ)) (asked : List Batch) (i : Instance) (y : History) (slots : Slots) (waiting : Option Pending) (standing : Standing) (kept : Kept) (result : Result Resumed HostFault) → Type 0
+Recovered More all others asked i y slots waiting standing kept result =
+    (r : RecoversTo all others asked i y slots waiting standing kept result) × IfOk result (λ (resumed : Resumed). More r.after)
+
 -- the exits of a write
-keep_exit : (all others : List (List ℕ)) (asked : List Batch) (i : Instance) (y : History) (slots : Slots) (waiting : Option Pending) (p : Pending) (standing : Standing) (answer : Answer) (written : Result Unit StoreFault) (old new : Kept) (l : Left all others asked i y slots waiting p standing (Ok (whole answer))) → old.is_honest ≡ true → old.slots ≡ Some slots → answer.position ≡ p.position → length answer.snapshot ≤ 1048690 → WritesSlot (p.position % 2) answer.snapshot old new written → AnswersAt i y waiting l.after answer → RecoversTo all others asked i y slots waiting standing new (kept_as answer written)
-keep_exit all others asked i y slots waiting p standing answer (Ok it) old new l h t e size w a =
-    settle all others asked i y slots (with_slot slots (p.position % 2) answer.snapshot) waiting p standing (Ok (whole answer)) new (Ok (Answered answer)) l
-    (elsewhere_put slots p answer.snapshot (awaited_least y p l.awaited))
-    (w.leaves h ∙ ap (λ (s : Option Slots). putting (p.position % 2) answer.snapshot s) t) (w.honest ∙ h)
-    (subst (λ (n : ℕ). seen_in (with_slot slots (p.position % 2) answer.snapshot) (n % 2) ≡ answer.snapshot) (sym e) (seen_put slots (p.position % 2) answer.snapshot size)) (inr tt) a
-keep_exit all others asked i y slots waiting p standing answer (Err fault.Memory) old new l h t e size w a =
-    settle all others asked i y slots slots waiting p standing (Ok (whole answer)) new (Err (store_fault_as fault.Memory)) l
-    (elsewhere_same slots p) (w.leaves h ∙ t) (w.honest ∙ h) tt (inr tt) tt
-keep_exit all others asked i y slots waiting p standing answer (Err fault.Failed) old new l h t e size w a =
-    let left = w.leaves h in
-    settle all others asked i y slots (with_slot slots (p.position % 2) left.0) waiting p standing (Ok (whole answer)) new (Err (store_fault_as fault.Failed)) l
-    (elsewhere_put slots p left.0 (awaited_least y p l.awaited))
-    (left.1 ∙ ap (λ (s : Option Slots). putting (p.position % 2) left.0 s) t) (w.honest ∙ h) tt (inr tt) tt
+keep_exit : (More : History → Type 0) (all others : List (List ℕ)) (asked : List Batch) (i : Instance) (y : History) (slots : Slots) (waiting : Option Pending) (p : Pending) (standing : Standing) (answer : Answer) (written : Result Unit StoreFault) (old new : Kept) (l : Left all others asked i y slots waiting p standing (Ok (whole answer))) → More l.after → old.is_honest ≡ true → old.slots ≡ Some slots → answer.position ≡ p.position → length answer.snapshot ≤ 1048690 → Holds i l.after answer.snapshot answer.position → WritesSlot (p.position % 2) answer.snapshot old new written → AnswersAt i y waiting l.after answer → Recovered More all others asked i y slots waiting standing new (kept_as answer written)
+unfolding settle
+keep_exit More all others asked i y slots waiting p standing answer (Ok it) old new l m h t e size g w a = (
+  settle all others asked i y slots (with_slot slots (p.position % 2) answer.snapshot) waiting p standing (Ok (whole answer)) new (Ok (Answered answer)) l
+      (elsewhere_put slots p answer.snapshot (awaited_least y p l.awaited))
+      (w.leaves h ∙ ap (λ (s : Option Slots). putting (p.position % 2) answer.snapshot s) t) (w.honest ∙ h)
+      (subst (λ (n : ℕ). seen_in (with_slot slots (p.position % 2) answer.snapshot) (n % 2) ≡ answer.snapshot) (sym e) (seen_put slots (p.position % 2) answer.snapshot size)) g (inr tt) a,
+  m,
+)
+keep_exit More all others asked i y slots waiting p standing answer (Err fault.Memory) old new l m h t e size g w a = (
+  settle all others asked i y slots slots waiting p standing (Ok (whole answer)) new (Err (store_fault_as fault.Memory)) l
+      (elsewhere_same slots p) (w.leaves h ∙ t) (w.honest ∙ h) tt tt (inr tt) tt,
+  tt,
+)
+keep_exit More all others asked i y slots waiting p standing answer (Err fault.Failed) old new l m h t e size g w a =
+    let left = w.leaves h in (
+      settle all others asked i y slots (with_slot slots (p.position % 2) left.0) waiting p standing (Ok (whole answer)) new (Err (store_fault_as fault.Failed)) l
+          (elsewhere_put slots p left.0 (awaited_least y p l.awaited))
+          (left.1 ∙ ap (λ (s : Option Slots). putting (p.position % 2) left.0 s) t) (w.honest ∙ h) tt tt (inr tt) tt,
+      tt,
+    )
 
 answers : (all others : List (List ℕ)) (asked : List Batch) (i : Instance) (y : History) (slots : Slots) (waiting : Option Pending) (p : Pending) (standing : Standing) (answer : Answer) (l : Left all others asked i y slots waiting p standing (Ok (whole answer))) → (AnswersAt i y waiting l.after answer) × (answer.position ≡ p.position)
 answers all others asked i y slots waiting p standing answer l =
@@ -233,15 +249,19 @@ only_by all others asked i y slots waiting p standing why None e l = inl (l.only
 only_by all others asked i y slots waiting p standing why (Some broken) e l = inr (may_commit why broken e)
 
 -- the exits of the call
-pub ask_exit : (all others : List (List ℕ)) (asked : List Batch) (i : Instance) (y : History) (slots : Slots) (waiting : Option Pending) (p : Pending) (standing : Standing) (call : Result Answer Refusal) (old new : Kept) (result : Result Resumed HostFault) → Left all others asked i y slots waiting p standing (whole_in call) → IfOk call (λ answer. IsFit (One p.request) (whole answer)) → old.is_honest ≡ true → old.slots ≡ Some slots → AfterAsk call old new result → RecoversTo all others asked i y slots waiting standing new result
-ask_exit all others asked i y slots waiting p standing (Err why) old new result l fit h t g =
-    subst (λ (r : Result Resumed HostFault). RecoversTo all others asked i y slots waiting standing new r) (sym g.1)
-    (settle all others asked i y slots slots waiting p standing (Err why) new (Err (refused_as why)) l
-    (elsewhere_same slots p) (ap (λ (k : Kept). k.slots) g.0 ∙ t) (ap (λ (k : Kept). k.is_honest) g.0 ∙ h) tt (only_by all others asked i y slots waiting p standing why (fault_of why) refl l) (refused_comes i y slots waiting l.after why (l.refuses why refl)))
-ask_exit all others asked i y slots waiting p standing (Ok answer) old new result l fit h t g =
+pub ask_exit : (More : History → Type 0) (all others : List (List ℕ)) (asked : List Batch) (i : Instance) → IsLawful i.meaning → (y : History) (slots : Slots) (waiting : Option Pending) (p : Pending) (standing : Standing) (call : Result Answer Refusal) (old new : Kept) (result : Result Resumed HostFault) (l : Left all others asked i y slots waiting p standing (whole_in call)) → More l.after → IfOk call (λ answer. IsFit (One p.request) (whole answer)) → old.is_honest ≡ true → old.slots ≡ Some slots → AfterAsk call old new result → Recovered More all others asked i y slots waiting standing new result
+ask_exit More all others asked i lawful y slots waiting p standing (Err why) old new result l m fit h t g =
+    subst (λ (r : Result Resumed HostFault). Recovered More all others asked i y slots waiting standing new r) (sym g.1) (
+      settle all others asked i y slots slots waiting p standing (Err why) new (Err (refused_as why)) l
+          (elsewhere_same slots p) (ap (λ (k : Kept). k.slots) g.0 ∙ t) (ap (λ (k : Kept). k.is_honest) g.0 ∙ h) tt tt (only_by all others asked i y slots waiting p standing why (fault_of why) refl l) (refused_comes i y slots waiting l.after why (l.refuses why refl)),
+      tt,
+    )
+ask_exit More all others asked i lawful y slots waiting p standing (Ok answer) old new result l m fit h t g =
     let a = answers all others asked i y slots waiting p standing answer l in
-    subst (λ (r : Result Resumed HostFault). RecoversTo all others asked i y slots waiting standing new r) (sym g.gives)
-    (keep_exit all others asked i y slots waiting p standing answer g.written old new l h t a.1 fit.snapshot
+    let at : answer.position ≡ total_of l.after.batches = ap (λ (b : BatchAnswer). b.position) a.0.answer_is in
+    subst (λ (r : Result Resumed HostFault). Recovered More all others asked i y slots waiting standing new r) (sym g.gives)
+    (keep_exit More all others asked i y slots waiting p standing answer g.written old new l m h t a.1 fit.snapshot
+    (holds_issued i lawful l.after answer.snapshot answer.position (l.issues (whole answer) refl) (subst (λ (n : ℕ). n ≤ 2 ^ 48) at fit.most) (ap (λ (b : BatchAnswer). b.snapshot) a.0.answer_is) at)
     (subst (λ (n : ℕ). WritesSlot (n % 2) answer.snapshot old new g.written) a.1 g.writes) a.0)
 
 -- what an honest store's slots ask of the call for what waits
@@ -258,42 +278,57 @@ asked_of all others asked i y slots before old p can e holds =
       offered = a.1;
     }
 
--- A call for the request that waits leads on, whatever it gives.
-abbrev pub LeadsOn : (all others : List (List ℕ)) (asked : List Batch) (variant : Variant) (i : Instance) (y : History) (slots : Slots) (waiting : Option Pending) (before after : Standing) → Type 0
-LeadsOn all others asked variant i y slots waiting before after =
-    (p : Pending) (call : Result Answer Refusal) → waiting ≡ Some p → IsCall variant i.meaning before after (seen_in slots (offer_slot p)) p.request call
-    → Left all others asked i y slots waiting p after (whole_in call)
+-- A call for the request that waits leads on, whatever it gives, to what this result allows.
+abbrev pub LeadsOn : (More : History → Type 0) (all others : List (List ℕ)) (asked : List Batch) (variant : Variant) (i : Instance) (y : History) (slots : Slots) (waiting : Option Pending) (before after : Standing) (result : Result Resumed HostFault) → Type 0
+LeadsOn More all others asked variant i y slots waiting before after result =
+    (p : Pending) (call : Result Answer Refusal) → waiting ≡ Some p → ((why : Refusal) → call ≡ Err why → result ≡ Err (refused_as why))
+    → IsCall variant i.meaning before after (seen_in slots (offer_slot p)) p.request call
+    → (l : Left all others asked i y slots waiting p after (whole_in call)) × More l.after
 
--- the exits of the offer
-offer_exit : (variant : Variant) (all others : List (List ℕ)) (asked : List Batch) (i : Instance) (y : History) (slots : Slots) (offer : Result (List ℕ) StoreFault) (before after : Standing) (first old middle new : Kept) (p : Pending) (result : Result Resumed HostFault) (can : CanRecover all others asked i y slots before first) → LeadsOn all others asked variant i y slots can.fits.waiting before after → can.fits.waiting ≡ Some p → old.is_honest ≡ true → old.slots ≡ Some slots → ReadsSlot (offer_slot p) old middle offer → AfterOffer variant i.meaning before after offer middle new p result → RecoversTo all others asked i y slots can.fits.waiting after new result
-offer_exit variant all others asked i y slots (Err why) before after first old middle new p result can leads e h t r g =
-    subst (λ (x : Result Resumed HostFault). RecoversTo all others asked i y slots can.fits.waiting after new x) (sym g.2)
-    (still all others asked i y slots before after first new (Err (store_fault_as why)) can g.0 (ap (λ (k : Kept). k.slots) g.1 ∙ r.slots ∙ t) (ap (λ (k : Kept). k.is_honest) g.1 ∙ r.honest ∙ h) tt (store_comes i y slots can.fits.waiting y why))
-offer_exit variant all others asked i y slots (Ok offer) before after first old middle new p result can leads e h t r g =
-    ask_exit all others asked i y slots can.fits.waiting p after g.asked middle new result
-    (leads p g.asked e (subst (λ (x : List ℕ). IsCall variant i.meaning before after x p.request g.asked) (r.gives slots t) g.asks)) g.asks.fits
-    (r.honest ∙ h) (r.slots ∙ t) g.goes
+pub refusal_told : (call : Result Answer Refusal) (old new : Kept) (result : Result Resumed HostFault) → AfterAsk call old new result → (why : Refusal) → call ≡ Err why → result ≡ Err (refused_as why)
+refusal_told (Err w) old new result g why e = let same : w ≡ why = cc in g.1 ∙ ap (λ (x : Refusal). Err (refused_as x)) same
+refusal_told (Ok answer) old new result g why e = absurd (cc)
 
-start_exit : (all others : List (List ℕ)) (asked : List Batch) (i : Instance) (y : History) (slots : Slots) (zero : Result (List ℕ) StoreFault) (before after : Standing) (first old new : Kept) (can : CanRecover all others asked i y slots before first) → can.fits.waiting ≡ None → after ≡ before → old.slots ≡ Some slots → old.is_honest ≡ true → ReadsSlot 0 old new zero → RecoversTo all others asked i y slots can.fits.waiting after new (started zero)
-start_exit all others asked i y slots (Ok bytes) before after first old new can e s t h r =
-    still all others asked i y slots before after first new (Ok (Start bytes)) can s (r.slots ∙ t) (r.honest ∙ h) (sym (r.gives slots t)) (e, r.gives slots t)
-start_exit all others asked i y slots (Err why) before after first old new can e s t h r =
-    still all others asked i y slots before after first new (Err (store_fault_as why)) can s (r.slots ∙ t) (r.honest ∙ h) tt (store_comes i y slots can.fits.waiting y why)
+module _ (More : History → Type 0) (variant : Variant) (all others : List (List ℕ)) (asked : List Batch) (i : Instance) (lawful : IsLawful i.meaning) (y : History) (slots : Slots) (before after : Standing) (first : Kept) (can : CanRecover all others asked i y slots before first) where
+  -- an exit where nothing was asked, and the store failed
+  still_exit : (why : StoreFault) (new : Kept) → after ≡ before → new.slots ≡ Some slots → new.is_honest ≡ true → Recovered More all others asked i y slots can.fits.waiting after new (Err (store_fault_as why))
+  still_exit fault.Memory new s t h = (still all others asked i y slots before after first new (Err (store_fault_as fault.Memory)) can s t h tt tt tt, tt)
+  still_exit fault.Failed new s t h = (still all others asked i y slots before after first new (Err (store_fault_as fault.Failed)) can s t h tt tt tt, tt)
 
-found_exit : (variant : Variant) (all others : List (List ℕ)) (asked : List Batch) (i : Instance) (y : History) (slots : Slots) (waiting : Result (Option Pending) StoreFault) (before after : Standing) (old middle new : Kept) (result : Result Resumed HostFault) (can : CanRecover all others asked i y slots before old) → LeadsOn all others asked variant i y slots can.fits.waiting before after → Saw slots old middle waiting → AfterFinding variant i.meaning before after waiting middle new result → RecoversTo all others asked i y slots can.fits.waiting after new result
-found_exit variant all others asked i y slots (Err why) before after old middle new result can leads s g =
-    subst (λ (x : Result Resumed HostFault). RecoversTo all others asked i y slots can.fits.waiting after new x) (sym g.2)
-    (still all others asked i y slots before after old new (Err (store_fault_as why)) can g.0 (ap (λ (k : Kept). k.slots) g.1 ∙ s.told) (ap (λ (k : Kept). k.is_honest) g.1 ∙ s.honest ∙ can.honest) tt (store_comes i y slots can.fits.waiting y why))
-found_exit variant all others asked i y slots (Ok None) before after old middle new result can leads s g =
-    let e : can.fits.waiting ≡ None = one_waiting (seen_in slots 2) (seen_in slots 3) can.fits.waiting None can.fits.is_waiting (s.waiting None refl) in
-    subst (λ (x : Result Resumed HostFault). RecoversTo all others asked i y slots can.fits.waiting after new x) (sym g.1.gives)
-    (start_exit all others asked i y slots g.1.zero before after old middle new can e g.0 s.told (s.honest ∙ can.honest) g.1.reads)
-found_exit variant all others asked i y slots (Ok (Some p)) before after old middle new result can leads s g =
-    let e : can.fits.waiting ≡ Some p = one_waiting (seen_in slots 2) (seen_in slots 3) can.fits.waiting (Some p) can.fits.is_waiting (s.waiting (Some p) refl) in
-    offer_exit variant all others asked i y slots g.offer before after old middle g.middle new p result can leads e (s.honest ∙ can.honest) s.told g.reads g.goes
+  -- the exits of the offer
+  offer_exit : (offer : Result (List ℕ) StoreFault) (old middle new : Kept) (p : Pending) (result : Result Resumed HostFault) → LeadsOn More all others asked variant i y slots can.fits.waiting before after result → can.fits.waiting ≡ Some p → old.is_honest ≡ true → old.slots ≡ Some slots → ReadsSlot (offer_slot p) old middle offer → AfterOffer variant i.meaning before after offer middle new p result → Recovered More all others asked i y slots can.fits.waiting after new result
+  offer_exit (Err why) old middle new p result leads e h t r g =
+      subst (λ (x : Result Resumed HostFault). Recovered More all others asked i y slots can.fits.waiting after new x) (sym g.2)
+      (still_exit why new g.0 (ap (λ (k : Kept). k.slots) g.1 ∙ r.slots ∙ t) (ap (λ (k : Kept). k.is_honest) g.1 ∙ r.honest ∙ h))
+  offer_exit (Ok offer) old middle new p result leads e h t r g =
+      let l = leads p g.asked e (refusal_told g.asked middle new result g.goes) (subst (λ (x : List ℕ). IsCall variant i.meaning before after x p.request g.asked) (r.gives slots t) g.asks) in
+      ask_exit More all others asked i lawful y slots can.fits.waiting p after g.asked middle new result l.0 l.1 g.asks.fits
+      (r.honest ∙ h) (r.slots ∙ t) g.goes
 
--- the whole call, in either variant
-pub recovers_by : (variant : Variant) (all others : List (List ℕ)) (asked : List Batch) (i : Instance) (y : History) (slots : Slots) (before after : Standing) (old new : Kept) (result : Result Resumed HostFault) (can : CanRecover all others asked i y slots before old) → LeadsOn all others asked variant i y slots can.fits.waiting before after → Resumes variant i.meaning before after old new result → RecoversTo all others asked i y slots can.fits.waiting after new result
-recovers_by variant all others asked i y slots before after old new result can leads r =
-    found_exit variant all others asked i y slots r.waiting before after old r.middle new result can leads
-    (saw_two slots r.finds.two old r.finds.middle r.middle r.waiting can.told r.finds.reads r.finds.goes) r.goes
+  start_exit : (zero : Result (List ℕ) StoreFault) (old new : Kept) → (after ≡ before → More y) → can.fits.waiting ≡ None → after ≡ before → old.slots ≡ Some slots → old.is_honest ≡ true → ReadsSlot 0 old new zero → Recovered More all others asked i y slots can.fits.waiting after new (started zero)
+  unfolding still
+  start_exit (Ok bytes) old new m e s t h r =
+      let f : FitsBy i slots y None = subst (λ (w : Option Pending). FitsBy i slots y w) e can.fits.fits in (
+        still all others asked i y slots before after first new (Ok (Start bytes)) can s (r.slots ∙ t) (r.honest ∙ h) (sym (r.gives slots t))
+            (subst (λ (x : List ℕ). Holds i y x 0) (sym (r.gives slots t)) f.1) (e, r.gives slots t),
+        m s,
+      )
+  start_exit (Err why) old new m e s t h r = still_exit why new s (r.slots ∙ t) (r.honest ∙ h)
+
+  found_exit : (waiting : Result (Option Pending) StoreFault) (middle new : Kept) (result : Result Resumed HostFault) → (after ≡ before → More y) → LeadsOn More all others asked variant i y slots can.fits.waiting before after result → Saw slots first middle waiting → AfterFinding variant i.meaning before after waiting middle new result → Recovered More all others asked i y slots can.fits.waiting after new result
+  found_exit (Err why) middle new result m leads s g =
+      subst (λ (x : Result Resumed HostFault). Recovered More all others asked i y slots can.fits.waiting after new x) (sym g.2)
+      (still_exit why new g.0 (ap (λ (k : Kept). k.slots) g.1 ∙ s.told) (ap (λ (k : Kept). k.is_honest) g.1 ∙ s.honest ∙ can.honest))
+  found_exit (Ok None) middle new result m leads s g =
+      let e : can.fits.waiting ≡ None = one_waiting (seen_in slots 2) (seen_in slots 3) can.fits.waiting None can.fits.is_waiting (s.waiting None refl) in
+      subst (λ (x : Result Resumed HostFault). Recovered More all others asked i y slots can.fits.waiting after new x) (sym g.1.gives)
+      (start_exit g.1.zero middle new m e g.0 s.told (s.honest ∙ can.honest) g.1.reads)
+  found_exit (Ok (Some p)) middle new result m leads s g =
+      let e : can.fits.waiting ≡ Some p = one_waiting (seen_in slots 2) (seen_in slots 3) can.fits.waiting (Some p) can.fits.is_waiting (s.waiting (Some p) refl) in
+      offer_exit g.offer middle g.middle new p result leads e (s.honest ∙ can.honest) s.told g.reads g.goes
+
+  -- the whole call, in either variant
+  pub recovers_by : (new : Kept) (result : Result Resumed HostFault) → (after ≡ before → More y) → LeadsOn More all others asked variant i y slots can.fits.waiting before after result → Resumes variant i.meaning before after first new result → Recovered More all others asked i y slots can.fits.waiting after new result
+  recovers_by new result m leads r =
+      found_exit r.waiting r.middle new result m leads
+      (saw_two slots r.finds.two first r.finds.middle r.middle r.waiting can.told r.finds.reads r.finds.goes) r.goes

@@ -1,21 +1,25 @@
--- What a session comes to by lists alone: its replies are those of one run of the module, and the slots that it leaves fit
--- the history that the platform stands for.
-use Rattle.std.specs.Prelude.{◌≡◌, ◌≢◌, ◌+◌, ◌-◌, ◌<◌, ◌≤◌, ◌^◌, ℕ, List, [], ◌∷◌, ◌++◌, Option, None, Some, Result, Ok, Err, IsSome, nat_eq, if◌then◌else◌, ◌⊎◌}
+-- What a session comes to by lists alone, in either variant: its replies are those of one run of the module, and the
+-- slots that it leaves fit the history that the platform stands for.
+use Rattle.std.specs.Prelude.{◌≡◌, ◌≢◌, ◌+◌, ◌-◌, ◌<◌, ◌≤◌, ◌^◌, ℕ, List, [], ◌∷◌, ◌++◌, Option, None, Some, Result, Ok, Err, IsSome, true, nat_eq, if◌then◌else◌, ◌⊎◌}
 use Rattle.std.proofs.Common.{inl, inr}
 use Rattle.std.specs.List.{Contains}
 use Rattle.mm_base.specs.Input.{lines_of}
 use Rattle.mm_digest.specs.declared.variant.Variant.{Variant}
 use Rattle.mm_digest.specs.declared.variant.Variant.TheVariants.{Basic, Opt}
-use Rattle.mm_platform.specs.Standing.{Standing}
+use Rattle.mm_platform.specs.Standing.{Item, Standing}
 use Rattle.mm_module.specs.Meaning.{Meaning}
 use Rattle.mm_module.specs.Batch.{Batch, One}
-use Rattle.mm_model.specs.Chains.{link_message, summary_of}
-use Rattle.mm_model.specs.Instance.{Instance, basic}
-use Rattle.mm_model.specs.History.{History, requests_of, total_of}
+use Rattle.mm_model.specs.Instance.{Instance, basic, opt}
+use Rattle.mm_model.specs.History.{History, Commit, first_history, moved, requests_of, total_of}
+use Rattle.mm_model.specs.Life.{Life, Spoiled, Lost as LostLife, life_of}
+use Rattle.mm_model.specs.Messages.{Within, offer_messages}
+use Rattle.mm_model.specs.Places.{issued}
 use Rattle.mm_model.specs.Standing.{StandsFor}
 use Rattle.mm_model.specs.declared.answer.Answer.{Answer}
 use Rattle.mm_call.specs.Asked.{IsWithin}
 use Rattle.mm_call.specs.Refusals.{fault_of}
+use Rattle.mm_call.specs.Tied.{standing_items}
+use Rattle.mm_callers.specs.Opt.{AreShown}
 use Rattle.mm_schedule.specs.declared.reply.Reply.{Reply}
 use Rattle.mm_schedule.specs.declared.reply.Reply.TheVariants.{Told}
 use Rattle.mm_schedule.specs.Machine.{StepsOn}
@@ -28,28 +32,28 @@ use Rattle.mm_host.specs.declared.fault.SessionFault.TheVariants.{Memory, Store,
 use Rattle.mm_host.specs.declared.resuming.Resumed.{Resumed}
 use Rattle.mm_host.specs.declared.resuming.Resumed.TheVariants.{Start, Answered}
 use Rattle.mm_host.specs.Fitting.{Fits}
-use Rattle.mm_host.specs.Recovery.{CanRecover}
+use Rattle.mm_host.specs.Recovery.{CanRecover, IsRefusedAs}
 use Rattle.mm_host.specs.Serving.{Served}
 use Rattle.mm_host.specs.Sessions.{AfterResume, BeginsWith, Sessions}
 use Rattle.mm_host.specs.Waiting.{IsWaiting}
 
--- What is asked of requests that are to follow these batches, one after another: each is among those asked, the message
--- by which it follows is in the list, and there is a position for it.
-abbrev pub AreToFollow : List (List ℕ) → List Batch → ℕ → List Batch → List (List ℕ) → Type 0
-AreToFollow all asked id batches [] = Unit {0}
-AreToFollow all asked id batches (line ∷ lines) =
-    Contains asked (One line) × Contains all (link_message (summary_of id batches) (One line)) × (total_of batches < 2 ^ 48)
-    × AreToFollow all asked id (batches ++ One line ∷ []) lines
+-- What is asked of requests that are to follow a history, one after another: each is among those asked, the messages of
+-- a call that offers the snapshot of the end are in the list, and there is a position for it.
+abbrev pub AreToFollow : List (List ℕ) → List Batch → Instance → History → List (List ℕ) → Type 0
+AreToFollow all asked i y [] = Unit {0}
+AreToFollow all asked i y (line ∷ lines) =
+    Contains asked (One line) × Within (offer_messages i (issued i y).place (One line)) all × (total_of y.batches < 2 ^ 48)
+    × AreToFollow all asked i (moved i y (Commit (One line))) lines
 
--- the batches once what waits is answered
-abbrev pub batches_then : History → Option Pending → List Batch
-batches_then y None = y.batches
-batches_then y (Some p) = if nat_eq p.position (total_of y.batches) then y.batches else y.batches ++ One p.request ∷ []
+-- the history once what waits is answered, but for others' values; where nothing waits, nothing is committed
+abbrev pub history_then : Instance → History → Option Pending → History
+history_then i y None = first_history
+history_then i y (Some p) = if nat_eq p.position (total_of y.batches) then y else moved i y (Commit (One p.request))
 
 -- What is asked of a session on these lines: what is asked of a recovery, and that the lines are to follow it.
 pub record CanServe (all others : List (List ℕ)) (asked : List Batch) (i : Instance) (y : History) (slots : Slots) (standing : Standing) (kept : Kept) (lines : List (List ℕ)) : Type 0 where
   pub can : CanRecover all others asked i y slots standing kept
-  pub follow : AreToFollow all asked i.meaning.id (batches_then y can.fits.waiting) lines
+  pub follow : AreToFollow all asked i (history_then i y can.fits.waiting) lines
 
 -- the position of what waits, and 0 where nothing does
 abbrev pub position_of : Option Pending → ℕ
@@ -102,17 +106,17 @@ MayBeUntold (Err (LineLong line)) = ⊥
 MayBeUntold (Err (BadLine line)) = ⊥
 MayBeUntold (Err TooMuch) = ⊥
 
--- It is refused only for a device's fault.
-abbrev pub IsUnrefusedAt : {T : Type 0} → Result T SessionFault → Type 0
-IsUnrefusedAt (Ok it) = Unit {0}
-IsUnrefusedAt (Err Memory) = Unit {0}
-IsUnrefusedAt (Err Store) = Unit {0}
-IsUnrefusedAt (Err (Refused why)) = IsSome (fault_of why)
-IsUnrefusedAt (Err WriteFault) = Unit {0}
-IsUnrefusedAt (Err ReadFault) = Unit {0}
-IsUnrefusedAt (Err (LineLong line)) = Unit {0}
-IsUnrefusedAt (Err (BadLine line)) = Unit {0}
-IsUnrefusedAt (Err TooMuch) = Unit {0}
+-- A refusal is a device's fault; or in Opt it tells how the history has ended.
+abbrev pub RefusesAs : {T : Type 0} → Result T SessionFault → Life → Type 0
+RefusesAs (Ok it) _ = Unit {0}
+RefusesAs (Err Memory) _ = Unit {0}
+RefusesAs (Err Store) _ = Unit {0}
+RefusesAs (Err (Refused why)) how = IsRefusedAs why how
+RefusesAs (Err WriteFault) _ = Unit {0}
+RefusesAs (Err ReadFault) _ = Unit {0}
+RefusesAs (Err (LineLong line)) _ = Unit {0}
+RefusesAs (Err (BadLine line)) _ = Unit {0}
+RefusesAs (Err TooMuch) _ = Unit {0}
 
 -- one request more than those told is committed, the one in hand
 pub record HasUntold (hand : List ℕ → Type 0) (result : Result Unit SessionFault) (requests after : List (List ℕ)) : Type 0 where
@@ -122,28 +126,40 @@ pub record HasUntold (hand : List ℕ → Type 0) (result : Result Unit SessionF
   pub grown : after ≡ requests ++ request ∷ []
 
 -- From a history: what was told is one run of the module behind the history's requests. The platform stands for a history
--- of that run's requests, or of those and the one in hand. The slots fit it, so that the session may be gone on with. No
--- refusal comes but for a device's fault.
+-- of that run's requests, or of those and the one in hand. The slots fit it, so that the session may be gone on with.
+-- A refusal is a device's fault, or tells how that history has ended; it isn't spoiled where no value of others counts,
+-- nor lost where it wasn't before.
 pub record ContinuesTo (all others : List (List ℕ)) (asked : List Batch) (i : Instance) (y : History) (standing : Standing) (kept : Kept) (told : List Served) (hand : List ℕ → Type 0) (result : Result Unit SessionFault) : Type 0 where
   pub after : History
   pub stands : StandsFor i standing after
   pub within : IsWithin all others asked i after
   pub slots_after : Slots
+  pub honest : kept.is_honest ≡ true
   pub slots_told : kept.slots ≡ Some slots_after
   pub fits : IsNotBeyond slots_after (total_of after.batches + 1) → Fits i slots_after after
   pub whole : result ≢ Err Store → Fits i slots_after after
   pub requests : List (List ℕ)
   pub run : RunsOver i.meaning (requests_of y.batches) told requests
   pub committed : (requests_of after.batches ≡ requests) ⊎ HasUntold hand result requests (requests_of after.batches)
-  pub unrefused : IsUnrefusedAt result
+  pub refuses : RefusesAs result (life_of i.variant after)
+  pub unspoiled : others ≡ [] → life_of i.variant after ≢ Spoiled
+  pub powered : life_of i.variant y ≢ LostLife → life_of i.variant after ≢ LostLife
 
--- Over a platform of Basic, an honest store and an input that tell what they hold: by whatever steps the session went, from
--- every history under every key.
+-- Over an honest store and an input that tell what they hold: by whatever steps the session went, from every history.
+-- Over a platform of Basic under every key; over one of Opt under every key and barrier, where what others did is known
+-- by the items that the register shows at the session's end behind those that counted at its start.
 abbrev pub Continues : Variant → Meaning → Standing → Standing → Kept → Kept → Option (List ℕ) → Option (List ℕ) → Option (List ℕ) → Option (List ℕ) → Result Unit SessionFault → Type 0
-Continues Opt meaning before after old new left left' received received' result = Unit {0}
 Continues Basic meaning before after old new left left' received received' result =
     (s : Sessions Basic meaning before after old new left left' received received' result)
     (key : List ℕ) (y : History) (slots : Slots) (all others : List (List ℕ)) (asked : List Batch) (input : List ℕ) →
     left ≡ Some input → (can : CanServe all others asked (basic meaning key) y slots before old (lines_of input)) →
     ContinuesTo all others asked (basic meaning key) y after new (told_in can.can.fits.waiting s.goes)
+    (IsInHand can.can.fits.waiting s.goes) result
+Continues Opt meaning before after old new left left' received received' result =
+    (s : Sessions Opt meaning before after old new left left' received received' result)
+    (key barrier : List ℕ) (y : History) (slots : Slots) (all others : List (List ℕ)) (asked : List Batch) (input : List ℕ) (items more : List Item) →
+    left ≡ Some input → (can : CanServe all others asked (opt meaning key barrier) y slots before old (lines_of input)) →
+    before.items ≡ Some items → after.items ≡ Some (standing_items y.is_open items ++ more) →
+    AreShown all others (opt meaning key barrier) y more →
+    ContinuesTo all others asked (opt meaning key barrier) y after new (told_in can.can.fits.waiting s.goes)
     (IsInHand can.can.fits.waiting s.goes) result

@@ -1,5 +1,5 @@
 -- What a host program that goes on after a stop comes to, by lists alone.
-use Rattle.std.specs.Prelude.{◌≡◌, ℕ, true, List, [], ◌∷◌, ◌++◌, Option, None, Some, Result, Ok, Err, nat_eq, ◌⊎◌, ◌%◌, IfOk, IsSome}
+use Rattle.std.specs.Prelude.{◌≡◌, ◌≢◌, ℕ, true, List, [], ◌∷◌, ◌++◌, Option, None, Some, Result, Ok, Err, nat_eq, ◌⊎◌, ◌%◌, IfOk, IsSome}
 use Rattle.std.specs.List.{Contains}
 use Rattle.mm_digest.specs.declared.variant.Variant.{Variant}
 use Rattle.mm_digest.specs.declared.variant.Variant.TheVariants.{Basic, Opt}
@@ -28,7 +28,7 @@ use Rattle.mm_host.specs.declared.fault.HostFault.{HostFault}
 use Rattle.mm_host.specs.declared.fault.HostFault.TheVariants.{Memory, Store, Refused}
 use Rattle.mm_host.specs.declared.resuming.Resumed.{Resumed}
 use Rattle.mm_host.specs.declared.resuming.Resumed.TheVariants.{Start, Answered}
-use Rattle.mm_host.specs.Fitting.{offer_slot, Fits}
+use Rattle.mm_host.specs.Fitting.{offer_slot, Fits, Holds}
 use Rattle.mm_host.specs.Saying.{position_at, snapshot_at}
 
 -- What is asked for the request that waits: it is among those asked, and the messages of its offer are in the list.
@@ -86,8 +86,8 @@ MayCommit (Err Store) = Unit {0}
 MayCommit (Err (Refused why)) = IsSome (fault_of why)
 
 -- Whatever it gives, the platform stands for a history that grew by the request that waits or by nothing, and the slots
--- fit that one; so it may be called again. What was asked of the history holds of it too, and the newest snapshot is in the
--- slot of its position's parity.
+-- fit that one; so it may be called again. What was asked of the history holds of it too. The newest snapshot is in the
+-- slot of its position's parity, and names that position of the history. No power is lost by it.
 pub record RecoversTo (all others : List (List ℕ)) (asked : List Batch) (i : Instance) (y : History) (slots : Slots) (waiting : Option Pending) (standing : Standing) (kept : Kept) (result : Result Resumed HostFault) : Type 0 where
   pub after : History
   pub stands : StandsFor i standing after
@@ -100,6 +100,8 @@ pub record RecoversTo (all others : List (List ℕ)) (asked : List Batch) (i : I
   pub same_wait : fits.waiting ≡ waiting
   pub honest : kept.is_honest ≡ true
   pub newest : IfOk result (λ resumed. seen_in slots_after (position_at resumed % 2) ≡ snapshot_at resumed)
+  pub holds : IfOk result (λ resumed. Holds i after (snapshot_at resumed) (position_at resumed))
+  pub powered : life_of i.variant y ≢ LostLife → life_of i.variant after ≢ LostLife
   pub comes : ComesTo i y slots waiting after result
 
 -- Over a platform of Basic it recovers from every history, under every key; over one of Opt under every key and barrier,
