@@ -1,6 +1,6 @@
 -- A schedule among its events: the lines left, and what stands of its summary.
 use Rattle.std.proofs.Common.{◌≡◌, ◌≢◌, ◌<◌, ◌≤◌, ◌∙◌, ℕ, ◌+◌, suc, true, false, List, [], ◌∷◌, ◌++◌, length, map, refl, sym, ap, subst, arith, append_assoc, append-nil}
-use Rattle.std.specs.Prelude.{Option, Some, None, is_some, nat_lt, Result, Ok, Err}
+use Rattle.std.specs.Prelude.{Option, Some, None, is_some, nat_lt, Err}
 use Rattle.std.specs.List.{AllByRecursion, fold, position, position_or_len}
 use Rattle.std.specs.Option.{option_map_or}
 use Rattle.std.proofs.Math.Seq.{take-append_seam, drop-append-add}

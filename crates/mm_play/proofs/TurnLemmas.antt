@@ -10,7 +10,7 @@ use Rattle.mm_base.specs.declared.lines.Read.TheVariants.{Line, Tail, End}
 use Rattle.mm_base.specs.declared.replay_fault.ReplayFault.{ReplayFault}
 use Rattle.mm_base.specs.declared.replay_fault.ReplayFault.TheVariants.{Memory, ReadFault, WriteFault, BadLine, LineLong, TooMuch}
 use Rattle.mm_play.specs.declared.player.Refused.{Refused}
-use Rattle.mm_play.specs.Play.{Told, told, stopped, line_limit, closed, run_from}
+use Rattle.mm_play.specs.Play.{stopped, line_limit, closed, run_from}
 use Rattle.mm_play.specs.Turns.{Answers, Ends, Went, Advances}
 use Rattle.mm_play.proofs.Runs.{run_from-refused, run_from-long, run_from-end, run_from-tail}
 

@@ -1,5 +1,5 @@
 -- A turn: what was pending before it may be sent first, and nothing is pending where it ends the run.
-use Rattle.std.proofs.Common.{◌≡◌, ◌∙◌, ◌≢◌, ◌+◌, ℕ, Bool, true, false, List, [], ◌∷◌, ◌++◌, length, Result, Ok, Err, OnOk, OnErr, Option, refl, sym, ap, subst, append_assoc, append-nil, inl, inr}
+use Rattle.std.proofs.Common.{◌≡◌, ◌∙◌, ◌≢◌, ◌+◌, ℕ, Bool, true, false, List, [], ◌∷◌, ◌++◌, length, Result, Ok, Err, OnOk, OnErr, Option, sym, ap, subst, append_assoc, append-nil, inl, inr}
 use Rattle.std.specs.Io.KnownBytes.{Appends}
 use Rattle.std.proofs.KnownBytes.{Appends-trans, Consumes-nil}
 use Rattle.std.proofs.Math.Seq.{take-append_seam}
@@ -9,7 +9,7 @@ use Rattle.mm_base.specs.declared.fault.WriteFault as write
 use Rattle.mm_base.specs.declared.replay_fault.ReplayFault.{ReplayFault}
 use Rattle.mm_base.specs.declared.replay_fault.ReplayFault.TheVariants.{Memory, ReadFault, WriteFault, BadLine, LineLong, TooMuch}
 use Rattle.mm_play.specs.declared.player.Refused.{Refused}
-use Rattle.mm_play.specs.Play.{Told, told, stopped, after_writing, run_from}
+use Rattle.mm_play.specs.Play.{Told, after_writing, run_from}
 use Rattle.mm_play.specs.Takes.{IsFrontOf}
 use Rattle.mm_play.specs.Plays.{ForWhole}
 use Rattle.mm_play.specs.Turns.{Went, Advances, SendsDue, SendsThen, IsSent, Turns}

@@ -1,5 +1,5 @@
 -- What an event leaves of a replay.
-use Rattle.std.proofs.Common.{◌≡◌, ◌∙◌, ◌+◌, ◌-◌, ◌^◌, ◌≤◌, ◌<◌, ℕ, Bool, false, cond, List, [], ◌∷◌, ◌++◌, length, Option, Some, None, Result, Ok, Err, inl, inr, refl, sym, ap, subst, arith}
+use Rattle.std.proofs.Common.{◌≡◌, ◌∙◌, ◌+◌, ◌-◌, ◌^◌, ◌≤◌, ◌<◌, ℕ, List, [], ◌∷◌, ◌++◌, length, Some, None, inl, inr, refl, sym, ap, subst, arith}
 use Rattle.std.specs.List.{sum_by, slice_get}
 use Rattle.std.proofs.lemmas.List.Sums.{sum_by-append}
 use Rattle.std.proofs.Math.Nat.{min-eq_left}
@@ -18,7 +18,7 @@ use Rattle.mm_model.specs.Moves.{Digests}
 use Rattle.mm_run.specs.Held.{Held, instance_of, within_bits, having_read, Follows, Wants}
 use Rattle.mm_run.specs.Held as held
 use Rattle.mm_replay.specs.Issues.{Issues}
-use Rattle.mm_replay.specs.Schedule.{Running, outcome_in, after_event}
+use Rattle.mm_replay.specs.Schedule.{Running, after_event}
 use Rattle.mm_replay.proofs.Issuing.{outcome_issues}
 
 -- a count of few requests is no greatest one

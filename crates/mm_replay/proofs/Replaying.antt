@@ -1,5 +1,5 @@
 -- A replay of a whole schedule, from what the loop over its lines did.
-use Rattle.std.proofs.Common.{◌≡◌, ◌∙◌, ℕ, List, length, Option, Some, Result, Ok, Err, sym, ap, subst}
+use Rattle.std.proofs.Common.{◌≡◌, ℕ, List, Option, Some, Result, Ok, Err, subst}
 use Rattle.mm_base.specs.declared.replay_fault.ReplayFault.{ReplayFault}
 use Rattle.mm_run.specs.Laws.{BasicIsExpected, OptIsExpected, ExpectedRuns}
 use Rattle.mm_replay.specs.declared.report.Report.{Report}

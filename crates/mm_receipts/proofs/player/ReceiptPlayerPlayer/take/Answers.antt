@@ -6,7 +6,7 @@ use Rattle.mm_receipts.proofs.Playing.{takes-second}
 use Rattle.mm_receipts.proofs.player.ReceiptPlayerPlayer.take.Goals as goal
 
 pub returns-in-Some : goal.returns-in-Some
-returns-in-Some g c =
+returns-in-Some c =
     let with_asked : Option Asked → Checking = λ a. record { tally = tallied c.self.inside.tally; asked = a } in
     let after : Option Asked → Checking = λ a. record { tally = tallied c.second.new.self; asked = a } in
     takes-second c.args.self.now (tallied c.self.inside.tally) c.in-Some.asked c.args.line.now (tallied c.second.new.self) _ c.second.result
