@@ -15,5 +15,7 @@ pub mod Completing
 pub mod OptComplete
 pub mod OptClosing
 pub mod OptRepeating
+pub mod OptCheckRefusing
+pub mod OptRepeatRefusing
 pub mod OptRepeatAsking
 pub mod OptWelcome

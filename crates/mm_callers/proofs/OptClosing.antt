@@ -82,11 +82,11 @@ closed_moves fates false said e =
 
 -- What the register shows of others' values, and their messages.
 
-foreign_values : (values : List (List ℕ)) → values_of (map foreign_item values) ≡ values
+pub foreign_values : (values : List (List ℕ)) → values_of (map foreign_item values) ≡ values
 foreign_values [] = refl
 foreign_values (v ∷ values) = ap (λ (vs : List (List ℕ)). v ∷ vs) (foreign_values values)
 
-foreign_of-items : (values : List (List ℕ)) → foreign_of (map foreign_item values) ≡ values
+pub foreign_of-items : (values : List (List ℕ)) → foreign_of (map foreign_item values) ≡ values
 foreign_of-items [] = refl
 foreign_of-items (v ∷ values) = ap (λ (vs : List (List ℕ)). v ∷ vs) (foreign_of-items values)
 
@@ -100,7 +100,7 @@ register-push barrier items v =
     ap (after extended_message _) (values_of-append barrier items (Value v ∷ [])) ∙ after-append extended_message _ (entry_values barrier items) (v ∷ [])
 
 -- the messages for closing, further on
-closings_back : (all : List (List ℕ)) (a r : List ℕ) (values later : List (List ℕ)) → Within (closing_messages a r (values ++ later)) all → Within (closing_messages a (after extended_message r values) later) all
+pub closings_back : (all : List (List ℕ)) (a r : List ℕ) (values later : List (List ℕ)) → Within (closing_messages a r (values ++ later)) all → Within (closing_messages a (after extended_message r values) later) all
 closings_back all a r [] later w = w
 closings_back all a r (v ∷ values) later w =
     closings_back all a (after extended_message r (v ∷ [])) values later
@@ -111,7 +111,7 @@ closings_front all a r [] [] w = w
 closings_front all a r [] (v ∷ later) w = (w.0, tt)
 closings_front all a r (v ∷ values) later w = (w.0, closings_front all a (extended_of r v) values later w.1)
 
-closings_here : (all : List (List ℕ)) (a r : List ℕ) (values : List (List ℕ)) → Within (closing_messages a r values) all → Contains all (anchored_message a r)
+pub closings_here : (all : List (List ℕ)) (a r : List ℕ) (values : List (List ℕ)) → Within (closing_messages a r values) all → Contains all (anchored_message a r)
 closings_here all a r [] w = w.0
 closings_here all a r (v ∷ values) w = w.0
 
@@ -144,7 +144,7 @@ module _ (meaning : Meaning) (key barrier : List ℕ) where
       foreign_register values (moved (opt meaning key barrier) y (Foreign v))
       ∙ ap (λ (r : List ℕ). after extended_message r values) (register-push barrier y.items v)
 
-  foreign_trail : (values : List (List ℕ)) (y : History) → moves_messages (opt meaning key barrier) y (map Foreign values) ≡ trail extended_message (register_value_of (opt meaning key barrier) y) values
+  pub foreign_trail : (values : List (List ℕ)) (y : History) → moves_messages (opt meaning key barrier) y (map Foreign values) ≡ trail extended_message (register_value_of (opt meaning key barrier) y) values
   foreign_trail [] y = refl
   foreign_trail (v ∷ values) y =
       let i : Instance = opt meaning key barrier in
@@ -153,7 +153,7 @@ module _ (meaning : Meaning) (key barrier : List ℕ) where
       ∙ ap (λ (ms : List (List ℕ)). extended_message (register_value_of i y) v ∷ ms)
       (foreign_trail values (moved i y (Foreign v)) ∙ ap (λ (r : List ℕ). trail extended_message r values) (register-push barrier y.items v))
 
-  shown_foreign : (values : List (List ℕ)) (rest : List Move) (d : Digests) (items : List Item)
+  pub shown_foreign : (values : List (List ℕ)) (rest : List Move) (d : Digests) (items : List Item)
       → shown (opt meaning key barrier) d (map Foreign values ++ rest) items ≡ shown (opt meaning key barrier) (all_made (by_digests (opt meaning key barrier)) d (map Foreign values)) rest (items ++ map foreign_item values)
   shown_foreign [] rest d items = ap (shown (opt meaning key barrier) d rest) (sym (append-nil items))
   shown_foreign (v ∷ values) rest d items =
@@ -175,7 +175,7 @@ module _ (meaning : Meaning) (key barrier : List ℕ) where
       ∙ append_assoc items (map foreign_item k.values) (map foreign_item k.later)
       ∙ ap (λ (xs : List Item). items ++ xs) (sym (map-append foreign_item k.values k.later))
 
-  closing_trail : (values later : List (List ℕ)) (y : History)
+  pub closing_trail : (values later : List (List ℕ)) (y : History)
       → (let r : List ℕ = after extended_message (register_value_of (opt meaning key barrier) y) values in
       moves_messages (opt meaning key barrier) y (map Foreign values ++ Close ∷ map Foreign later)
       ≡ trail extended_message (register_value_of (opt meaning key barrier) y) values ++ (anchored_message (cell_digest_of (opt meaning key barrier) Opt y) r ∷ trail extended_message r later))
@@ -261,11 +261,11 @@ module _ (meaning : Meaning) (key barrier : List ℕ) where
   last_filled : (closed : List (List Entry)) (items : List Entry) → AllByRecursion (λ segment. is_empty segment ≡ false) (closed ++ items ∷ []) → is_empty items ≡ false
   last_filled closed items h = (each_right (λ (segment : List Entry). is_empty segment ≡ false) closed (items ∷ []) h).0
 
-  -- what a closing leaves
-  closed_then : (all others : List (List ℕ)) (asked : List Batch) (y end : History) (new : Standing) (values later : List (List ℕ)) → y.is_open ≡ true → IsSound y
-      → end ≡ all_made (by_lists (opt meaning key barrier)) y (map Foreign values ++ Close ∷ map Foreign later)
-      → StandsFor (opt meaning key barrier) new end → IsWithin all others asked (opt meaning key barrier) end → Shut all others asked y new
-  closed_then all others asked y end new values later e sound is stands within =
+  -- what was named before a closing is named after it
+  pub names_closed : (all others : List (List ℕ)) (asked : List Batch) (y end : History) (values later : List (List ℕ)) → y.is_open ≡ true → IsSound y
+      → end ≡ all_made (by_lists (opt meaning key barrier)) y (map Foreign values ++ Close ∷ map Foreign later) → IsWithin all others asked (opt meaning key barrier) end
+      → (content : Content) → Names (opt meaning key barrier) y content → Names (opt meaning key barrier) end content
+  names_closed all others asked y end values later e sound is within content n =
       let i : Instance = opt meaning key barrier in
       let z : History = all_made (by_lists i) y (map Foreign values) in
       let shut : History = moved i z Close in
@@ -278,29 +278,35 @@ module _ (meaning : Meaning) (key barrier : List ℕ) where
       let filled : is_empty z.items ≡ false =
       last_filled z.closed z.items (subst (AllByRecursion (λ (segment : List Entry). is_empty segment ≡ false)) (ap (λ (x : History). x.closed) rest) within.sound.filled) in
       let may : MayMove i z Close = subst (λ (f : Bool). IsAllowed Opt f i z Close) (sym open_z) filled in
+      names_alike meaning key barrier shut end content (sym rest)
+      (opt_names meaning key barrier z Close content sound_z may (named_then meaning key barrier values y content sound n))
+
+  -- what a closing leaves
+  closed_then : (all others : List (List ℕ)) (asked : List Batch) (y end : History) (new : Standing) (values later : List (List ℕ)) → y.is_open ≡ true → IsSound y
+      → end ≡ all_made (by_lists (opt meaning key barrier)) y (map Foreign values ++ Close ∷ map Foreign later)
+      → StandsFor (opt meaning key barrier) new end → IsWithin all others asked (opt meaning key barrier) end → Shut all others asked y new
+  closed_then all others asked y end new values later e sound is stands within =
+      let i : Instance = opt meaning key barrier in
+      let z : History = all_made (by_lists i) y (map Foreign values) in
+      let shut : History = moved i z Close in
+      let alike : bare z ≡ bare y = alike_still meaning key barrier (map Foreign values) y (committed-foreign values) (closes_foreign values) in
+      let reached : end ≡ all_made (by_lists i) shut (map Foreign later) = is ∙ made-append (by_lists i) (map Foreign values) (Close ∷ map Foreign later) y in
+      let rest : bare end ≡ bare shut =
+      ap bare reached ∙ alike_still meaning key barrier (map Foreign later) shut (committed-foreign later) (closes_foreign later) in
       record {
         after = end;
         stands = stands;
         within = within;
         is_shut = ap (λ (x : History). x.is_open) rest;
         batches = ap (λ (x : History). x.batches) rest ∙ ap (λ (x : History). x.batches) alike;
-        names = λ content n. names_alike meaning key barrier shut end content (sym rest)
-            (opt_names meaning key barrier z Close content sound_z may (named_then meaning key barrier values y content sound n));
+        names = λ content n. names_closed all others asked y end values later e sound is within content n;
       }
 
-  -- inside a segment
-  shut_closing : (all others : List (List ℕ)) (asked : List Batch) (y : History) (old new : Standing) (said : Said) (items more : List Item) (k : ChecksOn old new (Ok said)) → StandsFor (opt meaning key barrier) old y → old.items ≡ Some items → new.items ≡ Some (standing_items y.is_open items ++ more)
-      → IsClear all → IsWithin all others asked (opt meaning key barrier) y → AreShown all others (opt meaning key barrier) y more → MayClose all (opt meaning key barrier) y more → y.is_open ≡ true → Shut all others asked y new
-  unfolding check_goes_on
-  shut_closing all others asked y old new said items more k s known ends clear within shown_so may e =
+  -- what is asked of a closing, by what is asked of the items that it leaves
+  pub closing_asked : (all others : List (List ℕ)) (asked : List Batch) (y : History) (more : List Item) (moves : List Move) → (m : Closed moves) → map foreign_item (m.values ++ m.later) ≡ more
+      → IsClear all → IsWithin all others asked (opt meaning key barrier) y → AreShown all others (opt meaning key barrier) y more → MayClose all (opt meaning key barrier) y more → y.is_open ≡ true → IsClosedWithin all others asked (opt meaning key barrier) y moves
+  closing_asked all others asked y more moves m same clear within shown_so may e =
       let i : Instance = opt meaning key barrier in
-      let d : Digests = digests_of i y in
-      let at = stands_at i old y s in
-      let moves : List Move = CheckMoves old new said k d in
-      let m = inside_moves old new said k d at e in
-      let g = check_goes_on all others asked old new said k d at e items known in
-      let both : Some (items ++ g.0) ≡ Some (items ++ more) = sym g.1 ∙ ends ∙ ap (λ (flag : Bool). Some (standing_items flag items ++ more)) e in
-      let same : g.0 ≡ more = same_rest items g.0 more (cc) in
       let values_are : values_of more ≡ m.values ++ m.later = ap values_of (sym same) ∙ foreign_values (m.values ++ m.later) in
       let open_part : counted_part y ≡ y = counted_open y e in
       let r : List ℕ = register_value_of i y in
@@ -321,12 +327,27 @@ module _ (meaning : Meaning) (key barrier : List ℕ) where
       ap foreign_in m.are ∙ foreign_in-first m.values (Close ∷ map Foreign m.later) ∙ ap (λ (vs : List (List ℕ)). m.values ++ vs) (foreign_in-foreign m.later) in
       let outside : AllByRecursion (Contains others) (foreign_in moves) =
       subst (AllByRecursion (Contains others)) (ap foreign_of (sym same) ∙ foreign_of-items (m.values ++ m.later) ∙ sym brought) shown_so.values in
-      let is_asked : IsClosedWithin all others asked i y moves = record {
+      record {
         clear = clear;
         within = within;
         messages = subst (λ (f : Bool). Within (moves_messages i (counted_part y) (counted_moves f moves)) all) (sym e) (subst (λ (z : History). Within (moves_messages i z moves) all) (sym open_part) messages);
         values = subst (λ (f : Bool). AllByRecursion (Contains others) (foreign_in (counted_moves f moves))) (sym e) outside;
-      } in
+      }
+
+  -- inside a segment
+  shut_closing : (all others : List (List ℕ)) (asked : List Batch) (y : History) (old new : Standing) (said : Said) (items more : List Item) (k : ChecksOn old new (Ok said)) → StandsFor (opt meaning key barrier) old y → old.items ≡ Some items → new.items ≡ Some (standing_items y.is_open items ++ more)
+      → IsClear all → IsWithin all others asked (opt meaning key barrier) y → AreShown all others (opt meaning key barrier) y more → MayClose all (opt meaning key barrier) y more → y.is_open ≡ true → Shut all others asked y new
+  unfolding check_goes_on
+  shut_closing all others asked y old new said items more k s known ends clear within shown_so may e =
+      let i : Instance = opt meaning key barrier in
+      let d : Digests = digests_of i y in
+      let at = stands_at i old y s in
+      let moves : List Move = CheckMoves old new said k d in
+      let m = inside_moves old new said k d at e in
+      let g = check_goes_on all others asked old new said k d at e items known in
+      let both : Some (items ++ g.0) ≡ Some (items ++ more) = sym g.1 ∙ ends ∙ ap (λ (flag : Bool). Some (standing_items flag items ++ more)) e in
+      let same : g.0 ≡ more = same_rest items g.0 more (cc) in
+      let is_asked : IsClosedWithin all others asked i y moves = closing_asked all others asked y more moves m same clear within shown_so may e in
       let f = k.continues Opt meaning key barrier y all others asked s is_asked in
       let agree = opt_checkpoints_agree meaning key barrier all others asked y d k.course (is_agrees i y d refl) is_asked in
       let o = checkpointed i (by_lists i) y k.course in

@@ -45,7 +45,7 @@ use Rattle.mm_callers.proofs.OptLeaves.{alike_of, seen_closes, DigestMoves, Goes
 use Rattle.mm_callers.proofs.OptAsking.{asked_next, answered_after_fault, answered_twice}
 
 -- a call that is refused by what it found has made its reading steps alone
-reads_both : (v : List (List ℕ)) (e : End) (w : List (List ℕ)) (f : End) → (two_reads v e w f finished).broken ≡ None → (two_reads v e w f finished).moves ≡ map Foreign v ++ (map Foreign w ++ [])
+pub reads_both : (v : List (List ℕ)) (e : End) (w : List (List ℕ)) (f : End) → (two_reads v e w f finished).broken ≡ None → (two_reads v e w f finished).moves ≡ map Foreign v ++ (map Foreign w ++ [])
 reads_both v Done w Done whole = refl
 reads_both v (FailsAs fault made) w f whole = absurd (cc)
 reads_both v Done w (FailsAs fault made) whole = absurd (cc)
@@ -66,7 +66,7 @@ calm_by meaning key barrier v w moves y is =
     record { batches = ap (λ (x : History). x.batches) same; issues = issued_alike meaning key barrier after y same }
 
 module _ (meaning : Meaning) (key barrier : List ℕ) (all others : List (List ℕ)) (asked : List Batch) where
-  fell_short : (y : History) (old new : Standing) (offer request : List ℕ) (why : Refusal) → is_long (One request) ≡ false → (c : CallsOn Opt meaning old new offer (One request) (Err why)) → StandsFor (opt meaning key barrier) old y
+  pub fell_short : (y : History) (old new : Standing) (offer request : List ℕ) (why : Refusal) → is_long (One request) ≡ false → (c : CallsOn Opt meaning old new offer (One request) (Err why)) → StandsFor (opt meaning key barrier) old y
       → AreAsked all others asked (opt meaning key barrier) y offer (One request) → IsAsked all others asked (opt meaning key barrier) y (DigestMoves meaning key barrier all others asked old new offer request (Err why) c y) offer (One request)
       → Fell all others asked (opt meaning key barrier) y new offer (One request) why
   fell_short y old new offer request why short c s a is_asked =
@@ -108,7 +108,7 @@ module _ (meaning : Meaning) (key barrier : List ℕ) (all others : List (List �
         names = names;
       }
 
-  fell_by : (t : Bool) (y : History) (old new : Standing) (offer request : List ℕ) (why : Refusal) (items more : List Item) → is_long (One request) ≡ t → Calls meaning old new offer (One request) (Err why)
+  pub fell_by : (t : Bool) (y : History) (old new : Standing) (offer request : List ℕ) (why : Refusal) (items more : List Item) → is_long (One request) ≡ t → Calls meaning old new offer (One request) (Err why)
       → (is_long (One request) ≡ false → CallsOn Opt meaning old new offer (One request) (Err why)) → StandsFor (opt meaning key barrier) old y → old.items ≡ Some items → new.items ≡ Some (standing_items y.is_open items ++ more)
       → AreAsked all others asked (opt meaning key barrier) y offer (One request) → AreShown all others (opt meaning key barrier) y more → Fell all others asked (opt meaning key barrier) y new offer (One request) why
   fell_by true y old new offer request why items more e calls goes s known ends a shown_so =

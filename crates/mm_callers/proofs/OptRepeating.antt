@@ -88,7 +88,7 @@ outputs_at : (i : Instance) (y after : History) (offer : List ℕ) (b : Batch) (
 outputs_at i y after offer b answer (kept same gives) = ap (λ (a : BatchAnswer). a.outputs) (gives answer refl).answer_is
 outputs_at i y after offer b answer (grown content right at more gives) = ap (λ (a : BatchAnswer). a.outputs) (gives answer refl)
 
-once_then : (batches middle later : List Batch) (b : Batch) → middle ≡ later → IsOnce batches b middle → IsOnce batches b later
+pub once_then : (batches middle later : List Batch) (b : Batch) → middle ≡ later → IsOnce batches b middle → IsOnce batches b later
 once_then batches middle later b e o = subst (λ (bs : List Batch). IsOnce batches b bs) e o
 
 -- the second reply, by what the first call and the second one came to
@@ -110,21 +110,21 @@ repeats_by i y one two last new offer b first second same s c (kept is gives) =
       };
     }
 
-closed_same : (meaning : Meaning) (key barrier : List ℕ) (y after : History) (b : Batch) → Alike meaning key barrier y b after → after.closed ≡ y.closed
+pub closed_same : (meaning : Meaning) (key barrier : List ℕ) (y after : History) (b : Batch) → Alike meaning key barrier y b after → after.closed ≡ y.closed
 closed_same meaning key barrier y after b (still e) = ap (λ (x : History). x.closed) e
 closed_same meaning key barrier y after b (grown_by e) = same_closed meaning key barrier y after b e
 
 module _ (meaning : Meaning) (key barrier : List ℕ) (all others : List (List ℕ)) (asked : List Batch) where
   -- The two calls and the checkpoint, where the second call made its reading steps alone; or where it found a new batch.
-  record Behind (y : History) (answered closed new : Standing) (offer request : List ℕ) (first second : BatchAnswer) : Type 0 where
-    one : Left meaning key barrier all others asked y answered offer request (Ok first)
-    two : Shut meaning key barrier all others asked one.after closed
+  pub record Behind (y : History) (answered closed : Standing) (offer request : List ℕ) (first : BatchAnswer) : Type 0 where
+    pub one : Left meaning key barrier all others asked y answered offer request (Ok first)
+    pub two : Shut meaning key barrier all others asked one.after closed
 
-  behind : (y : History) (old answered closed new : Standing) (offer request : List ℕ) (first second : BatchAnswer) (said : Said) (items more : List Item) → CallsOn Opt meaning old answered offer (One request) (Ok first) → ChecksOn answered closed (Ok said)
+  pub behind : (y : History) (old answered closed : Standing) (offer request : List ℕ) (first : BatchAnswer) (said : Said) (items more : List Item) → CallsOn Opt meaning old answered offer (One request) (Ok first) → ChecksOn answered closed (Ok said)
       → StandsFor (opt meaning key barrier) old y → old.items ≡ Some items → closed.items ≡ Some (standing_items y.is_open items ++ more)
       → AreAsked all others asked (opt meaning key barrier) y offer (One request) → AreShown all others (opt meaning key barrier) y more → MayClose all (opt meaning key barrier) y more
-      → Behind y answered closed new offer request first second
-  behind y old answered closed new offer request first second said items more c k s known ends a shown_so may =
+      → Behind y answered closed offer request first
+  behind y old answered closed offer request first said items more c k s known ends a shown_so may =
       let i : Instance = opt meaning key barrier in
       let h = hands meaning key barrier all others asked y old answered closed offer request (Ok first) items more c
       (check_goes_on meaning key barrier all others asked answered closed said k) s known ends a shown_so in
@@ -138,9 +138,9 @@ module _ (meaning : Meaning) (key barrier : List ℕ) (all others : List (List �
       }
 
   -- what is asked of the second call
-  asked_behind : (y : History) (answered closed new : Standing) (offer request : List ℕ) (first second : BatchAnswer) → (x : Behind y answered closed new offer request first second) → AreAsked all others asked (opt meaning key barrier) y offer (One request)
+  pub asked_behind : (y : History) (answered closed : Standing) (offer request : List ℕ) (first : BatchAnswer) → (x : Behind y answered closed offer request first) → AreAsked all others asked (opt meaning key barrier) y offer (One request)
       → AreAsked all others asked (opt meaning key barrier) x.two.after offer (One request)
-  asked_behind y answered closed new offer request first second x a =
+  asked_behind y answered closed offer request first x a =
       let b = asked_again meaning key barrier all others asked y answered offer request (Ok first) x.one a in record {
         clear = a.clear;
         apart = a.apart;
@@ -151,52 +151,61 @@ module _ (meaning : Meaning) (key barrier : List ℕ) (all others : List (List �
       }
 
   -- the moves of the second call, by digests
-  abbrev Fresh : (closed new : Standing) (offer request : List ℕ) (second : BatchAnswer) → CallsOn Opt meaning closed new offer (One request) (Ok second) → Digests → Bool
-  Fresh closed new offer request second c d =
+  abbrev pub Fresh : (closed new : Standing) (offer request : List ℕ) (result : Result BatchAnswer Refusal) → CallsOn Opt meaning closed new offer (One request) result → Digests → Bool
+  Fresh closed new offer request result c d =
       is_fresh (found_in (found_at (opt meaning key barrier) (by_digests (opt meaning key barrier)) (seen_at (opt meaning key barrier) (by_digests (opt meaning key barrier)) d c.course) (One request) offer) c.course.lacks)
 
-  reads_alone : (closed new : Standing) (offer request : List ℕ) (second : BatchAnswer) (c : CallsOn Opt meaning closed new offer (One request) (Ok second)) (d : Digests) → Fresh closed new offer request second c d ≡ false
+  pub reads_alone : (closed new : Standing) (offer request : List ℕ) (result : Result BatchAnswer Refusal) (c : CallsOn Opt meaning closed new offer (One request) result) (d : Digests) → Fresh closed new offer request result c d ≡ false
       → Brought (called (opt meaning key barrier) (by_digests (opt meaning key barrier)) d c.course offer (One request)).moves
-  reads_alone closed new offer request second c d e =
+  reads_alone closed new offer request result c d e =
       subst (λ (fresh : Bool). Brought (walk c.course.fates 1 (ask_steps Opt d.flag fresh (One request))).moves) (sym e) (reading_steps_of c.course.fates d.flag (One request))
 
   -- from reading steps alone
-  replies_alike : (y : History) (answered closed new : Standing) (offer request : List ℕ) (first second : BatchAnswer) (x : Behind y answered closed new offer request first second) (c : CallsOn Opt meaning closed new offer (One request) (Ok second))
-      → AreAsked all others asked (opt meaning key barrier) y offer (One request) → Fresh closed new offer request second c (digests_of (opt meaning key barrier) x.two.after) ≡ false
+  replies_alike : (y : History) (answered closed new : Standing) (offer request : List ℕ) (first second : BatchAnswer) (x : Behind y answered closed offer request first) (c : CallsOn Opt meaning closed new offer (One request) (Ok second))
+      → AreAsked all others asked (opt meaning key barrier) y offer (One request) → Fresh closed new offer request (Ok second) c (digests_of (opt meaning key barrier) x.two.after) ≡ false
       → RepeatsReply (opt meaning key barrier) y new (One request) first second
   replies_alike y answered closed new offer request first second x c a e =
       let i : Instance = opt meaning key barrier in
       let z : History = x.two.after in
-      let r = reads_alone closed new offer request second c (digests_of i z) e in
-      let l = left_reading meaning key barrier all others asked z closed new offer request (Ok second) c r.values x.two.stands (asked_behind y answered closed new offer request first second x a) x.two.is_shut r.are in
+      let r = reads_alone closed new offer request (Ok second) c (digests_of i z) e in
+      let l = left_reading meaning key barrier all others asked z closed new offer request (Ok second) c r.values x.two.stands (asked_behind y answered closed offer request first x a) x.two.is_shut r.are in
       repeats_by i y x.one.after z l.0.after new offer (One request) first second x.two.batches l.0.stands x.one.comes l.0.comes
 
-  -- a call that is told as a repeat leaves all items in front
+  -- a call that makes its reading steps alone leaves all items in front
+  pub reads_show : (closed new : Standing) (offer request : List ℕ) (result : Result BatchAnswer Refusal) (c : CallsOn Opt meaning closed new offer (One request) result) (d : Digests) → StandsAt (opt meaning key barrier) closed d → Fresh closed new offer request result c d ≡ false → (items : List Item) → closed.items ≡ Some items
+      → (more : List Item) × (new.items ≡ Some (items ++ more))
+  reads_show closed new offer request result c d s e items known =
+      let i : Instance = opt meaning key barrier in
+      let g = c.goes key barrier d s in
+      let o = called i (by_digests i) d c.course offer (One request) in
+      let r = reads_alone closed new offer request result c d e in (
+        map foreign_item r.values,
+        g.items ∙ ap (option_map (shown i d o.moves)) known
+            ∙ ap (λ (ms : List Move). Some (shown i d ms items)) r.are ∙ ap (λ (xs : List Item). Some xs) (shown_values meaning key barrier r.values d items),
+      )
+
+  -- so does one that is told as a repeat
   repeat_shows : (closed new : Standing) (offer request : List ℕ) (second : BatchAnswer) (c : CallsOn Opt meaning closed new offer (One request) (Ok second)) (d : Digests) → StandsAt (opt meaning key barrier) closed d → second.again ≡ true → (items : List Item) → closed.items ≡ Some items
       → (more : List Item) × (new.items ≡ Some (items ++ more))
   repeat_shows closed new offer request second c d s again items known =
       let i : Instance = opt meaning key barrier in
       let b : Batch = One request in
       let g = c.goes key barrier d s in
-      let o = called i (by_digests i) d c.course offer b in
       let seen : Digests = seen_at i (by_digests i) d c.course in
       let found : Result Found Refusal = found_in (found_at i (by_digests i) seen b offer) c.course.lacks in
       let w : Walked = walk c.course.fates 1 (ask_steps Opt d.flag (is_fresh found) b) in
-      let r = reads_alone closed new offer request second c d (told_again w.broken i seen (all_made (by_digests i) d w.moves) b found w.moves second (sym g.gives) again) in (
-        map foreign_item r.values,
-        g.items ∙ ap (option_map (shown i d o.moves)) known
-            ∙ ap (λ (ms : List Move). Some (shown i d ms items)) r.are ∙ ap (λ (xs : List Item). Some xs) (shown_values meaning key barrier r.values d items),
-      )
+      reads_show closed new offer request (Ok second) c d s
+      (told_again w.broken i seen (all_made (by_digests i) d w.moves) b found w.moves second (sym g.gives) again) items known
 
   -- a call on such an offer, with no segment open, doesn't find a new batch
-  never_fresh : (y : History) (answered closed new : Standing) (offer request : List ℕ) (first second : BatchAnswer) (x : Behind y answered closed new offer request first second) (c : CallsOn Opt meaning closed new offer (One request) (Ok second))
-      → AreAsked all others asked (opt meaning key barrier) y offer (One request) → Fresh closed new offer request second c (digests_of (opt meaning key barrier) x.two.after) ≡ true → ⊥
+  never_fresh : (y : History) (answered closed new : Standing) (offer request : List ℕ) (first second : BatchAnswer) (x : Behind y answered closed offer request first) (c : CallsOn Opt meaning closed new offer (One request) (Ok second))
+      → AreAsked all others asked (opt meaning key barrier) y offer (One request) → Fresh closed new offer request (Ok second) c (digests_of (opt meaning key barrier) x.two.after) ≡ true → ⊥
   never_fresh y answered closed new offer request first second x c a e =
       let i : Instance = opt meaning key barrier in
       let b : Batch = One request in
       let z : History = x.two.after in
       let d : Digests = digests_of i z in
-      let asks_z = asked_behind y answered closed new offer request first second x a in
+      let asks_z = asked_behind y answered closed offer request first x a in
       let v : List (List ℕ) = (c.course.fates 1).brings in
       let w : List (List ℕ) = (c.course.fates 2).brings in
       let seen : Digests = seen_at i (by_digests i) d c.course in
@@ -220,8 +229,8 @@ module _ (meaning : Meaning) (key barrier : List ℕ) (all others : List (List �
       not_at_end i x.one.after.batches offer b (offers i y x.one.after offer b first x.one.comes) f.0.offered (right_at meaning key barrier (bare z) b offer f.0 listed)
       (p.position ∙ ap total_of (p.fresh f.2 ∙ x.two.batches))
 
-  repeats_either : (fresh : Bool) (y : History) (answered closed new : Standing) (offer request : List ℕ) (first second : BatchAnswer) (x : Behind y answered closed new offer request first second) (c : CallsOn Opt meaning closed new offer (One request) (Ok second))
-      → AreAsked all others asked (opt meaning key barrier) y offer (One request) → Fresh closed new offer request second c (digests_of (opt meaning key barrier) x.two.after) ≡ fresh → RepeatsReply (opt meaning key barrier) y new (One request) first second
+  repeats_either : (fresh : Bool) (y : History) (answered closed new : Standing) (offer request : List ℕ) (first second : BatchAnswer) (x : Behind y answered closed offer request first) (c : CallsOn Opt meaning closed new offer (One request) (Ok second))
+      → AreAsked all others asked (opt meaning key barrier) y offer (One request) → Fresh closed new offer request (Ok second) c (digests_of (opt meaning key barrier) x.two.after) ≡ fresh → RepeatsReply (opt meaning key barrier) y new (One request) first second
   repeats_either true y answered closed new offer request first second x c a e = absurd (never_fresh y answered closed new offer request first second x c a e)
   repeats_either false y answered closed new offer request first second x c a e = replies_alike y answered closed new offer request first second x c a e
 
@@ -231,8 +240,8 @@ module _ (meaning : Meaning) (key barrier : List ℕ) (all others : List (List �
       → AreAsked all others asked (opt meaning key barrier) y offer (One request) → AreShown all others (opt meaning key barrier) y more → MayClose all (opt meaning key barrier) y more
       → RepeatsReply (opt meaning key barrier) y new (One request) first second
   repeats_between y old answered closed new offer request first second said items more c k d s known ends a shown_so may =
-      let x = behind y old answered closed new offer request first second said items more c k s known ends a shown_so may in
-      repeats_either (Fresh closed new offer request second d (digests_of (opt meaning key barrier) x.two.after)) y answered closed new offer request first second x d a refl
+      let x = behind y old answered closed offer request first said items more c k s known ends a shown_so may in
+      repeats_either (Fresh closed new offer request (Ok second) d (digests_of (opt meaning key barrier) x.two.after)) y answered closed new offer request first second x d a refl
 
   -- the items when the checkpoint was over
   record Front (y : History) (closed : Standing) (items : List Item) : Type 0 where
@@ -267,12 +276,23 @@ module _ (meaning : Meaning) (key barrier : List ℕ) (all others : List (List �
         is = two.1 ∙ ap (λ (xs : List Item). Some xs) (append_assoc items one.0 two.0) ∙ ap (λ (f : Bool). Some (standing_items f items ++ (one.0 ++ two.0))) (sym e);
       }
 
-  -- the second reply, where it is told as a repeat, and the register's items are known at the end
-  pub repeats_shown : (y : History) (old answered closed new : Standing) (offer request : List ℕ) (first second : BatchAnswer) (said : Said) (items more : List Item) → CallsOn Opt meaning old answered offer (One request) (Ok first) → ChecksOn answered closed (Ok said) → CallsOn Opt meaning closed new offer (One request) (Ok second) → second.again ≡ true
-      → StandsFor (opt meaning key barrier) old y → old.items ≡ Some items → new.items ≡ Some (standing_items y.is_open items ++ more)
-      → AreAsked all others asked (opt meaning key barrier) y offer (One request) → AreShown all others (opt meaning key barrier) y more → MayClose all (opt meaning key barrier) y more
-      → RepeatsReply (opt meaning key barrier) y new (One request) first second
-  repeats_shown y old answered closed new offer request first second said items more c k r again s known ends a shown_so may =
+  -- the items when the checkpoint was over, by those at the end, where the second call left them in front
+  pub record SeenBefore (y : History) (closed : Standing) (items : List Item) : Type 0 where
+    pub more : List Item
+    pub is : closed.items ≡ Some (standing_items y.is_open items ++ more)
+    pub shown_are : AreShown all others (opt meaning key barrier) y more
+    pub may : MayClose all (opt meaning key barrier) y more
+
+  -- the digests and the items that the checkpoint left
+  pub record Reached (closed : Standing) : Type 0 where
+    pub at : Digests
+    pub stands : StandsAt (opt meaning key barrier) closed at
+    pub there : List Item
+    pub known : closed.items ≡ Some there
+
+  pub reached : (y : History) (old answered closed : Standing) (offer request : List ℕ) (first : BatchAnswer) (said : Said) (items : List Item) → CallsOn Opt meaning old answered offer (One request) (Ok first) → ChecksOn answered closed (Ok said)
+      → StandsFor (opt meaning key barrier) old y → old.items ≡ Some items → Reached closed
+  reached y old answered closed offer request first said items c k s known =
       let i : Instance = opt meaning key barrier in
       let d : Digests = digests_of i y in
       let moves : List Move = DigestMoves meaning key barrier all others asked old answered offer request (Ok first) c y in
@@ -280,17 +300,40 @@ module _ (meaning : Meaning) (key barrier : List ℕ) (all others : List (List �
       let d1 : Digests = all_made (by_digests i) d moves in
       let h = k.goes Opt meaning key barrier d1 g.stands in
       let o = checkpointed i (by_digests i) d1 k.course in
-      let there : List Item = shown i d1 o.moves (shown i d moves items) in
-      let shown_there : closed.items ≡ Some there = h.items ∙ ap (option_map (shown i d1 o.moves)) (g.items ∙ ap (option_map (shown i d moves)) known) in
+      record {
+        at = o.state;
+        stands = h.stands;
+        there = shown i d1 o.moves (shown i d moves items);
+        known = h.items ∙ ap (option_map (shown i d1 o.moves)) (g.items ∙ ap (option_map (shown i d moves)) known);
+      }
+
+  pub seen_before : (y : History) (old answered closed new : Standing) (offer request : List ℕ) (first : BatchAnswer) (said : Said) (items more there later : List Item) → CallsOn Opt meaning old answered offer (One request) (Ok first) → ChecksOn answered closed (Ok said)
+      → closed.items ≡ Some there → new.items ≡ Some (there ++ later)
+      → StandsFor (opt meaning key barrier) old y → old.items ≡ Some items → new.items ≡ Some (standing_items y.is_open items ++ more)
+      → AreShown all others (opt meaning key barrier) y more → MayClose all (opt meaning key barrier) y more → SeenBefore y closed items
+  seen_before y old answered closed new offer request first said items more there later c k shown_there t s known ends shown_so may =
+      let i : Instance = opt meaning key barrier in
       let front = front_by y.is_open y old answered closed offer request first said items there c k s known shown_there refl in
-      let t = repeat_shows closed new offer request second r o.state h.stands again there shown_there in
       let split_there : Some there ≡ Some (standing_items y.is_open items ++ front.more) = sym shown_there ∙ front.is in
       let split : there ≡ standing_items y.is_open items ++ front.more = cc in
-      let both : Some (there ++ t.0) ≡ Some (standing_items y.is_open items ++ more) = sym t.1 ∙ ends in
-      let reach : there ++ t.0 ≡ standing_items y.is_open items ++ more = cc in
-      let same : front.more ++ t.0 ≡ more = same_rest (standing_items y.is_open items) (front.more ++ t.0) more
-      (sym (append_assoc (standing_items y.is_open items) front.more t.0) ∙ ap (λ (xs : List Item). xs ++ t.0) (sym split) ∙ reach) in
-      let whole : AreShown all others i y (front.more ++ t.0) = subst (λ (xs : List Item). AreShown all others i y xs) (sym same) shown_so in
-      let closes_so : MayClose all i y (front.more ++ t.0) = subst (λ (xs : List Item). MayClose all i y xs) (sym same) may in
-      repeats_between y old answered closed new offer request first second said items front.more c k r s known front.is a
-      (shown_front all others i y front.more t.0 whole) (may_close_front all i y front.more t.0 closes_so)
+      let both : Some (there ++ later) ≡ Some (standing_items y.is_open items ++ more) = sym t ∙ ends in
+      let reach : there ++ later ≡ standing_items y.is_open items ++ more = cc in
+      let same : front.more ++ later ≡ more = same_rest (standing_items y.is_open items) (front.more ++ later) more
+      (sym (append_assoc (standing_items y.is_open items) front.more later) ∙ ap (λ (xs : List Item). xs ++ later) (sym split) ∙ reach) in
+      record {
+        more = front.more;
+        is = front.is;
+        shown_are = shown_front all others i y front.more later (subst (λ (xs : List Item). AreShown all others i y xs) (sym same) shown_so);
+        may = may_close_front all i y front.more later (subst (λ (xs : List Item). MayClose all i y xs) (sym same) may);
+      }
+
+  -- the second reply, where it is told as a repeat, and the register's items are known at the end
+  pub repeats_shown : (y : History) (old answered closed new : Standing) (offer request : List ℕ) (first second : BatchAnswer) (said : Said) (items more : List Item) → CallsOn Opt meaning old answered offer (One request) (Ok first) → ChecksOn answered closed (Ok said) → CallsOn Opt meaning closed new offer (One request) (Ok second) → second.again ≡ true
+      → StandsFor (opt meaning key barrier) old y → old.items ≡ Some items → new.items ≡ Some (standing_items y.is_open items ++ more)
+      → AreAsked all others asked (opt meaning key barrier) y offer (One request) → AreShown all others (opt meaning key barrier) y more → MayClose all (opt meaning key barrier) y more
+      → RepeatsReply (opt meaning key barrier) y new (One request) first second
+  repeats_shown y old answered closed new offer request first second said items more c k r again s known ends a shown_so may =
+      let x = reached y old answered closed offer request first said items c k s known in
+      let t = repeat_shows closed new offer request second r x.at x.stands again x.there x.known in
+      let before = seen_before y old answered closed new offer request first said items more x.there t.0 c k x.known t.1 s known ends shown_so may in
+      repeats_between y old answered closed new offer request first second said items before.more c k r s known before.is a before.shown_are before.may

@@ -1,26 +1,33 @@
 -- What a caller of Opt gets that closes the segment between a request and the same request once more, by lists.
-use Rattle.std.specs.Prelude.{◌≡◌, ℕ, true, List, [], ◌∷◌, ◌++◌, Some, Result, Ok, Err}
+use Rattle.std.specs.Prelude.{◌≡◌, ℕ, true, List, [], ◌∷◌, ◌++◌, Option, None, Some, Result, Ok, Err}
 use Rattle.mm_digest.specs.declared.variant.Variant.TheVariants.{Opt}
 use Rattle.mm_digest.specs.Messages.{extended_of, anchored_message}
+use Rattle.mm_platform.specs.declared.fault.StepFault.{StepFault}
 use Rattle.mm_platform.specs.Standing.{Item, Standing, values_of}
 use Rattle.mm_module.specs.Meaning.{Meaning}
 use Rattle.mm_module.specs.Batch.{Batch, One}
 use Rattle.mm_model.specs.Instance.{Instance, opt}
 use Rattle.mm_model.specs.History.{History, register_value_of, cell_digest_of}
+use Rattle.mm_model.specs.Life.{life_of, is_lost}
 use Rattle.mm_model.specs.Messages.{Within}
 use Rattle.mm_model.specs.Standing.{StandsFor}
 use Rattle.mm_model.specs.declared.answer.Answer.{Answer}
 use Rattle.mm_model.specs.declared.answer.BatchAnswer.{BatchAnswer}
+use Rattle.mm_model.specs.declared.refusal.Refusal.{Refusal}
 use Rattle.mm_call.specs.Asked.{counted_part}
 use Rattle.mm_call.specs.CallsOn.{CallsOn}
 use Rattle.mm_call.specs.Leaving.{whole}
+use Rattle.mm_call.specs.Refusals.{fault_of}
 use Rattle.mm_call.specs.Tied.{standing_items}
 use Rattle.mm_opt.specs.declared.segment.Checkpointed.{Checkpointed}
+use Rattle.mm_opt.specs.declared.segment.CheckpointRefusal.{CheckpointRefusal}
+use Rattle.mm_opt.specs.declared.segment.CheckpointRefusal.TheVariants.{Device, Blank, Cell, Kind, Lost}
 use Rattle.mm_opt.specs.ChecksOn.{ChecksOn}
-use Rattle.mm_callers.specs.Basic.{AreAsked, AnswersOnce}
+use Rattle.mm_callers.specs.Basic.{AreAsked, IsOnce, AnswersOnce, finds, SaysFound, Stays, Refuses}
 use Rattle.mm_callers.specs.Opt.{AreShown}
 use Rattle.mm_callers.specs.declared.closing.Replies.{Replies}
 use Rattle.mm_callers.specs.declared.closing.Halted.{Halted}
+use Rattle.mm_callers.specs.declared.closing.Halted.TheVariants.{Asking, Closing}
 
 -- The messages by which a segment may be closed at this anchor: with the register's value before each of these values, and
 -- after the last of them.
@@ -40,10 +47,45 @@ pub record RepeatsReply (i : Instance) (y : History) (new : Standing) (b : Batch
   pub outputs : second.outputs ≡ first.outputs
   pub once : AnswersOnce i y new b second
 
+-- a checkpoint that was refused: by a device's fault, or since power was lost inside the segment
+abbrev pub SaysClosing : CheckpointRefusal → History → Type 0
+SaysClosing (Device fault) y = Unit {0}
+SaysClosing Lost y = is_lost (life_of Opt y) ≡ true
+SaysClosing Blank y = ⊥
+SaysClosing Cell y = ⊥
+SaysClosing Kind y = ⊥
+
+-- The first call was answered: the batch was committed once, and the call may be made again.
+pub record StaysOnce (all others : List (List ℕ)) (asked : List Batch) (i : Instance) (y : History) (new : Standing) (offer : List ℕ) (b : Batch) : Type 0 where
+  pub stays : Stays all others asked i new offer b
+  pub once : IsOnce y.batches b stays.after.batches
+
+-- It was made once more behind the checkpoint, and refused as it was found. Where it handed on a device's fault the
+-- register may be emptied, and nothing is known by its items at exit.
+pub record RefusesBehind (all others : List (List ℕ)) (asked : List Batch) (i : Instance) (y : History) (new : Standing) (offer : List ℕ) (b : Batch) (why : Refusal) : Type 0 where
+  pub one : StaysOnce all others asked i y new offer b
+  pub says : SaysFound (finds i one.stays.after offer b) why
+
+abbrev pub EndsBehind : Option StepFault → List (List ℕ) → List (List ℕ) → List Batch → Instance → History → Standing → List ℕ → Batch → Refusal → Type 0
+EndsBehind (Some fault) all others asked i y new offer b why = Unit {0}
+EndsBehind None all others asked i y new offer b why = RefusesBehind all others asked i y new offer b why
+
+-- The error is that of the call, of the checkpoint, or of the call once more.
+pub data RefusesRepeat (all others : List (List ℕ)) (asked : List Batch) (i : Instance) (y : History) (old new : Standing) (offer : List ℕ) (b : Batch) (why : Halted) : Type 0 where
+  in_first : (is : Refusal) → why ≡ Asking is → Refuses all others asked i y old new offer b is → RefusesRepeat all others asked i y old new offer b why
+  in_closing : (is : CheckpointRefusal) → why ≡ Closing is → (one : StaysOnce all others asked i y new offer b) → SaysClosing is one.stays.after
+      → RefusesRepeat all others asked i y old new offer b why
+  in_second : (is : Refusal) → why ≡ Asking is → EndsBehind (fault_of is) all others asked i y new offer b is → RefusesRepeat all others asked i y old new offer b why
+
 -- A request, a checkpoint and the request once more, where the second reply is told as a repeat. What is asked of what
 -- others do is asked of the register's items at exit.
 abbrev pub RepeatsBehind : Meaning → Standing → Standing → List ℕ → List ℕ → Result Replies Halted → Type 0
-RepeatsBehind meaning old new offer request (Err why) = Unit {0}
+RepeatsBehind meaning old new offer request (Err why) =
+    (key barrier : List ℕ) (y : History) (all others : List (List ℕ)) (asked : List Batch) (items more : List Item) →
+    StandsFor (opt meaning key barrier) old y → old.items ≡ Some items → new.items ≡ Some (standing_items y.is_open items ++ more) →
+    AreAsked all others asked (opt meaning key barrier) y offer (One request) → AreShown all others (opt meaning key barrier) y more →
+    MayClose all (opt meaning key barrier) y more →
+    RefusesRepeat all others asked (opt meaning key barrier) y old new offer (One request) why
 RepeatsBehind meaning old new offer request (Ok replies) =
     replies.second.again ≡ true →
     (key barrier : List ℕ) (y : History) (all others : List (List ℕ)) (asked : List Batch) (items more : List Item) →

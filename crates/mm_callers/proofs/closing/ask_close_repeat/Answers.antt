@@ -3,6 +3,7 @@ use Rattle.mm_call.specs.Leaving.{whole}
 use Rattle.mm_callers.specs.Counts.{in_first, in_closing, in_second, replied}
 use Rattle.mm_callers.proofs.Counting.{opt_counts}
 use Rattle.mm_callers.proofs.OptRepeatAsking.{repeats_behind, never_twice}
+use Rattle.mm_callers.proofs.OptRepeatRefusing.{refused_first, refused_closing, refused_again}
 use Rattle.mm_callers.proofs.closing.ask_close_repeat.Goals as goal
 
 pub returns-in-Ok-ask-clause-repeats : goal.returns-in-Ok-ask-clause-repeats
@@ -46,3 +47,20 @@ returns-in-Ok-ask-clause-counts g c =
     (record { steps = c.in-Ok-checkpoint.ensures.steps; faults = c.in-Ok-checkpoint.ensures.faults })
     (opt_counts (g.M.Module.meaning c.args.module.now) (g.P.Device.standing c.checkpoint.new.platform) (g.P.Device.standing c.ask-in-Ok-checkpoint.new.platform)
     c.args.offer.now c.args.request.now (Ok c.in-Ok-ask.second) c.in-Ok-ask.ensures.calls c.in-Ok-ask.ensures.steps c.in-Ok-ask.ensures.faults)
+
+pub returns-in-Err-clause-repeats : goal.returns-in-Err-clause-repeats
+returns-in-Err-clause-repeats g c =
+    refused_first (g.M.Module.meaning c.args.module.now) (g.P.Device.standing c.args.platform.now) (g.P.Device.standing c.ask.new.platform)
+    c.args.offer.now c.args.request.now c.in-Err.refusal c.in-Err.ensures.faults c.in-Err.ensures.calls c.in-Err.ensures.goes
+
+pub returns-in-Err-checkpoint-clause-repeats : goal.returns-in-Err-checkpoint-clause-repeats
+returns-in-Err-checkpoint-clause-repeats g c =
+    refused_closing (g.M.Module.meaning c.args.module.now) (g.P.Device.standing c.args.platform.now) (g.P.Device.standing c.ask.new.platform)
+    (g.P.Device.standing c.checkpoint.new.platform) c.args.offer.now c.args.request.now c.in-Ok.first c.in-Err-checkpoint.refusal c.in-Ok.ensures.calls c.in-Ok.ensures.goes c.in-Err-checkpoint.ensures.goes
+
+pub returns-in-Err-ask-clause-repeats : goal.returns-in-Err-ask-clause-repeats
+returns-in-Err-ask-clause-repeats g c =
+    refused_again (g.M.Module.meaning c.args.module.now) (g.P.Device.standing c.args.platform.now) (g.P.Device.standing c.ask.new.platform)
+    (g.P.Device.standing c.checkpoint.new.platform) (g.P.Device.standing c.ask-in-Ok-checkpoint.new.platform) c.args.offer.now c.args.request.now
+    c.in-Ok.first c.in-Ok-checkpoint.field-0 c.in-Err-ask.refusal c.in-Ok.ensures.calls c.in-Ok.ensures.goes c.in-Ok-checkpoint.ensures.goes
+    c.in-Err-ask.ensures.calls c.in-Err-ask.ensures.goes
