@@ -1,7 +1,6 @@
 //! Runs of the host's commands, one after another over the same platform and store.
 
-use crate::run::ROOM;
-use mm_app::memoir;
+use crate::run::{ROOM, command};
 use mm_base::{Bytes, MemSink, MemSource, Memory};
 use mm_pages::{MemPages, PageStore};
 use mm_platform::{MemPlatform, Platform};
@@ -105,7 +104,7 @@ fn written<P: Platform, T: Store>(
     let mut input = MemSource::new(alloc, content, &[])?;
     let mut entropy = MemSource::new(alloc, secrets, &[])?;
     let mut out = MemSink::new(alloc, ROOM, &[])?;
-    let _ = memoir(
+    let _ = command(
         alloc,
         words,
         platform,

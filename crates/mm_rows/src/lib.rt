@@ -1,10 +1,19 @@
-//! Whole schedules through the top call, over devices in memory: tests only.
+//! The theorem at the types of devices in memory; and tests: whole schedules through the top call, and commands over
+//! devices that fail.
 #![tactic(auto)]
+
+mod calls;
+mod sessions;
+
+pub use calls::{ask_basic, ask_opt, close_segment};
+pub use sessions::{go_on, serve, start, start_and_serve};
 
 #[cfg(test)]
 mod commands;
 #[cfg(test)]
 mod ends;
+#[cfg(test)]
+mod failing;
 #[cfg(test)]
 mod generated;
 #[cfg(test)]
@@ -17,6 +26,8 @@ mod run;
 mod schedules;
 #[cfg(test)]
 mod segments;
+#[cfg(test)]
+mod stopped;
 #[cfg(test)]
 mod stops;
 #[cfg(test)]

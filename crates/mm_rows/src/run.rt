@@ -4,8 +4,8 @@ ghost use Rattle.std.specs.Prelude.{Some, []};
 
 use mm_app::{Status, memoir};
 use mm_base::{Bytes, Failed, MemSink, MemSource, Sink, Source};
-use mm_platform::MemPlatform;
-use mm_store::MemStore;
+use mm_platform::{MemPlatform, Platform};
+use mm_store::{MemStore, Store};
 use std::alloc::Global;
 use std::process::Abort;
 use std::test::Fail;
@@ -45,6 +45,19 @@ pub fn run<S: Source, K: Sink>(
         &mut NoBytes,
         out,
     )
+}
+
+/// Does what the words say over these objects, and answers the exit status.
+pub fn command<P: Platform, T: Store>(
+    alloc: Global,
+    words: &[&str],
+    platform: &mut P,
+    store: &mut T,
+    input: &mut MemSource,
+    entropy: &mut MemSource,
+    out: &mut MemSink,
+) -> u8 {
+    memoir(alloc, words, platform, store, input, entropy, out).code()
 }
 
 /// Replays an input, and answers the exit status.

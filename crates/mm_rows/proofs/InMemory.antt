@@ -1,0 +1,79 @@
+-- What is asked of devices in memory, which tell what they hold, is what is asked of any.
+use Rattle.std.specs.Prelude.{◌≡◌, List, ℕ, Result, Ok, Err, Option, Some, length, OnOk, refl}
+use Rattle.std.specs.Option.{option_map}
+use Rattle.std.proofs.Common.{ap, ◌∙◌}
+use Rattle.mm_digest.specs.declared.variant.Variant.{Variant}
+use Rattle.mm_digest.specs.declared.variant.Variant.TheVariants.{Basic, Opt}
+use Rattle.mm_module.specs.Meaning.{Meaning}
+use Rattle.mm_module.specs.Batch.{Batch}
+use Rattle.mm_model.specs.Instance.{Instance}
+use Rattle.mm_model.specs.History.{History}
+use Rattle.mm_base.specs.Streams.{Supply}
+use Rattle.mm_host.specs.Begins.{Begins, Leaves}
+use Rattle.mm_host.specs.declared.fault.HostFault.{HostFault}
+use Rattle.mm_host.specs.declared.init_fault.InitFault.{InitFault}
+use Rattle.mm_host.specs.declared.resuming.Resumed.{Resumed}
+use Rattle.mm_host.specs.Recovery.{CanRecover, Recovers}
+use Rattle.mm_pages.specs.Cached.{Cached}
+use Rattle.mm_pages.specs.Sheets.{Sheets}
+use Rattle.mm_store.specs.Slots.{Slots}
+use Rattle.mm_twocell.specs.Pairs.{picked}
+use Rattle.mm_twocell.specs.Torn.{Torn, whole}
+use Rattle.mm_twocell.specs.declared.pair.TwoCell.{TwoCell}
+use Rattle.mm_rows.specs.Devices.{devices, kept_in_pages, two_cells}
+use Rattle.mm_rows.specs.Recovering.{CanRecoverInMemory, RecoversInMemory}
+use Rattle.mm_rows.specs.Starting.{StartsInMemory}
+
+can_recover : {all others : List (List ℕ)} {asked : List Batch} {i : Instance} {y : History} {it : TwoCell Torn} {store : Cached Sheets} →
+    CanRecoverInMemory all others asked i y it store → CanRecover all others asked i y store.device.slots (two_cells it) (kept_in_pages store)
+can_recover can = record {
+  honest = refl;
+  told = refl;
+  stands = can.stands;
+  fits = can.fits;
+  clear = can.clear;
+  apart = can.apart;
+  within = can.within;
+  is_asked = can.is_asked;
+}
+
+pub recovers_in_memory : (variant : Variant) (meaning : Meaning) (before after : TwoCell Torn) (old new : Cached Sheets) (result : Result Resumed HostFault) →
+    Recovers variant meaning (two_cells before) (two_cells after) (kept_in_pages old) (kept_in_pages new) result →
+    RecoversInMemory variant meaning before after old new result
+unfolding can_recover
+recovers_in_memory Basic meaning before after old new result recovers = λ key y all others asked can.
+    recovers key y old.device.slots all others asked (can_recover can)
+recovers_in_memory Opt meaning before after old new result recovers = λ key barrier y all others asked items more can.
+    recovers key barrier y old.device.slots all others asked items more (can_recover can)
+
+-- a memory of 209 bytes is told whole
+told_whole : (bytes : List ℕ) → length bytes ≡ 209 → whole (Some bytes) ≡ Some bytes
+told_whole bytes e = rw e
+
+pub tells_picked : (it : TwoCell Torn) (bytes : List ℕ) → it.raw.standing.cell ≡ Some bytes → length bytes ≡ 209 →
+    (cell : List ℕ) × ((two_cells it).cell ≡ Some cell)
+tells_picked it bytes e size = (picked bytes, ap (λ (c : Option (List ℕ)). option_map picked (whole c)) e ∙ ap (option_map picked) (told_whole bytes size))
+
+some_same : (a b : Slots) → (let o : Option Slots = Some a in o ≡ Some b) → a ≡ b
+some_same a b h = cc
+
+starts : (variant : Variant) (meaning : Meaning) (before after : TwoCell Torn) (old new : Cached Sheets) (entropy entropy' : Supply) (cell : List ℕ) →
+    (two_cells before).cell ≡ Some cell →
+    Begins variant meaning (devices before old entropy) (devices after new entropy') →
+    StartsInMemory variant meaning after new entropy.left entropy'.left
+starts variant meaning before after old new entropy entropy' cell told b = record {
+  secrets = b.secrets;
+  counted = b.counted;
+  taken = b.taken;
+  stands = b.stands cell _ told;
+  slots = some_same _ _ (b.stores old.device.slots refl refl);
+  first = b.first;
+}
+
+pub starts_in_memory : (variant : Variant) (meaning : Meaning) (before after : TwoCell Torn) (old new : Cached Sheets) (entropy entropy' : Supply) (result : Result Unit InitFault) →
+    ((cell : List ℕ) × ((two_cells before).cell ≡ Some cell)) →
+    Leaves variant meaning (devices before old entropy) (devices after new entropy') result →
+    OnOk result (StartsInMemory variant meaning after new entropy.left entropy'.left)
+starts_in_memory variant meaning before after old new entropy entropy' (Ok _) told leaves =
+    starts variant meaning before after old new entropy entropy' told.0 told.1 leaves
+starts_in_memory variant meaning before after old new entropy entropy' (Err why) told leaves = tt

@@ -1,0 +1,8 @@
+use Rattle.std.proofs.Common.{refl, ◌∙◌}
+use Rattle.mm_platform.specs.Steps.{ResetRegister}
+use Rattle.mm_files.proofs.Telling.{goes_untold}
+use Rattle.mm_rows.proofs.failing.FailingRawRegister.reg_reset.Goals as goal
+
+pub returns : goal.returns
+returns c = goes_untold ResetRegister _ _ _ _ _ (c.call-outcome.ensures.steps ∙ c.saturating_add-self.ensures) refl
+    c.call-outcome.ensures.counts c.call-outcome.ensures.failed

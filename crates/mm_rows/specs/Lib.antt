@@ -1,0 +1,4 @@
+pub mod Devices
+pub mod Recovering
+pub mod Starting
+pub mod FirstSession
