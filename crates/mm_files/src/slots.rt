@@ -10,9 +10,9 @@ use std::rt::Files;
 /// The bytes of a page.
 const PAGE: u64 = 256;
 
-/// The files of the slots. A page is written up to its last byte that isn't zero, and over all that the file has of it.
-/// So a slot has the bytes of its file, and behind them zero bytes up to the length that writes of pages gave it. `sync`
-/// lets the file have that length. A slot is taken for unsynced until this program synced it.
+/// The files of the slots. A page is written up to its last byte that isn't zero, and over all that the file has of
+/// it. So a slot has the bytes of its file, and behind them zero bytes up to the length that writes of pages gave it.
+/// `sync` lets the file have that length. A slot is taken for unsynced until this program synced it.
 #[derive(Drop)]
 pub struct Slots<'a, R: Files> {
     files: &'a R,

@@ -396,9 +396,11 @@ fits_synced slot size old mid new (Err fault) f s = record {
   leaves =
       λ honest.
       let before = slots_changed slot (resized size) old.slots in
-      let left = s.leaves (f.honest ∙ honest) in
-      (left.0, left.1 ∙ ap (λ (x : Option Slots). putting slot left.0 x) (f.slots honest ∙ before.1)
-      ∙ putting-twice slot before.0 left.0 old.slots);
+      let left = s.leaves (f.honest ∙ honest) in (
+        left.0,
+        left.1 ∙ ap (λ (x : Option Slots). putting slot left.0 x) (f.slots honest ∙ before.1)
+            ∙ putting-twice slot before.0 left.0 old.slots,
+      );
 }
 
 -- what is in a slot whose pages are those of the bytes, once it has their length
