@@ -1,5 +1,5 @@
 -- Recovery in either variant: what the call for the request that waits leads to.
-use Rattle.std.proofs.Common.{◌≡◌, ◌≢◌, ℕ, ◌-◌, List, [], ◌∷◌, ◌++◌, map, Option, None, Some, Result, Ok, Err, refl, sym, ◌∙◌, subst, inl, inr}
+use Rattle.std.proofs.Common.{◌≡◌, ◌≢◌, ℕ, List, [], ◌∷◌, ◌++◌, map, Option, None, Some, Result, Ok, Err, refl, sym, ◌∙◌, subst, inl, inr}
 use Rattle.std.specs.Prelude.{◌⊎◌}
 use Rattle.mm_digest.specs.declared.variant.Variant.{Variant}
 use Rattle.mm_digest.specs.declared.variant.Variant.TheVariants.{Basic, Opt}
@@ -13,7 +13,6 @@ use Rattle.mm_model.specs.Life.{Lost as LostLife, life_of}
 use Rattle.mm_model.specs.Moves.{digests_of}
 use Rattle.mm_model.specs.Places.{Names}
 use Rattle.mm_model.specs.Standing.{StandsFor}
-use Rattle.mm_model.specs.declared.answer.Answer.{Answer}
 use Rattle.mm_model.specs.declared.answer.BatchAnswer.{BatchAnswer}
 use Rattle.mm_model.specs.declared.refusal.Refusal.{Refusal}
 use Rattle.mm_call.specs.Asked.{IsAsked, IsWithin}
@@ -39,7 +38,6 @@ use Rattle.mm_store.specs.Pending.{Pending}
 use Rattle.mm_store.specs.Slots.{Slots, seen_in}
 use Rattle.mm_host.specs.declared.fault.HostFault.{HostFault}
 use Rattle.mm_host.specs.declared.resuming.Resumed.{Resumed}
-use Rattle.mm_host.specs.Asking.{IsCall}
 use Rattle.mm_host.specs.Fitting.{offer_slot, FitsBy}
 use Rattle.mm_host.specs.Recovery.{CanRecover, Recovers}
 use Rattle.mm_host.specs.Resumes.{Resumes}

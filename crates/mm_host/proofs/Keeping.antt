@@ -1,5 +1,5 @@
 -- Slots that fit go on to fit, and the first ones do.
-use Rattle.std.proofs.Common.{◌≡◌, ℕ, ◌+◌, true, false, List, [], ◌∷◌, Option, None, Some, refl, sym, ap, ◌∙◌, subst}
+use Rattle.std.proofs.Common.{◌≡◌, ℕ, ◌+◌, false, List, [], ◌∷◌, Option, None, Some, refl, sym, ap, ◌∙◌, subst}
 use Rattle.std.specs.Prelude.{◌⊎◌}
 use Rattle.std.specs.List.{Contains}
 use Rattle.mm_digest.specs.declared.variant.Variant.{Variant}
@@ -10,21 +10,18 @@ use Rattle.mm_module.specs.Meaning.{Meaning}
 use Rattle.mm_seal.specs.Snapshot.{Content}
 use Rattle.mm_model.specs.Instance.{Instance, basic, opt}
 use Rattle.mm_model.specs.History.{History, Move, Commit, Foreign, Placed, Reset, Close, Power, moved, total_of}
-use Rattle.mm_model.specs.Messages.{IsClear, AreNoGuards}
-use Rattle.mm_model.specs.Moves.{MayMove}
 use Rattle.mm_model.specs.Places.{Names}
-use Rattle.mm_model.specs.Sound.{IsSound}
 use Rattle.mm_model.proofs.Named.{basic_names, opt_names}
 use Rattle.mm_call.specs.Courses.{commits}
 use Rattle.mm_call.specs.Standing.{instance_by}
 use Rattle.mm_callers.specs.Basic.{EndsWith}
 use Rattle.mm_store.specs.Pending.{Pending}
 use Rattle.mm_store.specs.Slots.{Slots, seen_in}
-use Rattle.mm_host.specs.Fitting.{offer_slot, Holds, IsAwaited, FitsBy, Fits}
-use Rattle.mm_host.specs.Init.{Devices, instance_from}
-use Rattle.mm_host.specs.Begins.{first_on, first_slots, ShowsValues, IsFirst, Begins}
-use Rattle.mm_host.specs.Recovery.{IsAskedFor, CanRecover}
-use Rattle.mm_host.specs.SlotLaws.{FitsWith, BasicKeepsFitting, OptKeepsFitting, CanStart, FirstStartsCanGoOn}
+use Rattle.mm_host.specs.Fitting.{offer_slot, Holds, FitsBy}
+use Rattle.mm_host.specs.Init.{instance_from}
+use Rattle.mm_host.specs.Begins.{first_on, first_slots, IsFirst}
+use Rattle.mm_host.specs.Recovery.{IsAskedFor}
+use Rattle.mm_host.specs.SlotLaws.{FitsWith, BasicKeepsFitting, OptKeepsFitting, FirstStartsCanGoOn}
 
 same_batches : (i : Instance) (y : History) (m : Move) → commits (m ∷ []) ≡ false → (moved i y m).batches ≡ y.batches
 same_batches i y (Commit b) e = absurd (cc)

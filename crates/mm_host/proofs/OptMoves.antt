@@ -175,7 +175,8 @@ commit_keeps Basic flag y b = refl
 commit_keeps Opt true y b = refl
 commit_keeps Opt false y b = refl
 
--- What is answered was found in a history whose closed segments hold no value that stands for no batch; a call closes none.
+-- What is answered was found in a history whose closed segments hold no value that stands for no batch, and a call
+-- closes none.
 closed_same : (i : Instance) (moves : List Move) (y : History) → closes moves ≡ false → (all_made (by_lists i) y moves).closed ≡ y.closed
 closed_same i [] y e = refl
 closed_same i (Commit b ∷ moves) y e = closed_same i moves (moved i y (Commit b)) e ∙ commit_keeps i.variant y.is_open y b

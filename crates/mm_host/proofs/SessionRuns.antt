@@ -15,14 +15,13 @@ use Rattle.mm_module.specs.Batch.{Batch, One}
 use Rattle.mm_seal.specs.Snapshot.{Content}
 use Rattle.mm_seal.proofs.SealLaws.{sealed_once}
 use Rattle.mm_model.specs.Instance.{Instance, basic, opt}
-use Rattle.mm_model.specs.History.{History, Commit, committed, first_history, moved, requests_of, total_of}
+use Rattle.mm_model.specs.History.{History, Commit, committed, moved, requests_of, total_of}
 use Rattle.mm_model.specs.Life.{Life, Lost as LostLife, life_of}
 use Rattle.mm_model.specs.Messages.{IsClear, AreNoGuards}
 use Rattle.mm_model.specs.Places.{issued}
 use Rattle.mm_model.specs.Standing.{StandsFor, IsRight, issued_bytes}
 use Rattle.mm_model.specs.declared.answer.Answer.{Answer}
 use Rattle.mm_model.specs.declared.answer.BatchAnswer.{BatchAnswer}
-use Rattle.mm_model.specs.declared.refusal.Refusal.{Refusal}
 use Rattle.mm_model.proofs.Batches.{total-nil}
 use Rattle.mm_call.specs.Answers.{answer_on}
 use Rattle.mm_call.specs.Asked.{IsLedTo}
@@ -40,11 +39,11 @@ use Rattle.mm_host.specs.declared.fault.SessionFault.TheVariants.{Memory, Store,
 use Rattle.mm_host.specs.declared.resuming.Resumed.{Resumed}
 use Rattle.mm_host.specs.declared.resuming.Resumed.TheVariants.{Start, Answered}
 use Rattle.mm_host.specs.Continuing.{AreToFollow, CanServe, Continues, ContinuesTo, HasUntold, IsInHand, MayBeUntold, RefusesAs, RunsOver, history_then, position_of, told_first, told_in}
-use Rattle.mm_host.specs.Faults.{refused_as, told_as}
+use Rattle.mm_host.specs.Faults.{told_as}
 use Rattle.mm_host.specs.Fitting.{Fits, FitsBy, Holds, IsAwaited, offer_slot}
-use Rattle.mm_host.specs.Recovery.{CanRecover, ComesTo, IsGrown, MayCommit, RecoversTo}
+use Rattle.mm_host.specs.Recovery.{CanRecover, IsGrown, MayCommit, RecoversTo}
 use Rattle.mm_host.specs.Resumes.{Resumes}
-use Rattle.mm_host.specs.Saying.{Says, comes_as, position_at, snapshot_at, text_of}
+use Rattle.mm_host.specs.Saying.{Says, comes_as, snapshot_at, text_of}
 use Rattle.mm_host.specs.Serving.{AfterRecord, AsksLine, Place, Served, Serves, lines_served, record_for}
 use Rattle.mm_host.specs.Sessions.{AfterResume, BeginsWith, Ends, GoesOn, IsAtRest, Stops, StopsAtOnce, StopsInLine}
 use Rattle.mm_host.proofs.Awaited.{one_more}

@@ -1,6 +1,5 @@
 -- A session doesn't blame lines that are within the limits.
 use Rattle.std.proofs.Common.{◌≡◌, ◌∙◌, ◌+◌, ◌<◌, ◌≤◌, ℕ, List, [], ◌∷◌, ◌++◌, length, take, drop, Option, None, Some, Result, Ok, Err, refl, sym, ap, subst, inl, inr, arith, append_assoc, length-append, length-take, take-append-drop, append-nil, suc}
-use Rattle.std.specs.Prelude.{◌⊎◌}
 use Rattle.std.specs.Io.KnownBytes.{Consumes, IsAtEnd}
 use Rattle.std.specs.List.{AllByRecursion}
 use Rattle.mm_base.specs.Input.{IsUnbroken, joined, lines_of, tail_of, onto_first, onto_tail}
@@ -20,7 +19,7 @@ use Rattle.mm_host.specs.Faults.{told_as}
 use Rattle.mm_host.specs.Saying.{Says, comes_as}
 use Rattle.mm_host.specs.Serving.{Place, Served, Serves, line_limit, lines_served}
 use Rattle.mm_host.specs.SessionLines.{AreWithin, IsNoLines, SparesLines}
-use Rattle.mm_host.specs.Sessions.{AfterResume, BeginsWith, Ends, GoesOn, Sessions, Stops, most_lines}
+use Rattle.mm_host.specs.Sessions.{AfterResume, BeginsWith, Ends, Sessions, Stops, most_lines}
 
 -- what is left of an input behind what was taken
 record IsRead (input taken : List ℕ) (left : Option (List ℕ)) : Type 0 where

@@ -1,5 +1,5 @@
 -- Where no value of others counts, a history isn't spoiled.
-use Rattle.std.proofs.Common.{◌≡◌, ◌≢◌, ℕ, Bool, true, false, ◌||◌, List, [], ◌∷◌, ◌++◌, refl, sym, ap, ◌∙◌, subst, inl, inr, arith}
+use Rattle.std.proofs.Common.{◌≡◌, ◌≢◌, ℕ, Bool, true, false, ◌||◌, List, [], ◌∷◌, refl, sym, ap, ◌∙◌, subst, inl, inr, arith}
 use Rattle.std.specs.Prelude.{◌⊎◌, if◌then◌else◌}
 use Rattle.std.specs.List.{AllByRecursion, Contains}
 use Rattle.mm_digest.specs.declared.variant.Variant.{Variant}
@@ -8,7 +8,7 @@ use Rattle.mm_model.specs.History.{Entry, Own, Value, History, joined}
 use Rattle.mm_model.specs.Life.{Spoiled, has_value, is_empty, are_own, life_by, life_of}
 use Rattle.mm_model.specs.Messages.{counting, values_in}
 use Rattle.mm_model.specs.Moves.{IsOutside}
-use Rattle.mm_model.specs.Sound.{IsSound, AreItems}
+use Rattle.mm_model.specs.Sound.{AreItems}
 use Rattle.mm_model.proofs.Histories.{has_value-append}
 use Rattle.mm_call.specs.Asked.{IsLedTo}
 
