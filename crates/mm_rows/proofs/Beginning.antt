@@ -8,7 +8,7 @@ use Rattle.mm_module.specs.Meaning.{Meaning}
 use Rattle.mm_model.specs.Instance.{Instance, basic}
 use Rattle.mm_model.specs.History.{first_history}
 use Rattle.mm_host.specs.Begins.{IsFirst, first_slots}
-use Rattle.mm_host.specs.Continuing.{AreToFollow, CanServe, Continues, ContinuesTo, IsInHand, batches_then, told_in}
+use Rattle.mm_host.specs.Continuing.{AreToFollow, CanServe, Continues, ContinuesTo, IsInHand, history_then, told_in}
 use Rattle.mm_host.specs.Recovery.{CanRecover, IsAskedFor}
 use Rattle.mm_host.specs.Sessions.{Sessions}
 use Rattle.mm_host.specs.declared.fault.SessionFault.{SessionFault}
@@ -54,7 +54,7 @@ continues_to all others asked meaning middle after store new left left' input in
     subst (λ (waiting : Option Pending). ContinuesTo all others asked i first_history (two_cells after) (kept_in_pages new) (told_in waiting session.goes) (IsInHand waiting session.goes) result) first.nothing_waits
     (continues session (take 32 s.secrets) first_history (first_slots i) all others asked input refl (record {
       can = can_recover all others asked meaning middle store left left' (lines_of input) s can;
-      follow = subst (λ (waiting : Option Pending). AreToFollow all asked meaning.id (batches_then first_history waiting) (lines_of input)) (sym first.nothing_waits) can.follow;
+      follow = subst (λ (waiting : Option Pending). AreToFollow all asked i (history_then i first_history waiting) (lines_of input)) (sym first.nothing_waits) can.follow;
     }))
 
 pub begins_and_serves : (meaning : Meaning) (middle after : TwoCell Torn) (store new : Cached Sheets) (left left' input input' received received' : List ℕ) (result : Result Unit SessionFault) →

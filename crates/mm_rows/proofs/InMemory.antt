@@ -65,7 +65,7 @@ starts variant meaning before after old new entropy entropy' cell told b = recor
   secrets = b.secrets;
   counted = b.counted;
   taken = b.taken;
-  stands = b.stands cell _ told;
+  stands = λ values shows. b.stands cell values told shows;
   slots = some_same _ _ (b.stores old.device.slots refl refl);
   first = b.first;
 }

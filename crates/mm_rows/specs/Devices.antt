@@ -11,8 +11,8 @@ use Rattle.mm_twocell.specs.Pairs.{picked}
 use Rattle.mm_twocell.specs.Torn.{Torn, whole}
 use Rattle.mm_twocell.specs.declared.pair.TwoCell.{TwoCell}
 
--- The cell is the one that the last of the memory's 209 bytes picks; the register, power, room and faults are those of the
--- memory's platform. No plan is told.
+-- The cell is the one that the last of the memory's 209 bytes picks; the register, power, room and faults are those
+-- of the memory's platform. No plan is told.
 abbrev pub two_cells : TwoCell Torn → Standing
 two_cells it = record {
   cell = option_map picked (whole it.raw.standing.cell);

@@ -1,5 +1,5 @@
 -- What a first start, and a session behind it, come to over devices in memory.
-use Rattle.std.specs.Prelude.{◌≡◌, ℕ, List, [], ◌++◌, None, Some, Result, length, take}
+use Rattle.std.specs.Prelude.{◌≡◌, ℕ, List, ◌++◌, None, Some, Result, length, take}
 use Rattle.std.specs.List.{Contains}
 use Rattle.mm_base.specs.Input.{lines_of}
 use Rattle.mm_digest.specs.Messages.{start_message}
@@ -18,16 +18,16 @@ use Rattle.mm_twocell.specs.Torn.{Torn}
 use Rattle.mm_twocell.specs.declared.pair.TwoCell.{TwoCell}
 use Rattle.mm_rows.specs.Devices.{kept_in_pages, two_cells}
 
--- What is asked of the lines: they are asked one after another from the first history, and no two messages of this share a
--- digest.
+-- What is asked of the lines: they are asked one after another from the first history, and no two messages of this
+-- share a digest.
 pub record CanBegin (all others : List (List ℕ)) (asked : List Batch) (i : Instance) (lines : List (List ℕ)) : Type 0 where
   pub clear : IsClear all
   pub apart : AreNoGuards i.barrier others asked
   pub started : Contains all (start_message i.variant i.meaning.id)
-  pub follow : AreToFollow all asked i.meaning.id [] lines
+  pub follow : AreToFollow all asked i first_history lines
 
--- 64 bytes were taken, of which the first 32 are the key; and a session of Basic was held. What it told is one run of the
--- module from the empty list, and so on. Nothing is asked of the devices.
+-- 64 bytes were taken, of which the first 32 are the key; and a session of Basic was held. What it told is one run of
+-- the module from the empty list, and so on. Nothing is asked of the devices.
 pub record BeginsAndServes (meaning : Meaning) (after : TwoCell Torn) (new : Cached Sheets) (entropy entropy' input input' received received' : List ℕ) (result : Result Unit SessionFault) : Type 0 where
   pub secrets : List ℕ
   pub counted : length secrets ≡ 64

@@ -54,29 +54,39 @@ meddle 1 ffffffffffffffffffffffffffffffffffffffffffffffffffffffffffffffff ask 0 
 => stop line 2
 ";
 
+/// An input that ends within a line.
+const CUT_OFF: &str = "memoir 1 basic counter\nask 0 add 5\nask 1 add 5\nask 2";
+
+const CUT_OFF_REPLIES: &str = "ok 1 5\nok 2 10\nstop line 4\n";
+
+const HEADER: &str = "memoir 1 basic counter\n";
+
 #[test]
 fn a_line_outside_the_grammar_stops_a_replay(rt: HostRuntime) -> Result<(), Fail> {
     check_all(&rt, rt.alloc(), BAD_LINES, 13)?;
-    let cut_off = b"memoir 1 basic counter\nask 0 add 5\nask 1 add 5\nask 2";
     check(
         &rt,
         rt.alloc(),
-        cut_off,
-        b"ok 1 5\nok 2 10\nstop line 4\n",
+        CUT_OFF.as_bytes(),
+        CUT_OFF_REPLIES.as_bytes(),
         13,
     )
 }
 
-/// Words that are no command, and what they write.
+// Whether these words are refused.
+fn are_refused(alloc: Global, words: &[&str]) -> Result<bool, Fail> {
+    let mut input = MemSource::new(alloc, HEADER.as_bytes(), &[])?;
+    let mut out = MemSink::new(alloc, ROOM, &[])?;
+    let code = run(alloc, words, &mut input, &mut out).code();
+    Ok(out.content() == "stop usage\n".as_bytes() && code == 2)
+}
+
+/// Words that are no command.
 #[test]
 fn other_words_are_refused(rt: HostRuntime) -> Result<(), Fail> {
     let lists: [&[&str]; 5] = [&[], &["replay", "x"], &["-v"], &["help"], &[""]];
     for words in lists {
-        let mut input = MemSource::new(rt.alloc(), b"memoir 1 basic counter\n", &[])?;
-        let mut out = MemSink::new(rt.alloc(), ROOM, &[])?;
-        let status = run(rt.alloc(), words, &mut input, &mut out);
-        assert!(&rt; out.content() == b"stop usage\n".as_slice());
-        assert!(&rt; status.code() == 2);
+        assert!(&rt; are_refused(rt.alloc(), words)?);
     }
     Ok(())
 }
@@ -201,6 +211,40 @@ fn fails_to_write(
     Ok(true)
 }
 
+// Replays a schedule whose input fails at a call, and one whose output does, and counts those that were made.
+fn fails_at(
+    rt: &impl Abort,
+    alloc: Global,
+    call: u64,
+    schedule: &[u8],
+    replies: &[u8],
+    reads: &mut u64,
+    writes: &mut u64,
+) -> Result<(), Fail> {
+    if fails_to_read(rt, alloc, call, schedule, replies)? {
+        *reads = reads.saturating_add(1);
+    }
+    if fails_to_write(rt, alloc, call, schedule, replies)? {
+        *writes = writes.saturating_add(1);
+    }
+    Ok(())
+}
+
+// The same at each call.
+fn fails_in_turn(
+    rt: &impl Abort,
+    alloc: Global,
+    schedule: &[u8],
+    replies: &[u8],
+    reads: &mut u64,
+    writes: &mut u64,
+) -> Result<(), Fail> {
+    for call in 1..100 {
+        fails_at(rt, alloc, call, schedule, replies, reads, writes)?;
+    }
+    Ok(())
+}
+
 #[test]
 fn a_failing_input_or_output_stops_a_replay(rt: HostRuntime) -> Result<(), Fail> {
     let mut reads = 0u64;
@@ -208,26 +252,14 @@ fn a_failing_input_or_output_stops_a_replay(rt: HostRuntime) -> Result<(), Fail>
     for table in [LIMITER, QUOTA, KEPT] {
         let schedule = lines_of(rt.alloc(), table, false)?;
         let replies = lines_of(rt.alloc(), table, true)?;
-        for call in 1..100 {
-            if fails_to_read(
-                &rt,
-                rt.alloc(),
-                call,
-                schedule.as_slice(),
-                replies.as_slice(),
-            )? {
-                reads = reads.saturating_add(1);
-            }
-            if fails_to_write(
-                &rt,
-                rt.alloc(),
-                call,
-                schedule.as_slice(),
-                replies.as_slice(),
-            )? {
-                writes = writes.saturating_add(1);
-            }
-        }
+        fails_in_turn(
+            &rt,
+            rt.alloc(),
+            schedule.as_slice(),
+            replies.as_slice(),
+            &mut reads,
+            &mut writes,
+        )?;
     }
     assert!(&rt; reads > 50 && reads < 100);
     assert!(&rt; writes > 20 && writes < 100);
@@ -253,14 +285,33 @@ fn an_output_that_fails_at_the_stop_line_changes_no_status(rt: HostRuntime) -> R
     Ok(())
 }
 
+// Replays a schedule of one request over streams whose first call fails.
+fn check_first(
+    rt: &impl Abort,
+    alloc: Global,
+    failing_reads: &[u64],
+    failing_writes: &[u64],
+    written: &str,
+    code: u8,
+) -> Result<(), Fail> {
+    let mut streams = sound();
+    streams.failing_reads = failing_reads;
+    streams.failing_writes = failing_writes;
+    check_over(
+        rt,
+        alloc,
+        ONE_REQUEST.as_bytes(),
+        &streams,
+        written.as_bytes(),
+        code,
+    )
+}
+
+const ONE_REQUEST: &str = "memoir 1 basic counter\nask last add 5\n";
+
 /// The first call fails: the input's is told, and after the output's nothing is.
 #[test]
 fn a_first_call_that_fails_is_the_end(rt: HostRuntime) -> Result<(), Fail> {
-    let schedule = b"memoir 1 basic counter\nask last add 5\n";
-    let mut streams = sound();
-    streams.failing_reads = &[1];
-    check_over(&rt, rt.alloc(), schedule, &streams, b"stop read\n", 3)?;
-    streams.failing_reads = &[];
-    streams.failing_writes = &[1];
-    check_over(&rt, rt.alloc(), schedule, &streams, b"", 4)
+    check_first(&rt, rt.alloc(), &[1], &[], "stop read\n", 3)?;
+    check_first(&rt, rt.alloc(), &[], &[1], "", 4)
 }

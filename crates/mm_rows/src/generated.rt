@@ -1,26 +1,36 @@
 //! Schedules that the program makes itself.
 
-use crate::run::{NoBytes, ROOM, replay, run};
+use crate::run::{NoBytes, ROOM, replay_over, run, sound};
 use mm_app::Status;
-use mm_base::{MemSink, MemSource};
+use mm_base::{Bytes, MemSink, Memory};
+use std::alloc::Global;
 use std::test::Fail;
+
+/// The words of schedules.
+const SCHEDULES: &str = "\
+gen 7 100 basic counter
+gen 7 100 basic limiter
+gen 7 100 opt quota
+gen 7 100 opt receipt-counter";
+
+// What is written for these words, parted by spaces.
+fn written(alloc: Global, text: &str) -> Result<Bytes, Fail> {
+    let words: Vec<&str> = text.split(" ").collect(alloc)?;
+    Ok(written_for(alloc, words.as_slice())?)
+}
+
+fn written_for(alloc: Global, words: &[&str]) -> Result<Bytes, Memory> {
+    let mut out = MemSink::new(alloc, ROOM, &[])?;
+    let _ = run(alloc, words, &mut NoBytes, &mut out).code();
+    Bytes::copy_of(alloc, out.content())
+}
 
 #[test]
 fn a_generated_schedule_is_replayed_to_its_end(rt: HostRuntime) -> Result<(), Fail> {
-    let headers = [
-        ("basic", "counter"),
-        ("basic", "limiter"),
-        ("opt", "quota"),
-        ("opt", "receipt-counter"),
-    ];
-    for (variant, module) in headers {
-        let mut schedule = MemSink::new(rt.alloc(), ROOM, &[])?;
-        let words = ["gen", "7", "100", variant, module];
-        let status = run(rt.alloc(), words.as_slice(), &mut NoBytes, &mut schedule);
-        assert_eq!(rt; status, Status::Done);
-        let mut input = MemSource::new(rt.alloc(), schedule.content(), &[])?;
-        let mut out = MemSink::new(rt.alloc(), ROOM, &[])?;
-        assert_eq!(rt; replay(rt.alloc(), &mut input, &mut out), 0);
+    for text in SCHEDULES.lines() {
+        let schedule = written(rt.alloc(), text)?;
+        let told = replay_over(rt.alloc(), schedule.as_slice(), &sound())?;
+        assert!(&rt; told.code == 0, "{text}");
     }
     Ok(())
 }

@@ -160,69 +160,54 @@ fn commands_go_on_from_one_another(rt: HostRuntime) -> Result<(), Fail> {
     Ok(())
 }
 
+// A scene over two cells and pages.
+fn play_over_pages(rt: &impl Abort, alloc: Global, scene: &str) -> Result<(), Fail> {
+    let mut platform = TwoCell::new(MemRaw::new(alloc));
+    let mut store = PageStore::new(alloc, MemPages::new(alloc)?)?;
+    play(rt, alloc, &mut platform, &mut store, scene)
+}
+
 #[test]
 fn commands_go_on_over_two_cells_and_pages(rt: HostRuntime) -> Result<(), Fail> {
-    let alloc = rt.alloc();
-    for scene in [BASIC, OPT] {
-        let mut platform = TwoCell::new(MemRaw::new(alloc));
-        let mut store = PageStore::new(alloc, MemPages::new(alloc)?)?;
-        play(&rt, alloc, &mut platform, &mut store, scene)?;
+    play_over_pages(&rt, rt.alloc(), BASIC)?;
+    play_over_pages(&rt, rt.alloc(), OPT)
+}
+
+// Puts a store's slots into another one.
+fn copy_slots(store: &MemStore, into: &mut MemStore) -> Result<(), Memory> {
+    for slot in 0..4 {
+        into.set_slot(slot, store.slot(slot))?;
     }
     Ok(())
 }
 
-/// The store fails at the write of the snapshot, or of the request's record, which it tears.
-#[test]
-fn a_stopped_store_is_gone_on_from(rt: HostRuntime) -> Result<(), Fail> {
-    let alloc = rt.alloc();
-    let cases = [(5, "run\n=> again 1 5"), (4, "run\n< read\n=> ok 1 0")];
-    for (call, then) in cases {
-        let mut platform = MemPlatform::new(alloc, &[0; 104]);
-        let mut store = MemStore::new(alloc);
-        play(
-            &rt,
-            alloc,
-            &mut platform,
-            &mut store,
-            "init basic counter\n=> made",
-        )?;
-        store.stop_at(call, b"torn")?;
-        play(
-            &rt,
-            alloc,
-            &mut platform,
-            &mut store,
-            "run\n< add 5\n=> stop store",
-        )?;
-        play(&rt, alloc, &mut platform, &mut store, then)?;
-    }
-    Ok(())
+// The slots are put back as they stood after the first reply.
+fn roll_back(
+    rt: &impl Abort,
+    alloc: Global,
+    platform: &mut MemPlatform,
+    store: &mut MemStore,
+    old: &mut MemStore,
+) -> Result<(), Fail> {
+    let first = "init basic counter\n=> made\n\nrun\n< add 5\n=> ok 1 5";
+    play(rt, alloc, platform, store, first)?;
+    copy_slots(store, old)?;
+    let second = "run\n< add 7\n=> again 1 5\n=> ok 2 12";
+    play(rt, alloc, platform, store, second)?;
+    play(
+        rt,
+        alloc,
+        platform,
+        old,
+        "run\n=> no stale\n=> stop refused",
+    )
 }
 
-/// The host puts the slots back as they stood after the first reply.
 #[test]
 fn old_slots_are_refused(rt: HostRuntime) -> Result<(), Fail> {
     let alloc = rt.alloc();
     let mut platform = MemPlatform::new(alloc, &[0; 104]);
     let mut store = MemStore::new(alloc);
-    let first = "init basic counter\n=> made\n\nrun\n< add 5\n=> ok 1 5";
-    play(&rt, alloc, &mut platform, &mut store, first)?;
     let mut old = MemStore::new(alloc);
-    for slot in 0..4 {
-        old.set_slot(slot, store.slot(slot))?;
-    }
-    play(
-        &rt,
-        alloc,
-        &mut platform,
-        &mut store,
-        "run\n< add 7\n=> again 1 5\n=> ok 2 12",
-    )?;
-    play(
-        &rt,
-        alloc,
-        &mut platform,
-        &mut old,
-        "run\n=> no stale\n=> stop refused",
-    )
+    roll_back(&rt, alloc, &mut platform, &mut store, &mut old)
 }

@@ -304,7 +304,7 @@ fn check_call(
         let leaves = leaves_of(word).ok_or("what is left")?;
         assert!(rt;
             plays_anew(alloc, variant, scene, call, leaves, &NONE, row)?,
-            "{variant} {call} {word} | {row}"
+            "{row}"
         );
     }
     Ok(())
@@ -421,11 +421,11 @@ fn check_stages(
     let mut count = 0;
     for row in rows.lines() {
         let next = first_other(alloc, variant, scene, object, number, first, row)?;
-        assert!(rt; next > first, "{variant} {first} | {row}");
+        assert!(rt; next > first, "{row}");
         count = next.saturating_sub(first);
         first = next;
     }
-    assert!(rt; count == MOST_CALLS, "{variant} {first}");
+    assert!(rt; count == MOST_CALLS);
     Ok(())
 }
 
@@ -480,6 +480,18 @@ fn sessions_of(alloc: Global, count: u64) -> Result<String, Fail> {
     Ok(format!(in alloc; "init * counter\nrun{requests}\ncheckpoint\nrun{requests}")?)
 }
 
+// The same over new devices.
+fn put_counts_anew(
+    alloc: Global,
+    variant: &str,
+    scene: &str,
+    text: &mut Bytes,
+) -> Result<(), Fail> {
+    let mut platform = TwoCell::new(FailingRaw::new(0, Leaves::Nothing));
+    let mut store = PageStore::new(alloc, MemPages::new(alloc)?)?;
+    put_counts(alloc, variant, scene, text, &mut platform, &mut store)
+}
+
 // Whether a row's counts are those of its sessions.
 fn counts(alloc: Global, row: &str) -> Result<bool, Fail> {
     let (names, told) = row.split_once(" |").ok_or("counts")?;
@@ -487,16 +499,7 @@ fn counts(alloc: Global, row: &str) -> Result<bool, Fail> {
     let count = read_decimal(number.as_bytes()).ok_or("a number")?;
     let scene = sessions_of(alloc, count)?;
     let mut text = Bytes::new(alloc);
-    let mut platform = TwoCell::new(FailingRaw::new(0, Leaves::Nothing));
-    let mut store = PageStore::new(alloc, MemPages::new(alloc)?)?;
-    put_counts(
-        alloc,
-        variant,
-        scene.as_str(),
-        &mut text,
-        &mut platform,
-        &mut store,
-    )?;
+    put_counts_anew(alloc, variant, scene.as_str(), &mut text)?;
     Ok(text.as_slice() == told.as_bytes())
 }
 
