@@ -104,8 +104,8 @@ quiet ask 1 add 1 => again 2 2, 4
 quiet ask 0 add 1 => no 11, 4
 ";
 
-/// Calls and a checkpoint step by step. In front of what comes stand two digits for each step: its number, and how often
-/// the cell was to be written before it.
+/// Calls and a checkpoint step by step. In front of what comes stand two digits for each step: its number, and how
+/// often the cell was to be written before it.
 const STEPS: &str = "\
 new
 quiet turns 0 add 1 => 1020304050 ok 1 1, 1
@@ -113,8 +113,8 @@ quiet turns 0 add 1 => 1121 again 1 1, 1
 quiet closing 0 . => 112131 checkpointed, 2
 ";
 
-/// What is in the cell, what is offered, what is asked, and the number of the refusal. Each offer has what the rows below
-/// it are refused for too.
+/// What is in the cell, what is offered, what is asked, and the number of the refusal. Each offer has what the rows
+/// below it are refused for too.
 const REFUSALS: &str = "\
 quiet refused 0 blank form long => no 2, 0
 quiet refused 0 blank form read => no 4, 0
