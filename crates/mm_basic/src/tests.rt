@@ -10,6 +10,7 @@ use mm_module::{Batch, Counter, Outputs};
 use mm_platform::{MemPlatform, Platform, Stop};
 use mm_seal::{Body, Place, seal};
 use std::alloc::Global;
+use std::process::Abort;
 use std::test::Fail;
 
 const KEY: [u8; 32] = [7; 32];
@@ -17,7 +18,8 @@ const KEY: [u8; 32] = [7; 32];
 /// Calls one after another: the stop that is planned, what is asked on which snapshot, and what comes; behind it how
 /// often the cell was to be written by then. At `new` there is another platform. A repeat is answered and written no
 /// more; a call that is stopped is committed where its write has its effect, and by nothing else. `parts` makes the
-/// call by `prepare`, `commit` and `answer`, and `turns` step by step.
+/// call by `prepare`, `commit` and `answer`, and `turns` step by step: in front of what comes stand two digits for each
+/// step, its number and how often the cell was to be written before it.
 const CALLS: &str = "\
 new
 quiet ask 0 add 5 => ok 1 5, 1
@@ -55,28 +57,42 @@ quiet parts 0 add 5 => ok 1 5, 1
 quiet parts 0 add 5 => again 1 5, 1
 quiet parts 0 add 7 => no 11, 1
 cut-2 parts 2 add 2 => no 3, 2
-quiet turns 2 add 2 => again 2 7, 2
-quiet turns 3 add 1 => ok 3 8, 3
-done-2 turns 4 add 1 => no 3, 4
+quiet turns 2 add 2 => 12 again 2 7, 2
+quiet turns 3 add 1 => 1222 ok 3 8, 3
+done-2 turns 4 add 1 => 1323 no 3, 4
 quiet parts 4 add 1 => again 4 9, 4
+";
+
+/// The steps of a call, one by one: nothing is written before the last.
+const STEPS: &str = "\
+new
+quiet turns 0 add 1 => 1020 ok 1 1, 1
+";
+
+/// What is in the cell, what is offered, what is asked, and what comes. Each offer has what the rows below it are refused
+/// for too.
+const REFUSALS: &str = "\
+quiet refused 0 blank form long => no 2 and 0 faults, 0
+quiet refused 0 blank form many => no 2 and 0 faults, 0
+quiet refused 0 blank form read => no 4 and 0 faults, 0
+quiet refused 0 noise form read => no 5 and 0 faults, 0
+quiet refused 0 own form read => no 7 and 0 faults, 0
+quiet refused 0 own kind read => no 8 and 0 faults, 0
+quiet refused 0 own state read => no 9 and 0 faults, 0
+quiet refused 0 own tag read => no 10 and 0 faults, 0
+quiet refused 0 own stale read => no 11 and 0 faults, 0
+quiet refused 0 own full read => no 12 and 0 faults, 0
+quiet refused 0 own first read => ok 1 0 and 0 faults, 1
 ";
 
 /// A line of the table.
 #[derive(Drop)]
 struct Row<'a> {
     stop: Stop,
-    form: Form,
+    word: &'a str,
     number: usize,
-    batch: Batch<'a>,
-    said: &'a [u8],
-}
-
-/// How a call is made.
-#[derive(Clone, Copy)]
-enum Form {
-    Whole,
-    Parts,
-    Turns,
+    text: &'a str,
+    said: &'a str,
 }
 
 fn row_of(line: &str) -> Option<Row<'_>> {
@@ -85,29 +101,13 @@ fn row_of(line: &str) -> Option<Row<'_>> {
     let (word, asked) = asked.split_once(' ')?;
     let (number, text) = asked.split_once(' ')?;
     let number = read_decimal(number.as_bytes())? as usize;
-    let batch = batch_of(word, text.as_bytes());
     Some(Row {
         stop: stop_of(stop),
-        form: form_of(word),
+        word,
         number,
-        batch,
-        said: said.as_bytes(),
+        text,
+        said,
     })
-}
-
-fn batch_of<'a>(word: &str, text: &'a [u8]) -> Batch<'a> {
-    match word {
-        "batch" => Batch::Many(text),
-        _ => Batch::One(text),
-    }
-}
-
-fn form_of(word: &str) -> Form {
-    match word {
-        "parts" => Form::Parts,
-        "turns" => Form::Turns,
-        _ => Form::Whole,
-    }
 }
 
 fn stop_of(word: &str) -> Stop {
@@ -136,16 +136,41 @@ struct Host {
 }
 
 impl Host {
-    fn new(alloc: Global) -> Result<Host, Fail> {
-        let made = provision(alloc, &Counter, &KEY, &[0; 32])?;
-        let platform = MemPlatform::new(alloc, &made.cell);
-        let mut snapshots = Vec::new(alloc);
-        snapshots.push(made.snapshot)?;
-        Ok(Host {
+    /// A blank platform, and no snapshots.
+    fn blank(alloc: Global) -> Host {
+        Host {
             alloc,
-            platform,
-            snapshots,
-        })
+            platform: MemPlatform::new(alloc, &[0; 104]),
+            snapshots: Vec::new(alloc),
+        }
+    }
+
+    /// Another platform, and its first snapshot.
+    fn begin(&mut self) -> Result<(), Fail> {
+        let made = provision(self.alloc, &Counter, &KEY, &[0; 32])?;
+        self.platform = MemPlatform::new(self.alloc, &made.cell);
+        self.snapshots.clear();
+        self.snapshots.push(made.snapshot)?;
+        Ok(())
+    }
+
+    /// Does what the lines of a table say, one after another.
+    fn does(&mut self, rt: &impl Abort, table: &str) -> Result<(), Fail> {
+        for line in table.lines() {
+            match line {
+                "new" => self.begin()?,
+                _ => self.does_row(rt, line)?,
+            }
+        }
+        Ok(())
+    }
+
+    fn does_row(&mut self, rt: &impl Abort, line: &str) -> Result<(), Fail> {
+        let row = row_of(line).ok_or("no row")?;
+        let came = self.call(&row)?;
+        let came = format!(in self.alloc; "{came}, {}", self.platform.nv_writes())?;
+        assert_eq!(rt; came.as_str(), row.said, "{line}");
+        Ok(())
     }
 
     /// Makes the call of this row and gets the power back, and says what came. Where memory was wanting nothing has
@@ -160,34 +185,86 @@ impl Host {
 
     fn call_once(&mut self, row: &Row<'_>) -> Result<String, Fail> {
         self.platform.plan(row.stop, &[])?;
-        let came = self.ask(row.form, row.number, row.batch)?;
+        let came = self.told(row)?;
         self.platform.end_plan();
         self.platform.cycle()?;
         Ok(came)
     }
 
-    /// Asks for a batch, offering the snapshot of this number, and says what came.
-    fn ask(&mut self, form: Form, number: usize, batch: Batch<'_>) -> Result<String, Fail> {
-        let offer = self.snapshots.get(number).ok_or("no snapshot")?.as_slice();
-        let platform = &mut self.platform;
-        match (form, batch) {
-            (Form::Whole, Batch::One(request)) => {
-                let came = ask_counter(self.alloc, platform, offer, request);
-                self.one(came)
-            }
-            (Form::Whole, Batch::Many(_)) => {
-                let came = ask_counter_batch(self.alloc, platform, offer, batch);
-                self.many(came)
-            }
-            (Form::Parts, _) => {
-                let came = ask_in_parts(self.alloc, platform, offer, batch.text());
-                self.many(came)
-            }
-            (Form::Turns, _) => {
-                let came = ask_in_turns(self.alloc, platform, offer, batch);
-                self.many(came)
-            }
+    fn told(&mut self, row: &Row<'_>) -> Result<String, Fail> {
+        match row.word {
+            "refused" => self.refused(row.text),
+            "batch" => self.ask_batch(row.number, row.text.as_bytes()),
+            "parts" => self.ask_in_parts(row.number, row.text.as_bytes()),
+            "turns" => self.ask_in_turns(row.number, row.text.as_bytes()),
+            _ => self.ask(row.number, row.text.as_bytes()),
         }
+    }
+
+    /// What a call meets on the cell, with the offer and the request that these words name, and how many steps failed.
+    fn refused(&mut self, asked: &str) -> Result<String, Fail> {
+        let (cell, asked) = asked.split_once(' ').ok_or("no cell")?;
+        let (offer, request) = asked.split_once(' ').ok_or("no offer")?;
+        self.set(cell)?;
+        let offer = offer_of(self.alloc, offer)?;
+        let said = match request {
+            "many" => self.many_offering(offer.as_slice())?,
+            _ => self.one_offering(offer.as_slice(), request)?,
+        };
+        Ok(format!(in self.alloc; "{said} and {} faults", self.platform.faults())?)
+    }
+
+    /// Another platform, with this cell.
+    fn set(&mut self, cell: &str) -> Result<(), Fail> {
+        match cell {
+            "blank" => self.platform = MemPlatform::new(self.alloc, &[0; 104]),
+            "noise" => self.platform = MemPlatform::new(self.alloc, &[1; 104]),
+            _ => self.begin()?,
+        }
+        Ok(())
+    }
+
+    fn one_offering(&mut self, offer: &[u8], request: &str) -> Result<String, Fail> {
+        let came = ask_counter(self.alloc, &mut self.platform, offer, request_of(request));
+        self.one(came)
+    }
+
+    /// The same of 65 empty requests.
+    fn many_offering(&mut self, offer: &[u8]) -> Result<String, Fail> {
+        let batch = Batch::Many(&[b'\t'; 64]);
+        let came = ask_counter_batch(self.alloc, &mut self.platform, offer, batch);
+        self.many(came)
+    }
+
+    /// Asks for a request, offering the snapshot of this number, and says what came.
+    fn ask(&mut self, number: usize, request: &[u8]) -> Result<String, Fail> {
+        let offer = self.snapshots.get(number).ok_or("no snapshot")?.as_slice();
+        let came = ask_counter(self.alloc, &mut self.platform, offer, request);
+        self.one(came)
+    }
+
+    /// The same of a batch.
+    fn ask_batch(&mut self, number: usize, text: &[u8]) -> Result<String, Fail> {
+        let offer = self.snapshots.get(number).ok_or("no snapshot")?.as_slice();
+        let came = ask_counter_batch(self.alloc, &mut self.platform, offer, Batch::Many(text));
+        self.many(came)
+    }
+
+    /// The same of one request, in its parts.
+    fn ask_in_parts(&mut self, number: usize, request: &[u8]) -> Result<String, Fail> {
+        let offer = self.snapshots.get(number).ok_or("no snapshot")?.as_slice();
+        let came = ask_in_parts(self.alloc, &mut self.platform, offer, request);
+        self.many(came)
+    }
+
+    /// The same of one request, step by step, with the digits of the steps.
+    fn ask_in_turns(&mut self, number: usize, request: &[u8]) -> Result<String, Fail> {
+        let offer = self.snapshots.get(number).ok_or("no snapshot")?.as_slice();
+        let mut steps = 0;
+        let batch = Batch::One(request);
+        let came = ask_in_turns(&mut steps, self.alloc, &mut self.platform, offer, batch);
+        let said = self.many(came)?;
+        Ok(format!(in self.alloc; "{steps} {said}")?)
     }
 
     /// Says what came of one request, and keeps the snapshot.
@@ -248,7 +325,14 @@ fn ask_in_parts(
     }
 }
 
+/// The digits of the steps so far and of the next: its number, and how often the cell was to be written before it.
+fn noted(steps: u64, step: u8, writes: u64) -> u64 {
+    let next = (10 * u64::from(step)).saturating_add(writes);
+    steps.saturating_mul(100).saturating_add(next)
+}
+
 fn ask_in_turns(
+    steps: &mut u64,
     alloc: Global,
     platform: &mut MemPlatform,
     offer: &[u8],
@@ -256,6 +340,7 @@ fn ask_in_turns(
 ) -> Result<BatchAnswer, Refusal> {
     let mut call = begin(batch)?;
     for _ in 0..2 {
+        *steps = noted(*steps, call.next_step(), platform.nv_writes());
         match call.advance(alloc, &Counter, platform, offer, batch) {
             Turn::Going(next) => call = next,
             Turn::Done(answer) => return Ok(answer),
@@ -285,23 +370,6 @@ fn with_outputs(alloc: Global, line: String, outputs: &Outputs) -> Result<String
     Ok(line)
 }
 
-#[test]
-fn calls_go_on_from_the_newest_snapshot(rt: HostRuntime) -> Result<(), Fail> {
-    let alloc = rt.alloc();
-    let mut host = Host::new(alloc)?;
-    for line in CALLS.lines() {
-        if line == "new" {
-            host = Host::new(alloc)?;
-            continue;
-        }
-        let row = row_of(line).ok_or("no row")?;
-        let came = host.call(&row)?;
-        let came = format!(in alloc; "{came}, {}", host.platform.nv_writes())?;
-        assert_eq!(rt; came.as_bytes(), row.said);
-    }
-    Ok(())
-}
-
 fn sealed(
     alloc: Global,
     key: &[u8; 32],
@@ -321,87 +389,60 @@ fn sealed(
     Ok(seal(alloc, key, &body)?)
 }
 
-/// Each refusal that rests on the offer, and no place in it, by its number.
-#[test]
-fn offers_are_refused_in_order(rt: HostRuntime) -> Result<(), Fail> {
-    let alloc = rt.alloc();
-    let made = provision(alloc, &Counter, &KEY, &[0; 32])?;
-    let mut platform = MemPlatform::new(alloc, &made.cell);
+fn offer_of(alloc: Global, word: &str) -> Result<Bytes, Fail> {
     let here = Place::Basic(start(Variant::Basic, 1));
     let there = Place::Opt {
         anchor: zero(),
         extension: zero(),
     };
-    let state = [0; 8];
-    let rows = [
-        (Bytes::copy_of(alloc, b"MMS1")?, 7),
-        (sealed(alloc, &KEY, there, 0, &state)?, 8),
-        (sealed(alloc, &[8; 32], here, 0, &[1, 2, 3])?, 9),
-        (sealed(alloc, &[8; 32], here, 0, &state)?, 10),
-        (sealed(alloc, &KEY, Place::Basic(zero()), 0, &state)?, 11),
-        (sealed(alloc, &KEY, here, 1 << 48, &state)?, 12),
-    ];
-    for (offer, code) in rows.iter() {
-        let result = ask_counter(alloc, &mut platform, offer.as_slice(), b"read");
-        let came = match result {
-            Ok(_) => 0,
-            Err(refusal) => refusal.code(),
-        };
-        assert_eq!(rt; came, *code);
+    match word {
+        "kind" => sealed(alloc, &KEY, there, 0, &[0; 8]),
+        "state" => sealed(alloc, &[8; 32], here, 0, &[1, 2, 3]),
+        "tag" => sealed(alloc, &[8; 32], here, 0, &[0; 8]),
+        "stale" => sealed(alloc, &KEY, Place::Basic(zero()), 0, &[0; 8]),
+        "full" => sealed(alloc, &KEY, here, 1 << 48, &[0; 8]),
+        "first" => sealed(alloc, &KEY, here, 0, &[0; 8]),
+        _ => Ok(Bytes::copy_of(alloc, b"MMS1")?),
     }
-    assert_eq!(rt; platform.nv_writes(), 0);
-    assert_eq!(rt; platform.faults(), 0);
-    Ok(())
 }
 
-/// What is refused before the offer is looked at.
+fn request_of(word: &str) -> &[u8] {
+    match word {
+        "long" => b"add 1\n",
+        _ => b"read",
+    }
+}
+
+/// Whether a call for this request alone can't begin.
+fn is_long_alone(request: &[u8]) -> bool {
+    match begin(Batch::One(request)) {
+        Err(Refusal::Long) => true,
+        _ => false,
+    }
+}
+
+/// Does what a table says, one line after another.
+fn told(rt: &impl Abort, alloc: Global, table: &str) -> Result<(), Fail> {
+    let mut host = Host::blank(alloc);
+    host.does(rt, table)
+}
+
 #[test]
-fn a_long_request_a_blank_cell_and_another_cell_are_refused(rt: HostRuntime) -> Result<(), Fail> {
-    let alloc = rt.alloc();
-    let mut host = Host::new(alloc)?;
-    assert_eq!(rt;
-        host.ask(Form::Whole, 0, Batch::One(b"add 1\n"))?.as_str(),
-        "no 2"
-    );
-    assert_eq!(rt;
-        host.ask(Form::Whole, 0, Batch::Many(&[b'\t'; 64]))?
-            .as_str(),
-        "no 2"
-    );
-    assert_eq!(rt; begin(Batch::One(&[b'a'; 4097])).err(), Some(Refusal::Long));
-    for (byte, code) in [(0, "no 4"), (1, "no 5")] {
-        host.platform = MemPlatform::new(alloc, &[byte; 104]);
-        assert_eq!(rt;
-            host.ask(Form::Whole, 0, Batch::One(b"read"))?.as_str(),
-            code
-        );
-    }
-    Ok(())
+fn calls_go_on_from_the_newest_snapshot(rt: HostRuntime) -> Result<(), Fail> {
+    told(&rt, rt.alloc(), CALLS)
 }
 
-/// The steps of a call, one by one: nothing is written before the last.
 #[test]
 fn a_call_goes_on_by_one_step_at_a_time(rt: HostRuntime) -> Result<(), Fail> {
-    let alloc = rt.alloc();
-    let mut host = Host::new(alloc)?;
-    let batch = Batch::One(b"add 1");
-    let offer = host.snapshots.pop().ok_or("a first snapshot")?;
-    let call = begin(batch)?;
-    assert_eq!(rt; call.next_step(), 1);
-    let call = match call.advance(alloc, &Counter, &mut host.platform, offer.as_slice(), batch) {
-        Turn::Going(call) => call,
-        Turn::Done(_) => Err("done at its first step")?,
-        Turn::Refused(refusal) => Err(refusal)?,
-    };
-    assert_eq!(rt; call.next_step(), 2);
-    assert_eq!(rt; host.platform.nv_writes(), 0);
-    let answer = match call.advance(alloc, &Counter, &mut host.platform, offer.as_slice(), batch) {
-        Turn::Done(answer) => answer,
-        Turn::Going(_) => Err("a third step")?,
-        Turn::Refused(refusal) => Err(refusal)?,
-    };
-    assert_eq!(rt; host.platform.nv_writes(), 1);
-    assert_eq!(rt; answer.position, 1);
-    assert_eq!(rt; answer.outputs.get(0), Some(b"1".as_slice()));
-    Ok(())
+    told(&rt, rt.alloc(), STEPS)
+}
+
+#[test]
+fn calls_are_refused_in_order(rt: HostRuntime) -> Result<(), Fail> {
+    told(&rt, rt.alloc(), REFUSALS)
+}
+
+#[test]
+fn a_request_of_4097_bytes_is_too_long(rt: HostRuntime) {
+    assert!(rt; is_long_alone(&[b'a'; 4097]));
 }

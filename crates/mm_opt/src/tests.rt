@@ -1,18 +1,16 @@
 //! The counter over a platform in memory.
 
-ghost use Rattle.std.specs.Prelude.{◌≡◌, ◌≤◌, ◌^◌, false, length, IfOk};
-ghost use Rattle.mm_module.specs.Batches.{batch_of};
-ghost use Rattle.mm_model.specs.Long.{is_long};
-ghost use Rattle.mm_opt.specs.Steps.{MayGoOn};
+ghost use Rattle.std.specs.Prelude.{◌≤◌, ◌^◌, length};
 
 use super::*;
 use mm_base::{Bytes, read_decimal};
 use mm_digest::{Digest, Variant, start, zero};
 use mm_model::{Answer, BatchAnswer, Refusal};
 use mm_module::{Batch, Counter, Outputs};
-use mm_platform::{Meddle, MemPlatform, Platform, StepFault, Stop};
+use mm_platform::{Meddle, MemPlatform, Platform, Stop};
 use mm_seal::{Body, Cell, Place, cell_bytes, seal};
 use std::alloc::Global;
+use std::process::Abort;
 use std::test::Fail;
 
 const KEY: [u8; 32] = [7; 32];
@@ -22,7 +20,8 @@ const BARRIER: [u8; 32] = [9; 32];
 const FOREIGN: Digest = Digest { bytes: [255; 32] };
 
 /// Short stories: what is planned, what is asked on which snapshot, and what comes; behind it how often the cell was
-/// to be written by then. At `new` there is another platform, and power is lost at `power` and after a cut.
+/// to be written by then. At `new` there is another platform, and power is lost at `power` and after a cut. `parts`
+/// makes the call by `prepare`, `commit` and `answer`.
 const STORIES: &str = "\
 new
 quiet ask 0 add 1 => ok 1 1, 1
@@ -44,7 +43,7 @@ quiet ask 0 add 1 => ok 1 1, 1
 power
 quiet ask 1 read => no 6, 1
 quiet ask 1 a\tb => no 6, 1
-quiet checkpoint 0 . => no lost, 1
+quiet checkpoint 0 . => no power was lost inside an open segment, 1
 new
 cut-4 ask 0 add 1 => no 3, 0
 quiet ask 0 read => ok 1 0, 1
@@ -82,7 +81,7 @@ quiet checkpoint 0 . => checkpointed, 2
 quiet ask 1 add 1 => no 11, 2
 new
 quiet ask 0 add 1 => ok 1 1, 1
-cut-3 checkpoint 0 . => no device, 2
+cut-3 checkpoint 0 . => no a step of the platform failed, 2
 quiet ask 1 read => ok 2 1, 3
 new
 quiet batch 0 add 1\tadd 1 => ok 2 1 2, 1
@@ -105,29 +104,44 @@ quiet ask 1 add 1 => again 2 2, 4
 quiet ask 0 add 1 => no 11, 4
 ";
 
-/// What is in the cell, what is offered, what is asked, and the number of the refusal. Each offer has what the rows below
-/// it are refused for too.
+/// Calls and a checkpoint step by step. In front of what comes stand two digits for each step: its number, and how
+/// often the cell was to be written before it.
+const STEPS: &str = "\
+new
+quiet turns 0 add 1 => 1020304050 ok 1 1, 1
+quiet turns 0 add 1 => 1121 again 1 1, 1
+quiet closing 0 . => 112131 checkpointed, 2
+";
+
+/// What is in the cell, what is offered, what is asked, and the number of the refusal. Each offer has what the rows
+/// below it are refused for too.
 const REFUSALS: &str = "\
-blank form long => 2
-blank form read => 4
-noise form read => 5
-basic form read => 5
-module-2 form read => 5
-open form read => 6
-shut form read => 7
-shut kind read => 8
-shut state read => 9
-shut tag read => 10
-shut stale read => 11
-shut full read => 12
+quiet refused 0 blank form long => no 2, 0
+quiet refused 0 blank form read => no 4, 0
+quiet refused 0 noise form read => no 5, 0
+quiet refused 0 basic form read => no 5, 0
+quiet refused 0 module-2 form read => no 5, 0
+quiet refused 0 open form read => no 6, 0
+quiet refused 0 shut form read => no 7, 0
+quiet refused 0 shut kind read => no 8, 0
+quiet refused 0 shut state read => no 9, 0
+quiet refused 0 shut tag read => no 10, 0
+quiet refused 0 shut stale read => no 11, 0
+quiet refused 0 shut full read => no 12, 0
 ";
 
 /// What is in the cell, and what a checkpoint says.
 const CLOSINGS: &str = "\
-blank => the cell is blank
-noise => the cell isn't spelled
-basic => the cell is one of Basic
-open => power was lost inside an open segment
+quiet cell 0 blank => set, 0
+quiet checkpoint 0 . => no the cell is blank, 0
+quiet cell 0 noise => set, 0
+quiet checkpoint 0 . => no the cell isn't spelled, 0
+quiet cell 0 basic => set, 0
+quiet checkpoint 0 . => no the cell is one of Basic, 0
+quiet cell 0 open => set, 0
+quiet checkpoint 0 . => no power was lost inside an open segment, 0
+quiet cell 0 shut => set, 0
+quiet checkpoint 0 . => no segment, 0
 ";
 
 /// A line of the table.
@@ -136,8 +150,8 @@ struct Row<'a> {
     plan: &'a str,
     word: &'a str,
     number: usize,
-    text: &'a [u8],
-    said: &'a [u8],
+    text: &'a str,
+    said: &'a str,
 }
 
 fn row_of(line: &str) -> Option<Row<'_>> {
@@ -150,8 +164,8 @@ fn row_of(line: &str) -> Option<Row<'_>> {
         plan,
         word,
         number,
-        text: text.as_bytes(),
-        said: said.as_bytes(),
+        text,
+        said,
     })
 }
 
@@ -187,16 +201,42 @@ struct Host {
 }
 
 impl Host {
-    fn new(alloc: Global) -> Result<Host, Fail> {
-        let made = provision(alloc, &Counter, &KEY, &BARRIER)?;
-        let platform = MemPlatform::new(alloc, &made.cell);
-        let mut snapshots = Vec::new(alloc);
-        snapshots.push(made.snapshot)?;
-        Ok(Host {
+    /// A blank platform, and no snapshots.
+    fn blank(alloc: Global) -> Host {
+        Host {
             alloc,
-            platform,
-            snapshots,
-        })
+            platform: MemPlatform::new(alloc, &[0; 104]),
+            snapshots: Vec::new(alloc),
+        }
+    }
+
+    /// Another platform, and its first snapshot.
+    fn begin(&mut self) -> Result<(), Fail> {
+        let made = provision(self.alloc, &Counter, &KEY, &BARRIER)?;
+        self.platform = MemPlatform::new(self.alloc, &made.cell);
+        self.snapshots.clear();
+        self.snapshots.push(made.snapshot)?;
+        Ok(())
+    }
+
+    /// Does what the lines of a table say, one after another.
+    fn does(&mut self, rt: &impl Abort, table: &str) -> Result<(), Fail> {
+        for line in table.lines() {
+            match line {
+                "new" => self.begin()?,
+                "power" => self.platform.cycle()?,
+                _ => assert!(rt; self.is_so(line)?, "{line}"),
+            }
+        }
+        Ok(())
+    }
+
+    /// Whether what comes of this line is what it says.
+    fn is_so(&mut self, line: &str) -> Result<bool, Fail> {
+        let row = row_of(line).ok_or("no row")?;
+        let came = self.call(&row)?;
+        let came = counted(self.alloc, &came, self.platform.nv_writes())?;
+        Ok(came.as_str() == row.said)
     }
 
     /// Makes the call of this row, gets the power back after a cut, and says what came. Where memory was wanting
@@ -226,43 +266,70 @@ impl Host {
 
     fn told(&mut self, row: &Row<'_>) -> Result<String, Fail> {
         match row.word {
+            "cell" => self.set(row.text),
+            "extend" => self.extend(),
             "checkpoint" => self.checkpoint(),
-            "extend" => {
-                self.platform.foreign(&FOREIGN)?;
-                Ok(format!(in self.alloc; "extended")?)
-            }
-            "batch" => self.ask(row.number, Batch::Many(row.text)),
-            "parts" => self.ask_in_parts(row.number, row.text),
-            _ => self.ask(row.number, Batch::One(row.text)),
+            "closing" => self.close_in_turns(),
+            "refused" => self.refused(row.text),
+            "batch" => self.ask_batch(row.number, row.text.as_bytes()),
+            "parts" => self.ask_in_parts(row.number, row.text.as_bytes()),
+            "turns" => self.ask_in_turns(row.number, row.text.as_bytes()),
+            _ => self.ask(row.number, row.text.as_bytes()),
         }
+    }
+
+    /// Another platform, with this cell.
+    fn set(&mut self, cell: &str) -> Result<String, Fail> {
+        self.platform = MemPlatform::new(self.alloc, &cell_of(cell));
+        Ok(format!(in self.alloc; "set")?)
+    }
+
+    fn extend(&mut self) -> Result<String, Fail> {
+        self.platform.foreign(&FOREIGN)?;
+        Ok(format!(in self.alloc; "extended")?)
     }
 
     fn checkpoint(&mut self) -> Result<String, Fail> {
-        let said = match close_counter(&mut self.platform) {
-            Ok(Checkpointed::Done) => "checkpointed",
-            Ok(Checkpointed::NoSegment) => "no segment",
-            Err(CheckpointRefusal::Device(_)) => "no device",
-            Err(CheckpointRefusal::Blank) => "no blank",
-            Err(CheckpointRefusal::Cell) => "no cell",
-            Err(CheckpointRefusal::Kind) => "no kind",
-            Err(CheckpointRefusal::Lost) => "no lost",
-        };
-        Ok(format!(in self.alloc; "{said}")?)
+        let came = close_counter(&mut self.platform);
+        closed(self.alloc, came)
     }
 
-    /// Asks for a batch, offering the snapshot of this number, and says what came.
-    fn ask(&mut self, number: usize, batch: Batch<'_>) -> Result<String, Fail> {
+    /// A checkpoint step by step, with the digits of its steps.
+    fn close_in_turns(&mut self) -> Result<String, Fail> {
+        let mut steps = 0;
+        let came = close_in_turns(&mut steps, &mut self.platform);
+        let said = closed(self.alloc, came)?;
+        Ok(format!(in self.alloc; "{steps} {said}")?)
+    }
+
+    /// What a call meets on the cell, with the offer and the request that these words name.
+    fn refused(&mut self, asked: &str) -> Result<String, Fail> {
+        let (cell, offer, request) = words_of(asked).ok_or("no words")?;
+        self.platform = MemPlatform::new(self.alloc, &cell_of(cell));
+        self.offer(offer)?;
+        self.ask(0, request_of(request))
+    }
+
+    /// Has this offer alone.
+    fn offer(&mut self, word: &str) -> Result<(), Fail> {
+        let offer = offer_of(self.alloc, word)?;
+        self.snapshots.clear();
+        self.snapshots.push(offer)?;
+        Ok(())
+    }
+
+    /// Asks for a request, offering the snapshot of this number, and says what came.
+    fn ask(&mut self, number: usize, request: &[u8]) -> Result<String, Fail> {
         let offer = self.snapshots.get(number).ok_or("no snapshot")?.as_slice();
-        match batch {
-            Batch::One(request) => {
-                let came = ask_counter(self.alloc, &mut self.platform, offer, request);
-                self.one(came)
-            }
-            Batch::Many(_) => {
-                let came = ask_counter_batch(self.alloc, &mut self.platform, offer, batch);
-                self.many(came)
-            }
-        }
+        let came = ask_counter(self.alloc, &mut self.platform, offer, request);
+        self.one(came)
+    }
+
+    /// The same of a batch.
+    fn ask_batch(&mut self, number: usize, text: &[u8]) -> Result<String, Fail> {
+        let offer = self.snapshots.get(number).ok_or("no snapshot")?.as_slice();
+        let came = ask_counter_batch(self.alloc, &mut self.platform, offer, Batch::Many(text));
+        self.many(came)
     }
 
     /// The same of one request, in its parts.
@@ -272,13 +339,22 @@ impl Host {
         self.many(came)
     }
 
+    /// The same of one request, step by step, with the digits of the steps.
+    fn ask_in_turns(&mut self, number: usize, request: &[u8]) -> Result<String, Fail> {
+        let offer = self.snapshots.get(number).ok_or("no snapshot")?.as_slice();
+        let mut steps = 0;
+        let batch = Batch::One(request);
+        let came = ask_in_turns(&mut steps, self.alloc, &mut self.platform, offer, batch);
+        let said = self.many(came)?;
+        Ok(format!(in self.alloc; "{steps} {said}")?)
+    }
+
     /// Says what came of one request, and keeps the snapshot.
     fn one(&mut self, came: Result<Answer, Refusal>) -> Result<String, Fail> {
         match came {
-            Err(refusal) => Ok(format!(in self.alloc; "no {}", refusal.code())?),
+            Err(refusal) => refusing(self.alloc, refusal),
             Ok(answer) => {
-                let line = line(self.alloc, answer.again, answer.position)?;
-                let line = with_output(self.alloc, &line, answer.output.as_slice())?;
+                let line = answer_line(self.alloc, &answer)?;
                 self.snapshots.push(answer.snapshot)?;
                 Ok(line)
             }
@@ -288,10 +364,9 @@ impl Host {
     /// The same of a batch.
     fn many(&mut self, came: Result<BatchAnswer, Refusal>) -> Result<String, Fail> {
         match came {
-            Err(refusal) => Ok(format!(in self.alloc; "no {}", refusal.code())?),
+            Err(refusal) => refusing(self.alloc, refusal),
             Ok(answer) => {
-                let line = line(self.alloc, answer.again, answer.position)?;
-                let line = with_outputs(self.alloc, line, &answer.outputs)?;
+                let line = batch_line(self.alloc, &answer)?;
                 self.snapshots.push(answer.snapshot)?;
                 Ok(line)
             }
@@ -330,8 +405,77 @@ fn ask_in_parts(
     }
 }
 
+/// The digits of the steps so far and of the next: its number, and how often the cell was to be written before it.
+fn noted(steps: u64, step: u8, writes: u64) -> u64 {
+    let next = (10 * u64::from(step)).saturating_add(writes);
+    steps.saturating_mul(100).saturating_add(next)
+}
+
+fn ask_in_turns(
+    steps: &mut u64,
+    alloc: Global,
+    platform: &mut MemPlatform,
+    offer: &[u8],
+    batch: Batch<'_>,
+) -> Result<BatchAnswer, Refusal> {
+    let mut call = begin(batch)?;
+    for _ in 0..5 {
+        *steps = noted(*steps, call.next_step(), platform.nv_writes());
+        match call.advance(alloc, &Counter, platform, offer, batch) {
+            Turn::Going(next) => call = next,
+            Turn::Done(answer) => return Ok(answer),
+            Turn::Refused(refusal) => return Err(refusal),
+        }
+    }
+    Err(Refusal::Long)
+}
+
 fn close_counter(platform: &mut MemPlatform) -> Result<Checkpointed, CheckpointRefusal> {
     checkpoint(platform)
+}
+
+fn close_in_turns(
+    steps: &mut u64,
+    platform: &mut MemPlatform,
+) -> Result<Checkpointed, CheckpointRefusal> {
+    let mut call = begin_checkpoint();
+    for _ in 0..3 {
+        *steps = noted(*steps, call.next_step(), platform.nv_writes());
+        match call.advance(platform) {
+            CheckpointTurn::Going(next) => call = next,
+            CheckpointTurn::Done(checkpointed) => return Ok(checkpointed),
+            CheckpointTurn::Refused(refusal) => return Err(refusal),
+        }
+    }
+    Err(CheckpointRefusal::Blank)
+}
+
+/// What came of a checkpoint, in words.
+fn closed(alloc: Global, came: Result<Checkpointed, CheckpointRefusal>) -> Result<String, Fail> {
+    match came {
+        Ok(Checkpointed::Done) => Ok(format!(in alloc; "checkpointed")?),
+        Ok(Checkpointed::NoSegment) => Ok(format!(in alloc; "no segment")?),
+        Err(refusal) => Ok(format!(in alloc; "no {refusal}")?),
+    }
+}
+
+/// A line with how often the cell was to be written behind it.
+fn counted(alloc: Global, line: &String, writes: u64) -> Result<String, Fail> {
+    Ok(format!(in alloc; "{line}, {writes}")?)
+}
+
+fn refusing(alloc: Global, refusal: Refusal) -> Result<String, Fail> {
+    Ok(format!(in alloc; "no {}", refusal.code())?)
+}
+
+fn answer_line(alloc: Global, answer: &Answer) -> Result<String, Fail> {
+    let line = line(alloc, answer.again, answer.position)?;
+    with_output(alloc, &line, answer.output.as_slice())
+}
+
+fn batch_line(alloc: Global, answer: &BatchAnswer) -> Result<String, Fail> {
+    let line = line(alloc, answer.again, answer.position)?;
+    with_outputs(alloc, line, &answer.outputs)
 }
 
 fn line(alloc: Global, again: bool, position: u64) -> Result<String, Fail> {
@@ -354,81 +498,11 @@ fn with_outputs(alloc: Global, line: String, outputs: &Outputs) -> Result<String
     Ok(line)
 }
 
-#[test]
-fn segments_are_opened_gone_on_with_closed_and_lost(rt: HostRuntime) -> Result<(), Fail> {
-    let alloc = rt.alloc();
-    let mut host = Host::new(alloc)?;
-    for line in STORIES.lines() {
-        if line == "new" {
-            host = Host::new(alloc)?;
-            continue;
-        }
-        if line == "power" {
-            host.platform.cycle()?;
-            continue;
-        }
-        let row = row_of(line).ok_or("no row")?;
-        let came = host.call(&row)?;
-        let came = format!(in alloc; "{came}, {}", host.platform.nv_writes())?;
-        assert_eq!(rt; came.as_bytes(), row.said);
-    }
-    Ok(())
-}
-
-// Makes a step that isn't the last.
-fn go_on(
-    call: Call,
-    alloc: Global,
-    platform: &mut MemPlatform,
-    offer: &[u8],
-    batch: Batch<'_>,
-) -> Result<Call, Fail>
-    requires short { is_long (batch_of batch) ≡ false }
-    requires room { MayGoOn call platform.old }
-    ensures { IfOk result (λ call. MayGoOn call platform.new) }
-{
-    match call.advance(alloc, &Counter, platform, offer, batch) {
-        Turn::Going(call) => Ok(call),
-        Turn::Done(_) => Err("done")?,
-        Turn::Refused(refusal) => Err(refusal)?,
-    }
-}
-
-/// The steps of an opening, one by one: nothing is written before the last.
-#[test]
-fn an_opening_goes_on_by_one_step_at_a_time(rt: HostRuntime) -> Result<(), Fail> {
-    let alloc = rt.alloc();
-    let mut host = Host::new(alloc)?;
-    let batch = Batch::One(b"add 1");
-    let offer = host.snapshots.pop().ok_or("a first snapshot")?;
-    let offer = offer.as_slice();
-    let call = begin(batch)?;
-    assert_eq!(rt; call.next_step(), 1);
-    let call = go_on(call, alloc, &mut host.platform, offer, batch)?;
-    assert_eq!(rt; call.next_step(), 2);
-    let call = go_on(call, alloc, &mut host.platform, offer, batch)?;
-    assert_eq!(rt; call.next_step(), 3);
-    let call = go_on(call, alloc, &mut host.platform, offer, batch)?;
-    assert_eq!(rt; call.next_step(), 4);
-    let call = go_on(call, alloc, &mut host.platform, offer, batch)?;
-    assert_eq!(rt; call.next_step(), 5);
-    assert_eq!(rt; host.platform.nv_writes(), 0);
-    let answer = match call.advance(alloc, &Counter, &mut host.platform, offer, batch) {
-        Turn::Done(answer) => answer,
-        Turn::Going(_) => Err("a sixth step")?,
-        Turn::Refused(refusal) => Err(refusal)?,
-    };
-    assert_eq!(rt; host.platform.nv_writes(), 1);
-    assert_eq!(rt; answer.position, 1);
-    assert_eq!(rt; answer.outputs.get(0), Some(b"1".as_slice()));
-    let call = go_on(begin(batch)?, alloc, &mut host.platform, offer, batch)?;
-    let again = match call.advance(alloc, &Counter, &mut host.platform, offer, batch) {
-        Turn::Done(answer) => answer.again,
-        Turn::Going(_) => Err("a third step")?,
-        Turn::Refused(refusal) => Err(refusal)?,
-    };
-    assert!(rt; again);
-    Ok(())
+/// The three words of a text.
+fn words_of(text: &str) -> Option<(&str, &str, &str)> {
+    let (first, text) = text.split_once(' ')?;
+    let (second, third) = text.split_once(' ')?;
+    Some((first, second, third))
 }
 
 fn opt_cell(module: u8, flag: bool) -> [u8; 104] {
@@ -511,74 +585,29 @@ fn request_of(word: &str) -> &[u8] {
     }
 }
 
-// What a call is refused for that meets what this line names.
-fn refused(alloc: Global, asked: &str) -> Result<u8, Fail> {
-    let (cell, asked) = asked.split_once(' ').ok_or("no cell")?;
-    let (offer, request) = asked.split_once(' ').ok_or("no offer")?;
-    let offer = offer_of(alloc, offer)?;
-    let mut platform = MemPlatform::new(alloc, &cell_of(cell));
-    match ask_counter(alloc, &mut platform, offer.as_slice(), request_of(request)) {
-        Ok(_) => Ok(0),
-        Err(refusal) => Ok(refusal.code()),
-    }
+/// Does what a table says, one line after another.
+fn told(rt: &impl Abort, alloc: Global, table: &str) -> Result<(), Fail> {
+    let mut host = Host::blank(alloc);
+    host.does(rt, table)
+}
+
+#[test]
+fn segments_are_opened_gone_on_with_closed_and_lost(rt: HostRuntime) -> Result<(), Fail> {
+    told(&rt, rt.alloc(), STORIES)
+}
+
+/// Nothing is written before the last step of an opening, or of a checkpoint.
+#[test]
+fn calls_and_checkpoints_go_on_by_one_step_at_a_time(rt: HostRuntime) -> Result<(), Fail> {
+    told(&rt, rt.alloc(), STEPS)
 }
 
 #[test]
 fn calls_are_refused_in_order(rt: HostRuntime) -> Result<(), Fail> {
-    for line in REFUSALS.lines() {
-        let (asked, code) = line.split_once(" => ").ok_or("no row")?;
-        let code = read_decimal(code.as_bytes()).ok_or("no number")?;
-        assert_eq!(rt; refused(rt.alloc(), asked)? as u64, code);
-    }
-    Ok(())
+    told(&rt, rt.alloc(), REFUSALS)
 }
 
-/// What a checkpoint is refused for, in words, and what closes nothing.
 #[test]
 fn checkpoints_are_refused_in_words(rt: HostRuntime) -> Result<(), Fail> {
-    let alloc = rt.alloc();
-    for line in CLOSINGS.lines() {
-        let (cell, text) = line.split_once(" => ").ok_or("no row")?;
-        let mut platform = MemPlatform::new(alloc, &cell_of(cell));
-        let refusal = close_counter(&mut platform).err().ok_or("not refused")?;
-        assert_eq!(rt; format!(in alloc; "{refusal}")?.as_str(), text);
-    }
-    let device = CheckpointRefusal::Device(StepFault::Off);
-    assert_eq!(rt;
-        format!(in alloc; "{device}")?.as_str(),
-        "a step of the platform failed"
-    );
-    let mut platform = MemPlatform::new(alloc, &cell_of("shut"));
-    assert_eq!(rt;
-        close_counter(&mut platform).ok(),
-        Some(Checkpointed::NoSegment)
-    );
-    Ok(())
-}
-
-/// The steps of a checkpoint, one by one: nothing is written before the last.
-#[test]
-fn a_checkpoint_goes_on_by_one_step_at_a_time(rt: HostRuntime) -> Result<(), Fail> {
-    let mut host = Host::new(rt.alloc())?;
-    let row = row_of("quiet ask 0 add 1 => ok 1 1, 1").ok_or("no row")?;
-    assert_eq!(rt; host.call(&row)?.as_str(), "ok 1 1");
-    let mut call = begin_checkpoint();
-    for step in 1..3 {
-        assert_eq!(rt; call.next_step(), step);
-        call = match call.advance(&mut host.platform) {
-            CheckpointTurn::Going(call) => call,
-            CheckpointTurn::Done(_) => Err("done before its last step")?,
-            CheckpointTurn::Refused(refusal) => Err(refusal)?,
-        };
-        assert_eq!(rt; host.platform.nv_writes(), 1);
-    }
-    assert_eq!(rt; call.next_step(), 3);
-    let closed = match call.advance(&mut host.platform) {
-        CheckpointTurn::Done(checkpointed) => checkpointed == Checkpointed::Done,
-        CheckpointTurn::Going(_) => Err("a fourth step")?,
-        CheckpointTurn::Refused(refusal) => Err(refusal)?,
-    };
-    assert!(rt; closed);
-    assert_eq!(rt; host.platform.nv_writes(), 2);
-    Ok(())
+    told(&rt, rt.alloc(), CLOSINGS)
 }

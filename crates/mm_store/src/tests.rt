@@ -4,11 +4,29 @@ ghost use Rattle.std.specs.Prelude.{◌≡◌, Some, true, OnOk};
 ghost use Rattle.mm_store.specs.Slots.{Slots, with_slot, seen_in};
 
 use super::*;
-use mm_base::Bytes;
+use mm_base::{Bytes, read_decimal};
 use sha2::{Digest as _, Sha256};
 use std::alloc::{AllocError, Global};
 use std::process::Abort;
 use std::test::Fail;
+
+// A byte more than the most of a request.
+const LONG: [u8; 4097] = [b'x'; 4097];
+
+// Positions and requests, and the slot that their record is read in.
+const RECORDS: &str = "\
+1 add => 3
+2 add => 2
+3 empty => 3
+4 most => 2
+281474976710656 read => 2
+0 add => none
+281474976710657 read => none
+18446744073709551615 read => none
+1 broken => none
+1 break => none
+1 longer => none
+";
 
 // The bytes of a record of this position and request, within bounds or not.
 fn record_of(alloc: Global, position: u64, request: &[u8]) -> Result<Vec<u8>, AllocError> {
@@ -46,33 +64,75 @@ fn a_record_has_the_bytes_of_its_format(rt: HostRuntime) -> Result<(), Fail> {
     Ok(())
 }
 
-#[test]
-fn records_are_read_in_their_slot_alone(rt: HostRuntime) -> Result<(), Fail> {
-    let long = vec![in rt.alloc(); b'x'; 4097]?;
-    let most = long.get(..4096).unwrap_or(&[]);
-    let rows = [
-        (1, b"add 5".as_slice(), Some(3)),
-        (2, b"add 5", Some(2)),
-        (3, b"", Some(3)),
-        (4, most, Some(2)),
-        (0x1_0000_0000_0000, b"read", Some(2)),
-        (0, b"add 5", None),
-        (0x1_0000_0000_0001, b"read", None),
-        (0xffff_ffff_ffff_ffff, b"read", None),
-        (1, b"add\n5", None),
-        (1, b"\n", None),
-        (1, long.as_slice(), None),
-    ];
-    for (position, request, right) in rows {
-        let record = record_of(rt.alloc(), position, request)?;
-        for slot in 0..8 {
-            let is_valid = right == Some(slot);
-            let is_right = is_read_as(slot, &record, position, request);
-            assert!(rt; is_right == is_valid, "{position} in {slot}");
-            assert!(rt; read_pending(slot, &record).is_some() == is_valid);
+// The slot that a line of the table names, if it names one.
+fn slot_of(word: &str) -> Option<u8> {
+    match word {
+        "2" => Some(2),
+        "3" => Some(3),
+        _ => None,
+    }
+}
+
+fn request_of(word: &str) -> &[u8] {
+    match word {
+        "empty" => b"",
+        "most" => LONG.get(..4096).unwrap_or(&[]),
+        "longer" => &LONG,
+        "broken" => b"add\n5",
+        "break" => b"\n",
+        "add" => b"add 5",
+        _ => b"read",
+    }
+}
+
+// Whether the record is read in this slot alone, or in none.
+fn is_read_in(
+    alloc: Global,
+    position: u64,
+    request: &[u8],
+    right: Option<u8>,
+) -> Result<bool, Fail> {
+    let record = record_of(alloc, position, request)?;
+    for slot in 0..8 {
+        let is_valid = right == Some(slot);
+        if is_read_as(slot, &record, position, request) != is_valid {
+            return Ok(false);
+        }
+        if read_pending(slot, &record).is_some() != is_valid {
+            return Ok(false);
         }
     }
+    Ok(true)
+}
+
+#[test]
+fn records_are_read_in_their_slot_alone(rt: HostRuntime) -> Result<(), Fail> {
+    for line in RECORDS.lines() {
+        let (asked, slot) = line.split_once(" => ").ok_or("no row")?;
+        let (position, word) = asked.split_once(' ').ok_or("no request")?;
+        let position = read_decimal(position.as_bytes()).ok_or("no number")?;
+        let request = request_of(word);
+        assert!(rt;
+            is_read_in(rt.alloc(), position, request, slot_of(slot))?,
+            "{line}"
+        );
+    }
     Ok(())
+}
+
+// Whether that many bytes of a record are none.
+fn is_none_torn(record: &[u8], size: usize) -> bool {
+    read_pending(3, record.get(..size).unwrap_or(record)).is_none()
+}
+
+// Whether a record is none where a bit of this byte is turned, or a byte more stands behind it.
+fn is_none_altered(alloc: Global, record: &[u8], at: usize) -> Result<bool, AllocError> {
+    let mut altered = record.to_vec(alloc)?;
+    match altered.get_mut(at) {
+        Some(byte) => *byte ^= 1,
+        None => altered.push(0)?,
+    }
+    Ok(read_pending(3, &altered).is_none())
 }
 
 #[test]
@@ -80,31 +140,30 @@ fn a_record_that_is_torn_or_altered_is_none(rt: HostRuntime) -> Result<(), Fail>
     let record = record_of(rt.alloc(), 1, b"add 5")?;
     assert_eq!(rt; record.len(), 53);
     for size in 0..53 {
-        assert!(rt; read_pending(3, &record[..size]).is_none(), "{size}");
-        let mut altered = record.clone()?;
-        if let Some(byte) = altered.get_mut(size) {
-            *byte ^= 1;
-        }
-        assert!(rt; read_pending(3, &altered).is_none(), "{size}");
+        assert!(rt; is_none_torn(&record, size), "{size}");
+        assert!(rt; is_none_altered(rt.alloc(), &record, size)?, "{size}");
     }
-    let mut longer = record.clone()?;
-    longer.push(0)?;
-    assert!(rt; read_pending(3, &longer).is_none());
+    assert!(rt; is_none_altered(rt.alloc(), &record, 53)?);
     Ok(())
 }
 
-// What the slot is read as.
-fn holds(store: &mut MemStore, alloc: Global, slot: u8, bytes: &[u8]) -> Result<bool, StoreFault> {
+// Whether the slot is read as these bytes.
+fn holds(store: &mut MemStore, alloc: Global, slot: u8, bytes: &[u8]) -> bool {
     if slot > 3 {
-        return Ok(false);
+        return false;
     }
-    let read = store.read(alloc, slot)?;
-    Ok(read.as_slice() == bytes)
+    match store.read(alloc, slot) {
+        Ok(read) => read.as_slice() == bytes,
+        Err(_) => false,
+    }
 }
 
 // A write to a slot, of bytes that are few enough.
 fn put(store: &mut MemStore, slot: u8, bytes: &[u8]) -> Result<(), StoreFault> {
-    if slot > 3 || bytes.len() > LONGEST_SLOT {
+    if slot > 3 {
+        return Err(StoreFault::Failed);
+    }
+    if bytes.len() > LONGEST_SLOT {
         return Err(StoreFault::Failed);
     }
     store.write(slot, bytes)
@@ -119,65 +178,119 @@ fn copy_slot<T: Store>(store: &mut T, alloc: Global) -> Result<(), StoreFault>
     store.write(1, bytes.as_slice())
 }
 
-#[test]
-fn any_store_can_be_called(rt: HostRuntime) -> Result<(), Fail> {
-    let mut store = MemStore::new(rt.alloc());
-    put(&mut store, 0, b"bytes")?;
-    copy_slot(&mut store, rt.alloc())?;
+// Slot 0 is copied to slot 1.
+fn slots_are_copied(rt: &impl Abort, store: &mut MemStore, alloc: Global) -> Result<(), Fail> {
+    put(store, 0, b"bytes")?;
+    copy_slot(store, alloc)?;
     assert!(rt; store.slot(1) == b"bytes".as_slice());
     Ok(())
 }
 
-// What a slot is read as, and whether the store fails instead.
-fn is_stopped(store: &mut MemStore, alloc: Global, slot: u8, bytes: &[u8]) -> bool {
-    holds(store, alloc, slot, bytes) == Err(StoreFault::Failed)
+// Whether the store fails where the slot is read.
+fn is_stopped(store: &mut MemStore, alloc: Global, slot: u8) -> bool {
+    if slot > 3 {
+        return false;
+    }
+    match store.read(alloc, slot) {
+        Err(StoreFault::Failed) => true,
+        _ => false,
+    }
 }
 
 // Of a read of slot 0, a write to slot 1, one to slot 2 and a read of slot 1, the told one fails, and no
 // other.
-#[test]
-fn calls_fail_where_they_are_told_to(rt: HostRuntime) -> Result<(), Fail> {
-    for call in 0..6u64 {
-        let mut store = MemStore::new(rt.alloc());
-        put(&mut store, 1, b"old")?;
-        store.stop_at(call, b"left")?;
-        let first = is_stopped(&mut store, rt.alloc(), 0, b"");
-        let second = put(&mut store, 1, b"one").is_err();
-        let third = put(&mut store, 2, b"two").is_err();
-        let fourth = is_stopped(&mut store, rt.alloc(), 1, b"one");
-        assert!(rt; first == (call == 1) && second == (call == 2), "{call}");
-        assert!(rt; third == (call == 3) && fourth == (call == 4), "{call}");
-        let one = if call == 2 {
-            b"left".as_slice()
-        } else {
-            b"one"
-        };
-        let two = if call == 3 {
-            b"left".as_slice()
-        } else {
-            b"two"
-        };
-        assert!(rt; store.slot(1) == one && store.slot(2) == two, "{call}");
-        assert!(rt; store.slot(0).is_empty() && store.slot(3).is_empty());
+fn one_call_fails(
+    rt: &impl Abort,
+    store: &mut MemStore,
+    alloc: Global,
+    call: u64,
+) -> Result<(), Fail> {
+    put(store, 1, b"old")?;
+    store.stop_at(call, b"left")?;
+    let first = is_stopped(store, alloc, 0);
+    let second = put(store, 1, b"one").is_err();
+    let third = put(store, 2, b"two").is_err();
+    let fourth = is_stopped(store, alloc, 1);
+    assert!(rt; first == (call == 1) && second == (call == 2), "{call}");
+    assert!(rt; third == (call == 3) && fourth == (call == 4), "{call}");
+    let one = if call == 2 {
+        b"left".as_slice()
+    } else {
+        b"one"
+    };
+    let two = if call == 3 {
+        b"left".as_slice()
+    } else {
+        b"two"
+    };
+    assert!(rt; store.slot(1) == one && store.slot(2) == two, "{call}");
+    assert!(rt; store.slot(0).is_empty() && store.slot(3).is_empty());
+    Ok(())
+}
+
+// The most bytes that a slot is read with.
+fn most_bytes(alloc: Global) -> Result<Vec<u8>, AllocError> {
+    vec![in alloc; 7u8; LONGEST_SLOT]
+}
+
+// The first of these bytes, as many as a slot is read with.
+fn front_of(bytes: &[u8]) -> &[u8] {
+    bytes.get(..LONGEST_SLOT).unwrap_or(&[])
+}
+
+// Writes these bytes to each slot.
+fn fill(store: &mut MemStore, bytes: &[u8]) -> Result<(), StoreFault> {
+    for slot in 0..4 {
+        put(store, slot, bytes)?;
     }
     Ok(())
 }
 
 // Four slots of the most bytes at once; of a longer one, as a host may put there, the first bytes are read.
-#[test]
-fn slots_hold_the_most_bytes(rt: HostRuntime) -> Result<(), Fail> {
-    let mut store = MemStore::new(rt.alloc());
-    let mut bytes = vec![in rt.alloc(); 7u8; LONGEST_SLOT]?;
+fn most_are_held(rt: &impl Abort, store: &mut MemStore, alloc: Global) -> Result<(), Fail> {
+    let mut bytes = most_bytes(alloc)?;
+    fill(store, &bytes)?;
     for slot in 0..4 {
-        put(&mut store, slot, &bytes)?;
-    }
-    for slot in 0..4 {
-        assert!(rt; holds(&mut store, rt.alloc(), slot, &bytes)?, "{slot}");
+        assert!(rt; holds(store, alloc, slot, &bytes), "{slot}");
     }
     bytes.push(8)?;
     store.set_slot(3, &bytes)?;
     assert!(rt; store.slot(3) == bytes.as_slice());
-    let front = bytes.get(..LONGEST_SLOT).unwrap_or(&[]);
-    assert!(rt; holds(&mut store, rt.alloc(), 3, front)?);
+    assert!(rt; holds(store, alloc, 3, front_of(&bytes)));
     Ok(())
+}
+
+// What a new store is tried by.
+#[derive(Clone, Copy)]
+enum Trial {
+    Copied,
+    FailedCall(u64),
+    MostBytes,
+}
+
+fn tried(rt: &impl Abort, alloc: Global, trial: Trial) -> Result<(), Fail> {
+    let mut store = MemStore::new(alloc);
+    match trial {
+        Trial::Copied => slots_are_copied(rt, &mut store, alloc),
+        Trial::FailedCall(call) => one_call_fails(rt, &mut store, alloc, call),
+        Trial::MostBytes => most_are_held(rt, &mut store, alloc),
+    }
+}
+
+#[test]
+fn any_store_can_be_called(rt: HostRuntime) -> Result<(), Fail> {
+    tried(&rt, rt.alloc(), Trial::Copied)
+}
+
+#[test]
+fn calls_fail_where_they_are_told_to(rt: HostRuntime) -> Result<(), Fail> {
+    for call in 0..6u64 {
+        tried(&rt, rt.alloc(), Trial::FailedCall(call))?;
+    }
+    Ok(())
+}
+
+#[test]
+fn slots_hold_the_most_bytes(rt: HostRuntime) -> Result<(), Fail> {
+    tried(&rt, rt.alloc(), Trial::MostBytes)
 }
