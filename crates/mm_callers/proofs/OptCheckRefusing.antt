@@ -1,5 +1,5 @@
 -- Opt: what a refused checkpoint leaves and says.
-use Rattle.std.proofs.Common.{◌≡◌, ℕ, Bool, true, false, List, [], ◌∷◌, ◌++◌, map, Option, None, Some, Result, Ok, Err, refl, sym, ap, ◌∙◌, subst, append_assoc}
+use Rattle.std.proofs.Common.{◌≡◌, ℕ, Bool, true, false, List, [], ◌∷◌, ◌++◌, map, Option, None, Some, Result, Err, refl, sym, ap, ◌∙◌, subst, append_assoc}
 use Rattle.std.specs.List.{AllByRecursion, Contains}
 use Rattle.std.specs.Option.{option_map}
 use Rattle.std.proofs.lemmas.List.{append-nil, map-append}
@@ -17,7 +17,6 @@ use Rattle.mm_model.specs.Life.{life_of, is_lost}
 use Rattle.mm_model.specs.Messages.{Within, IsClear}
 use Rattle.mm_model.specs.Moves.{Digests, digests_of}
 use Rattle.mm_model.specs.Places.{Names}
-use Rattle.mm_model.specs.Sound.{IsSound}
 use Rattle.mm_model.specs.Standing.{StandsFor}
 use Rattle.mm_model.specs.Steps.{Reads, Writes, checkpoint_steps}
 use Rattle.mm_call.specs.Asked.{counted_part, counted_moves, moves_messages, foreign_in, IsWithin}
@@ -25,12 +24,11 @@ use Rattle.mm_call.specs.Called.{seen_at}
 use Rattle.mm_call.specs.Checkpoints.{closing_of, closed_by, checkpointed, IsClosedWithin}
 use Rattle.mm_call.specs.Courses.{End, Done, Fails, Fate, Walked, after_step, walk, closes}
 use Rattle.mm_call.specs.Levels.{by_lists, by_digests, all_made}
-use Rattle.mm_call.specs.Standing.{StandsAt, shown}
+use Rattle.mm_call.specs.Standing.{shown}
 use Rattle.mm_call.specs.Tied.{foreign_of, standing_items}
-use Rattle.mm_call.proofs.Checkpoints.{read_moves, opt_checkpoints_agree}
+use Rattle.mm_call.proofs.Checkpoints.{read_moves}
 use Rattle.mm_call.proofs.Continuing.{stands_at}
 use Rattle.mm_call.proofs.Moving.{committed_in, same_batches}
-use Rattle.mm_call.proofs.OptHolding.{is_agrees}
 use Rattle.mm_call.proofs.OptShut.{bare, counted_open}
 use Rattle.mm_call.proofs.Walks.{finished, foreign_first, committed-foreign, foreign_in-foreign}
 use Rattle.mm_opt.specs.ChecksOn.{ChecksOn, closing_told}

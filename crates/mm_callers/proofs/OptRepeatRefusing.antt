@@ -1,5 +1,5 @@
 -- The clauses of the caller that closes the segment, where it ends with an error.
-use Rattle.std.proofs.Common.{◌≡◌, ℕ, Bool, true, false, List, [], ◌++◌, map, Option, None, Some, Result, Ok, Err, refl, sym, ap, ◌∙◌, subst}
+use Rattle.std.proofs.Common.{◌≡◌, ℕ, true, false, List, [], ◌++◌, Option, None, Some, Result, Ok, Err, refl, sym, ap, ◌∙◌, subst}
 use Rattle.std.specs.List.{AllByRecursion, Contains}
 use Rattle.mm_digest.specs.declared.variant.Variant.TheVariants.{Opt}
 use Rattle.mm_platform.specs.declared.fault.StepFault.{StepFault}
@@ -32,18 +32,18 @@ use Rattle.mm_opt.specs.ChecksOn.{ChecksOn}
 use Rattle.mm_opt.specs.declared.segment.Checkpointed.{Checkpointed as Said}
 use Rattle.mm_opt.specs.declared.segment.CheckpointRefusal.{CheckpointRefusal}
 use Rattle.mm_callers.specs.declared.closing.Halted.TheVariants.{Asking, Closing}
-use Rattle.mm_callers.specs.Basic.{AreAsked, IsOnce, finds, SaysFound, Says}
+use Rattle.mm_callers.specs.Basic.{AreAsked, finds, Says}
 use Rattle.mm_callers.specs.Closing.{MayClose, RepeatsBehind, EndsBehind, in_first, in_closing, in_second}
 use Rattle.mm_callers.specs.Opt.{AreShown}
 use Rattle.mm_callers.proofs.Twice.{once_after}
 use Rattle.mm_callers.proofs.Refusing.{Fell}
 use Rattle.mm_callers.proofs.OptCalls.{asked_by, answered_short}
-use Rattle.mm_callers.proofs.OptAlike.{names_after, same_closed}
+use Rattle.mm_callers.proofs.OptAlike.{names_after}
 use Rattle.mm_callers.proofs.OptShown.{none_counted}
 use Rattle.mm_callers.proofs.OptLeaves.{DigestMoves, hands}
 use Rattle.mm_callers.proofs.OptClosing.{may_close_back}
 use Rattle.mm_callers.proofs.OptRefusing.{refused_once, fell_short}
-use Rattle.mm_callers.proofs.OptRepeating.{closed_same, once_then, Behind, behind, asked_behind, Fresh, reads_alone, reads_show, reached, seen_before}
+use Rattle.mm_callers.proofs.OptRepeating.{closed_same, once_then, behind, asked_behind, Fresh, reads_alone, reads_show, reached, seen_before}
 use Rattle.mm_callers.proofs.OptCheckRefusing.{refused_goes_on, check_fell}
 
 -- the call was refused
