@@ -1,11 +1,10 @@
 //! What a session writes.
 
-ghost use Rattle.std.specs.Prelude.{◌≡◌, ◌≢◌, ◌≤◌, ◌+◌, ◌++◌, None, Ok, Err, IfOk, OnErr, length, take};
-ghost use Rattle.std.specs.Fmt.{decimal};
+ghost use Rattle.std.specs.Prelude.{◌≡◌, ◌≢◌, ◌≤◌, None, Ok, Err, IfOk, OnErr, length};
 ghost use Rattle.mm_base.specs.Faults.{CountsFaults};
 ghost use Rattle.mm_base.specs.Streams.{Sends};
 ghost use Rattle.mm_play.specs.Plays.{IsBlamed};
-ghost use Rattle.mm_schedule.specs.Replies.{told_line, told_text};
+ghost use Rattle.mm_schedule.specs.Replies.{told_line};
 ghost use Rattle.mm_host.specs.declared.fault.HostFault.TheVariants.{Refused};
 ghost use Rattle.mm_host.specs.declared.resuming.Resumed.TheVariants.{Answered};
 ghost use Rattle.mm_host.specs.Saying.{IsSized, Tells, cause_of, refusal_text};
@@ -13,10 +12,9 @@ ghost use Rattle.mm_host.specs.SessionBlame.{is_write_fault};
 
 use crate::fault::{HostFault, SessionFault};
 use crate::resuming::Resumed;
-use itoa::Buffer;
 use mm_base::{Sink, WriteFault, write_all};
 use mm_model::{Answer, Refusal};
-use mm_schedule::{Cause, Reply, print_line};
+use mm_schedule::{Cause, Reply, print_line, print_told};
 
 /// The most bytes of a line that is written, its LF too.
 const LINE_ROOM: usize = 4200;
@@ -67,7 +65,7 @@ fn write_answer<K: Sink>(answer: &Answer, out: &mut K) -> Result<(), WriteFault>
     ensures counted { CountsFaults (K.faults out.old) (K.faults out.new) result }
 {
     let mut line = [0; LINE_ROOM];
-    let length = print_answer(
+    let length = print_told(
         answer.again,
         answer.position,
         answer.output.as_slice(),
@@ -104,46 +102,4 @@ fn cause_of(refusal: Refusal) -> Option<Cause>
         Refusal::Full => Some(Cause::Full),
         _ => None,
     }
-}
-
-// Writes the line of an answer to the front of `into`, and answers its length.
-fn print_answer(again: bool, position: u64, output: &[u8], into: &mut [u8; 4200]) -> usize
-    requires { length output.now ≤ 4096 }
-    ensures within { result ≤ 4200 }
-    ensures line { take result into.new ≡ told_line again position output.now }
-{
-    let at = put(into, 0, told_word(again));
-    let at = put_number(into, at, position);
-    let at = put(into, at, b" ");
-    let at = put(into, at, output);
-    put(into, at, b"\n")
-}
-
-fn told_word(again: bool) -> &'static [u8]
-    ensures { result.now ≡ told_text again }
-{
-    if again { b"again " } else { b"ok " }
-}
-
-// Puts a number's decimal at this place, and answers the place behind it.
-fn put_number(into: &mut [u8; 4200], at: usize, number: u64) -> usize
-    requires { at ≤ 4000 }
-    ensures end { result ≤ at + 20 }
-    ensures text { take result into.new ≡ take at into.old ++ decimal number }
-{
-    let mut buffer = Buffer::new();
-    let text = buffer.format(number);
-    put(into, at, text.as_bytes())
-}
-
-// Puts a piece at this place, and answers the place behind it.
-fn put(into: &mut [u8; 4200], at: usize, piece: &[u8]) -> usize
-    requires { at + length piece.now ≤ 4200 }
-    ensures end { result ≡ at + length piece.now }
-    ensures text { take result into.new ≡ take at into.old ++ piece.now }
-{
-    let (_, behind) = into.split_at_mut(at);
-    let (place, _) = behind.split_at_mut(piece.len());
-    place.copy_from_slice(piece);
-    at + piece.len()
 }
