@@ -15,7 +15,7 @@ use Rattle.mm_model.specs.History.{History, Move, Commit, Foreign, Placed, Reset
 use Rattle.mm_model.specs.Judge.{is_last}
 use Rattle.mm_model.specs.Steps.{Step, Reads, Changes, Writes, ask_steps}
 use Rattle.mm_model.specs.declared.refusal.Refusal.{Refusal}
-use Rattle.mm_model.proofs.Batches.{same_batch-Decides, is_last_of}
+use Rattle.mm_model.proofs.Batches.{is_last_of}
 use Rattle.mm_model.proofs.MovedDigests.{total-push}
 use Rattle.mm_call.specs.Answers.{answer_on}
 use Rattle.mm_call.specs.Levels.{by_lists, all_made}

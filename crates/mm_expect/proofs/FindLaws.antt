@@ -1,6 +1,6 @@
 -- What is found of an offer.
 use Rattle.std.proofs.Common.{◌≡◌, ℕ, ◌+◌, ◌≤◌, ◌^◌, Bool, true, false, ◌&&◌, List, Result, Ok, Err, refl, subst}
-use Rattle.std.specs.Prelude.{if◌then◌else◌, nat_eq, nat_le}
+use Rattle.std.specs.Prelude.{nat_eq, nat_le}
 use Rattle.std.specs.Str.{bytes_eq}
 use Rattle.std.proofs.lemmas.Bool.{and_parts, leb-true}
 use Rattle.std.proofs.lemmas.Bool.Decides.{Decides-eqb}
@@ -15,8 +15,6 @@ use Rattle.mm_model.specs.Life.{Life, Live, Spoiled, Lost as LostLife, life_by, 
 use Rattle.mm_model.specs.Judge.{is_last, judged, judge}
 use Rattle.mm_model.specs.declared.verdict.Verdict.{Verdict}
 use Rattle.mm_model.specs.declared.verdict.Verdict.TheVariants.{Fresh, Again, Lost, Stale}
-use Rattle.mm_model.specs.declared.refusal.Refusal.{Refusal}
-use Rattle.mm_model.specs.declared.refusal.Refusal.TheVariants as refusal
 use Rattle.mm_call.specs.Order.{admitted, examined}
 use Rattle.mm_call.specs.Levels.{by_lists}
 use Rattle.mm_call.specs.Found.{Found, found_from, found_at}

@@ -1,16 +1,13 @@
 -- Owned entries, the last of which gives way.
-use Rattle.std.proofs.Common.{ℕ, zero, suc, ◌≡◌, ◌+◌, ◌<◌, ◌≤◌, Bool, true, false, ◌||◌, List, [], ◌∷◌, ◌++◌, length, take, drop, get_or, refl, sym, ap, ◌∙◌, arith}
-use Rattle.std.proofs.lemmas.List.{map-append, take_more, drop_more, drop_all}
+use Rattle.std.proofs.Common.{ℕ, ◌≡◌, ◌+◌, List, [], ◌∷◌, ◌++◌, length, refl, sym, ap, ◌∙◌, arith}
+use Rattle.std.proofs.lemmas.List.{map-append}
 use Rattle.std.specs.Prelude.{Option, None, Some, MatchOption, option_to_list}
 use Rattle.mm_module.specs.Batch.{Batch}
 use Rattle.mm_model.specs.declared.kept.KeptBatch.{KeptBatch}
 use Rattle.mm_model.specs.declared.kept.KeptEntry.{KeptEntry}
 use Rattle.mm_model.specs.declared.kept.KeptEntry.TheVariants as kept
-use Rattle.mm_model.specs.Kept.{kept_batch, kept_batches, kept_entry, kept_entries}
+use Rattle.mm_model.specs.Kept.{kept_batch, kept_entry, kept_entries}
 use Rattle.mm_model.specs.History.{Entry, Own, renamed}
-use Rattle.mm_model.specs.Life.{same_batch, has_value}
-use Rattle.mm_model.specs.Judge.{is_last}
-use Rattle.mm_model.proofs.Histories.{has_value-append}
 
 -- the last item gives way to the batch's own
 pub renamed-push : (front : List Entry) (x : Entry) (b : Batch) → renamed (front ++ x ∷ []) b ≡ front ++ Own b ∷ []

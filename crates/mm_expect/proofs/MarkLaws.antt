@@ -15,7 +15,7 @@ use Rattle.mm_model.specs.Places.{digest_of}
 use Rattle.mm_model.proofs.Batches.{same_batch-Decides}
 use Rattle.mm_model.proofs.Digests.{summary-push, register-push, anchor-push}
 use Rattle.mm_model.proofs.Forms.{reads_zero}
-use Rattle.mm_model.proofs.Histories.{values_of-append, own_values-append, has_value-append}
+use Rattle.mm_model.proofs.Histories.{own_values-append, has_value-append}
 use Rattle.mm_model.proofs.MovedDigests.{total-push, register_more}
 use Rattle.mm_model.proofs.Segments.{joined-push}
 use Rattle.mm_model.specs.declared.kept.KeptBatch.{KeptBatch}

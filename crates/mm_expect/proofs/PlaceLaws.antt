@@ -6,7 +6,7 @@ use Rattle.std.specs.List.{list_any}
 use Rattle.std.specs.Option.{option_map}
 use Rattle.std.proofs.lemmas.Bool.{or_parts, or_from}
 use Rattle.std.proofs.lemmas.Bool.Decides.{Decides-eqb, Decides-ltb}
-use Rattle.std.proofs.lemmas.List.{append-nil, map-append, take-map, drop-map, take_more, drop_more, drop_all, take_all, length-map}
+use Rattle.std.proofs.lemmas.List.{append-nil, map-append, take-map, drop-map, take_more, drop_more, take_all, length-map}
 use Rattle.mm_module.specs.Batch.{Batch, members_of}
 use Rattle.mm_module.specs.Meaning.{Meaning, state_from, state_after}
 use Rattle.mm_seal.specs.Snapshot.{Content}

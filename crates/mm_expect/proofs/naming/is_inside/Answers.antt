@@ -1,4 +1,4 @@
-use Rattle.std.proofs.Common.{List, ◌≡◌, ℕ, Bool, true, false, ◌&&◌, sym, ap, ◌∙◌}
+use Rattle.std.proofs.Common.{List, Bool, false, ◌&&◌, sym, ap, ◌∙◌}
 use Rattle.mm_model.specs.Kept.{kept_batches}
 use Rattle.mm_model.specs.declared.kept.KeptBatch.{KeptBatch}
 use Rattle.mm_expect.specs.Naming.{is_behind, same_batches}

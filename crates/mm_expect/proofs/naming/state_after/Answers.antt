@@ -1,4 +1,4 @@
-use Rattle.std.proofs.Common.{◌≡◌, ℕ, List, ◌∙◌, ap, sym, subst, take}
+use Rattle.std.proofs.Common.{ℕ, List, ◌∙◌, ap, sym, subst, take}
 use Rattle.std.specs.Bool.{IsTrue}
 use Rattle.mm_modules.specs.Modules.{meaning_of}
 use Rattle.mm_modules.specs.ModulesLaws.{any_is_lawful}

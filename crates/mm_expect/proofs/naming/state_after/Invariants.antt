@@ -1,4 +1,4 @@
-use Rattle.std.proofs.Common.{◌≡◌, take, IsTrue}
+use Rattle.std.proofs.Common.{◌≡◌, take}
 use Rattle.mm_modules.specs.Modules.{meaning_of}
 use Rattle.mm_module.specs.Meaning.{state_after}
 use Rattle.mm_model.specs.History.{requests_of}
