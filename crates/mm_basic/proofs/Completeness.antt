@@ -23,7 +23,7 @@ use Rattle.mm_basic.specs.declared.found.Found.{Found}
 use Rattle.mm_call.specs.Refusals.{fault_of, fault_in, OrMemory}
 use Rattle.mm_basic.specs.Asks.{Calls}
 use Rattle.mm_call.specs.Leaving.{Blames, IsAccepted, IsAnswered}
-use Rattle.mm_basic.specs.Continuity.{expected_by, expected, RefusesFrom, GoesOn, IsComplete}
+use Rattle.mm_basic.specs.Continuity.{expected_found_by, expected_found, RefusesFrom, GivesFrom, IsComplete}
 use Rattle.mm_basic.proofs.Asking.{blames}
 use Rattle.mm_basic.proofs.Continuing.{continues}
 use Rattle.mm_call.proofs.Weighing.{offered_of, weighs}
@@ -37,17 +37,17 @@ record IsFound (x : Result Found Refusal) : Type 0 where
   found : Found
   is : x ≡ Ok found
 
-given_found : (again : Bool) (i : Instance) (y : History) (b : Batch) → IsFound (expected_by (Ok again) i y b)
+given_found : (again : Bool) (i : Instance) (y : History) (b : Batch) → IsFound (expected_found_by (Ok again) i y b)
 given_found true i y b = record { found = _; is = refl }
 given_found false i y b = record { found = _; is = refl }
 
-accepted_found : (meaning : Meaning) (key : List ℕ) (y : History) (content : Content) (b : Batch) → meaning.is_spelled content.state ≡ true → IsAccepted (judge Basic y content.position (normal b)) → content.position + size_of b ≤ 2 ^ 48 → IsFound (expected (basic meaning key) y (Ok (offered_of key content)) b)
+accepted_found : (meaning : Meaning) (key : List ℕ) (y : History) (content : Content) (b : Batch) → meaning.is_spelled content.state ≡ true → IsAccepted (judge Basic y content.position (normal b)) → content.position + size_of b ≤ 2 ^ 48 → IsFound (expected_found (basic meaning key) y (Ok (offered_of key content)) b)
 accepted_found meaning key y content b spelled accepted fits =
     let v : Verdict = judge Basic y content.position (normal b) in
     let t : Bool = bytes_eq (tag_of key content) (tag_of key content) in
     let e = weighs (meaning.is_spelled content.state) t (nat_le (content.position + size_of b) (2 ^ 48)) v spelled
     ((bytes_eq-Decides (tag_of key content) (tag_of key content)).1 refl) (le-leb (content.position + size_of b) (2 ^ 48) fits) accepted in
-    subst (λ (r : Result Bool Refusal). IsFound (expected_by r (basic meaning key) y b)) (sym e.is) (given_found e.again (basic meaning key) y b)
+    subst (λ (r : Result Bool Refusal). IsFound (expected_found_by r (basic meaning key) y b)) (sym e.is) (given_found e.again (basic meaning key) y b)
 
 memory_only : (found : Found) (why : Refusal) → OrMemory (Ok found) (Err why) → why ≡ Memory
 memory_only found why o = elim o [ inl e ↦ cc | inr e ↦ cc ]
@@ -56,7 +56,7 @@ refused_only : (fault : Option StepFault) (i : Instance) (y : History) (b : Batc
 refused_only None i y b found old new why h r = inr (inl (ap (λ (w : Refusal). Err w) (memory_only found why r.0)))
 refused_only (Some fault) i y b found old new why h r = inr (inr h)
 
-answered_only : (result : Result BatchAnswer Refusal) (i : Instance) (y : History) (b : Batch) (found : Found) (old new : Standing) → Blames (fault_in result) old.faults new.faults → GoesOn i y b (Ok found) new result → IsAnswered result old new
+answered_only : (result : Result BatchAnswer Refusal) (i : Instance) (y : History) (b : Batch) (found : Found) (old new : Standing) → Blames (fault_in result) old.faults new.faults → GivesFrom i y b (Ok found) new result → IsAnswered result old new
 answered_only (Ok answer) i y b found old new h g = inl refl
 answered_only (Err why) i y b found old new h g = refused_only (fault_of why) i y b found old new why h g
 
@@ -67,4 +67,4 @@ complete meaning old new offer b result c short key y all content asked right ac
     let f = accepted_found meaning key y content b spelled accepted fits in
     let g = continues meaning old new offer b result c short key y all (Ok (offered_of key content)) asked (right_reads meaning key offer content right) in
     answered_only result i y b f.found old new (blames meaning old new offer b result c)
-    (subst (λ (x : Result Found Refusal). GoesOn i y b x new result) f.is g)
+    (subst (λ (x : Result Found Refusal). GivesFrom i y b x new result) f.is g)

@@ -27,28 +27,28 @@ use Rattle.mm_call.specs.Leaving.{IsAccepted, IsAnswered}
 use Rattle.mm_call.specs.Answers.{answer_on}
 
 -- the history once the batch is committed
-abbrev pub with_batch : Instance → History → Batch → History
-with_batch i y b = moved i y (Commit (normal b))
+abbrev pub with_committed : Instance → History → Batch → History
+with_committed i y b = moved i y (Commit (normal b))
 
 -- a new batch, ready to be committed
 abbrev pub ready_on : Instance → History → Batch → Ready
 ready_on i y b = record {
-  next = cell_spelling (cell_of i (with_batch i y b));
-  answer = answer_on i (with_batch i y b) b false;
+  next = cell_spelling (cell_of i (with_committed i y b));
+  answer = answer_on i (with_committed i y b) b false;
 }
 
-abbrev pub expected_by : Result Bool Refusal → Instance → History → Batch → Result Found Refusal
-expected_by (Err why) i y b = Err why
-expected_by (Ok true) i y b = Ok (Repeat (answer_on i y b true))
-expected_by (Ok false) i y b = Ok (Change (ready_on i y b))
+abbrev pub expected_found_by : Result Bool Refusal → Instance → History → Batch → Result Found Refusal
+expected_found_by (Err why) i y b = Err why
+expected_found_by (Ok true) i y b = Ok (Repeat (answer_on i y b true))
+expected_found_by (Ok false) i y b = Ok (Change (ready_on i y b))
 
 -- What is found from a history, by what the offer is taken apart to: the same order of refusals, with the verdict on
 -- the history, which knows no digest, in place of the verdict by digests.
-abbrev pub expected : Instance → History → Result Snapshot PartsFault → Batch → Result Found Refusal
-expected i y (Err Form) b = Err refusal.Form
-expected i y (Err Kind) b = Err refusal.Kind
-expected i y (Ok offered) b =
-    expected_by (examined i.meaning i.key offered b (judge i.variant y offered.content.position (normal b))) i y b
+abbrev pub expected_found : Instance → History → Result Snapshot PartsFault → Batch → Result Found Refusal
+expected_found i y (Err Form) b = Err refusal.Form
+expected_found i y (Err Kind) b = Err refusal.Kind
+expected_found i y (Ok offered) b =
+    expected_found_by (examined i.meaning i.key offered b (judge i.variant y offered.content.position (normal b))) i y b
 
 -- What is asked of a call from a history: the platform stands for it; a right offer names a position of it; and then
 -- the list `all`, which holds the messages of the history and of this call, is clear.
@@ -58,20 +58,20 @@ pub record IsAskedFrom (all : List (List ℕ)) (i : Instance) (y : History) (old
   pub clear : (content : Content) → IsRight i offer content → IsClearFor all i y content.place (normal b)
 
 -- State continuity of the reading step: what it finds is what the history gives, and the platform still stands for it.
-pub record ReadsOn (i : Instance) (y : History) (expects : Result Found Refusal) (new : Standing) (found : Result Found Refusal) : Type 0 where
+pub record FindsOn (i : Instance) (y : History) (expects : Result Found Refusal) (new : Standing) (found : Result Found Refusal) : Type 0 where
   pub found_is : fault_in found ≡ None → OrMemory expects found
   pub stands : StandsFor i new y
 
 -- the cell that is to be written is that of the history with the batch
 abbrev pub IsReadyOn : Instance → History → Batch → Found → Type 0
 IsReadyOn i y b (Repeat answer) = Unit {0}
-IsReadyOn i y b (Change ready) = ready.next ≡ cell_spelling (cell_of i (with_batch i y b))
+IsReadyOn i y b (Change ready) = ready.next ≡ cell_spelling (cell_of i (with_committed i y b))
 
 -- State continuity of the writing step: the platform stands for the history with the batch; or, after a fault, for
 -- that or the history as it was.
 abbrev pub WritesOn : Instance → History → Batch → Ready → Standing → Result BatchAnswer StepFault → Type 0
-WritesOn i y b ready new (Ok answer) = (answer ≡ ready.answer) × StandsFor i new (with_batch i y b)
-WritesOn i y b ready new (Err fault) = StandsFor i new y ⊎ StandsFor i new (with_batch i y b)
+WritesOn i y b ready new (Ok answer) = (answer ≡ ready.answer) × StandsFor i new (with_committed i y b)
+WritesOn i y b ready new (Err fault) = StandsFor i new y ⊎ StandsFor i new (with_committed i y b)
 
 abbrev pub CommitsOn : Instance → History → Batch → Found → Standing → Result BatchAnswer StepFault → Type 0
 CommitsOn i y b (Repeat answer) new written = (written ≡ Ok answer) × StandsFor i new y
@@ -82,7 +82,7 @@ abbrev pub ReadContinues : Meaning → Standing → Standing → List ℕ → Ba
 ReadContinues meaning old new offer b found =
     (key : List ℕ) (y : History) (all : List (List ℕ)) (taken : Result Snapshot PartsFault) →
     IsAskedFrom all (basic meaning key) y old offer b → ReadsParts offer Basic meaning.id taken →
-    ReadsOn (basic meaning key) y (expected (basic meaning key) y taken b) new found
+    FindsOn (basic meaning key) y (expected_found (basic meaning key) y taken b) new found
 
 abbrev pub CommitContinues : Found → Standing → Standing → Result BatchAnswer StepFault → Type 0
 CommitContinues found old new written =
@@ -91,34 +91,34 @@ CommitContinues found old new written =
     CommitsOn (basic meaning key) y b found new written
 
 -- a new batch was to be committed
-abbrev pub IsChange : Result Found Refusal → Type 0
-IsChange (Ok (Change ready)) = Unit {0}
-IsChange (Ok (Repeat answer)) = ⊥
-IsChange (Err why) = ⊥
+abbrev pub FindsChange : Result Found Refusal → Type 0
+FindsChange (Ok (Change ready)) = Unit {0}
+FindsChange (Ok (Repeat answer)) = ⊥
+FindsChange (Err why) = ⊥
 
 -- An answer is the expected one, and the platform stands for the history, with a new batch committed.
-abbrev pub AnswersFrom : Instance → History → Batch → Result Found Refusal → Standing → BatchAnswer → Type 0
-AnswersFrom i y b (Ok (Repeat expects)) new answer = (answer ≡ expects) × StandsFor i new y
-AnswersFrom i y b (Ok (Change ready)) new answer = (answer ≡ ready.answer) × StandsFor i new (with_batch i y b)
-AnswersFrom i y b (Err why) new answer = ⊥
+abbrev pub GivesAnswer : Instance → History → Batch → Result Found Refusal → Standing → BatchAnswer → Type 0
+GivesAnswer i y b (Ok (Repeat expects)) new answer = (answer ≡ expects) × StandsFor i new y
+GivesAnswer i y b (Ok (Change ready)) new answer = (answer ≡ ready.answer) × StandsFor i new (with_committed i y b)
+GivesAnswer i y b (Err why) new answer = ⊥
 
 -- A refusal is the expected one, or want of memory in place of an answer, and the platform stands for the history.
 -- After a device's fault it stands for the history, or, where a new batch was to be committed, for that with the batch.
 abbrev pub RefusesFrom : Instance → History → Batch → Result Found Refusal → Standing → Refusal → Option StepFault → Type 0
 RefusesFrom i y b expects new why None = OrMemory expects (Err why) × StandsFor i new y
 RefusesFrom i y b expects new why (Some fault) =
-    StandsFor i new y ⊎ (IsChange expects × StandsFor i new (with_batch i y b))
+    StandsFor i new y ⊎ (FindsChange expects × StandsFor i new (with_committed i y b))
 
-abbrev pub GoesOn : Instance → History → Batch → Result Found Refusal → Standing → Result BatchAnswer Refusal → Type 0
-GoesOn i y b expects new (Ok answer) = AnswersFrom i y b expects new answer
-GoesOn i y b expects new (Err why) = RefusesFrom i y b expects new why (fault_of why)
+abbrev pub GivesFrom : Instance → History → Batch → Result Found Refusal → Standing → Result BatchAnswer Refusal → Type 0
+GivesFrom i y b expects new (Ok answer) = GivesAnswer i y b expects new answer
+GivesFrom i y b expects new (Err why) = RefusesFrom i y b expects new why (fault_of why)
 
 -- State continuity of a call that isn't too long, from every history under every key.
 abbrev pub Continues : Meaning → Standing → Standing → List ℕ → Batch → Result BatchAnswer Refusal → Type 0
 Continues meaning old new offer b result =
     is_long b ≡ false → (key : List ℕ) (y : History) (all : List (List ℕ)) (taken : Result Snapshot PartsFault) →
     IsAskedFrom all (basic meaning key) y old offer b → ReadsParts offer Basic meaning.id taken →
-    GoesOn (basic meaning key) y b (expected (basic meaning key) y taken b) new result
+    GivesFrom (basic meaning key) y b (expected_found (basic meaning key) y taken b) new result
 
 -- Completeness: a right offer of the last position, or of the one before the batch that was committed last and is
 -- asked again, is answered, while there are positions left.

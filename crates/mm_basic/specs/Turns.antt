@@ -21,7 +21,7 @@ use Rattle.mm_model.specs.History.{History}
 use Rattle.mm_model.specs.Standing.{StandsFor, cell_of}
 use Rattle.mm_call.specs.Refusals.{fault_of}
 use Rattle.mm_basic.specs.Steps.{Reads, Writes}
-use Rattle.mm_basic.specs.Continuity.{with_batch, expected, IsAskedFrom, ReadsOn, WritesOn}
+use Rattle.mm_basic.specs.Continuity.{with_committed, expected_found, IsAskedFrom, FindsOn, WritesOn}
 
 -- what a turn gives, by what it finds
 abbrev pub turn_of : Result Found Refusal → Turn
@@ -60,7 +60,7 @@ Turns meaning (Some ready) old new offer b turn = TurnsLast ready old new turn
 -- state continuity of the first turn
 pub record FirstGoesOn (i : Instance) (y : History) (expects : Result Found Refusal) (new : Standing) (turn : Turn) : Type 0 where
   pub found : Result Found Refusal
-  pub reads : ReadsOn i y expects new found
+  pub reads : FindsOn i y expects new found
   pub gives : turn ≡ turn_of found
 
 -- state continuity of the last turn
@@ -75,8 +75,8 @@ abbrev pub TurnContinues : Meaning → Option Ready → Standing → Standing �
 TurnContinues meaning None old new offer b turn =
     (key : List ℕ) (y : History) (all : List (List ℕ)) (taken : Result Snapshot PartsFault) →
     IsAskedFrom all (basic meaning key) y old offer b → ReadsParts offer Basic meaning.id taken →
-    FirstGoesOn (basic meaning key) y (expected (basic meaning key) y taken b) new turn
+    FirstGoesOn (basic meaning key) y (expected_found (basic meaning key) y taken b) new turn
 TurnContinues meaning (Some ready) old new offer b turn =
     (key : List ℕ) (y : History) → StandsFor (basic meaning key) old y →
-    ready.next ≡ cell_spelling (cell_of (basic meaning key) (with_batch (basic meaning key) y b)) →
+    ready.next ≡ cell_spelling (cell_of (basic meaning key) (with_committed (basic meaning key) y b)) →
     LastGoesOn (basic meaning key) y b ready new turn
