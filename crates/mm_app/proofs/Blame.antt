@@ -37,14 +37,14 @@ use Rattle.mm_seal.specs.declared.cell.CellFault.{CellFault}
 use Rattle.mm_seal.specs.declared.cell.CellFault.TheVariants as unheld
 use Rattle.mm_words.specs.declared.command.Command.{Command}
 use Rattle.mm_words.specs.declared.command.Command.TheVariants.{Init, Run, Checkpoint, Power, Replay, Check, Gen, Bulk, Receipts, Help}
-use Rattle.mm_app.specs.Blame.{BlamesOutput, BlamesSource, is_platform_fault, is_read_fault, is_store_fault}
+use Rattle.mm_app.specs.Blame.{BlamesOutput, BlamesSource, tells_platform_fault, tells_read_fault, tells_store_fault}
 use Rattle.mm_app.specs.Bulk.{bulk_told}
 use Rattle.mm_app.specs.Checkpoint.{checkpoint_told}
-use Rattle.mm_app.specs.Commands.{Does, DoesOrLacks, Reads, UsesPlatform, UsesStore}
+use Rattle.mm_app.specs.Commands.{Does, DoesOrLacks, ReadsInput, UsesPlatform, UsesStore}
 use Rattle.mm_store.specs.Kept.{Kept}
 use Rattle.mm_app.specs.Outside.{Outside, IsStill}
 use Rattle.mm_app.specs.Power.{power_told}
-use Rattle.mm_app.specs.Running.{AfterLooking, FindsInstance, headed, instance_of, refused_at, session_status}
+use Rattle.mm_app.specs.Running.{ServesIfFound, FindsInstance, header_found, instance_found, refused_at, session_status}
 use Rattle.mm_app.specs.Starting.{init_told}
 use Rattle.mm_app.specs.Status.{status_of}
 use Rattle.mm_app.specs.Telling.{EndsAtOnce, GivesText, Stops, StopsAs, Tells, status_by}
@@ -53,12 +53,12 @@ use Rattle.mm_app.specs.declared.status.Status.TheVariants.{Done, Usage, Memory,
 
 -- two statuses blame the same
 pub record BlameAlike (one other : Status) : Type 0 where
-  pub platform : is_platform_fault one ≡ is_platform_fault other
-  pub store : is_store_fault one ≡ is_store_fault other
-  pub source : is_read_fault one ≡ is_read_fault other
+  pub platform : tells_platform_fault one ≡ tells_platform_fault other
+  pub store : tells_store_fault one ≡ tells_store_fault other
+  pub source : tells_read_fault one ≡ tells_read_fault other
 
 alike : (one other : Status) → one ≡ other → BlameAlike one other
-alike one other e = record { platform = ap is_platform_fault e; store = ap is_store_fault e; source = ap is_read_fault e }
+alike one other e = record { platform = ap tells_platform_fault e; store = ap tells_store_fault e; source = ap tells_read_fault e }
 
 -- what was to be told, as a status
 abbrev end_of : Result (List ℕ) Status → Status
@@ -67,7 +67,7 @@ end_of (Err end) = end
 
 wrote_alike : (r : Result (Unit {0}) write.WriteFault) (status : Status) → status ≡ status_by r → BlameAlike status Done
 wrote_alike (Ok done) status e = alike status Done e
-wrote_alike (Err fault) status e = record { platform = ap is_platform_fault e; store = ap is_store_fault e; source = ap is_read_fault e }
+wrote_alike (Err fault) status e = record { platform = ap tells_platform_fault e; store = ap tells_store_fault e; source = ap tells_read_fault e }
 
 told_alike : (told : Result (List ℕ) Status) (received received' : Option (List ℕ)) (writes writes' : ℕ) (status : Status)
     → Tells told received received' writes writes' status → BlameAlike status (end_of told)
@@ -82,7 +82,7 @@ unblamed blamed before now e same = subst (λ (b : Bool). plays.IsBlamed b befor
 blamed_as : (one other : Bool) (before now : ℕ) → one ≡ other → plays.IsBlamed other before now → plays.IsBlamed one before now
 blamed_as one other before now e b = subst (λ (x : Bool). plays.IsBlamed x before now) (sym e) b
 
-played_platform : {T : Type 0} (answer : Result T ReplayFault) → is_platform_fault (status_of answer) ≡ false
+played_platform : {T : Type 0} (answer : Result T ReplayFault) → tells_platform_fault (status_of answer) ≡ false
 played_platform (Ok it) = refl
 played_platform (Err fault.Memory) = refl
 played_platform (Err fault.ReadFault) = refl
@@ -91,7 +91,7 @@ played_platform (Err (fault.BadLine line)) = refl
 played_platform (Err (fault.LineLong line)) = refl
 played_platform (Err fault.TooMuch) = refl
 
-played_store : {T : Type 0} (answer : Result T ReplayFault) → is_store_fault (status_of answer) ≡ false
+played_store : {T : Type 0} (answer : Result T ReplayFault) → tells_store_fault (status_of answer) ≡ false
 played_store (Ok it) = refl
 played_store (Err fault.Memory) = refl
 played_store (Err fault.ReadFault) = refl
@@ -100,7 +100,7 @@ played_store (Err (fault.BadLine line)) = refl
 played_store (Err (fault.LineLong line)) = refl
 played_store (Err fault.TooMuch) = refl
 
-played_source : {T : Type 0} (answer : Result T ReplayFault) → is_read_fault (status_of answer) ≡ plays.is_read_fault answer
+played_source : {T : Type 0} (answer : Result T ReplayFault) → tells_read_fault (status_of answer) ≡ plays.is_read_fault answer
 played_source (Ok it) = refl
 played_source (Err fault.Memory) = refl
 played_source (Err fault.ReadFault) = refl
@@ -122,16 +122,16 @@ in_bulk_alike count answer received received' writes writes' status t =
     record { platform = a.platform ∙ b.platform; store = a.store ∙ b.store; source = a.source ∙ b.source }
 
 power_blames : (fault : Option StepFault) (before after : Standing) (emptied : Bool) → EndsCycle fault before after emptied
-    → plays.IsBlamed (is_platform_fault (end_of (power_told fault))) before.faults after.faults
+    → plays.IsBlamed (tells_platform_fault (end_of (power_told fault))) before.faults after.faults
 power_blames None before after emptied e = e.2
 power_blames (Some fault) before after emptied e = e
 
-power_spares : (fault : Option StepFault) → (is_store_fault (end_of (power_told fault)) ≡ false) × (is_read_fault (end_of (power_told fault)) ≡ false)
+power_spares : (fault : Option StepFault) → (tells_store_fault (end_of (power_told fault)) ≡ false) × (tells_read_fault (end_of (power_told fault)) ≡ false)
 power_spares None = (refl, refl)
 power_spares (Some fault) = (refl, refl)
 
 checkpoint_blames : (answer : Result Checkpointed CheckpointRefusal) (before after : ℕ) → Blames (closing_fault_in answer) before after
-    → plays.IsBlamed (is_platform_fault (end_of (checkpoint_told answer))) before after
+    → plays.IsBlamed (tells_platform_fault (end_of (checkpoint_told answer))) before after
 checkpoint_blames (Ok said.Done) before after b = b
 checkpoint_blames (Ok said.NoSegment) before after b = b
 checkpoint_blames (Err (refusal.Device fault)) before after b = b
@@ -141,7 +141,7 @@ checkpoint_blames (Err refusal.Kind) before after b = b
 checkpoint_blames (Err refusal.Lost) before after b = b
 
 checkpoint_spares : (answer : Result Checkpointed CheckpointRefusal)
-    → (is_store_fault (end_of (checkpoint_told answer)) ≡ false) × (is_read_fault (end_of (checkpoint_told answer)) ≡ false)
+    → (tells_store_fault (end_of (checkpoint_told answer)) ≡ false) × (tells_read_fault (end_of (checkpoint_told answer)) ≡ false)
 checkpoint_spares (Ok said.Done) = (refl, refl)
 checkpoint_spares (Ok said.NoSegment) = (refl, refl)
 checkpoint_spares (Err (refusal.Device fault)) = (refl, refl)
@@ -153,9 +153,9 @@ checkpoint_spares (Err refusal.Lost) = (refl, refl)
 -- a first start
 
 record StartBlames (before after : Devices) (end : Status) : Type 0 where
-  platform : plays.IsBlamed (is_platform_fault end) before.platform.faults after.platform.faults
-  store : plays.IsBlamed (is_store_fault end) before.store.faults after.store.faults
-  source : plays.IsBlamed (is_read_fault end) before.source_faults after.source_faults
+  platform : plays.IsBlamed (tells_platform_fault end) before.platform.faults after.platform.faults
+  store : plays.IsBlamed (tells_store_fault end) before.store.faults after.store.faults
+  source : plays.IsBlamed (tells_read_fault end) before.source_faults after.source_faults
   other : end ≡ WriteFault → ⊥
 
 start_blames : (answer : Result (Unit {0}) InitFault) (before after : Devices) → BlamesDevice before after answer → StartBlames before after (end_of (init_told answer))
@@ -170,9 +170,9 @@ start_blames (Err init.Store) before after b = record { platform = b.platform; s
 -- a session
 
 record RefusedAs (why : Refusal) : Type 0 where
-  platform : is_platform_fault (refused_at why) ≡ is_some (fault_of why)
-  store : is_store_fault (refused_at why) ≡ false
-  source : is_read_fault (refused_at why) ≡ false
+  platform : tells_platform_fault (refused_at why) ≡ is_some (fault_of why)
+  store : tells_store_fault (refused_at why) ≡ false
+  source : tells_read_fault (refused_at why) ≡ false
   other : refused_at why ≡ WriteFault → ⊥
   undone : refused_at why ≡ Done → ⊥
 
@@ -191,9 +191,9 @@ refused_as refused.Stale = record { platform = refl; store = refl; source = refl
 refused_as refused.Full = record { platform = refl; store = refl; source = refl; other = λ h. cc; undone = λ h. cc }
 
 record ServedAs (answer : Result (Unit {0}) SessionFault) : Type 0 where
-  platform : is_platform_fault (session_status answer) ≡ session_blame.is_platform_fault answer
-  store : is_store_fault (session_status answer) ≡ session_blame.is_store_fault answer
-  source : is_read_fault (session_status answer) ≡ session_blame.is_read_fault answer
+  platform : tells_platform_fault (session_status answer) ≡ session_blame.is_platform_fault answer
+  store : tells_store_fault (session_status answer) ≡ session_blame.is_store_fault answer
+  source : tells_read_fault (session_status answer) ≡ session_blame.is_read_fault answer
 
 served_as : (answer : Result (Unit {0}) SessionFault) → ServedAs answer
 served_as (Ok it) = record { platform = refl; store = refl; source = refl }
@@ -215,19 +215,19 @@ record UnheldAs (end : Status) : Type 0 where
 
 unheld_as : (end : Status) → (end ≡ Blank) ⊎ (end ≡ Cell) → UnheldAs end
 unheld_as end (inl e) = record {
-  alike = record { platform = ap is_platform_fault e; store = ap is_store_fault e; source = ap is_read_fault e };
+  alike = record { platform = ap tells_platform_fault e; store = ap tells_store_fault e; source = ap tells_read_fault e };
   other = λ h. cc;
 }
 unheld_as end (inr e) = record {
-  alike = record { platform = ap is_platform_fault e; store = ap is_store_fault e; source = ap is_read_fault e };
+  alike = record { platform = ap tells_platform_fault e; store = ap tells_store_fault e; source = ap tells_read_fault e };
   other = λ h. cc;
 }
 
-headed_end : (variant : Variant) (found : Option AnyModule) (end : Status) → Err end ≡ headed variant found → end ≡ Cell
+headed_end : (variant : Variant) (found : Option AnyModule) (end : Status) → Err end ≡ header_found variant found → end ≡ Cell
 headed_end variant None end e = cc
 headed_end variant (Some it) end e = cc
 
-unheld_end : (read : Result Held CellFault) (end : Status) → Err end ≡ instance_of read → (end ≡ Blank) ⊎ (end ≡ Cell)
+unheld_end : (read : Result Held CellFault) (end : Status) → Err end ≡ instance_found read → (end ≡ Blank) ⊎ (end ≡ Cell)
 unheld_end (Err unheld.Blank) end e = inl cc
 unheld_end (Err unheld.Cell) end e = inr cc
 unheld_end (Ok held) end e = inr (headed_end held.variant (module_with held.module) end e)
@@ -237,9 +237,9 @@ platform_end : (end : Status) → (let r : Result Header Status = Err end in r �
 platform_end end e = cc
 
 record RunBlames (before after : Standing) (old new : Kept) (reads reads' : ℕ) (status : Status) : Type 0 where
-  platform : plays.IsBlamed (is_platform_fault status) before.faults after.faults
-  store : plays.IsBlamed (is_store_fault status) old.faults new.faults
-  source : plays.IsBlamed (is_read_fault status) reads reads'
+  platform : plays.IsBlamed (tells_platform_fault status) before.faults after.faults
+  store : plays.IsBlamed (tells_store_fault status) old.faults new.faults
+  source : plays.IsBlamed (tells_read_fault status) reads reads'
 
 -- a device that failed is blamed
 failed_rose : (fault : StepFault) (before after : Standing) (made : Bool) → EndsBy (Some fault) before after made → Rose before.faults after.faults
@@ -249,33 +249,33 @@ failed_rose Off before after made e = e.faults
 run_blames : (fault : Option StepFault) (found : Result Header Status) (before middle after : Standing) (made : Bool) (old new : Kept)
     (left left' received received' : Option (List ℕ)) (reads reads' writes writes' : ℕ) (status : Status)
     → EndsBy fault before middle made → FindsInstance fault before found
-    → AfterLooking found middle after old new left left' received received' reads reads' writes writes' status
+    → ServesIfFound found middle after old new left left' received received' reads reads' writes writes' status
     → RunBlames before after old new reads reads' status
 run_blames None (Ok header) before middle after made old new left left' received received' reads reads' writes writes' status e f a =
     let served = a.served in
     let as_told = served_as served.answer in
     record {
-      platform = subst (λ (n : ℕ). plays.IsBlamed (is_platform_fault status) n after.faults) e.faults
-          (blamed_as _ _ _ _ (ap is_platform_fault served.ends ∙ as_told.platform) served.platform);
-      store = blamed_as _ _ _ _ (ap is_store_fault served.ends ∙ as_told.store) served.store;
-      source = blamed_as _ _ _ _ (ap is_read_fault served.ends ∙ as_told.source) served.read;
+      platform = subst (λ (n : ℕ). plays.IsBlamed (tells_platform_fault status) n after.faults) e.faults
+          (blamed_as _ _ _ _ (ap tells_platform_fault served.ends ∙ as_told.platform) served.platform);
+      store = blamed_as _ _ _ _ (ap tells_store_fault served.ends ∙ as_told.store) served.store;
+      source = blamed_as _ _ _ _ (ap tells_read_fault served.ends ∙ as_told.source) served.read;
     }
 run_blames None (Err end) before middle after made old new left left' received received' reads reads' writes writes' status e f a =
     let sees = f.2 in
     let none = (unheld_as end (unheld_end sees.read end sees.found_is)).alike in
     record {
-      platform = unblamed _ _ _ (ap is_platform_fault a.stops.ends ∙ none.platform) (ap (λ (s : Standing). s.faults) a.standing ∙ e.faults);
-      store = unblamed _ _ _ (ap is_store_fault a.stops.ends ∙ none.store) (ap (λ (k : Kept). k.faults) a.kept);
-      source = unblamed _ _ _ (ap is_read_fault a.stops.ends ∙ none.source) a.unfailed;
+      platform = unblamed _ _ _ (ap tells_platform_fault a.stops.ends ∙ none.platform) (ap (λ (s : Standing). s.faults) a.standing ∙ e.faults);
+      store = unblamed _ _ _ (ap tells_store_fault a.stops.ends ∙ none.store) (ap (λ (k : Kept). k.faults) a.kept);
+      source = unblamed _ _ _ (ap tells_read_fault a.stops.ends ∙ none.source) a.unfailed;
     }
 run_blames (Some fault) (Ok header) before middle after made old new left left' received received' reads reads' writes writes' status e f a = absurd (cc)
 run_blames (Some fault) (Err end) before middle after made old new left left' received received' reads reads' writes writes' status e f a =
     let is = a.stops.ends ∙ platform_end end f in
     record {
-      platform = blamed_as _ _ _ _ (ap is_platform_fault is)
+      platform = blamed_as _ _ _ _ (ap tells_platform_fault is)
           (subst (λ (s : Standing). Rose before.faults s.faults) (sym a.standing) (failed_rose fault before middle made e));
-      store = unblamed _ _ _ (ap is_store_fault is) (ap (λ (k : Kept). k.faults) a.kept);
-      source = unblamed _ _ _ (ap is_read_fault is) a.unfailed;
+      store = unblamed _ _ _ (ap tells_store_fault is) (ap (λ (k : Kept). k.faults) a.kept);
+      source = unblamed _ _ _ (ap tells_read_fault is) a.unfailed;
     }
 
 -- the output
@@ -340,7 +340,7 @@ unserved (Some fault) before end f = let is = platform_end end f in λ h. cc
 output_run : (fault : Option StepFault) (found : Result Header Status) (before middle after : Standing) (old new : Kept)
     (left left' received received' : Option (List ℕ)) (reads reads' writes writes' : ℕ) (status : Status)
     → FindsInstance fault before found
-    → AfterLooking found middle after old new left left' received received' reads reads' writes writes' status
+    → ServesIfFound found middle after old new left left' received received' reads reads' writes writes' status
     → BlamesOutput status writes writes'
 output_run fault (Ok header) before middle after old new left left' received received' reads reads' writes writes' status f a =
     output_served a.served.answer status a.between received' writes a.count writes' a.served.wrote a.served.ends a.stops
@@ -370,15 +370,15 @@ checkpoint_no_write (Err refusal.Lost) h = cc
 pub record Frames (command : Command) (old new : Outside) : Type 0 where
   pub standing : (UsesPlatform command → ⊥) → new.standing ≡ old.standing
   pub kept : (UsesStore command → ⊥) → new.kept ≡ old.kept
-  pub reads : (Reads command → ⊥) → new.reads ≡ old.reads
+  pub reads : (ReadsInput command → ⊥) → new.reads ≡ old.reads
 
 pub record Blamed (command : Command) (old new : Outside) (status : Status) : Type 0 where
-  pub platform : plays.IsBlamed (is_platform_fault status) old.standing.faults new.standing.faults
-  pub store : plays.IsBlamed (is_store_fault status) old.kept.faults new.kept.faults
+  pub platform : plays.IsBlamed (tells_platform_fault status) old.standing.faults new.standing.faults
+  pub store : plays.IsBlamed (tells_store_fault status) old.kept.faults new.kept.faults
   pub source : BlamesSource command old new status
 
-source_of : (command : Command) (old new : Outside) (status : Status) → plays.IsBlamed (is_read_fault status) old.reads new.reads
-    → plays.IsBlamed (is_read_fault status) old.takes new.takes → BlamesSource command old new status
+source_of : (command : Command) (old new : Outside) (status : Status) → plays.IsBlamed (tells_read_fault status) old.reads new.reads
+    → plays.IsBlamed (tells_read_fault status) old.takes new.takes → BlamesSource command old new status
 source_of (Init header) old new status r t = t
 source_of Run old new status r t = r
 source_of Checkpoint old new status r t = r
@@ -426,8 +426,8 @@ stopped_blamed command old new end status a still s = ended_blamed command old n
 
 -- what an answer to lines blames
 source_played : {T : Type 0} (answer : Result T ReplayFault) (status : Status) (reads reads' : ℕ) → status ≡ status_of answer
-    → plays.IsBlamed (plays.is_read_fault answer) reads reads' → plays.IsBlamed (is_read_fault status) reads reads'
-source_played answer status reads reads' e b = blamed_as _ _ _ _ (ap is_read_fault e ∙ played_source answer) b
+    → plays.IsBlamed (plays.is_read_fault answer) reads reads' → plays.IsBlamed (tells_read_fault status) reads reads'
+source_played answer status reads reads' e b = blamed_as _ _ _ _ (ap tells_read_fault e ∙ played_source answer) b
 
 pub done_blamed : (command : Command) (old new : Outside) (status : Status) → Frames command old new → Does command old new status → Blamed command old new status
 done_blamed (Init header) old new status f d =
@@ -443,8 +443,8 @@ done_blamed Run old new status f d =
     old.received new.received old.reads new.reads old.writes new.writes status d.looks.goes.ends d.looks.finds d.goes in
     record { platform = b.platform; store = b.store; source = b.source }
 done_blamed Check old new status f d = record {
-  platform = unblamed _ _ _ (ap is_platform_fault d.checked.ends ∙ played_platform d.checked.answer) (same_standing old new (f.standing (λ h. h)));
-  store = unblamed _ _ _ (ap is_store_fault d.checked.ends ∙ played_store d.checked.answer) (same_kept old new (f.kept (λ h. h)));
+  platform = unblamed _ _ _ (ap tells_platform_fault d.checked.ends ∙ played_platform d.checked.answer) (same_standing old new (f.standing (λ h. h)));
+  store = unblamed _ _ _ (ap tells_store_fault d.checked.ends ∙ played_store d.checked.answer) (same_kept old new (f.kept (λ h. h)));
   source = source_played d.checked.answer status _ _ d.checked.ends d.checked.read;
 }
 done_blamed (Gen it) old new status f d = given_blamed (Gen it) old new _ status d
@@ -452,13 +452,13 @@ done_blamed Help old new status f d = given_blamed Help old new _ status d
 done_blamed (Bulk it) old new status f d =
     still_blamed (Bulk it) old new status d.0 (in_bulk_alike it.count d.1.answer _ _ _ _ status d.1.tells)
 done_blamed Replay old new status f d = record {
-  platform = unblamed _ _ _ (ap is_platform_fault d.replayed.ends ∙ played_platform d.replayed.answer) (same_standing old new (f.standing (λ h. h)));
-  store = unblamed _ _ _ (ap is_store_fault d.replayed.ends ∙ played_store d.replayed.answer) (same_kept old new (f.kept (λ h. h)));
+  platform = unblamed _ _ _ (ap tells_platform_fault d.replayed.ends ∙ played_platform d.replayed.answer) (same_standing old new (f.standing (λ h. h)));
+  store = unblamed _ _ _ (ap tells_store_fault d.replayed.ends ∙ played_store d.replayed.answer) (same_kept old new (f.kept (λ h. h)));
   source = source_played d.replayed.answer status _ _ d.replayed.ends d.replayed.read;
 }
 done_blamed (Receipts key) old new status f d = record {
-  platform = unblamed _ _ _ (ap is_platform_fault d.checked.ends ∙ played_platform d.checked.answer) (same_standing old new (f.standing (λ h. h)));
-  store = unblamed _ _ _ (ap is_store_fault d.checked.ends ∙ played_store d.checked.answer) (same_kept old new (f.kept (λ h. h)));
+  platform = unblamed _ _ _ (ap tells_platform_fault d.checked.ends ∙ played_platform d.checked.answer) (same_standing old new (f.standing (λ h. h)));
+  store = unblamed _ _ _ (ap tells_store_fault d.checked.ends ∙ played_store d.checked.answer) (same_kept old new (f.kept (λ h. h)));
   source = source_played d.checked.answer status _ _ d.checked.ends d.checked.read;
 }
 done_blamed Power old new status f d =

@@ -19,7 +19,7 @@ use Rattle.mm_schedule.specs.Headers.{header_at}
 use Rattle.mm_schedule.specs.Replies.{end_line}
 use Rattle.mm_words.specs.declared.command.Command.TheVariants.{Replay}
 use Rattle.mm_app.specs.Commands.{DoesOrLacks}
-use Rattle.mm_app.specs.Headline.{Continues, IsLast, IsOneRun, IsUnbegun}
+use Rattle.mm_app.specs.Headline.{TellsOneRun, IsLast, ReplaysOneRun, IsUnbegun}
 use Rattle.mm_app.specs.Outside.{Outside}
 use Rattle.mm_app.specs.Status.{status_of, stop_line}
 use Rattle.mm_app.specs.declared.status.Status.{Status}
@@ -63,7 +63,7 @@ continues : (lines rest all : List (List ℕ)) (written sent last : List ℕ) (e
     → all ≡ lines ++ rest → (answers : AnswersEvents header_at lines written ends) → IsLast status last
     → ((text : List ℕ) → written ≡ text ++ behind answers → IsFrontOf sent (text ++ last))
     → ((text : List ℕ) → written ≡ text ++ behind answers → status ≡ Done → sent ≡ text ++ last)
-    → Continues all sent status
+    → TellsOneRun all sent status
 continues lines rest all written sent last ends status is answers closes out whole =
     let i = world_of answers.header in
     let run = replies_by_digests i answers.events in
@@ -91,7 +91,7 @@ continues lines rest all written sent last ends status is answers closes out who
 -- some lines were answered, and the stop line, or a front of it, went out
 stopped_behind : (lines rest all : List (List ℕ)) (written stop unsent : List ℕ) (status : Status)
     → all ≡ lines ++ rest → AnswersLines header_at lines written → stop_line status ≡ stop ++ unsent → (status ≡ Done → ⊥)
-    → IsUnbegun (written ++ stop) status ⊎ Continues all (written ++ stop) status
+    → IsUnbegun (written ++ stop) status ⊎ TellsOneRun all (written ++ stop) status
 stopped_behind lines rest all written stop unsent status is (inl none) parts undone =
     inl (unsent, ap (λ (w : List ℕ). (w ++ stop) ++ unsent) none.1 ∙ sym parts)
 stopped_behind lines rest all written stop unsent status is (inr answers) parts undone =
@@ -104,20 +104,20 @@ undone h = let no : ⊥ = cc in absurd no
 
 -- a front of what was answered went out, and no stop line
 cut_short : (lines rest all : List (List ℕ)) (written sent : List ℕ) → all ≡ lines ++ rest → IsFrontOf sent written → AnswersLines header_at lines written
-    → IsUnbegun sent WriteFault ⊎ Continues all sent WriteFault
+    → IsUnbegun sent WriteFault ⊎ TellsOneRun all sent WriteFault
 cut_short lines rest all written sent is front (inl none) = inl (front.0, front.1 ∙ none.1)
 cut_short lines rest all written sent is front (inr answers) =
     inr (continues lines rest all written sent [] unended WriteFault is answers (inr refl)
     (λ text told. (front.0, front.1 ∙ told)) (λ text told done. undone done))
 
 cut_short_all : (lines : List (List ℕ)) (written sent : List ℕ) → IsFrontOf sent written → AnswersAll header_at lines written
-    → IsUnbegun sent WriteFault ⊎ Continues lines sent WriteFault
+    → IsUnbegun sent WriteFault ⊎ TellsOneRun lines sent WriteFault
 cut_short_all lines written sent front answers =
     inr (continues lines [] lines written sent (behind answers) end_line WriteFault (sym (append-nil lines)) answers (inl (_, _, refl))
     (λ text told. (front.0, front.1 ∙ told)) (λ text told done. undone done))
 
 -- all lines were answered
-finished : (lines : List (List ℕ)) (sent : List ℕ) → AnswersAll header_at lines sent → IsUnbegun sent Done ⊎ Continues lines sent Done
+finished : (lines : List (List ℕ)) (sent : List ℕ) → AnswersAll header_at lines sent → IsUnbegun sent Done ⊎ TellsOneRun lines sent Done
 finished lines sent answers =
     inr (continues lines [] lines sent sent (behind answers) end_line Done (sym (append-nil lines)) answers (inl (_, _, refl))
     (λ text told. ([], append-nil sent ∙ told)) (λ text told done. told))
@@ -125,12 +125,12 @@ finished lines sent answers =
 -- of what was taken, by how the replay ended
 at_first : {stops : List (List ℕ) → List (List ℕ) → Type 0} (taken sent stop unsent : List ℕ) (status : Status)
     → AnswersFirst (AnswersLines header_at) stops (lines_of taken) sent → stop_line status ≡ stop ++ unsent → (status ≡ Done → ⊥)
-    → IsUnbegun (sent ++ stop) status ⊎ Continues (lines_of taken) (sent ++ stop) status
+    → IsUnbegun (sent ++ stop) status ⊎ TellsOneRun (lines_of taken) (sent ++ stop) status
 at_first taken sent stop unsent status first parts undone =
     stopped_behind first.done first.rest (lines_of taken) sent stop unsent status first.split first.answered parts undone
 
 abbrev WhatIsOut : List ℕ → List ℕ → Status → Type 0
-WhatIsOut taken sent status = IsUnbegun sent status ⊎ Continues (lines_of taken) sent status
+WhatIsOut taken sent status = IsUnbegun sent status ⊎ TellsOneRun (lines_of taken) sent status
 
 unsent_after : (sent stop unsent : List ℕ) → [] ≡ stop ++ unsent → sent ++ stop ≡ sent
 unsent_after sent stop unsent h = ap (λ (s : List ℕ). sent ++ s) (sent_none stop unsent h) ∙ append-nil sent
@@ -169,7 +169,7 @@ at_end left taken sent stop unsent (Err fault.TooMuch) tells parts =
 -- The headline of a replay and its stop line.
 pub is_one_run : (left left' received middle received' : Option (List ℕ)) (answer : Result Report ReplayFault) (result : Result (Unit {0}) write.WriteFault) (status : Status)
     → Replays left left' received middle answer → status ≡ status_of answer → Sends middle received' (stop_line status) result
-    → IsOneRun left left' received received' status
+    → ReplaysOneRun left left' received received' status
 is_one_run left left' received middle received' answer result status replays ends sends = record {
   taken = replays.taken;
   sent = replays.sent ++ sends.sent;
@@ -181,7 +181,7 @@ is_one_run left left' received middle received' answer result status replays end
 
 -- memory was wanting before anything was read
 pub lacks_one_run : (left received received' : Option (List ℕ)) (result : Result (Unit {0}) write.WriteFault) (status : Status)
-    → Sends received received' (stop_line status) result → IsOneRun left left received received' status
+    → Sends received received' (stop_line status) result → ReplaysOneRun left left received received' status
 lacks_one_run left received received' result status sends = record {
   taken = [];
   sent = sends.sent;
@@ -191,11 +191,11 @@ lacks_one_run left received received' result status sends = record {
 }
 
 -- The headline, by what the command did.
-pub headline_of : (old new : Outside) (status : Status) → DoesOrLacks Replay old new status → IsOneRun old.left new.left old.received new.received status
+pub headline_of : (old new : Outside) (status : Status) → DoesOrLacks Replay old new status → ReplaysOneRun old.left new.left old.received new.received status
 headline_of old new status (inl does) =
     is_one_run old.left new.left old.received does.middle new.received does.replayed.answer does.stops.result status does.replayed.replays does.replayed.ends does.stops.sends
 headline_of old new status (inr lacks) =
     let stopped = lacks.stops.stops in
-    subst (λ l. IsOneRun old.left l old.received new.received status) (sym lacks.still.left)
+    subst (λ l. ReplaysOneRun old.left l old.received new.received status) (sym lacks.still.left)
     (lacks_one_run old.left old.received new.received stopped.result status
     (subst (λ s. Sends old.received new.received (stop_line s) stopped.result) (sym lacks.stops.ends) stopped.sends))

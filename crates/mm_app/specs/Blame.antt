@@ -8,23 +8,23 @@ use Rattle.mm_app.specs.Outside.{Outside}
 use Rattle.mm_app.specs.declared.status.Status.{Status}
 use Rattle.mm_app.specs.declared.status.Status.TheVariants.{Done, ReadFault, WriteFault, PlatformFault, StoreFault}
 
-abbrev pub is_platform_fault : Status → Bool
-is_platform_fault PlatformFault = true
-is_platform_fault _ = false
+abbrev pub tells_platform_fault : Status → Bool
+tells_platform_fault PlatformFault = true
+tells_platform_fault _ = false
 
-abbrev pub is_store_fault : Status → Bool
-is_store_fault StoreFault = true
-is_store_fault _ = false
+abbrev pub tells_store_fault : Status → Bool
+tells_store_fault StoreFault = true
+tells_store_fault _ = false
 
-abbrev pub is_read_fault : Status → Bool
-is_read_fault ReadFault = true
-is_read_fault _ = false
+abbrev pub tells_read_fault : Status → Bool
+tells_read_fault ReadFault = true
+tells_read_fault _ = false
 
 -- Of the source that the command takes from, the count rose exactly where ReadFault is told: of the entropy for `init`,
 -- and of the input for any other.
 abbrev pub BlamesSource : Command → (old new : Outside) → Status → Type 0
-BlamesSource (Init header) old new status = IsBlamed (is_read_fault status) old.takes new.takes
-BlamesSource _ old new status = IsBlamed (is_read_fault status) old.reads new.reads
+BlamesSource (Init header) old new status = IsBlamed (tells_read_fault status) old.takes new.takes
+BlamesSource _ old new status = IsBlamed (tells_read_fault status) old.reads new.reads
 
 -- The output's count rose where WriteFault is told, and is as before where all was done. Beside another status it may
 -- have risen, where the output failed within the stop line.

@@ -1,7 +1,7 @@
 -- What the words of the command line do.
 use Rattle.std.specs.Prelude.{◌⊎◌, ℕ, List}
 use Rattle.mm_gen.specs.Schedules.{schedule_text}
-use Rattle.mm_words.specs.Commands.{Spells, help_text}
+use Rattle.mm_words.specs.Commands.{SpellsCommand, help_text}
 use Rattle.mm_words.specs.declared.command.Command.{Command}
 use Rattle.mm_words.specs.declared.command.Command.TheVariants.{Init, Run, Checkpoint, Power, Replay, Check, Gen, Bulk, Receipts, Help}
 use Rattle.mm_app.specs.Bulk.{RunsInBulk}
@@ -44,11 +44,11 @@ DoesOrLacks command old new status = Does command old new status ⊎ EndsAtOnce 
 
 -- these words spell no such command
 abbrev pub SpellNo : (Command → Type 0) → List (List ℕ) → Type 0
-SpellNo Is words = (command : Command) → Is command → Spells command words → ⊥
+SpellNo Is words = (command : Command) → Is command → SpellsCommand command words → ⊥
 
 -- they spell none at all
 abbrev pub SpellNone : List (List ℕ) → Type 0
-SpellNone words = (command : Command) → Spells command words → ⊥
+SpellNone words = (command : Command) → SpellsCommand command words → ⊥
 
 -- the commands that use the platform
 abbrev pub UsesPlatform : Command → Type 0
@@ -65,12 +65,12 @@ UsesStore Run = Unit {0}
 UsesStore _ = ⊥
 
 -- the commands that read the input
-abbrev pub Reads : Command → Type 0
-Reads Run = Unit {0}
-Reads Replay = Unit {0}
-Reads Check = Unit {0}
-Reads (Receipts key) = Unit {0}
-Reads _ = ⊥
+abbrev pub ReadsInput : Command → Type 0
+ReadsInput Run = Unit {0}
+ReadsInput Replay = Unit {0}
+ReadsInput Check = Unit {0}
+ReadsInput (Receipts key) = Unit {0}
+ReadsInput _ = ⊥
 
 -- the commands that take from the entropy
 abbrev pub TakesEntropy : Command → Type 0

@@ -42,7 +42,7 @@ IsLast status last = ((committed issued : ℕ) × (last ≡ end_line committed i
 -- What went out is the text of the replies to events that these lines begin with, and what comes behind it, or a front
 -- of both. Where no two different messages of the run share a digest, none is zero and no value of others is a secured
 -- request, and where no tag is forged, the replies are one run.
-pub record Continues (lines : List (List ℕ)) (sent : List ℕ) (status : Status) : Type 0 where
+pub record TellsOneRun (lines : List (List ℕ)) (sent : List ℕ) (status : Status) : Type 0 where
   pub header : Header
   pub events : List Event
   pub text : List ℕ
@@ -58,9 +58,9 @@ abbrev pub IsUnbegun : List ℕ → Status → Type 0
 IsUnbegun sent status = IsFrontOf sent (stop_line status)
 
 -- The headline of a replay, by what is left of the input and what the output received.
-pub record IsOneRun (left left' received received' : Option (List ℕ)) (status : Status) : Type 0 where
+pub record ReplaysOneRun (left left' received received' : Option (List ℕ)) (status : Status) : Type 0 where
   pub taken : List ℕ
   pub sent : List ℕ
   pub consumed : Consumes left left' taken
   pub appended : Appends received received' sent
-  pub continues : IsUnbegun sent status ⊎ Continues (lines_of taken) sent status
+  pub continues : IsUnbegun sent status ⊎ TellsOneRun (lines_of taken) sent status

@@ -50,20 +50,20 @@ session_status (Ok _) = Done
 session_status (Err fault) = session_at fault
 
 -- The variant and the module of what a cell holds; or the status that the program ends with.
-abbrev pub headed : Variant → Option AnyModule → Result Header Status
-headed variant None = Err Cell
-headed variant (Some found) = Ok (record { variant = variant; «module» = found })
+abbrev pub header_found : Variant → Option AnyModule → Result Header Status
+header_found variant None = Err Cell
+header_found variant (Some found) = Ok (record { variant = variant; «module» = found })
 
-abbrev pub instance_of : Result Held CellFault → Result Header Status
-instance_of (Err unheld.Blank) = Err Blank
-instance_of (Err unheld.Cell) = Err Cell
-instance_of (Ok held) = headed held.variant (module_with held.module)
+abbrev pub instance_found : Result Held CellFault → Result Header Status
+instance_found (Err unheld.Blank) = Err Blank
+instance_found (Err unheld.Cell) = Err Cell
+instance_found (Ok held) = header_found held.variant (module_with held.module)
 
 -- What is found in the bytes of a cell. There is one way for each.
 pub record SeesInstance (bytes : List ℕ) (found : Result Header Status) : Type 0 where
   pub read : Result Held CellFault
   pub reads : ReadsCell bytes read
-  pub found_is : found ≡ instance_of read
+  pub found_is : found ≡ instance_found read
 
 -- What is found on a platform whose cell was read: it is the platform's, where that tells its cell.
 abbrev pub FindsInstance : Option StepFault → Standing → Result Header Status → Type 0
@@ -78,7 +78,7 @@ pub record LooksAtInstance (before after : Standing) (found : Result Header Stat
 
 -- A session over the instance, which ended with an answer of this status: its steps; that lines within the limits aren't to
 -- blame; and from which history to which it went, by one run of the module, with slots to go on from. Each count of faults rose exactly where its object is to blame.
-pub record Served (header : Header) (before after : Standing) (old new : Kept) (left left' received received' : Option (List ℕ)) (reads reads' writes writes' : ℕ) (status : Status) : Type 0 where
+pub record ServedInstance (header : Header) (before after : Standing) (old new : Kept) (left left' received received' : Option (List ℕ)) (reads reads' writes writes' : ℕ) (status : Status) : Type 0 where
   pub answer : Result (Unit {0}) SessionFault
   pub sessions : Sessions header.variant (meaning_of header.module) before after old new left left' received received' answer
   pub lines : SparesLines left answer
@@ -94,7 +94,7 @@ pub record Served (header : Header) (before after : Standing) (old new : Kept) (
 pub record ServesAndStops (header : Header) (before after : Standing) (old new : Kept) (left left' received received' : Option (List ℕ)) (reads reads' writes writes' : ℕ) (status : Status) : Type 0 where
   pub between : Option (List ℕ)
   pub count : ℕ
-  pub served : Served header before after old new left left' received between reads reads' writes count status
+  pub served : ServedInstance header before after old new left left' received between reads reads' writes count status
   pub stops : Stops between received' count writes' status
 
 -- No instance was found, and nothing more was done.
@@ -105,10 +105,10 @@ pub record FindsNone (end : Status) (before after : Standing) (old new : Kept) (
   pub unfailed : reads' ≡ reads
   pub stops : StopsAs end received received' writes writes' status
 
-abbrev pub AfterLooking : Result Header Status → (before after : Standing) (old new : Kept) (left left' received received' : Option (List ℕ)) (reads reads' writes writes' : ℕ) → Status → Type 0
-AfterLooking (Err end) before after old new left left' received received' reads reads' writes writes' status =
+abbrev pub ServesIfFound : Result Header Status → (before after : Standing) (old new : Kept) (left left' received received' : Option (List ℕ)) (reads reads' writes writes' : ℕ) → Status → Type 0
+ServesIfFound (Err end) before after old new left left' received received' reads reads' writes writes' status =
     FindsNone end before after old new left left' received received' reads reads' writes writes' status
-AfterLooking (Ok header) before after old new left left' received received' reads reads' writes writes' status =
+ServesIfFound (Ok header) before after old new left left' received received' reads reads' writes writes' status =
     ServesAndStops header before after old new left left' received received' reads reads' writes writes' status
 
 -- The platform's cell was read, and a session served over the instance that it holds.
@@ -116,4 +116,4 @@ pub record RunsInstance (before after : Standing) (old new : Kept) (left left' r
   pub middle : Standing
   pub found : Result Header Status
   pub looks : LooksAtInstance before middle found
-  pub goes : AfterLooking found middle after old new left left' received received' reads reads' writes writes' status
+  pub goes : ServesIfFound found middle after old new left left' received received' reads reads' writes writes' status

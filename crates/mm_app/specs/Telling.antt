@@ -49,13 +49,6 @@ pub record GivesText (text : List ℕ) (old new : Outside) (status : Status) : T
   pub still : IsStill old new
   pub given : WritesText text old.received new.received old.writes new.writes status
 
--- The output's count rose where the output is to blame, and is as before where all was done. It may have risen beside
--- another status, whose stop line the output then cut short.
-pub record CountsWrites (status : Status) (writes writes' : ℕ) : Type 0 where
-  pub later : writes ≤ writes'
-  pub failed : status ≡ WriteFault → Rose writes writes'
-  pub done : status ≡ Done → writes' ≡ writes
-
 -- Words that are no command: the status is Usage, or Memory where that was wanting, and its stop line is written.
 pub record IsRefused (received received' : Option (List ℕ)) (writes writes' : ℕ) (status : Status) : Type 0 where
   pub ends : (status ≡ Usage) ⊎ (status ≡ Memory)

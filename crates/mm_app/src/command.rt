@@ -7,12 +7,12 @@ ghost use Rattle.mm_play.specs.Plays.{IsBlamed};
 ghost use Rattle.mm_receipts.specs.Checking.{Checking, first_checking, receipts_answer, receipts_closing};
 ghost use Rattle.mm_replay.specs.Schedule.{Stage, AtHeader, schedule_answer, schedule_closing};
 ghost use Rattle.mm_schedule.specs.Headers.{header_at};
-ghost use Rattle.mm_words.specs.Commands.{IsAllowed, Spells};
+ghost use Rattle.mm_words.specs.Commands.{IsInBounds, SpellsCommand};
 ghost use Rattle.mm_words.specs.declared.command.Command.{Command as Told};
 ghost use Rattle.mm_words.specs.declared.command.Command.TheVariants.{Check, Receipts, Replay};
-ghost use Rattle.mm_app.specs.Blame.{BlamesOutput, BlamesSource, is_platform_fault, is_store_fault};
-ghost use Rattle.mm_app.specs.Commands.{DoesOrLacks, Reads, SpellNo, SpellNone, TakesEntropy, UsesPlatform, UsesStore};
-ghost use Rattle.mm_app.specs.Headline.{IsOneRun};
+ghost use Rattle.mm_app.specs.Blame.{BlamesOutput, BlamesSource, tells_platform_fault, tells_store_fault};
+ghost use Rattle.mm_app.specs.Commands.{DoesOrLacks, ReadsInput, SpellNo, SpellNone, TakesEntropy, UsesPlatform, UsesStore};
+ghost use Rattle.mm_app.specs.Headline.{ReplaysOneRun};
 ghost use Rattle.mm_app.specs.Outside.{outside};
 ghost use Rattle.mm_app.specs.Status.{EndsUnrefused};
 ghost use Rattle.mm_app.specs.Telling.{IsRefused};
@@ -45,7 +45,7 @@ fn done<P: Platform, T: Store, S: Source, E: Source, K: Sink>(
     entropy: &mut E,
     out: &mut K,
 ) -> Status
-    requires { IsAllowed command.now }
+    requires { IsInBounds command.now }
     ensures does { let old = outside (P.standing platform.old) (T.kept store.old) (S.left input.old) (S.faults input.old)
         (E.left entropy.old) (E.faults entropy.old) (K.received out.old) (K.faults out.old) in
         let new = outside (P.standing platform.new) (T.kept store.new) (S.left input.new) (S.faults input.new)
@@ -60,7 +60,7 @@ fn done<P: Platform, T: Store, S: Source, E: Source, K: Sink>(
     ensures usage { result ≡ Usage → ⊥ }
     ensures platform { (UsesPlatform command.now → ⊥) → platform.new ≡ platform.old }
     ensures store { (UsesStore command.now → ⊥) → store.new ≡ store.old }
-    ensures input { (Reads command.now → ⊥) → input.new ≡ input.old }
+    ensures input { (ReadsInput command.now → ⊥) → input.new ≡ input.old }
     ensures entropy { (TakesEntropy command.now → ⊥) → entropy.new ≡ entropy.old }
 {
     match command {
@@ -101,20 +101,20 @@ pub fn memoir<P: Platform, T: Store, S: Source, E: Source, K: Sink>(
         (command : Told) → Spells command (map (λ s. s.now) words.now) → DoesOrLacks command old new result }
 
     // A schedule within the grammar and the limits is not refused.
-    ensures complete { Spells Replay (map (λ s. s.now) words.now) → (bytes : List ℕ) → (next : Stage) → S.left input.old ≡ Some bytes
+    ensures complete { SpellsCommand Replay (map (λ s. s.now) words.now) → (bytes : List ℕ) → (next : Stage) → S.left input.old ≡ Some bytes
         → (run_of (schedule_answer header_at) schedule_closing AtHeader bytes).outcome ≡ Ok next → EndsUnrefused result }
 
     // Lines that are pairs within the limits are not refused.
-    ensures receipts { (key : List ℕ) → Spells (Receipts key) (map (λ s. s.now) words.now) → (bytes : List ℕ) → (next : Checking) → S.left input.old ≡ Some bytes
+    ensures receipts { (key : List ℕ) → SpellsCommand (Receipts key) (map (λ s. s.now) words.now) → (bytes : List ℕ) → (next : Checking) → S.left input.old ≡ Some bytes
         → (run_of receipts_answer receipts_closing (first_checking key) bytes).outcome ≡ Ok next → EndsUnrefused result }
 
     // Nor is a recorded run within the grammar and the limits.
-    ensures check { Spells Check (map (λ s. s.now) words.now) → (bytes : List ℕ) → (next : checked.Stage) → S.left input.old ≡ Some bytes
+    ensures check { SpellsCommand Check (map (λ s. s.now) words.now) → (bytes : List ℕ) → (next : checked.Stage) → S.left input.old ≡ Some bytes
         → (run_of (checked.check_answer header_at) checked.check_closing checked.AtHeader bytes).outcome ≡ Ok next → EndsUnrefused result }
 
     // The headline: what is written for a schedule is one run of the module on one list of requests.
-    ensures headline { Spells Replay (map (λ s. s.now) words.now)
-        → IsOneRun (S.left input.old) (S.left input.new) (K.received out.old) (K.received out.new) result }
+    ensures headline { SpellsCommand Replay (map (λ s. s.now) words.now)
+        → ReplaysOneRun (S.left input.old) (S.left input.new) (K.received out.old) (K.received out.new) result }
 
     // Usage comes exactly where the words spell no command, but for want of memory.
     ensures usage { result ≡ Usage → SpellNone (map (λ s. s.now) words.now) }
@@ -124,12 +124,12 @@ pub fn memoir<P: Platform, T: Store, S: Source, E: Source, K: Sink>(
     // A command leaves the objects that it doesn't use as they were.
     ensures platform { SpellNo UsesPlatform (map (λ s. s.now) words.now) → platform.new ≡ platform.old }
     ensures store { SpellNo UsesStore (map (λ s. s.now) words.now) → store.new ≡ store.old }
-    ensures input { SpellNo Reads (map (λ s. s.now) words.now) → input.new ≡ input.old }
+    ensures input { SpellNo ReadsInput (map (λ s. s.now) words.now) → input.new ≡ input.old }
     ensures entropy { SpellNo TakesEntropy (map (λ s. s.now) words.now) → entropy.new ≡ entropy.old }
 
     // A count of faults rose exactly where the status blames it; the output's too where its stop line was cut short.
-    ensures device { IsBlamed (is_platform_fault result) (P.standing platform.old).faults (P.standing platform.new).faults }
-    ensures slots { IsBlamed (is_store_fault result) (T.kept store.old).faults (T.kept store.new).faults }
+    ensures device { IsBlamed (tells_platform_fault result) (P.standing platform.old).faults (P.standing platform.new).faults }
+    ensures slots { IsBlamed (tells_store_fault result) (T.kept store.old).faults (T.kept store.new).faults }
     ensures source { let old = outside (P.standing platform.old) (T.kept store.old) (S.left input.old) (S.faults input.old)
         (E.left entropy.old) (E.faults entropy.old) (K.received out.old) (K.faults out.old) in
         let new = outside (P.standing platform.new) (T.kept store.new) (S.left input.new) (S.faults input.new)

@@ -17,7 +17,7 @@ use Rattle.mm_schedule.specs.Events.{Event}
 use Rattle.mm_run.specs.Folds.{outcome_of, first_issued}
 use Rattle.mm_run.specs.Premises.{event_messages, moves_of, messages_from, run_messages}
 use Rattle.mm_expect.specs.Numbered.{messages_if, messages_where, numbered_event}
-use Rattle.mm_check.specs.Listing.{first_where, listed, digests_of, shared_with, shared_in, is_zero, zero_in}
+use Rattle.mm_check.specs.Listing.{first_where, listed, message_digests, shared_with, shared_in, is_zero, zero_in}
 use Rattle.mm_check.specs.Numbering.{numbered_from, numbered}
 
 -- each element of the one list is in the other
@@ -34,20 +34,24 @@ cons_cases x xs m h = elim (Contains-append_cases (x ∷ []) xs m h) [
   | inr b ↦ inr b
 ]
 
+-- no test comes out both ways
+pub true_false : (b : Bool) → b ≡ true → b ≡ false → ⊥
+true_false b t f = cc
+
 -- a test that no digest passes
 
 none_more : (o : Option ℕ) → option_map (λ n. n + 1) o ≡ None → o ≡ None
 none_more None h = refl
 none_more (Some n) h = absurd (cc)
 
-first_none : (here : Bool) (o : Option ℕ) → (let w : Option ℕ = cond here (Some 1) (option_map (λ n. n + 1) o) in w ≡ None) → (here ≡ false) × (o ≡ None)
+pub first_none : (here : Bool) (o : Option ℕ) → (let w : Option ℕ = cond here (Some 1) (option_map (λ n. n + 1) o) in w ≡ None) → (here ≡ false) × (o ≡ None)
 first_none true o h = absurd (cc)
 first_none false o h = (refl, none_more o h)
 
-found_none : (p : List ℕ → Bool) (ms : List (List ℕ)) (m : List ℕ) → Contains ms m → p (sha256 m) ≡ true → first_where p (digests_of ms) ≡ None → ⊥
+found_none : (p : List ℕ → Bool) (ms : List (List ℕ)) (m : List ℕ) → Contains ms m → p (sha256 m) ≡ true → first_where p (message_digests ms) ≡ None → ⊥
 found_none p [] m h pass none = none_in m h
 found_none p (x ∷ ms) m h pass none =
-    let parts = first_none (p (sha256 x)) (first_where p (digests_of ms)) none in
+    let parts = first_none (p (sha256 x)) (first_where p (message_digests ms)) none in
     elim (cons_cases x ms m h) [
       | inl same ↦ true_false (sym pass ∙ ap (λ (l : List ℕ). p (sha256 l)) (sym same) ∙ parts.0)
       | inr later ↦ found_none p ms m later pass parts.1
@@ -66,10 +70,10 @@ pairs_none None (Some pair) h = absurd (cc)
 same_digest : (a b : List ℕ) → a ≡ b → bytes_eq a b ≡ true
 same_digest a b e = (bytes_eq-Decides a b).1 e
 
-pub pairs_apart : (ms : List (List ℕ)) → shared_in (digests_of ms) ≡ None → (m n : List ℕ) → Contains ms m → Contains ms n → sha256 m ≡ sha256 n → m ≡ n
+pub pairs_apart : (ms : List (List ℕ)) → shared_in (message_digests ms) ≡ None → (m n : List ℕ) → Contains ms m → Contains ms n → sha256 m ≡ sha256 n → m ≡ n
 pairs_apart [] none m n hm hn e = absurd (none_in m hm)
 pairs_apart (x ∷ ms) none m n hm hn e =
-    let parts = pairs_none (first_where (bytes_eq (sha256 x)) (digests_of ms)) (shared_in (digests_of ms)) none in
+    let parts = pairs_none (first_where (bytes_eq (sha256 x)) (message_digests ms)) (shared_in (message_digests ms)) none in
     elim (cons_cases x ms m hm) [
       | inl xm ↦ elim (cons_cases x ms n hn) [
         | inl xn ↦ sym xm ∙ xn
@@ -81,7 +85,7 @@ pairs_apart (x ∷ ms) none m n hm hn e =
       ]
     ]
 
-pub clear_from : (ms : List (List ℕ)) → shared_in (digests_of ms) ≡ None → zero_in (digests_of ms) ≡ None → IsClear ms
+pub clear_from : (ms : List (List ℕ)) → shared_in (message_digests ms) ≡ None → zero_in (message_digests ms) ≡ None → IsClear ms
 clear_from ms none zero = record {
   apart = λ m n hm hn e. pairs_apart ms none m n hm hn e;
   nonzero = λ m h e. found_none is_zero ms m h ((bytes_eq-Decides (sha256 m) zero_bytes).1 e) zero;
@@ -203,7 +207,7 @@ run_in i events m h =
     ]
 
 -- the run is clear where the numbers tell nothing else
-pub clear_run : (i : Instance) (events : List Event) → shared_in (digests_of (numbered i events)) ≡ None → zero_in (digests_of (numbered i events)) ≡ None
+pub clear_run : (i : Instance) (events : List Event) → shared_in (message_digests (numbered i events)) ≡ None → zero_in (message_digests (numbered i events)) ≡ None
     → IsClear (run_messages i events)
 clear_run i events none zero =
     clear_of_fewer (run_messages i events) (numbered i events) (run_in i events) (clear_from (numbered i events) none zero)

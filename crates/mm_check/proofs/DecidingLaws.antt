@@ -36,14 +36,14 @@ use Rattle.mm_expect.specs.Naming.{IsDecided}
 use Rattle.mm_expect.specs.Numbered.{numbered_event}
 use Rattle.mm_expect.specs.Traced.{Traced, IsAfter}
 use Rattle.mm_expect.specs.declared.expecting.Heard.{Heard}
-use Rattle.mm_check.specs.Listing.{listed, digests_of, shared_in, zero_in, first_where}
+use Rattle.mm_check.specs.Listing.{listed, message_digests, shared_in, zero_in, first_where}
 use Rattle.mm_check.specs.Lists.{Lists, pair_of}
 use Rattle.mm_check.specs.Numbering.{numbered_from, numbered, is_secured, secured_in, lines_of_all, expected_lines, IsForgedAt, Decides}
 use Rattle.mm_check.specs.Guards.{events_of, secured_by}
 use Rattle.mm_check.proofs.FewLaws.{heard_few, numbered_few}
 use Rattle.mm_check.proofs.GuardLaws.{events_more}
-use Rattle.mm_check.proofs.ClearLaws.{clear_run}
-use Rattle.mm_check.specs.Deciding.{IsFirstForged, Stands, forged_then, premise_by}
+use Rattle.mm_check.proofs.ClearLaws.{clear_run, first_none, true_false}
+use Rattle.mm_check.specs.Deciding.{IsFirstForged, StandsBehind, forged_then, premise_by}
 use Rattle.mm_check.specs.declared.deciding.Deciding.{Deciding}
 
 -- what is heard of an event behind those that were followed so far
@@ -129,12 +129,12 @@ forged-push i es e (Some n) is_genuine h t = still_forged i es e n h
 forged-push i es e None true h t = genuine_push i es e first_history (first_issued i) h t
 forged-push i es e None false h t = record { before = es; event = e; after = []; split = refl; place = refl; genuine = h; forged = t }
 
-pub stands_next : (header : Header) (es : List Event) (e : Event) (old new : Deciding) (heard : Heard) → Stands header es old
+pub stands_next : (header : Header) (es : List Event) (e : Event) (old new : Deciding) (heard : Heard) → StandsBehind header es old
     → IsHeard (world_of header) (expected (world_of header) es) e heard → IsAfter header (es ++ e ∷ []) new.expecting
     → length new.expecting.issued ≤ length old.expecting.issued + 1
     → Lists (fold listed (numbered (world_of header) es) heard.messages.items) new.numbers
     → new.lines.items ≡ old.lines.items ++ lines_of heard.reply → new.forged ≡ forged_then old.forged heard.is_genuine (length es + 1)
-    → Stands header (es ++ e ∷ []) new
+    → StandsBehind header (es ++ e ∷ []) new
 stands_next header es e old new heard h hears after few lists lines forged =
     let i = world_of header in
     record {
@@ -149,17 +149,6 @@ stands_next header es e old new heard h hears after few lists lines forged =
     }
 
 -- what is told at the end
-
-none_more : (o : Option ℕ) → option_map (λ n. n + 1) o ≡ None → o ≡ None
-none_more None h = refl
-none_more (Some n) h = absurd (cc)
-
-first_none : (here : Bool) (o : Option ℕ) → (let w : Option ℕ = cond here (Some 1) (option_map (λ n. n + 1) o) in w ≡ None) → (here ≡ false) × (o ≡ None)
-first_none true o h = absurd (cc)
-first_none false o h = (refl, none_more o h)
-
-true_false : (b : Bool) → b ≡ true → b ≡ false → ⊥
-true_false b t f = cc
 
 any_in : {A : Type 0} (p : A → Bool) (xs : List A) (x : A) → Contains xs x → p x ≡ true → list_any p xs ≡ true
 any_in p xs x h e = list_any_at p xs h.0 x h.1 (ap p h.2 ∙ e)
@@ -197,7 +186,7 @@ secured_told Opt meaning es n is = (refl, is)
 
 decided_by : (variant : Variant) (meaning : Meaning) (es : List Event) (pair : Option (ℕ × ℕ)) (zero secured forged : Option ℕ)
     → (let i : Instance = instance_by variant meaning world_key world_barrier in
-    pair ≡ shared_in (digests_of (numbered i es)) → zero ≡ zero_in (digests_of (numbered i es)) → secured ≡ secured_by variant world_barrier es
+    pair ≡ shared_in (message_digests (numbered i es)) → zero ≡ zero_in (message_digests (numbered i es)) → secured ≡ secured_by variant world_barrier es
     → IsFirstForged i es forged → Decides i es (premise_by pair zero secured forged))
 decided_by variant meaning es (Some pair) zero secured forged p z s f = sym p
 decided_by variant meaning es None (Some message) secured forged p z s f = (sym p, sym z)
@@ -212,7 +201,7 @@ decided_by variant meaning es None None None None p z s f =
     let i = instance_by variant meaning world_key world_barrier in
     (record { clear = clear_run i es (sym p) (sym z); apart = apart_by variant meaning es (sym s) }, f)
 
-pub decided : (header : Header) (es : List Event) (it : Deciding) (secured : Option ℕ) → Stands header es it → secured ≡ secured_by header.variant world_barrier es
+pub decided : (header : Header) (es : List Event) (it : Deciding) (secured : Option ℕ) → StandsBehind header es it → secured ≡ secured_by header.variant world_barrier es
     → Decides (world_of header) es (premise_by (pair_of it.numbers.digests.shared) it.numbers.digests.zero secured it.forged)
 decided header es it secured h s =
     decided_by header.variant (meaning_of header.«module») es (pair_of it.numbers.digests.shared) it.numbers.digests.zero secured it.forged
@@ -226,7 +215,7 @@ start_by Basic meaning = refl
 start_by Opt meaning = refl
 
 pub stands_first : (header : Header) (it : Deciding) (message : List ℕ) → IsAfter header [] it.expecting → Lists (listed [] message) it.numbers
-    → message ≡ 0 ∷ variant_byte header.variant ∷ (meaning_of header.«module»).id ∷ [] → it.lines.items ≡ [] → it.forged ≡ None → Stands header [] it
+    → message ≡ 0 ∷ variant_byte header.variant ∷ (meaning_of header.«module»).id ∷ [] → it.lines.items ≡ [] → it.forged ≡ None → StandsBehind header [] it
 stands_first header it message after lists is lines forged =
     let i = world_of header in
     record {
@@ -239,7 +228,7 @@ stands_first header it message after lists is lines forged =
 
 -- at the last one
 
-pub lines_end : (header : Header) (es : List Event) (it : Deciding) (committed issued : ℕ) (lines : List (List ℕ)) → Stands header es it
+pub lines_end : (header : Header) (es : List Event) (it : Deciding) (committed issued : ℕ) (lines : List (List ℕ)) → StandsBehind header es it
     → committed ≡ total_of it.expecting.history.batches → issued ≡ length it.expecting.issued
     → lines ≡ it.lines.items ++ end_line committed issued ∷ [] → lines ≡ expected_lines (world_of header) es
 lines_end header es it committed issued lines h n k is =
@@ -254,7 +243,7 @@ few_taken : (es : List CodeEvent) (index : ℕ) → length es ≤ 20000 → leng
 few_taken es index few = omega (arith, few, length-take index es)
 
 pub room_for : (header : Header) (es : List CodeEvent) (index : ℕ) (event : CodeEvent) (it : Deciding) (heard : Heard) → length es ≤ 20000
-    → Stands header (events_of (take index es)) it → IsHeard (world_of header) (expected (world_of header) (events_of (take index es))) (event_of event) heard
+    → StandsBehind header (events_of (take index es)) it → IsHeard (world_of header) (expected (world_of header) (events_of (take index es))) (event_of event) heard
     → it.numbers.digests.count + length heard.messages.items < 4294967295
 room_for header es index event it heard few h hears =
     let i = world_of header in
@@ -269,23 +258,23 @@ room_for header es index event it heard few h hears =
       heard_few i f.state f.issued event,
     )
 
-pub issues_few : (header : Header) (es : List CodeEvent) (index : ℕ) (it : Deciding) → length es ≤ 20000 → Stands header (events_of (take index es)) it
+pub issues_few : (header : Header) (es : List CodeEvent) (index : ℕ) (it : Deciding) → length es ≤ 20000 → StandsBehind header (events_of (take index es)) it
     → length it.expecting.issued < 4294967295
 issues_few header es index it few h = omega (arith, h.few, few_taken es index few, length-map (take index es) event_of)
 
 -- the event of this index was followed
 pub stands_after : (header : Header) (es : List CodeEvent) (index : ℕ) (event : CodeEvent) (old new : Deciding) (heard : Heard) → index < length es → event ≡ get_or es index event
-    → Stands header (events_of (take index es)) old
+    → StandsBehind header (events_of (take index es)) old
     → IsHeard (world_of header) (expected (world_of header) (events_of (take index es))) (event_of event) heard
     → IsAfter header (events_of (take index es) ++ event_of event ∷ []) new.expecting
     → length new.expecting.issued ≤ length old.expecting.issued + 1
     → Lists (fold listed (numbered (world_of header) (events_of (take index es))) heard.messages.items) new.numbers
     → new.lines.items ≡ old.lines.items ++ lines_of heard.reply → new.forged ≡ forged_then old.forged heard.is_genuine (index + 1)
-    → Stands header (events_of (take (index + 1) es)) new
+    → StandsBehind header (events_of (take (index + 1) es)) new
 stands_after header es index event old new heard within is h hears after few lists lines forged =
     let before = events_of (take index es) in
     let count : index ≡ length before = omega (arith, within, length-map (take index es) event_of, length-take index es) in
-    subst (λ (l : List Event). Stands header l new)
+    subst (λ (l : List Event). StandsBehind header l new)
     (ap (λ (e : CodeEvent). before ++ event_of e ∷ []) is ∙ sym (events_more es index event within))
     (stands_next header before (event_of event) old new heard h hears after few lists lines
     (forged ∙ ap (λ (n : ℕ). forged_then old.forged heard.is_genuine (n + 1)) count))

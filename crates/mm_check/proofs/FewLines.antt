@@ -29,6 +29,7 @@ use Rattle.mm_schedule.specs.Replies.{told_lines, lines_of, end_line}
 use Rattle.mm_schedule.specs.declared.reply.Way.{Way}
 use Rattle.mm_run.specs.Offered.{offered_bytes}
 use Rattle.mm_run.specs.Folds.{way_of, course_of, reply_of, broken_reply, closing_reply, uncalled, outcome_by, asked, outcome_of, followed, first_issued, expected}
+use Rattle.mm_run.proofs.Counting.{short_size}
 use Rattle.mm_check.specs.Numbering.{lines_of_all, expected_lines}
 
 told_length : (again : Bool) (before : ℕ) (outputs : List (List ℕ)) → length (told_lines again before outputs) ≡ length outputs
@@ -39,20 +40,6 @@ last_few : (i : Instance) (y : History) (n : ℕ) → length (last_outputs i.mea
 last_few i y n =
     let outs = outputs_from i.meaning i.meaning.first (requests_of y.batches) in
     omega (arith, length-drop (total_of y.batches - n) outs, length-outputs_from i.meaning i.meaning.first (requests_of y.batches))
-
-last_false : (a b c : Bool) → (a || b || c) ≡ false → c ≡ false
-last_false true b c e = absurd (cc)
-last_false false true c e = absurd (cc)
-last_false false false c e = e
-
-le_of : (n : ℕ) → nat_lt 64 n ≡ false → n ≤ 64
-le_of n h = grind (arith, nat_tests)
-
-short_size : (b : Batch) → is_long b ≡ false → size_of (normal b) ≤ 64
-short_size b e =
-    let f : nat_lt 64 (size_of b) ≡ false = last_false (nat_lt 4096 (length (text_of b))) (list_any is_lf (text_of b)) (nat_lt 64 (size_of b)) e in
-    let few : size_of b ≤ 64 = le_of (size_of b) f in
-    omega (arith, few, ap (λ (m : List (List ℕ)). length m) (members_of-normal b))
 
 broken_few : (how : Way) (kept : Option ℕ) → length (lines_of (broken_reply how kept)) ≤ 64
 broken_few how None = omega arith

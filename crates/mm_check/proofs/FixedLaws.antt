@@ -21,14 +21,14 @@ use Rattle.mm_schedule.specs.Events.{Event}
 use Rattle.mm_run.specs.Folds.{Followed, followed, outcome_of, first_issued}
 use Rattle.mm_run.specs.Premises.{event_messages, moves_of, messages_from, run_messages, foreign_of, foreign_values, asked_batches, AreApart, IsGenuineEvent, AreGenuine, IsGenuineRun}
 use Rattle.mm_expect.specs.Numbered.{messages_where, numbered_event}
-use Rattle.mm_check.specs.Listing.{first_where, listed, digests_of, shared_with, shared_in, is_zero, zero_in}
+use Rattle.mm_check.specs.Listing.{first_where, listed, message_digests, shared_with, shared_in, is_zero, zero_in}
 use Rattle.mm_check.specs.Numbering.{numbered_from, numbered, is_secured, IsForgedAt, Decides}
 use Rattle.mm_check.specs.declared.verdicts.Premise.{Premise}
 use Rattle.mm_check.specs.declared.verdicts.Premise.TheVariants.{Held, Shared, Zero, Secured, Forged}
 use Rattle.std.proofs.lemmas.Bool.{cases_lt}
 use Rattle.mm_check.specs.Guards.{secured_by}
 use Rattle.mm_check.specs.Deciding.{IsFirstForged, premise_by}
-use Rattle.mm_check.proofs.ClearLaws.{IsIn, none_in, cons_cases, is_closing, parts_are, clear_of_fewer}
+use Rattle.mm_check.proofs.ClearLaws.{IsIn, none_in, cons_cases, is_closing, parts_are, clear_of_fewer, true_false}
 
 -- a list with no element twice
 abbrev IsOnce : List (List ℕ) → Type 0
@@ -47,9 +47,6 @@ once_push (y ∷ xs) x once new = (
   where
     first_in : (a : List ℕ) (later : List (List ℕ)) → Contains (a ∷ later) a
     first_in a later = Contains-append_left (a ∷ []) later a (Contains-push [] a)
-
-true_false : (b : Bool) → b ≡ true → b ≡ false → ⊥
-true_false b t f = cc
 
 any_there : (seen : List (List ℕ)) (x : List ℕ) → Contains seen x → list_any (bytes_eq x) seen ≡ true
 any_there [] x h = absurd (none_in x h)
@@ -80,9 +77,9 @@ found_here : (here : Bool) (o : Option ℕ) (n : ℕ) → (let w : Option ℕ = 
 found_here true o n h = inl refl
 found_here false o n h = inr (found_more o n h)
 
-found_some : (p : List ℕ → Bool) (ms : List (List ℕ)) (n : ℕ) → first_where p (digests_of ms) ≡ Some n → (m : List ℕ) × Contains ms m × (p (sha256 m) ≡ true)
+found_some : (p : List ℕ → Bool) (ms : List (List ℕ)) (n : ℕ) → first_where p (message_digests ms) ≡ Some n → (m : List ℕ) × Contains ms m × (p (sha256 m) ≡ true)
 found_some p [] n h = absurd (cc)
-found_some p (x ∷ ms) n h = elim (found_here (p (sha256 x)) (first_where p (digests_of ms)) n h) [
+found_some p (x ∷ ms) n h = elim (found_here (p (sha256 x)) (first_where p (message_digests ms)) n h) [
   | inl here ↦ (x, Contains-append_left (x ∷ []) ms x (Contains-push [] x), here)
   | inr later ↦ let f = found_some p ms later.0 later.1 in (f.0, Contains-append_right (x ∷ []) ms f.0 f.1, f.2)
 ]
@@ -96,19 +93,19 @@ pairs_of_none (Some n) later f l = absurd (cc)
 pairs_of_none None None f l = refl
 pairs_of_none None (Some pair) f l = absurd (cc)
 
-clear_none : (ms : List (List ℕ)) → IsOnce ms → IsClear ms → shared_in (digests_of ms) ≡ None
+clear_none : (ms : List (List ℕ)) → IsOnce ms → IsClear ms → shared_in (message_digests ms) ≡ None
 clear_none [] once clear = refl
 clear_none (x ∷ ms) once clear =
     let first : Contains (x ∷ ms) x = Contains-append_left (x ∷ []) ms x (Contains-push [] x) in
-    pairs_of_none (first_where (bytes_eq (sha256 x)) (digests_of ms)) (shared_in (digests_of ms))
-    (none_or (first_where (bytes_eq (sha256 x)) (digests_of ms)) (λ n h.
+    pairs_of_none (first_where (bytes_eq (sha256 x)) (message_digests ms)) (shared_in (message_digests ms))
+    (none_or (first_where (bytes_eq (sha256 x)) (message_digests ms)) (λ n h.
     let f = found_some (bytes_eq (sha256 x)) ms n h in
     once.0 (subst (λ (l : List ℕ). Contains ms l)
     (sym (clear.apart x f.0 first (Contains-append_right (x ∷ []) ms f.0 f.1) ((bytes_eq-Decides (sha256 x) (sha256 f.0)).0 f.2))) f.1)))
     (clear_none ms once.1 (clear_of_fewer ms (x ∷ ms) (λ m h. Contains-append_right (x ∷ []) ms m h) clear))
 
-clear_no_zero : (ms : List (List ℕ)) → IsClear ms → zero_in (digests_of ms) ≡ None
-clear_no_zero ms clear = none_or (zero_in (digests_of ms)) (λ n h.
+clear_no_zero : (ms : List (List ℕ)) → IsClear ms → zero_in (message_digests ms) ≡ None
+clear_no_zero ms clear = none_or (zero_in (message_digests ms)) (λ n h.
     let f = found_some is_zero ms n h in clear.nonzero f.0 f.1 ((bytes_eq-Decides (sha256 f.0) zero_bytes).0 f.2))
 
 -- what is listed is a message of the run
@@ -184,12 +181,12 @@ run_back i events m h =
 clear_numbers : (i : Instance) (events : List Event) → IsClear (run_messages i events) → IsClear (numbered i events)
 clear_numbers i events clear = clear_of_fewer (numbered i events) (run_messages i events) (run_back i events) clear
 
-unshared : (i : Instance) (events : List Event) → IsClear (run_messages i events) → shared_in (digests_of (numbered i events)) ≡ None
+unshared : (i : Instance) (events : List Event) → IsClear (run_messages i events) → shared_in (message_digests (numbered i events)) ≡ None
 unshared i events clear =
     let start = start_message i.variant i.meaning.id in
     clear_none (numbered i events) (all_once (numbered_from i first_history (first_issued i) events) (start ∷ []) (λ h. none_in start h, tt)) (clear_numbers i events clear)
 
-no_zero : (i : Instance) (events : List Event) → IsClear (run_messages i events) → zero_in (digests_of (numbered i events)) ≡ None
+no_zero : (i : Instance) (events : List Event) → IsClear (run_messages i events) → zero_in (message_digests (numbered i events)) ≡ None
 no_zero i events clear = clear_no_zero (numbered i events) (clear_numbers i events clear)
 
 -- what others bring
@@ -278,8 +275,8 @@ first_same i es (Some m) (Some n) h k = ap Some (same_number i es m n h k)
 -- what is told follows from these facts
 record Facts (i : Instance) (es : List Event) (p : Premise) : Type 0 where
   forged : Option ℕ
-  is : p ≡ premise_by (shared_in (digests_of (numbered i es))) (zero_in (digests_of (numbered i es))) (secured_by i.variant i.barrier es) forged
-  first : shared_in (digests_of (numbered i es)) ≡ None → zero_in (digests_of (numbered i es)) ≡ None → secured_by i.variant i.barrier es ≡ None → IsFirstForged i es forged
+  is : p ≡ premise_by (shared_in (message_digests (numbered i es))) (zero_in (message_digests (numbered i es))) (secured_by i.variant i.barrier es) forged
+  first : shared_in (message_digests (numbered i es)) ≡ None → zero_in (message_digests (numbered i es)) ≡ None → secured_by i.variant i.barrier es ≡ None → IsFirstForged i es forged
 
 some_none : {A : Type 0} (o : Option A) (x : A) → o ≡ Some x → o ≡ None → ⊥
 some_none o x s n = cc
@@ -303,31 +300,31 @@ secured_opt variant barrier es n is h = ap (λ (v : Variant). secured_by v barri
 facts_of : (i : Instance) (es : List Event) (p : Premise) → Decides i es p → Facts i es p
 facts_of i es (Shared first second) h = record {
   forged = None;
-  is = told_shared (shared_in (digests_of (numbered i es))) (zero_in (digests_of (numbered i es))) (secured_by i.variant i.barrier es) None first second h;
-  first = λ s z g. absurd (some_none (shared_in (digests_of (numbered i es))) (first, second) h s);
+  is = told_shared (shared_in (message_digests (numbered i es))) (zero_in (message_digests (numbered i es))) (secured_by i.variant i.barrier es) None first second h;
+  first = λ s z g. absurd (some_none (shared_in (message_digests (numbered i es))) (first, second) h s);
 }
 facts_of i es (Zero message) h = record {
   forged = None;
-  is = told_zero (shared_in (digests_of (numbered i es))) (zero_in (digests_of (numbered i es))) (secured_by i.variant i.barrier es) None message h.0 h.1;
-  first = λ s z g. absurd (some_none (zero_in (digests_of (numbered i es))) message h.1 z);
+  is = told_zero (shared_in (message_digests (numbered i es))) (zero_in (message_digests (numbered i es))) (secured_by i.variant i.barrier es) None message h.0 h.1;
+  first = λ s z g. absurd (some_none (zero_in (message_digests (numbered i es))) message h.1 z);
 }
 facts_of i es (Secured event) h =
     let sec = secured_opt i.variant i.barrier es event h.1 h.2 in
     record {
       forged = None;
-      is = told_later (shared_in (digests_of (numbered i es))) (zero_in (digests_of (numbered i es))) (secured_by i.variant i.barrier es) (Some event) None
+      is = told_later (shared_in (message_digests (numbered i es))) (zero_in (message_digests (numbered i es))) (secured_by i.variant i.barrier es) (Some event) None
           (unshared i es h.0) (no_zero i es h.0) sec;
       first = λ s z g. absurd (some_none (secured_by i.variant i.barrier es) event sec g);
     }
 facts_of i es (Forged event) h = record {
   forged = Some event;
-  is = told_later (shared_in (digests_of (numbered i es))) (zero_in (digests_of (numbered i es))) (secured_by i.variant i.barrier es) None (Some event)
+  is = told_later (shared_in (message_digests (numbered i es))) (zero_in (message_digests (numbered i es))) (secured_by i.variant i.barrier es) None (Some event)
       (unshared i es h.0.clear) (no_zero i es h.0.clear) (apart_none i.variant i es h.0.apart);
   first = λ s z g. h.1;
 }
 facts_of i es Held h = record {
   forged = None;
-  is = told_later (shared_in (digests_of (numbered i es))) (zero_in (digests_of (numbered i es))) (secured_by i.variant i.barrier es) None None
+  is = told_later (shared_in (message_digests (numbered i es))) (zero_in (message_digests (numbered i es))) (secured_by i.variant i.barrier es) None None
       (unshared i es h.0.clear) (no_zero i es h.0.clear) (apart_none i.variant i es h.0.apart);
   first = λ s z g. h.1;
 }
@@ -343,6 +340,6 @@ pub premise_fixed : (i : Instance) (es : List Event) (p q : Premise) → Decides
 premise_fixed i es p q hp hq =
     let a = facts_of i es p hp in
     let b = facts_of i es q hq in
-    a.is ∙ same_premise (shared_in (digests_of (numbered i es))) (zero_in (digests_of (numbered i es))) (secured_by i.variant i.barrier es) a.forged b.forged
+    a.is ∙ same_premise (shared_in (message_digests (numbered i es))) (zero_in (message_digests (numbered i es))) (secured_by i.variant i.barrier es) a.forged b.forged
     (λ s z g. first_same i es a.forged b.forged (a.first s z g) (b.first s z g))
     ∙ sym b.is

@@ -7,7 +7,7 @@ use Rattle.std.specs.List.{list_any}
 use Rattle.std.specs.Option.{option_map}
 use Rattle.std.specs.Ordering.{nat_cmp, is_eq}
 use Rattle.std.specs.Str.{bytes_eq}
-use Rattle.std.proofs.lemmas.List.{take_more}
+use Rattle.std.proofs.lemmas.List.{take_more, map-append}
 use Rattle.std.proofs.lemmas.List.Folds.{list_any-append}
 use Rattle.std.proofs.lemmas.Map.Text.{is_eq-slice_cmp}
 use Rattle.mm_platform.specs.declared.plan.Meddle.{Meddle}
@@ -73,12 +73,8 @@ asked_append : (xs ys : List Event) → asked_batches (xs ++ ys) ≡ asked_batch
 asked_append [] ys = refl
 asked_append (x ∷ xs) ys = ap (λ (l : List Batch). batches_of x ++ l) (asked_append xs ys) ∙ sym (append_assoc (batches_of x) (asked_batches xs) (asked_batches ys))
 
-map_append : {A B : Type 0} (f : A → B) (xs ys : List A) → map f (xs ++ ys) ≡ map f xs ++ map f ys
-map_append f [] ys = refl
-map_append f (x ∷ xs) ys = ap (λ l. f x ∷ l) (map_append f xs ys)
-
 pub events_more : (es : List CodeEvent) (i : ℕ) (d : CodeEvent) → i < length es → events_of (take (i + 1) es) ≡ events_of (take i es) ++ event_of (get_or es i d) ∷ []
-events_more es i d h = ap events_of (take_more es i d h) ∙ map_append event_of (take i es) (get_or es i d ∷ [])
+events_more es i d h = ap events_of (take_more es i d h) ∙ map-append event_of (take i es) (get_or es i d ∷ [])
 
 pub guards_more : (barrier : List ℕ) (es : List CodeEvent) (i : ℕ) (d : CodeEvent) → i < length es
     → own_values barrier (asked_batches (events_of (take i es))) ++ own_values barrier (batches_of (event_of (get_or es i d)))
@@ -88,7 +84,7 @@ guards_more barrier es i d h =
     let before = events_of (take i es) in
     sym (ap (λ (l : List Event). own_values barrier (asked_batches l)) (events_more es i d h)
     ∙ ap (own_values barrier) (asked_append before (e ∷ []) ∙ ap (λ (l : List Batch). asked_batches before ++ l) (append-nil (batches_of e)))
-    ∙ map_append (guard barrier) (asked_batches before) (batches_of e))
+    ∙ map-append (guard barrier) (asked_batches before) (batches_of e))
 
 pub guards_more_at : (barrier : List ℕ) (es : List CodeEvent) (i : ℕ) (e : CodeEvent) → i < length es → e ≡ get_or es i e → (set : BTreeSet (List ℕ))
     → HasAll (own_values barrier (asked_batches (events_of (take i es))) ++ own_values barrier (batches_of (event_of e))) set

@@ -2,6 +2,7 @@
 use Rattle.std.proofs.Common.{◌≡◌, ◌∙◌, ℕ, ◌<◌, nat_le, Bool, true, false, List, [], ◌∷◌, ◌++◌, length, map, refl, sym, ap, subst, arith, append-nil, length-append}
 use Rattle.std.specs.Prelude.{◌||◌}
 use Rattle.std.proofs.lemmas.Bool.Decides.{nat_tests}
+use Rattle.std.proofs.lemmas.List.{map-append}
 use Rattle.mm_schedule.specs.declared.header.Header.{Header}
 use Rattle.mm_schedule.specs.declared.event.Event.{Event as CodeEvent}
 use Rattle.mm_schedule.specs.Events.{Event, event_of}
@@ -13,15 +14,16 @@ use Rattle.mm_run.specs.Folds.{Outcome, Followed, outcome_of, first_issued, firs
 use Rattle.mm_run.specs.Held.{world_of}
 use Rattle.mm_run.proofs.GoingOn.{goes_on}
 use Rattle.mm_replay.specs.Schedule.{Running, begun, is_too_much, outcome_in, after_event, most_events}
+use Rattle.mm_replay.specs.Counting.{few_events}
 use Rattle.mm_check.specs.Guards.{events_of}
 use Rattle.mm_check.specs.Numbering.{lines_of_all, expected_lines}
-use Rattle.mm_check.specs.Verdicts.{IsRun, run_lines, first_difference, agreement_of}
+use Rattle.mm_check.specs.Verdicts.{RunsBehind, run_lines, first_difference, agreement_of}
 use Rattle.mm_check.specs.declared.verdicts.Agreement.{Agreement}
 use Rattle.mm_check.proofs.DecidingLaws.{lines_of_all-append}
 use Rattle.mm_check.proofs.FewLines.{expected_few}
 
-pub is_run_first : (header : Header) (running : Running) → running ≡ begun header → IsRun header running [] []
-is_run_first header running is = subst (λ (r : Running). IsRun header r [] []) (sym is)
+pub is_run_first : (header : Header) (running : Running) → running ≡ begun header → RunsBehind header running [] []
+is_run_first header running is = subst (λ (r : Running). RunsBehind header r [] []) (sym is)
     (record { same = refl; digests = refl; issued = refl; lines = refl; count = refl; few = omega arith })
 
 outcome_same : (header : Header) (r : Running) (f : Followed Digests) (event : Event) → r.header ≡ header → r.digests ≡ f.state → r.issued ≡ f.issued
@@ -31,15 +33,8 @@ outcome_same header r f event h d s =
     ∙ ap (λ (x : Digests). outcome_of (world_of header) (by_digests (world_of header)) x r.issued event) d
     ∙ ap (λ (x : List (List ℕ)). outcome_of (world_of header) (by_digests (world_of header)) f.state x event) s
 
-left_or : (a b : Bool) → (a || b) ≡ false → a ≡ false
-left_or true b h = h
-left_or false b h = refl
-
-few_events : (r : Running) (line : List ℕ) → is_too_much r line ≡ false → r.events < most_events
-few_events r line h = let a : nat_le most_events r.events ≡ false = left_or (nat_le most_events r.events) _ h in grind (arith, nat_tests)
-
-next_run : (header : Header) (r : Running) (events : List Event) (told : List (List ℕ)) (line : List ℕ) (event : Event) → IsRun header r events told → is_too_much r line ≡ false
-    → IsRun header (after_event r line event) (events ++ event ∷ []) (told ++ lines_of (outcome_in r event).reply)
+next_run : (header : Header) (r : Running) (events : List Event) (told : List (List ℕ)) (line : List ℕ) (event : Event) → RunsBehind header r events told → is_too_much r line ≡ false
+    → RunsBehind header (after_event r line event) (events ++ event ∷ []) (told ++ lines_of (outcome_in r event).reply)
 next_run header r events told line event h room =
     let i = world_of header in
     let f = replies_by_digests i events in
@@ -58,26 +53,22 @@ next_run header r events told line event h room =
       few = omega (arith, few_events r line room);
     }
 
-map_append : {A B : Type 0} (f : A → B) (xs ys : List A) → map f (xs ++ ys) ≡ map f xs ++ map f ys
-map_append f [] ys = refl
-map_append f (x ∷ xs) ys = ap (λ l. f x ∷ l) (map_append f xs ys)
-
 pub events_push : (events : List CodeEvent) (event : CodeEvent) → events_of (events ++ event ∷ []) ≡ events_of events ++ event_of event ∷ []
-events_push events event = map_append event_of events (event ∷ [])
+events_push events event = map-append event_of events (event ∷ [])
 
 -- one event more, as the code has it
 pub is_run_next : (header : Header) (r next : Running) (events longer : List CodeEvent) (told more : List (List ℕ)) (line : List ℕ) (event : CodeEvent) (reply : Reply)
-    → IsRun header r (events_of events) told → is_too_much r line ≡ false → reply ≡ (outcome_in r (event_of event)).reply → next ≡ after_event r line (event_of event)
-    → longer ≡ events ++ event ∷ [] → more ≡ told ++ lines_of reply → IsRun header next (events_of longer) more
+    → RunsBehind header r (events_of events) told → is_too_much r line ≡ false → reply ≡ (outcome_in r (event_of event)).reply → next ≡ after_event r line (event_of event)
+    → longer ≡ events ++ event ∷ [] → more ≡ told ++ lines_of reply → RunsBehind header next (events_of longer) more
 is_run_next header r next events longer told more line event reply h room said is grown lines =
     let a = next_run header r (events_of events) told line (event_of event) h room in
-    let b = subst (λ (l : List (List ℕ)). IsRun header (after_event r line (event_of event)) (events_of events ++ event_of event ∷ []) l)
+    let b = subst (λ (l : List (List ℕ)). RunsBehind header (after_event r line (event_of event)) (events_of events ++ event_of event ∷ []) l)
     (sym (lines ∙ ap (λ (x : Reply). told ++ lines_of x) said)) a in
-    let d = subst (λ (es : List Event). IsRun header (after_event r line (event_of event)) es more) (sym (ap events_of grown ∙ events_push events event)) b in
-    subst (λ (x : Running). IsRun header x (events_of longer) more) (sym is) d
+    let d = subst (λ (es : List Event). RunsBehind header (after_event r line (event_of event)) es more) (sym (ap events_of grown ∙ events_push events event)) b in
+    subst (λ (x : Running). RunsBehind header x (events_of longer) more) (sym is) d
 
 -- the lines that the run gives, with its last line
-pub run_end : (header : Header) (r : Running) (events : List Event) (told whole : List (List ℕ)) (committed issued : ℕ) → IsRun header r events told
+pub run_end : (header : Header) (r : Running) (events : List Event) (told whole : List (List ℕ)) (committed issued : ℕ) → RunsBehind header r events told
     → committed ≡ r.digests.count → issued ≡ length r.issued → whole ≡ told ++ end_line committed issued ∷ [] → whole ≡ run_lines (world_of header) events
 run_end header r events told whole committed issued h n k is =
     let f = replies_by_digests (world_of header) events in
@@ -90,7 +81,7 @@ agreement_is result a b c d is p q =
     is ∙ ap (λ (l : List (List ℕ)). agreement_of (first_difference l b)) p ∙ ap (λ (l : List (List ℕ)). agreement_of (first_difference c l)) q
 
 -- few lines are expected
-pub expected_short : (header : Header) (running : Running) (es seen : List Event) (told lines slice : List (List ℕ)) → IsRun header running es told → seen ≡ es
+pub expected_short : (header : Header) (running : Running) (es seen : List Event) (told lines slice : List (List ℕ)) → RunsBehind header running es told → seen ≡ es
     → lines ≡ expected_lines (world_of header) seen → slice ≡ lines → length slice < 4294967295
 expected_short header running es seen told lines slice h same is at =
     omega (arith, h.few, h.count, ap (λ (l : List Event). length l) same, ap length is, ap length at, expected_few (world_of header) seen)

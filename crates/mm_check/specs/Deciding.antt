@@ -20,7 +20,7 @@ IsFirstForged i events None = IsGenuineRun i events
 IsFirstForged i events (Some number) = IsForgedAt i events number
 
 -- It stands behind these events.
-pub record Stands (header : Header) (events : List Event) (it : Deciding) : Type 0 where
+pub record StandsBehind (header : Header) (events : List Event) (it : Deciding) : Type 0 where
   pub after : IsAfter header events it.expecting
   pub few : length it.expecting.issued ≤ length events + 1
   pub lists : Lists (numbered (world_of header) events) it.numbers
@@ -42,6 +42,6 @@ premise_by None None None (Some event) = Forged event
 premise_by None None None None = Held
 
 -- what these events come to
-pub record IsDecided (header : Header) (events : List Event) (it : Decided) : Type 0 where
+pub record DecidesRun (header : Header) (events : List Event) (it : Decided) : Type 0 where
   pub premise : Decides (world_of header) events it.premise
   pub lines : it.lines.items ≡ expected_lines (world_of header) events

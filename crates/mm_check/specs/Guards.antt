@@ -24,9 +24,9 @@ events_of events = map event_of events
 abbrev pub unless_long : Batch → List Batch
 unless_long b = if is_long b then [] else normal b ∷ []
 
-abbrev pub digests_in : Option Digest → List (List ℕ)
-digests_in None = []
-digests_in (Some digest) = digest.bytes ∷ []
+abbrev pub digest_items : Option Digest → List (List ℕ)
+digest_items None = []
+digest_items (Some digest) = digest.bytes ∷ []
 
 -- the set has these digests and no other
 abbrev pub HasAll : List (List ℕ) → BTreeSet (List ℕ) → Type 0

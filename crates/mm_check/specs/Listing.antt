@@ -15,8 +15,8 @@ first_where p (x ∷ xs) = if p x then Some 1 else option_map (λ n. n + 1) (fir
 abbrev pub listed : List (List ℕ) → List ℕ → List (List ℕ)
 listed seen m = if list_any (bytes_eq m) seen then seen else seen ++ m ∷ []
 
-abbrev pub digests_of : List (List ℕ) → List (List ℕ)
-digests_of messages = map sha256 messages
+abbrev pub message_digests : List (List ℕ) → List (List ℕ)
+message_digests messages = map sha256 messages
 
 -- a pair of numbers, each one higher
 abbrev pub both_more : ℕ × ℕ → ℕ × ℕ

@@ -6,7 +6,7 @@ use Rattle.std.specs.Cmp.Lexicographic.{slice_cmp}
 use Rattle.std.specs.List.{list_any}
 use Rattle.std.specs.Ordering.{nat_cmp}
 use Rattle.std.specs.Str.{bytes_eq}
-use Rattle.mm_check.specs.Listing.{first_where, digests_of, shared_in, zero_in}
+use Rattle.mm_check.specs.Listing.{first_where, message_digests, shared_in, zero_in}
 use Rattle.mm_check.specs.declared.digests.Pair.{Pair}
 use Rattle.mm_check.specs.declared.digests.Digests.{Digests}
 use Rattle.mm_check.specs.declared.messages.Numbers.{Numbers}
@@ -16,7 +16,7 @@ pair_of None = None
 pair_of (Some pair) = Some (pair.first, pair.second)
 
 -- These are the digests, in order.
-pub record Counts (digests : List (List ℕ)) (it : Digests) : Type 0 where
+pub record CountsDigests (digests : List (List ℕ)) (it : Digests) : Type 0 where
   pub firsts : (d : List ℕ) → tree.get (slice_cmp nat_cmp) it.firsts d ≡ first_where (bytes_eq d) digests
   pub count : it.count ≡ length digests
   pub shared : pair_of it.shared ≡ shared_in digests
@@ -29,4 +29,4 @@ has_message {A} keys m = list_any (λ (k : Vec ℕ A). bytes_eq m k.items) keys
 -- These are the messages, each once and in order.
 pub record Lists (seen : List (List ℕ)) (it : Numbers) : Type 0 where
   pub has : (m : List ℕ) → has_message it.seen.keys m ≡ list_any (bytes_eq m) seen
-  pub counts : Counts (digests_of seen) it.digests
+  pub counts : CountsDigests (message_digests seen) it.digests

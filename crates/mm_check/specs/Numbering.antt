@@ -16,7 +16,7 @@ use Rattle.mm_model.specs.History.{total_of}
 use Rattle.mm_run.specs.Folds.{Followed, outcome_of, first_issued, expected}
 use Rattle.mm_run.specs.Premises.{foreign_of, asked_batches, run_messages, IsClearRun, IsGenuineEvent, IsGenuineRun}
 use Rattle.mm_expect.specs.Numbered.{numbered_event}
-use Rattle.mm_check.specs.Listing.{first_where, listed, digests_of, shared_in, zero_in}
+use Rattle.mm_check.specs.Listing.{first_where, listed, message_digests, shared_in, zero_in}
 use Rattle.mm_check.specs.declared.verdicts.Premise.{Premise}
 use Rattle.mm_check.specs.declared.verdicts.Premise.TheVariants.{Held, Shared, Zero, Secured, Forged}
 
@@ -54,8 +54,8 @@ pub record IsForgedAt (i : Instance) (events : List Event) (number : ℕ) : Type
 -- offer names no position, at the first such event.
 abbrev pub Decides : Instance → List Event → Premise → Type 0
 Decides i events Held = IsClearRun i events × IsGenuineRun i events
-Decides i events (Shared first second) = shared_in (digests_of (numbered i events)) ≡ Some (first, second)
-Decides i events (Zero message) = (shared_in (digests_of (numbered i events)) ≡ None) × (zero_in (digests_of (numbered i events)) ≡ Some message)
+Decides i events (Shared first second) = shared_in (message_digests (numbered i events)) ≡ Some (first, second)
+Decides i events (Zero message) = (shared_in (message_digests (numbered i events)) ≡ None) × (zero_in (message_digests (numbered i events)) ≡ Some message)
 Decides i events (Secured event) = IsClear (run_messages i events) × (i.variant ≡ Opt) × (secured_in i events ≡ Some event)
 Decides i events (Forged event) = IsClearRun i events × IsForgedAt i events event
 

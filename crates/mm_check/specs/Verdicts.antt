@@ -40,7 +40,7 @@ abbrev pub run_lines : Instance → List Event → List (List ℕ)
 run_lines i events = lines_with (replies_by_digests i events) (replies_by_digests i events).state.count
 
 -- Behind these events a run by digests stands so, and its lines are told.
-pub record IsRun (header : Header) (running : Running) (events : List Event) (told : List (List ℕ)) : Type 0 where
+pub record RunsBehind (header : Header) (running : Running) (events : List Event) (told : List (List ℕ)) : Type 0 where
   pub same : running.header ≡ header
   pub digests : running.digests ≡ (replies_by_digests (world_of header) events).state
   pub issued : running.issued ≡ (replies_by_digests (world_of header) events).issued

@@ -3,7 +3,7 @@
 ghost use Rattle.std.specs.Prelude.{◌≡◌, ◌+◌, ◌<◌, ◌≤◌, [], length, take, IfOk, OnOk};
 ghost use Rattle.mm_check.specs.Guards.{events_of};
 ghost use Rattle.mm_check.specs.Lists.{pair_of};
-ghost use Rattle.mm_check.specs.Deciding.{Stands, IsDecided, premise_by, forged_then};
+ghost use Rattle.mm_check.specs.Deciding.{StandsBehind, DecidesRun, premise_by, forged_then};
 
 use crate::guards::first_secured;
 use crate::lines::{put_last, put_reply};
@@ -37,7 +37,7 @@ pub(crate) struct Decided {
 impl Deciding {
     /// At the first event.
     fn begin(alloc: Global, header: &Header) -> Result<Deciding, Memory>
-        ensures { IfOk result (λ it. Stands header.now [] it) }
+        ensures { IfOk result (λ it. StandsBehind header.now [] it) }
     {
         let expecting = Expecting::begin(alloc, header)?;
         let mut numbers = Numbers::new(alloc);
@@ -60,8 +60,8 @@ impl Deciding {
     ) -> Result<(), Memory>
         requires within { index < length events.now }
         requires few { length events.now ≤ 20000 }
-        requires stands { Stands header.now (events_of (take index events.now)) self.old }
-        ensures { OnOk result (Stands header.now (events_of (take (index + 1) events.now)) self.new) }
+        requires stands { StandsBehind header.now (events_of (take index events.now)) self.old }
+        ensures { OnOk result (StandsBehind header.now (events_of (take (index + 1) events.now)) self.new) }
     {
         let heard = self.expecting.event(&events[index])?;
         self.numbers.list_all(alloc, heard.messages.as_slice())?;
@@ -95,8 +95,8 @@ impl Deciding {
     // What all events come to.
     fn finish(mut self, alloc: Global, header: &Header, events: &[Event]) -> Result<Decided, Memory>
         requires few { length events.now ≤ 20000 }
-        requires stands { Stands header.now (events_of events.now) self }
-        ensures { IfOk result (IsDecided header.now (events_of events.now)) }
+        requires stands { StandsBehind header.now (events_of events.now) self }
+        ensures { IfOk result (DecidesRun header.now (events_of events.now)) }
     {
         let secured = first_secured(alloc, header.variant, events)?;
         let premise = self.premise(secured);
@@ -124,7 +124,7 @@ fn forged_then(forged: Option<u32>, is_genuine: bool, number: u32) -> Option<u32
 /// What these events come to: what is told of the premises, and the lines that are expected.
 pub(crate) fn decide(alloc: Global, header: &Header, events: &[Event]) -> Result<Decided, Memory>
     requires { length events.now ≤ 20000 }
-    ensures { IfOk result (IsDecided header.now (events_of events.now)) }
+    ensures { IfOk result (DecidesRun header.now (events_of events.now)) }
 {
     let mut deciding = Deciding::begin(alloc, header)?;
     'events: for index in 0..events.len() {

@@ -5,7 +5,7 @@ ghost use Rattle.std.specs.BTreeMap.{get};
 ghost use Rattle.std.specs.Cmp.Lexicographic.{slice_cmp};
 ghost use Rattle.std.specs.Ordering.{nat_cmp, is_eq};
 ghost use Rattle.mm_check.specs.Listing.{lower, zero_then};
-ghost use Rattle.mm_check.specs.Lists.{pair_of, Counts};
+ghost use Rattle.mm_check.specs.Lists.{pair_of, CountsDigests};
 
 use mm_base::Memory;
 use mm_digest::{Digest, zero};
@@ -71,7 +71,7 @@ fn put(firsts: &mut BTreeMap<[u8; 32], u32>, digest: [u8; 32], number: u32) -> R
 impl Digests {
     /// None so far. Takes no memory.
     pub fn new(alloc: Global) -> Digests
-        ensures { Counts [] result }
+        ensures { CountsDigests [] result }
     {
         Digests {
             firsts: BTreeMap::new(alloc),
@@ -85,7 +85,7 @@ impl Digests {
     pub fn add(&mut self, digest: Digest) -> Result<(), Memory>
         requires { self.old.count < 2 ^ 32 - 1 }
         ensures rises { self.new.count ≤ self.old.count + 1 }
-        ensures counts { (digests : List (List ℕ)) → Counts digests self.old → OnOk result (Counts (digests ++ digest.bytes ∷ []) self.new) }
+        ensures counts { (digests : List (List ℕ)) → CountsDigests digests self.old → OnOk result (CountsDigests (digests ++ digest.bytes ∷ []) self.new) }
     {
         let number = self.count + 1;
         match self.firsts.get(&digest.bytes) {

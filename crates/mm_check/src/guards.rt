@@ -15,7 +15,7 @@ ghost use Rattle.mm_run.specs.Held.{world_barrier};
 ghost use Rattle.mm_run.specs.Premises.{batches_of, asked_batches, foreign_of};
 ghost use Rattle.mm_check.specs.Listing.{first_where};
 ghost use Rattle.mm_check.specs.Numbering.{is_secured};
-ghost use Rattle.mm_check.specs.Guards.{events_of, unless_long, digests_in, HasAll, secured_by};
+ghost use Rattle.mm_check.specs.Guards.{events_of, unless_long, digest_items, HasAll, secured_by};
 
 use mm_base::Memory;
 use mm_call::has_tab;
@@ -63,7 +63,7 @@ fn guard_of(batch: Batch<'_>) -> Digest
 
 /// The guard of a batch that isn't too long.
 fn guard_unless_long(batch: Batch<'_>) -> Option<Digest>
-    ensures { digests_in result ≡ own_values world_barrier (unless_long (batch_of batch.entry)) }
+    ensures { digest_items result ≡ own_values world_barrier (unless_long (batch_of batch.entry)) }
 {
     if is_long(&batch) {
         return None;
@@ -73,7 +73,7 @@ fn guard_unless_long(batch: Batch<'_>) -> Option<Digest>
 
 /// The guard of the batch that an event asks, if it isn't too long.
 fn guard_in(event: &Event) -> Option<Digest>
-    ensures { digests_in result ≡ own_values world_barrier (batches_of (event_of event.now)) }
+    ensures { digest_items result ≡ own_values world_barrier (batches_of (event_of event.now)) }
 {
     match event {
         Event::Ask { request, .. } => guard_unless_long(Batch::One(request.as_slice())),

@@ -8,7 +8,7 @@ ghost use Rattle.mm_check.specs.Checking.{Read, first_read, read_event};
 ghost use Rattle.mm_check.specs.Verdicts.{AreVerdicts, run_lines};
 ghost use Rattle.mm_check.specs.Steps.{ReadsEvent, IsEventOf};
 ghost use Rattle.mm_check.specs.Guards.{events_of};
-ghost use Rattle.mm_check.specs.Deciding.{IsDecided};
+ghost use Rattle.mm_check.specs.Deciding.{DecidesRun};
 
 use crate::deciding::{Decided, decide};
 use crate::difference::difference;
@@ -34,13 +34,13 @@ impl Model for Reading {
     ghost use Rattle.mm_replay.specs.Progress.{running};
     ghost use Rattle.mm_check.specs.Guards.{events_of};
     ghost use Rattle.mm_check.specs.Checking.{Read};
-    ghost use Rattle.mm_check.specs.Verdicts.{IsRun};
+    ghost use Rattle.mm_check.specs.Verdicts.{RunsBehind};
 
     ghost Value = { Read };
 
     ghost view = { λ it. record { header = it.header; running = running it.progress; events = events_of it.events.items; told = it.told.items } };
 
-    ghost invariant = { λ it. IsRun it.header (running it.progress) (events_of it.events.items) it.told.items };
+    ghost invariant = { λ it. RunsBehind it.header (running it.progress) (events_of it.events.items) it.told.items };
 }
 
 /// The event of a line.
@@ -100,7 +100,7 @@ impl Reading {
 
     /// What the events come to, for recorded lines to be compared.
     pub fn decide(self, alloc: Global) -> Result<(Header, Vec<Event>, Decided), Memory>
-        ensures { IfOk result (λ it. (it.0 ≡ self.header) × (events_of it.1.items ≡ self.events) × IsDecided self.header self.events it.2) }
+        ensures { IfOk result (λ it. (it.0 ≡ self.header) × (events_of it.1.items ≡ self.events) × DecidesRun self.header self.events it.2) }
     {
         let Reading {
             header,

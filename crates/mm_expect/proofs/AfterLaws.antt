@@ -15,9 +15,9 @@ use Rattle.mm_run.specs.Folds.{Outcome, outcome_of, Followed, expected, first_is
 use Rattle.mm_run.specs.Held.{world_key, world_barrier, world_of}
 use Rattle.mm_run.proofs.GoingOn.{goes_on}
 use Rattle.mm_expect.specs.declared.replies.Said.{Said}
-use Rattle.mm_expect.specs.Coming.{ComesTo}
+use Rattle.mm_expect.specs.Coming.{WentByEvent}
 use Rattle.mm_expect.specs.Recorded.{Recorded, instance_with}
-use Rattle.mm_expect.specs.Traced.{Traced, outcome_in, after_event, first_traced, IsAfter}
+use Rattle.mm_expect.specs.Traced.{Traced, outcome_traced, after_traced, first_traced, IsAfter}
 
 world_is : (variant : Variant) («module» : AnyModule) → instance_with variant «module» ≡ instance_by variant (meaning_of «module») world_key world_barrier
 world_is Basic «module» = refl
@@ -36,13 +36,13 @@ traced r issued = record { header = header_of r; history = r.history; issued = i
 pub begins : (header : Header) → IsAfter header [] (first_traced header)
 begins header = record { header_is = refl; history_is = refl; issued_is = refl }
 
-pub goes_after : (header : Header) (events : List Event) (event : Event) (old new : Traced) → IsAfter header events old → new ≡ after_event old event
+pub goes_after : (header : Header) (events : List Event) (event : Event) (old new : Traced) → IsAfter header events old → new ≡ after_traced old event
     → IsAfter header (events ++ event ∷ []) new
 goes_after header events event old new at is =
     let i = world_of header in
     let run : Followed History = expected i events in
     let whole = goes_on i (by_lists i) events (event ∷ []) first_history (first_issued i) in
-    let same : outcome_in old event ≡ outcome_of i (by_lists i) run.state run.issued event =
+    let same : outcome_traced old event ≡ outcome_of i (by_lists i) run.state run.issued event =
     (λ j. outcome_of (world_of (at.header_is j)) (by_lists (world_of (at.header_is j))) (at.history_is j) (at.issued_is j) event) in
     record {
       header_is = ap (λ (t : Traced). t.header) is ∙ at.header_is;
@@ -51,8 +51,8 @@ goes_after header events event old new at is =
     }
 
 pub event_state : (old new : Recorded) (issued later : List (List ℕ)) (event : Event) (front back : List (List ℕ)) (said : Said)
-    → ComesTo old new issued event front back said → later ≡ issued ++ option_to_list said.snapshot
-    → traced new later ≡ after_event (traced old issued) event
+    → WentByEvent old new issued event front back said → later ≡ issued ++ option_to_list said.snapshot
+    → traced new later ≡ after_traced (traced old issued) event
 event_state old new issued later event front back said comes kept =
     let same = ap (λ (i : Instance). outcome_of i (by_lists i) old.history issued event) (instance_is (header_of old)) in
     λ j. record {

@@ -15,7 +15,7 @@ use Rattle.mm_model.specs.History.{History, Move, Commit, Foreign, Placed, Reset
 use Rattle.mm_model.specs.Judge.{is_last}
 use Rattle.mm_model.specs.Steps.{Step, Reads, Changes, Writes, ask_steps}
 use Rattle.mm_model.specs.declared.refusal.Refusal.{Refusal}
-use Rattle.mm_model.proofs.Batches.{same_batch-Decides}
+use Rattle.mm_model.proofs.Batches.{is_last_of}
 use Rattle.mm_model.proofs.MovedDigests.{total-push}
 use Rattle.mm_call.specs.Answers.{answer_on}
 use Rattle.mm_call.specs.Levels.{by_lists, all_made}
@@ -30,12 +30,7 @@ use Rattle.mm_run.specs.Folds.{plan_of, course_of}
 use Rattle.mm_expect.specs.Recorded.{Recorded, Went, instance_of, instance_with}
 use Rattle.mm_expect.specs.Walking.{Walks}
 use Rattle.mm_expect.specs.Calls.{again_in, Admits, changing_steps, changing_from, changes_on, ChangesBy, ending_of, new_ending, GoesOnNew, CallsBy}
-use Rattle.mm_expect.proofs.Walking.{went_then}
-
-is_last_of : (front : List Batch) (b : Batch) → is_last (front ++ b ∷ []) b ≡ true
-is_last_of [] b = (same_batch-Decides b b).1 refl
-is_last_of (c ∷ []) b = (same_batch-Decides b b).1 refl
-is_last_of (c ∷ d ∷ front) b = is_last_of (d ∷ front) b
+use Rattle.mm_expect.proofs.Walking.{went_then, not_true}
 
 -- what the steps of a new batch commit
 
@@ -404,10 +399,6 @@ unbroken (Some f) h = absurd (h f refl)
 pub kept_same : (total before now was : ℕ) → now ≡ total → was ≡ before → now ≡ was → None ≡ (if nat_eq total before then None else Some total)
 kept_same total before now was n w e =
     sym (ap (λ (b : Bool). if b then None else Some total) ((Decides-eqb total before).1 (sym n ∙ e ∙ w)))
-
-not_true : (b : Bool) → (b ≡ true → ⊥) → b ≡ false
-not_true true h = absurd (h refl)
-not_true false h = refl
 
 pub kept_other : (total before now was : ℕ) → now ≡ total → was ≡ before → (now ≡ was → ⊥) → Some now ≡ (if nat_eq total before then None else Some total)
 kept_other total before now was n w e =

@@ -18,9 +18,10 @@ use Rattle.mm_call.specs.Called.{reading_steps, seen_at}
 use Rattle.mm_call.specs.Checkpoints as ghost_closing
 use Rattle.mm_call.proofs.Walks.{finished}
 use Rattle.mm_run.specs.Folds.{plan_of, course_of}
+use Rattle.mm_run.proofs.Naming.{closes-foreign, last_steps}
 use Rattle.mm_expect.specs.declared.calls.Closing.{Closing}
 use Rattle.mm_expect.specs.declared.calls.Closing.TheVariants.{Closes, LostPower, Stops}
-use Rattle.mm_expect.specs.Closings.{closing_as, ChecksBy, ShutBy}
+use Rattle.mm_expect.specs.Closings.{closing_as, WentByCheckpoint, ShutBy}
 use Rattle.mm_expect.specs.Recorded.{Recorded, Went, instance_of}
 use Rattle.mm_expect.specs.Walking.{Walks}
 use Rattle.mm_expect.proofs.Asking.{Then, read_broken, read_whole, read_seen}
@@ -34,10 +35,6 @@ closes-append (Placed b ∷ xs) ys e = closes-append xs ys e
 closes-append (Reset ∷ xs) ys e = closes-append xs ys e
 closes-append (Close ∷ xs) ys e = cc
 closes-append (Power ∷ xs) ys e = closes-append xs ys e
-
-closes-foreign : (values : List (List ℕ)) → closes (map Foreign values) ≡ false
-closes-foreign [] = refl
-closes-foreign (v ∷ values) = closes-foreign values
 
 reads_close : (values : List (List ℕ)) (ends : End) (r : Walked) → closes r.moves ≡ false → closes (after_step Reads values ends r).moves ≡ false
 reads_close values Done r none = closes-append (map Foreign values) r.moves (closes-foreign values) ∙ none
@@ -57,7 +54,7 @@ pub shut_is : {E : Type 0} (a n : Recorded) (stop : Stop) (meddles : List Meddle
     → ((lost : Bool) → checkpoint_steps variant is_open lost ≡ Reads ∷ [])
     → ((lost : Bool) → ghost_closing.closing_of variant is_open lost ≡ closing_as unless)
     → IfOk r (ShutBy a n (walk (planned (plan_of stop meddles)) 1 (Reads ∷ [])) unless)
-    → IfOk r (ChecksBy a n (ghost_closing.checkpointed (instance_of a) (by_lists (instance_of a)) a.history (course_of stop meddles)))
+    → IfOk r (WentByCheckpoint a n (ghost_closing.checkpointed (instance_of a) (by_lists (instance_of a)) a.history (course_of stop meddles)))
 shut_is a n stop meddles unless variant is_open (Err e) va op steps ends shut = tt
 shut_is a n stop meddles unless variant is_open (Ok closing) va op steps ends shut =
     let i = instance_of a in
@@ -76,10 +73,6 @@ shut_is a n stop meddles unless variant is_open (Ok closing) va op steps ends sh
     }
 
 -- a checkpoint of an open segment
-
-abbrev last_steps : Bool → List Step
-last_steps true = []
-last_steps false = Writes Close ∷ []
 
 last_is : (lost : Bool) → checkpoint_steps Opt true lost ≡ reading_steps Opt ++ last_steps lost
 last_is true = refl
@@ -107,7 +100,7 @@ module _ (a : Recorded) (stop : Stop) (meddles : List Meddle) (va : a.variant �
   by_parts : (n : Recorded) (closing : Closing) (moves : List Move) (broken : Option StepFault)
       → (walk fates 1 (reading_steps Opt ++ last_steps lost)).moves ≡ moves → (walk fates 1 (reading_steps Opt ++ last_steps lost)).broken ≡ broken
       → Went a n moves
-      → closing_as closing ≡ ghost_closing.closed_by broken (closes moves) (ghost_closing.closing_of Opt true lost) → ChecksBy a n all closing
+      → closing_as closing ≡ ghost_closing.closed_by broken (closes moves) (ghost_closing.closing_of Opt true lost) → WentByCheckpoint a n all closing
   by_parts n closing moves broken m br went ends =
       let W = λ (s : List Step). walk fates 1 s in
       let there = ap (λ (v : Variant). ghost_closing.closing_of v a.history.is_open lost) va ∙ ap (λ (o : Bool). ghost_closing.closing_of Opt o lost) op in
@@ -121,7 +114,7 @@ module _ (a : Recorded) (stop : Stop) (meddles : List Meddle) (va : a.variant �
             (ghost_closing.closing_of a.variant a.history.is_open lost)) (sym steps_are);
       }
 
-  pub check_broken : (n : Recorded) (fault : StepFault) → Walks a n reading (Some fault) → ChecksBy a n all (Stops fault false)
+  pub check_broken : (n : Recorded) (fault : StepFault) → Walks a n reading (Some fault) → WentByCheckpoint a n all (Stops fault false)
   check_broken n fault w =
       let same = read_broken fates Opt (last_steps lost) fault (sym w.broken) in
       by_parts n (Stops fault false) reading.moves (Some fault) (ap (λ (v : Walked). v.moves) same) (ap (λ (v : Walked). v.broken) same ∙ sym w.broken)
@@ -141,7 +134,7 @@ module _ (a : Recorded) (stop : Stop) (meddles : List Meddle) (va : a.variant �
       subst (λ (k : Bool). Then reading (walk fates 3 (last_steps l)) (walk fates 1 (reading_steps Opt ++ last_steps k))) (sym e)
       (read_whole fates Opt (last_steps l) whole)
 
-  pub check_lost : (n : Recorded) → Walks a n reading None → is_lost (life_of n.variant n.history) ≡ true → ChecksBy a n all LostPower
+  pub check_lost : (n : Recorded) → Walks a n reading None → is_lost (life_of n.variant n.history) ≡ true → WentByCheckpoint a n all LostPower
   check_lost n w e =
       let l : lost ≡ true = sym (lost_there n w) ∙ e in
       let t = goes_last true l (sym w.broken) in
@@ -152,7 +145,7 @@ module _ (a : Recorded) (stop : Stop) (meddles : List Meddle) (va : a.variant �
   closing_walk = walk fates 3 (Writes Close ∷ [])
 
   pub check_closed : (n m : Recorded) → Walks a n reading None → is_lost (life_of n.variant n.history) ≡ false
-      → Walks n m closing_walk None → ChecksBy a m all Closes
+      → Walks n m closing_walk None → WentByCheckpoint a m all Closes
   check_closed n m w e more =
       let l : lost ≡ false = sym (lost_there n w) ∙ e in
       let t = goes_last false l (sym w.broken) in
@@ -168,7 +161,7 @@ module _ (a : Recorded) (stop : Stop) (meddles : List Meddle) (va : a.variant �
   closes_made values (Some f) false fault e = closes-foreign values
 
   pub check_stopped : (n m : Recorded) (fault : StepFault) (made : Bool) → Walks a n reading None → is_lost (life_of n.variant n.history) ≡ false
-      → Walks n m closing_walk (Some fault) → made ≡ is_made_at stop 3 → ChecksBy a m all (Stops fault made)
+      → Walks n m closing_walk (Some fault) → made ≡ is_made_at stop 3 → WentByCheckpoint a m all (Stops fault made)
   check_stopped n m fault made w e more is =
       let l : lost ≡ false = sym (lost_there n w) ∙ e in
       let t = goes_last false l (sym w.broken) in

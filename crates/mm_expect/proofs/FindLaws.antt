@@ -1,6 +1,6 @@
 -- What is found of an offer.
 use Rattle.std.proofs.Common.{◌≡◌, ℕ, ◌+◌, ◌≤◌, ◌^◌, Bool, true, false, ◌&&◌, List, Result, Ok, Err, refl, subst}
-use Rattle.std.specs.Prelude.{if◌then◌else◌, nat_eq, nat_le}
+use Rattle.std.specs.Prelude.{nat_eq, nat_le}
 use Rattle.std.specs.Str.{bytes_eq}
 use Rattle.std.proofs.lemmas.Bool.{and_parts, leb-true}
 use Rattle.std.proofs.lemmas.Bool.Decides.{Decides-eqb}
@@ -15,12 +15,11 @@ use Rattle.mm_model.specs.Life.{Life, Live, Spoiled, Lost as LostLife, life_by, 
 use Rattle.mm_model.specs.Judge.{is_last, judged, judge}
 use Rattle.mm_model.specs.declared.verdict.Verdict.{Verdict}
 use Rattle.mm_model.specs.declared.verdict.Verdict.TheVariants.{Fresh, Again, Lost, Stale}
-use Rattle.mm_model.specs.declared.refusal.Refusal.{Refusal}
-use Rattle.mm_model.specs.declared.refusal.Refusal.TheVariants as refusal
 use Rattle.mm_call.specs.Order.{admitted, examined}
 use Rattle.mm_call.specs.Levels.{by_lists}
 use Rattle.mm_call.specs.Found.{Found, found_from, found_at}
 use Rattle.mm_call.proofs.Finding.{admitted_tells, weighed_tells, found_with_tells}
+use Rattle.mm_run.proofs.Naming.{unless_lost}
 use Rattle.mm_expect.specs.Calls.{reached, Admits}
 
 pub lost_when : (is_open is_bare is_own is_marred : Bool) → is_lost (life_by is_open is_bare is_own is_marred) ≡ (is_open && is_bare)
@@ -80,10 +79,6 @@ from_admits i y b (Ok snapshot) f e =
     let t = found_with_tells snapshot.content (examined i.meaning i.key snapshot b (judge i.variant y snapshot.content.position b)) f e in
     let w = weighed_tells (i.meaning.is_spelled snapshot.content.state) (bytes_eq snapshot.tag (tag_of i.key snapshot.content)) _ _ f.again t.1 in
     admits_when i y b snapshot f.again t.1 (admitted_fits (judge i.variant y snapshot.content.position b) (snapshot.content.position + size_of b) f.again w.2)
-
-unless_lost : (lost : Bool) (found : Result Found Refusal) (f : Found) → (if lost then Err refusal.Lost else found) ≡ Ok f → found ≡ Ok f
-unless_lost true found f e = cc
-unless_lost false found f e = e
 
 pub admits_found : (i : Instance) (y : History) (b : Batch) (bytes : List ℕ) (f : Found) → found_at i (by_lists i) y b bytes ≡ Ok f → Admits y b f.again
 admits_found i y b bytes f e =

@@ -1,5 +1,5 @@
 -- Whether an offer is genuine, by whether what it says names a position.
-use Rattle.std.proofs.Common.{◌≡◌, ℕ, zero, suc, ◌+◌, ◌≤◌, ◌^◌, ◌&&◌, Bool, true, false, List, [], ◌∷◌, ◌++◌, length, Option, None, Some, Result, Ok, Err, refl, sym, ap, ◌∙◌, subst, arith, get_or, length-append}
+use Rattle.std.proofs.Common.{◌≡◌, ℕ, zero, suc, ◌≤◌, ◌^◌, ◌&&◌, Bool, true, false, List, [], ◌∷◌, length, None, Some, Result, Ok, Err, refl, sym, ap, ◌∙◌, subst, arith, get_or}
 use Rattle.std.specs.Prelude.{if◌then◌else◌, slice_get}
 use Rattle.std.specs.Str.{bytes_eq}
 use Rattle.std.specs.List.{AllByRecursion}
@@ -29,7 +29,7 @@ use Rattle.mm_call.proofs.Finding.{right_is}
 use Rattle.mm_call.proofs.Reading.{is_right}
 use Rattle.mm_run.specs.Laws.{IsIssued}
 use Rattle.mm_expect.specs.Naming.{IsDecided}
-use Rattle.mm_expect.specs.Genuine.{OffersAreDecided, IssuedAreGenuine, EachOfferIsDecided, BasicIssuedAreGenuine, OptIssuedAreGenuine}
+use Rattle.mm_expect.specs.Genuine.{EachOfferIsDecided, BasicIssuedAreGenuine, OptIssuedAreGenuine}
 
 -- A right offer says one thing, and what is said of an offer is right.
 

@@ -4,7 +4,6 @@ pub mod Settling
 pub mod Walking
 pub mod FindLaws
 pub mod Asking
-pub mod Flipping
 pub mod NameLaws
 pub mod GenuineLaws
 pub mod CheckLaws

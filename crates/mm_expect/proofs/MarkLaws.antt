@@ -15,18 +15,13 @@ use Rattle.mm_model.specs.Places.{digest_of}
 use Rattle.mm_model.proofs.Batches.{same_batch-Decides}
 use Rattle.mm_model.proofs.Digests.{summary-push, register-push, anchor-push}
 use Rattle.mm_model.proofs.Forms.{reads_zero}
-use Rattle.mm_model.proofs.Histories.{values_of-append, own_values-append, has_value-append}
-use Rattle.mm_model.proofs.MovedDigests.{total-push}
+use Rattle.mm_model.proofs.Histories.{own_values-append, has_value-append}
+use Rattle.mm_model.proofs.MovedDigests.{total-push, register_more}
 use Rattle.mm_model.proofs.Segments.{joined-push}
-use Rattle.mm_expect.specs.declared.kept.KeptBatch.{KeptBatch}
-use Rattle.mm_expect.specs.declared.kept.KeptEntry.{KeptEntry}
-use Rattle.mm_expect.specs.Kept.{kept_batch, kept_batches, kept_entry, kept_entries}
-use Rattle.mm_expect.specs.Marks.{marks_of, with_value, emptied, closed_cell, closed_by, linked, grown, opened}
-
-pub register_more : (barrier : List ℕ) (items : List Entry) (e : Entry)
-    → register_of (values_of barrier (items ++ e ∷ [])) ≡ extended_of (register_of (values_of barrier items)) (value_of barrier e)
-register_more barrier items e =
-    ap register_of (values_of-append barrier items (e ∷ [])) ∙ register-push (values_of barrier items) (value_of barrier e)
+use Rattle.mm_model.specs.declared.kept.KeptBatch.{KeptBatch}
+use Rattle.mm_model.specs.declared.kept.KeptEntry.{KeptEntry}
+use Rattle.mm_model.specs.Kept.{kept_batch, kept_batches, kept_entry, kept_entries}
+use Rattle.mm_expect.specs.Marks.{marks_of, with_value, emptied, closed_digest, closed_marks, linked_marks, grown, opened_marks}
 
 pub own_more : (barrier : List ℕ) (batches : List Batch) (b : Batch)
     → register_of (own_values barrier (batches ++ b ∷ [])) ≡ extended_of (register_of (own_values barrier batches)) (guard barrier b)
@@ -121,7 +116,7 @@ cell_same i Opt y z b c = ap (λ (s : List (List Entry)). anchor_of i.meaning.id
 
 cell_shut : (i : Instance) (v : Variant) (y : History)
     → cell_digest_of i v (record y { closed = y.closed ++ y.items ∷ []; current = []; is_open = false })
-    ≡ closed_cell v (record (marks_of i y) { cell = digest_of (cell_digest_of i v y) })
+    ≡ closed_digest v (record (marks_of i y) { cell = digest_of (cell_digest_of i v y) })
 cell_shut i Basic y = refl
 cell_shut i Opt y =
     ap (anchor_of i.meaning.id) (map-append (values_of i.barrier) y.closed (y.items ∷ []))
@@ -151,7 +146,7 @@ marks_emptied i y = λ j. record {
 
 pub marks_shut : (i : Instance) (y : History)
     → marks_of i (record y { closed = y.closed ++ y.items ∷ []; current = []; is_open = false })
-    ≡ closed_by i.variant (marks_of i y) (has_value y.items) (is_empty y.items)
+    ≡ closed_marks i.variant (marks_of i y) (has_value y.items) (is_empty y.items)
 marks_shut i y = λ j. record {
   total = total_of y.batches;
   cell = digest_of (cell_shut i i.variant y j);
@@ -162,7 +157,7 @@ marks_shut i y = λ j. record {
 }
 
 pub marks_linked : (i : Instance) (y : History) (b : Batch) → i.variant ≡ Basic
-    → marks_of i (committed Basic y.is_open y b) ≡ linked (marks_of i y) b
+    → marks_of i (committed Basic y.is_open y b) ≡ linked_marks (marks_of i y) b
 marks_linked i y b e = λ j. record {
   total = total-push y.batches b j;
   cell = digest_of ((ap (λ v. cell_digest_of i v (committed Basic y.is_open y b)) e ∙ summary-push i.meaning.id y.batches b
@@ -190,7 +185,7 @@ marks_grown i y b e = λ j. record {
 
 pub marks_opened : (i : Instance) (y : History) (b : Batch) → i.variant ≡ Opt
     → marks_of i (committed Opt false y b)
-    ≡ opened (marks_of i y) (size_of b) (guard i.barrier b) (register_of (values_of i.barrier (renamed y.items b))) (nat_le (length y.items) 1)
+    ≡ opened_marks (marks_of i y) (size_of b) (guard i.barrier b) (register_of (values_of i.barrier (renamed y.items b))) (nat_le (length y.items) 1)
 marks_opened i y b e = λ j. record {
   total = total-push y.batches b j;
   cell = digest_of (opt_cell i (committed Opt false y b) y e refl j);

@@ -1,16 +1,14 @@
 -- The test whether a content names a position of a history decides it.
-use Rattle.std.proofs.Common.{◌≡◌, ℕ, ◌+◌, ◌-◌, ◌<◌, ◌≤◌, ◌^◌, Bool, true, false, ◌&&◌, ◌||◌, List, [], ◌∷◌, ◌++◌, length, map, drop, take, Option, None, Some, Result, Ok, Err, refl, sym, ap, ◌∙◌, subst, inl, inr, ◌⊎◌, arith, append_assoc, length-append, le-leb}
-use Rattle.std.specs.Prelude.{if◌then◌else◌, not, ◌==◌, nat_le, nat_lt, slice_get}
+use Rattle.std.proofs.Common.{◌≡◌, ℕ, ◌+◌, ◌-◌, ◌<◌, ◌≤◌, Bool, true, false, ◌&&◌, ◌||◌, List, [], ◌∷◌, ◌++◌, length, drop, take, Option, None, Some, refl, sym, ap, ◌∙◌, subst, inl, inr, ◌⊎◌, arith, append_assoc, length-append, le-leb}
+use Rattle.std.specs.Prelude.{if◌then◌else◌, not, ◌==◌, nat_le, nat_lt}
 use Rattle.std.specs.Str.{bytes_eq}
-use Rattle.std.specs.List.{AllByRecursion}
 use Rattle.std.specs.Option.{option_map}
 use Rattle.std.specs.Bool.{Decides}
 use Rattle.std.proofs.lemmas.Bool.Decides.{Decides-eqb, Decides-and, Decides-or, Decides-like, Decides-ltb}
-use Rattle.std.proofs.lemmas.Bool.{and_parts, and_from}
 use Rattle.std.proofs.lemmas.List.{append-nil, take-append-drop, length-take, drop-append-le, take-append-le}
 use Rattle.std.proofs.Common.{length-drop}
 use Rattle.mm_model.proofs.Segments.{not_empty}
-use Rattle.std.proofs.Math.Seq.{drop-append_seam, take-append_seam}
+use Rattle.std.proofs.Math.Seq.{drop-append_seam}
 use Rattle.std.proofs.lemmas.Slice.Eq.{bytes_eq-Decides}
 use Rattle.mm_digest.specs.declared.variant.Variant.{Variant}
 use Rattle.mm_digest.specs.declared.variant.Variant.TheVariants.{Basic, Opt}
@@ -30,8 +28,8 @@ use Rattle.mm_model.specs.Chains.{summary_of, register_of, own_values}
 use Rattle.mm_model.specs.Instance.{Instance, basic, opt}
 use Rattle.mm_model.specs.History.{Entry, History, requests_of, total_of, joined}
 use Rattle.mm_model.specs.Life.{is_empty, has_value, same_batch}
-use Rattle.mm_model.specs.Places.{AtAnchor, InClosed, InCurrent, IsPoint, at_anchor, in_closed, in_current, IsPlaceOf, Names, anchor_after}
-use Rattle.mm_model.proofs.Batches.{same_batch-Decides, total-cons, total-nil, same_fronts}
+use Rattle.mm_model.specs.Places.{IsPoint, at_anchor, in_closed, in_current, IsPlaceOf, Names, anchor_after}
+use Rattle.mm_model.proofs.Batches.{same_batch-Decides, total-cons, same_fronts}
 use Rattle.mm_expect.specs.Naming.{IsDecided, first_with, same_batches, is_at, is_behind, is_within, is_inside_at, some_place, is_place, is_named_at, is_named, BasicNamesAreDecided, OptNamesAreDecided}
 
 pub decided : {P : Type 0} (r : Bool) → Decides r P → IsDecided r P

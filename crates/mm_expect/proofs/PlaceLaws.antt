@@ -6,7 +6,7 @@ use Rattle.std.specs.List.{list_any}
 use Rattle.std.specs.Option.{option_map}
 use Rattle.std.proofs.lemmas.Bool.{or_parts, or_from}
 use Rattle.std.proofs.lemmas.Bool.Decides.{Decides-eqb, Decides-ltb}
-use Rattle.std.proofs.lemmas.List.{append-nil, map-append, take-map, drop-map, take_more, drop_more, drop_all, take_all, length-map}
+use Rattle.std.proofs.lemmas.List.{append-nil, map-append, take-map, drop-map, take_more, drop_more, take_all, length-map}
 use Rattle.mm_module.specs.Batch.{Batch, members_of}
 use Rattle.mm_module.specs.Meaning.{Meaning, state_from, state_after}
 use Rattle.mm_seal.specs.Snapshot.{Content}
@@ -21,10 +21,10 @@ use Rattle.mm_model.proofs.Histories.{has_value-append}
 use Rattle.mm_model.proofs.Segments.{joined-push}
 use Rattle.mm_model.specs.Long.{is_long}
 use Rattle.mm_model.proofs.Digests.{summary-push, anchor-push}
-use Rattle.mm_expect.specs.declared.kept.KeptBatch.{KeptBatch}
-use Rattle.mm_expect.specs.declared.kept.KeptEntry.{KeptEntry}
-use Rattle.mm_expect.specs.Kept.{kept_batch, kept_batches, kept_entry, kept_entries, kept_segments}
-use Rattle.mm_expect.specs.Naming.{first_with, same_batches, anchor_at, is_at, is_behind, is_within, is_here, is_inside_at, some_place, place_in, is_place, is_named_at, is_named}
+use Rattle.mm_model.specs.declared.kept.KeptBatch.{KeptBatch}
+use Rattle.mm_model.specs.declared.kept.KeptEntry.{KeptEntry}
+use Rattle.mm_model.specs.Kept.{kept_batch, kept_batches, kept_entry, kept_entries, kept_segments}
+use Rattle.mm_expect.specs.Naming.{first_with, same_batches, anchor_at, is_at, is_behind, is_within, is_here, is_inside_at, some_place, is_place_in, is_place, is_named_at, is_named}
 use Rattle.mm_expect.proofs.NameLaws.{same-Decides}
 
 -- one more batch of a list
@@ -357,9 +357,9 @@ other_state i y content batches is found count some e state run off =
 pub placed_by : (i : Instance) (y : History) (content : Content) (batches : List KeptBatch) → kept_batches batches ≡ y.batches → (found : Option ℕ) (count : ℕ) → found ≡ Some count
     → option_map (λ (n : ℕ). take n (kept_batches batches)) found ≡ first_with content.position (kept_batches batches)
     → (state : List ℕ) → state ≡ state_after i.meaning (requests_of (kept_batches (take count batches))) → bytes_eq content.state state ≡ true
-    → (r : Bool) (id : ℕ) (barrier : List ℕ) → id ≡ i.meaning.id → barrier ≡ i.barrier → r ≡ place_in i.variant id barrier y (kept_batches (take count batches)) content.place → r ≡ is_named i y content
+    → (r : Bool) (id : ℕ) (barrier : List ℕ) → id ≡ i.meaning.id → barrier ≡ i.barrier → r ≡ is_place_in i.variant id barrier y (kept_batches (take count batches)) content.place → r ≡ is_named i y content
 placed_by i y content batches is found count some e state run on r id barrier same guarded place =
-    place ∙ ap (λ (n : ℕ). place_in i.variant n barrier y (kept_batches (take count batches)) content.place) same
-    ∙ ap (λ (x : List ℕ). place_in i.variant i.meaning.id x y (kept_batches (take count batches)) content.place) guarded
+    place ∙ ap (λ (n : ℕ). is_place_in i.variant n barrier y (kept_batches (take count batches)) content.place) same
+    ∙ ap (λ (x : List ℕ). is_place_in i.variant i.meaning.id x y (kept_batches (take count batches)) content.place) guarded
     ∙ sym (there_by i y content batches is found count some e
     ∙ ap (λ (b : Bool). b && is_place i.variant i y (kept_batches (take count batches)) content.place) (ap (bytes_eq content.state) (sym run) ∙ on))

@@ -1,5 +1,5 @@
 -- What the fields of a chronicle keep goes on with its moves.
-use Rattle.std.proofs.Common.{◌≡◌, ◌≤◌, ℕ, Bool, true, false, List, [], ◌∷◌, ◌++◌, length, refl, sym, ap, ◌∙◌, subst}
+use Rattle.std.proofs.Common.{◌≡◌, ◌≤◌, ℕ, Bool, true, false, List, [], ◌∷◌, ◌++◌, length, sym, ap, ◌∙◌, subst}
 use Rattle.std.specs.Prelude.{IsTrue, nat_le}
 use Rattle.std.proofs.lemmas.List.{same_from_push}
 use Rattle.std.proofs.lemmas.List.Folds.{list_any-append}
@@ -15,7 +15,7 @@ use Rattle.mm_module.proofs.RunLaws.{state_after-append, state_from-is_spelled}
 use Rattle.mm_modules.specs.declared.any.AnyModule.{AnyModule}
 use Rattle.mm_modules.specs.Modules.{meaning_of}
 use Rattle.mm_modules.specs.ModulesLaws.{any_is_lawful}
-use Rattle.mm_model.specs.Chains.{guard, register_of, anchor_of}
+use Rattle.mm_model.specs.Chains.{guard, register_of}
 use Rattle.mm_model.specs.History.{History, Value, first_history, requests_of, total_of, cell_digest_of, values_of, committed}
 use Rattle.mm_model.specs.Judge.{is_last}
 use Rattle.mm_model.specs.Long.{is_long}
@@ -28,8 +28,9 @@ use Rattle.mm_call.specs.declared.ended.Ended.TheVariants.{Answered}
 use Rattle.mm_call.proofs.Moving.{summary-nil}
 use Rattle.mm_model.specs.Life.{is_empty, has_value}
 use Rattle.mm_call.proofs.Calling.{requests-push, said_last}
+use Rattle.mm_run.proofs.OptRuns.{anchor-nil}
 use Rattle.mm_expect.specs.declared.marks.Marks.{Marks}
-use Rattle.mm_expect.specs.Marks.{marks_of, with_value, emptied, closed_by, linked, grown, opened}
+use Rattle.mm_expect.specs.Marks.{marks_of, with_value, emptied, closed_marks, linked_marks, grown, opened_marks}
 use Rattle.mm_expect.specs.Recorded.{Recorded, barrier_of, instance_with, instance_of}
 use Rattle.mm_expect.specs.Settled.{IsSettled}
 use Rattle.mm_expect.proofs.MarkLaws.{marks_value, marks_emptied, marks_shut, marks_linked, marks_grown, marks_opened}
@@ -72,10 +73,10 @@ module _ (variant : Variant) («module» : AnyModule) (barrier : List ℕ) (y z 
 
   pub settled_shut : IsSettled variant «module» barrier y old state before
       → z ≡ record y { closed = y.closed ++ y.items ∷ []; current = []; is_open = false }
-      → new ≡ closed_by variant old (has_value y.items) (is_empty y.items) → IsSettled variant «module» barrier z new state before
+      → new ≡ closed_marks variant old (has_value y.items) (is_empty y.items) → IsSettled variant «module» barrier z new state before
   settled_shut s is marks =
       settled_still s (ap (λ (h : History). h.batches) is)
-      (marks ∙ ap (λ (m : Marks). closed_by variant m (has_value y.items) (is_empty y.items)) s.marks_is
+      (marks ∙ ap (λ (m : Marks). closed_marks variant m (has_value y.items) (is_empty y.items)) s.marks_is
       ∙ sym (marks_shut (instance_with variant «module») y)
       ∙ ap (marks_of (instance_with variant «module»)) (sym is))
 
@@ -106,12 +107,12 @@ module _ (variant : Variant) («module» : AnyModule) (barrier : List ℕ) (y z 
       }
 
   pub settled_linked : (b : Batch) (next kept : List ℕ) → IsSettled variant «module» barrier y old state before → variant ≡ Basic
-      → z ≡ committed Basic y.is_open y b → new ≡ linked old b → Ran next kept b
+      → z ≡ committed Basic y.is_open y b → new ≡ linked_marks old b → Ran next kept b
       → IsSettled variant «module» barrier z new next kept
   settled_linked b next kept s basic is marks run =
       let i = instance_with variant «module» in
       settled_more b next kept s (ap (λ (h : History). h.batches) is)
-      (marks ∙ ap (λ (m : Marks). linked m b) s.marks_is ∙ sym (marks_linked i y b basic) ∙ ap (marks_of i) (sym is)) run
+      (marks ∙ ap (λ (m : Marks). linked_marks m b) s.marks_is ∙ sym (marks_linked i y b basic) ∙ ap (marks_of i) (sym is)) run
 
   pub settled_grown : (b : Batch) (next kept value : List ℕ) (size : ℕ) → IsSettled variant «module» barrier y old state before → variant ≡ Opt
       → z ≡ committed Opt true y b → size ≡ size_of b → value ≡ guard (barrier_of variant) b → new ≡ grown old size value
@@ -126,21 +127,17 @@ module _ (variant : Variant) («module» : AnyModule) (barrier : List ℕ) (y z 
 
   pub settled_opened : (b : Batch) (next kept value register : List ℕ) (size : ℕ) → IsSettled variant «module» barrier y old state before → variant ≡ Opt
       → z ≡ committed Opt false y b → size ≡ size_of b → value ≡ guard barrier b → register ≡ register_of (values_of barrier z.items)
-      → new ≡ opened old size value register (nat_le (length y.items) 1)
+      → new ≡ opened_marks old size value register (nat_le (length y.items) 1)
       → Ran next kept b → IsSettled variant «module» barrier z new next kept
   settled_opened b next kept value register size s opt is sized guards reads marks run =
       let i = instance_with variant «module» in
       settled_more b next kept s (ap (λ (h : History). h.batches) is)
-      (marks ∙ ap (λ (m : Marks). opened m size value register (nat_le (length y.items) 1)) s.marks_is
-      ∙ ap (λ n. opened (marks_of i y) n value register (nat_le (length y.items) 1)) sized
-      ∙ ap (λ v. opened (marks_of i y) (size_of b) v register (nat_le (length y.items) 1)) (guards ∙ ap (λ r. guard r b) s.barrier_is)
-      ∙ ap (λ v. opened (marks_of i y) (size_of b) (guard i.barrier b) v (nat_le (length y.items) 1))
+      (marks ∙ ap (λ (m : Marks). opened_marks m size value register (nat_le (length y.items) 1)) s.marks_is
+      ∙ ap (λ n. opened_marks (marks_of i y) n value register (nat_le (length y.items) 1)) sized
+      ∙ ap (λ v. opened_marks (marks_of i y) (size_of b) v register (nat_le (length y.items) 1)) (guards ∙ ap (λ r. guard r b) s.barrier_is)
+      ∙ ap (λ v. opened_marks (marks_of i y) (size_of b) (guard i.barrier b) v (nat_le (length y.items) 1))
       (reads ∙ ap (λ r. register_of (values_of r z.items)) s.barrier_is ∙ ap (λ (h : History). register_of (values_of i.barrier h.items)) is)
       ∙ sym (marks_opened i y b opt) ∙ ap (marks_of i) (sym is)) run
-
-anchor-nil : (id : ℕ) → start_of Opt id ≡ anchor_of id []
-unfolding anchor_of
-anchor-nil id = refl
 
 cell_first : («module» : AnyModule) (variant : Variant) → start_of variant (meaning_of «module»).id ≡ cell_digest_of (instance_with variant «module») variant first_history
 cell_first «module» Basic = summary-nil (meaning_of «module»).id

@@ -23,7 +23,7 @@ use Rattle.mm_expect.specs.Recorded.{Recorded, Went, instance_of, instance_with}
 use Rattle.mm_expect.specs.declared.course.Move as code
 use Rattle.mm_expect.specs.declared.course.Step as code_step
 use Rattle.mm_expect.specs.declared.course.Step.TheVariants.{Changes}
-use Rattle.mm_expect.specs.Walking.{move_of, step_of, steps_of, Walks}
+use Rattle.mm_expect.specs.Walking.{move_of, step_as, steps_of, Walks}
 
 pub messages_where-append : (closing : Bool) (i : Instance) (xs ys : List Move) (y : History)
     → messages_where closing i y (xs ++ ys) ≡ messages_where closing i y xs ++ messages_where closing i (all_made (by_lists i) y xs) ys
@@ -69,7 +69,7 @@ went_then a b c xs ys first second =
           first.history first.closing second.closing;
     }
 
-not_true : (b : Bool) → (b ≡ true → ⊥) → b ≡ false
+pub not_true : (b : Bool) → (b ≡ true → ⊥) → b ≡ false
 not_true true h = absurd (h refl)
 not_true false h = refl
 
@@ -145,19 +145,19 @@ module _ (a b c : Recorded) (stop : Stop) (meddles : List Meddle) (n : ℕ) (ste
 
 pub changes_then : {E : Type 0} (r : Result (Unit {0}) E) (a b c : Recorded) (action : code.Move) (made : Bool) (values : List (List ℕ)) (step : code_step.Step)
     → step ≡ Changes action → OnOk r (Went b c (made_move made (move_of action))) → Went a b (map Foreign values)
-    → OnOk r (Went a c (step_moves (step_of step) made values))
+    → OnOk r (Went a c (step_moves (step_as step) made values))
 changes_then (Err e) a b c action made values step is second first = tt
 changes_then (Ok x) a b c action made values step is second first =
-    subst (λ (s : code_step.Step). Went a c (step_moves (step_of s) made values)) (sym is)
+    subst (λ (s : code_step.Step). Went a c (step_moves (step_as s) made values)) (sym is)
     (went_then a b c (map Foreign values) (made_move made (move_of action)) first second)
 
 pub walks_on : {E : Type 0} (r : Result (Option StepFault) E) (a b c : Recorded) (stop : Stop) (meddles : List Meddle) (n : ℕ) (step : code_step.Step)
     (later all : List code_step.Step) → all ≡ step ∷ later → fault_at stop n ≡ None → (made : Bool) → made ≡ is_made_at stop n
-    → Went a b (step_moves (step_of step) made (due n meddles))
+    → Went a b (step_moves (step_as step) made (due n meddles))
     → IfOk r (Walks b c (walk (planned (plan_of stop meddles)) (n + 1) (steps_of later)))
     → IfOk r (Walks a c (walk (planned (plan_of stop meddles)) n (steps_of all)))
 walks_on (Err e) a b c stop meddles n step later all is whole made m first more = tt
 walks_on (Ok fault) a b c stop meddles n step later all is whole made m first more =
     subst (λ (s : List code_step.Step). Walks a c (walk (planned (plan_of stop meddles)) n (steps_of s)) fault) (sym is)
-    (walks_whole a b c stop meddles n (step_of step) (steps_of later) fault whole
-    (subst (λ (x : Bool). Went a b (step_moves (step_of step) x (due n meddles))) m first) more)
+    (walks_whole a b c stop meddles n (step_as step) (steps_of later) fault whole
+    (subst (λ (x : Bool). Went a b (step_moves (step_as step) x (due n meddles))) m first) more)

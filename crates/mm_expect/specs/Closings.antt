@@ -23,7 +23,7 @@ stops LostPower = false
 stops (Stops _ _) = true
 
 -- The chronicle went on by a checkpoint, which ended so.
-pub record ChecksBy (old new : Recorded) (o : ghost_closing.Checkpointed History) (closing : Closing) : Type 0 where
+pub record WentByCheckpoint (old new : Recorded) (o : ghost_closing.Checkpointed History) (closing : Closing) : Type 0 where
   pub went : Went old new o.moves
   pub ends : closing_as closing ≡ o.ending
 

@@ -1,5 +1,4 @@
 pub mod Numbered
-pub mod Kept
 pub mod Marks
 pub mod Recorded
 pub mod Settled
@@ -7,7 +6,6 @@ pub mod Walking
 pub mod Calls
 pub mod Closings
 pub mod Asked
-pub mod OfferedBytes
 pub mod Naming
 pub mod Genuine
 pub mod Coming

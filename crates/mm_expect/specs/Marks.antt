@@ -32,14 +32,14 @@ with_value m value = record m { register = digest_of (extended_of m.register.byt
 abbrev pub emptied : Marks → Bool → Marks
 emptied m is_clear = record m { register = digest_of zero_bytes; is_own = is_clear }
 
-abbrev pub closed_cell : Variant → Marks → List ℕ
-closed_cell Basic m = m.cell.bytes
-closed_cell Opt m = anchored_of m.cell.bytes m.register.bytes
+abbrev pub closed_digest : Variant → Marks → List ℕ
+closed_digest Basic m = m.cell.bytes
+closed_digest Opt m = anchored_of m.cell.bytes m.register.bytes
 
 -- the segment is closed: by whether it holds a value that stands for no batch, and whether it is empty
-abbrev pub closed_by : Variant → Marks → Bool → Bool → Marks
-closed_by variant m has_value is_bare = record m {
-  cell = digest_of (closed_cell variant m);
+abbrev pub closed_marks : Variant → Marks → Bool → Bool → Marks
+closed_marks variant m has_value is_bare = record m {
+  cell = digest_of (closed_digest variant m);
   own = digest_of zero_bytes;
   is_own = is_bare;
   is_marred = m.is_marred || has_value;
@@ -47,8 +47,8 @@ closed_by variant m has_value is_bare = record m {
 
 -- one more batch, in Basic; in an open segment, with this guard; and in a new one, by what the register reads, and whether
 -- it had at most one item
-abbrev pub linked : Marks → Batch → Marks
-linked m b = record m { total = m.total + size_of b; cell = digest_of (link m.cell.bytes b) }
+abbrev pub linked_marks : Marks → Batch → Marks
+linked_marks m b = record m { total = m.total + size_of b; cell = digest_of (link m.cell.bytes b) }
 
 abbrev pub grown : Marks → ℕ → List ℕ → Marks
 grown m size guard = record m {
@@ -57,8 +57,8 @@ grown m size guard = record m {
   register = digest_of (extended_of m.register.bytes guard);
 }
 
-abbrev pub opened : Marks → ℕ → List ℕ → List ℕ → Bool → Marks
-opened m size guard register is_alone = record m {
+abbrev pub opened_marks : Marks → ℕ → List ℕ → List ℕ → Bool → Marks
+opened_marks m size guard register is_alone = record m {
   total = m.total + size;
   own = digest_of (extended_of zero_bytes guard);
   register = digest_of register;

@@ -1,5 +1,5 @@
 -- Whether what a snapshot says names a position of a history, as a test from end to end.
-use Rattle.std.specs.Prelude.{◌≡◌, ℕ, ◌-◌, ◌==◌, Bool, true, false, ◌&&◌, ◌||◌, not, List, [], ◌∷◌, ◌++◌, length, map, drop, Option, None, Some, if◌then◌else◌, nat_le, nat_lt}
+use Rattle.std.specs.Prelude.{ℕ, ◌-◌, ◌==◌, Bool, true, false, ◌&&◌, ◌||◌, not, List, [], ◌∷◌, ◌++◌, length, map, drop, Option, None, Some, if◌then◌else◌, nat_le, nat_lt}
 use Rattle.std.specs.Str.{bytes_eq}
 use Rattle.std.specs.Option.{option_map}
 use Rattle.mm_digest.specs.declared.variant.Variant.{Variant}
@@ -77,14 +77,14 @@ some_place id barrier y named anchor extension before (segment ∷ rest) =
     (length segment) (is_empty rest && is_empty y.current) anchor extension
     || some_place id barrier y named anchor extension (before ++ segment ∷ []) rest
 
-abbrev pub place_in : Variant → ℕ → (barrier : List ℕ) → History → List Batch → Place → Bool
-place_in Basic id barrier y named (InBasic s) = bytes_eq s.bytes (summary_of id named)
-place_in Basic id barrier y named (InOpt a e) = false
-place_in Opt id barrier y named (InBasic s) = false
-place_in Opt id barrier y named (InOpt a e) = some_place id barrier y named a.bytes e.bytes [] y.closed
+abbrev pub is_place_in : Variant → ℕ → (barrier : List ℕ) → History → List Batch → Place → Bool
+is_place_in Basic id barrier y named (InBasic s) = bytes_eq s.bytes (summary_of id named)
+is_place_in Basic id barrier y named (InOpt a e) = false
+is_place_in Opt id barrier y named (InBasic s) = false
+is_place_in Opt id barrier y named (InOpt a e) = some_place id barrier y named a.bytes e.bytes [] y.closed
 
 abbrev pub is_place : Variant → Instance → History → List Batch → Place → Bool
-is_place variant i y named place = place_in variant i.meaning.id i.barrier y named place
+is_place variant i y named place = is_place_in variant i.meaning.id i.barrier y named place
 
 abbrev pub is_named_at : Instance → History → Content → Option (List Batch) → Bool
 is_named_at i y content None = false

@@ -63,9 +63,9 @@ extension_messages Basic register value = []
 extension_messages Opt register value = extended_message register value ∷ []
 
 -- the message by which a segment is closed: none in Basic, which has no segments
-abbrev pub closing_messages : Variant → List ℕ → List ℕ → List (List ℕ)
-closing_messages Basic cell register = []
-closing_messages Opt cell register = anchored_message cell register ∷ []
+abbrev pub closing_listed : Variant → List ℕ → List ℕ → List (List ℕ)
+closing_listed Basic cell register = []
+closing_listed Opt cell register = anchored_message cell register ∷ []
 
 -- the module's state once the batch is run behind the history
 abbrev pub state_after_batch : Recorded → Batch → List ℕ

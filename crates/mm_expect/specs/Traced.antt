@@ -14,19 +14,19 @@ pub record Traced : Type 0 where
   pub issued : List (List ℕ)
 
 -- what an event comes to
-abbrev pub outcome_in : Traced → Event → Outcome History
-outcome_in it event = outcome_of (world_of it.header) (by_lists (world_of it.header)) it.history it.issued event
+abbrev pub outcome_traced : Traced → Event → Outcome History
+outcome_traced it event = outcome_of (world_of it.header) (by_lists (world_of it.header)) it.history it.issued event
 
 -- It stands at the start.
 abbrev pub first_traced : Header → Traced
 first_traced header = record { header = header; history = first_history; issued = first_issued (world_of header) }
 
 -- It went on by an event.
-abbrev pub after_event : Traced → Event → Traced
-after_event it event = record {
+abbrev pub after_traced : Traced → Event → Traced
+after_traced it event = record {
   header = it.header;
-  history = (outcome_in it event).state;
-  issued = (outcome_in it event).issued;
+  history = (outcome_traced it event).state;
+  issued = (outcome_traced it event).issued;
 }
 
 -- It stands where the expected run of these events stands.

@@ -18,25 +18,25 @@ move_of (Place batch) = history.Placed (batch_of batch)
 move_of Reset = history.Reset
 move_of Close = history.Close
 
-abbrev pub step_of : Step → steps.Step
-step_of Reads = steps.Reads
-step_of (Changes action) = steps.Changes (move_of action)
-step_of (Writes action) = steps.Writes (move_of action)
+abbrev pub step_as : Step → steps.Step
+step_as Reads = steps.Reads
+step_as (Changes action) = steps.Changes (move_of action)
+step_as (Writes action) = steps.Writes (move_of action)
 
 abbrev pub steps_of : List Step → List steps.Step
-steps_of all = map step_of all
+steps_of all = map step_as all
 
 -- the batch of a commit isn't too long
-abbrev pub IsShort : Move → Type 0
-IsShort (Commit batch) = is_long (batch_of batch) ≡ false
-IsShort (Place batch) = Unit {0}
-IsShort Reset = Unit {0}
-IsShort Close = Unit {0}
+abbrev pub IsShortMove : Move → Type 0
+IsShortMove (Commit batch) = is_long (batch_of batch) ≡ false
+IsShortMove (Place batch) = Unit {0}
+IsShortMove Reset = Unit {0}
+IsShortMove Close = Unit {0}
 
 abbrev pub IsShortStep : Step → Type 0
 IsShortStep Reads = Unit {0}
-IsShortStep (Changes action) = IsShort action
-IsShortStep (Writes action) = IsShort action
+IsShortStep (Changes action) = IsShortMove action
+IsShortStep (Writes action) = IsShortMove action
 
 abbrev pub AreShort : List Step → Type 0
 AreShort [] = Unit {0}

@@ -25,7 +25,7 @@ impl Chronicle {
     ghost use Rattle.mm_expect.specs.Recorded.{instance_of};
     ghost use Rattle.mm_expect.specs.Walking.{Walks};
     ghost use Rattle.mm_expect.specs.Calls.{Admits, CallsBy, GoesOnNew, ChangesBy};
-    ghost use Rattle.mm_expect.specs.Closings.{ChecksBy, ShutBy};
+    ghost use Rattle.mm_expect.specs.Closings.{WentByCheckpoint, ShutBy};
 
     // The steps of a call up to its last reading step.
     fn read(&mut self, course: &Course<'_>) -> Result<Option<StepFault>, Memory>
@@ -114,7 +114,7 @@ impl Chronicle {
 
     /// A checkpoint.
     pub(crate) fn checkpoint(&mut self, course: &Course<'_>) -> Result<Closing, Memory>
-        ensures { IfOk result (ChecksBy self.old self.new (checkpointed (instance_of self.old) (by_lists (instance_of self.old)) self.old.history
+        ensures { IfOk result (WentByCheckpoint self.old self.new (checkpointed (instance_of self.old) (by_lists (instance_of self.old)) self.old.history
             (course_of course.now.stop course.now.meddles.now))) }
     {
         match self.variant {
@@ -146,7 +146,7 @@ impl Chronicle {
     fn check_open(&mut self, course: &Course<'_>) -> Result<Closing, Memory>
         requires variant { self.old.variant ≡ Opt }
         requires inside { self.old.history.is_open ≡ true }
-        ensures { IfOk result (ChecksBy self.old self.new (checkpointed (instance_of self.old) (by_lists (instance_of self.old)) self.old.history
+        ensures { IfOk result (WentByCheckpoint self.old self.new (checkpointed (instance_of self.old) (by_lists (instance_of self.old)) self.old.history
             (course_of course.now.stop course.now.meddles.now))) }
     {
         if let Some(fault) = self.walk(course, 1, &[Step::Reads, Step::Reads])? {

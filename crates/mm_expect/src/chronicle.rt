@@ -2,7 +2,6 @@
 
 ghost use Rattle.std.specs.Prelude.{◌≡◌};
 
-use crate::keys::barrier;
 use crate::lists::Lists;
 use crate::marks::{Marks, guard};
 use crate::messages::{anchored_message, joined};
@@ -11,6 +10,7 @@ use mm_call::{Ran, run_batch};
 use mm_digest::{Digest, Variant, zero};
 use mm_module::{Batch, Module};
 use mm_modules::AnyModule;
+use mm_run::world_barrier;
 use std::alloc::Global;
 use std::marker::Model;
 use std::mem;
@@ -58,7 +58,7 @@ impl Chronicle {
     ghost use Rattle.mm_model.specs.Chains.{guard};
     ghost use Rattle.mm_model.specs.Long.{is_long};
     ghost use Rattle.mm_model.specs.History.{Move, Commit, Foreign, Placed, Reset, Close, Power, committed, register_value_of, cell_digest_of, total_of};
-    ghost use Rattle.mm_expect.specs.Recorded.{first_recorded, Went, instance_of, extension_messages, closing_messages, state_after_batch};
+    ghost use Rattle.mm_expect.specs.Recorded.{first_recorded, Went, instance_of, extension_messages, closing_listed, state_after_batch};
 
     /// The first history of a variant and a module.
     pub(crate) fn new(
@@ -72,7 +72,7 @@ impl Chronicle {
         let before = module.first_state(alloc)?;
         let barrier = match variant {
             Variant::Basic => zero().bytes,
-            Variant::Opt => barrier(),
+            Variant::Opt => world_barrier(),
         };
         Ok(Chronicle {
             alloc,
@@ -153,7 +153,7 @@ impl Chronicle {
     fn tell_closing(&mut self) -> Result<(), Memory>
         ensures { OnOk result (self.new ≡ record self.old {
           closing = self.old.closing
-              ++ closing_messages self.old.variant (cell_digest_of (instance_of self.old) self.old.variant self.old.history)
+              ++ closing_listed self.old.variant (cell_digest_of (instance_of self.old) self.old.variant self.old.history)
               (register_value_of (instance_of self.old) self.old.history);
         }) }
     {

@@ -60,11 +60,11 @@ impl Chronicle {
     ghost use Rattle.mm_call.specs.Courses.{planned, walk, made_move, step_moves};
     ghost use Rattle.mm_run.specs.Folds.{plan_of};
     ghost use Rattle.mm_expect.specs.Recorded.{Went};
-    ghost use Rattle.mm_expect.specs.Walking.{move_of, step_of, steps_of, IsShort, IsShortStep, AreShort, Walks};
+    ghost use Rattle.mm_expect.specs.Walking.{move_of, step_as, steps_of, IsShortMove, IsShortStep, AreShort, Walks};
 
     // A move of the core is made.
     fn make(&mut self, action: &Move<'_>) -> Result<(), Memory>
-        requires { IsShort action.now }
+        requires { IsShortMove action.now }
         ensures { OnOk result (Went self.old self.new (move_of action.now ∷ [])) }
     {
         match *action {
@@ -80,7 +80,7 @@ impl Chronicle {
 
     // A move is made where its step has its effect.
     fn make_if(&mut self, is_made: bool, action: &Move<'_>) -> Result<(), Memory>
-        requires { IsShort action.now }
+        requires { IsShortMove action.now }
         ensures { OnOk result (Went self.old self.new (made_move is_made (move_of action.now))) }
     {
         if is_made { self.make(action) } else { Ok(()) }
@@ -107,7 +107,7 @@ impl Chronicle {
         is_made: bool,
     ) -> Result<(), Memory>
         requires { IsShortStep step.now }
-        ensures { OnOk result (Went self.old self.new (step_moves (step_of step.now) is_made (due number course.now.meddles.now))) }
+        ensures { OnOk result (Went self.old self.new (step_moves (step_as step.now) is_made (due number course.now.meddles.now))) }
     {
         match step {
             Step::Reads => self.bring_due(course, number),

@@ -9,24 +9,22 @@ ghost use Rattle.mm_call.specs.Found.{right_content};
 ghost use Rattle.mm_schedule.specs.Events.{Ask, Checkpoint, Power, Extend, meddles_of, event_of};
 ghost use Rattle.mm_run.specs.Folds.{after_stop};
 ghost use Rattle.mm_run.specs.Held.{world_key};
-ghost use Rattle.mm_expect.specs.Coming.{Calls, ComesTo, moves_if};
+ghost use Rattle.mm_expect.specs.Coming.{WentByCall, WentByEvent, moves_if};
 ghost use Rattle.mm_expect.specs.Recorded.{Went, instance_of};
 
 use crate::calls::Closing;
 use crate::chronicle::Chronicle;
 use crate::course::Course;
-use crate::kept::normal;
-use crate::keys::key;
 use crate::messages::list_place;
-use crate::offered::offered;
 use crate::offers::{is_genuine, right_body};
 use crate::replies::{Said, closing_said, quiet, said_of, way};
 use mm_base::{Bytes, Memory};
 use mm_call::Ended;
 use mm_digest::{Digest, HmacKey};
-use mm_model::is_long;
+use mm_model::{is_long, normal};
 use mm_module::Batch;
 use mm_platform::{Meddle, Stop};
+use mm_run::{offered, world_key};
 use mm_schedule::{Cause, Event, Header, Meddles, Offer, Reply};
 use std::alloc::Global;
 use std::marker::Model;
@@ -121,7 +119,7 @@ fn call(
 ) -> Result<Said, Memory>
     requires key { key.now ≡ world_key }
     requires short { is_long (batch_of batch) ≡ false }
-    ensures { IfOk result (Calls chronicle.old chronicle.new course.now.stop course.now.meddles.now bytes.now (batch_of batch.entry)
+    ensures { IfOk result (WentByCall chronicle.old chronicle.new course.now.stop course.now.meddles.now bytes.now (batch_of batch.entry)
         messages.old.items messages.new.items) }
 {
     list_asked(chronicle, key, bytes, batch, messages)?;
@@ -154,7 +152,7 @@ fn ask(
     messages: &mut Vec<Bytes>,
 ) -> Result<Said, Memory>
     requires key { key.now ≡ world_key }
-    ensures { IfOk result (ComesTo chronicle.old chronicle.new issued.now
+    ensures { IfOk result (WentByEvent chronicle.old chronicle.new issued.now
         (Ask course.now.meddles.now course.now.stop offer.now (batch_of batch.entry)) messages.old.items messages.new.items) }
 {
     match offered(chronicle.alloc, issued, offer)? {
@@ -182,7 +180,7 @@ fn checkpoint(
     course: &Course<'_>,
     messages: &mut Vec<Bytes>,
 ) -> Result<Said, Memory>
-    ensures { IfOk result (ComesTo chronicle.old chronicle.new issued.now
+    ensures { IfOk result (WentByEvent chronicle.old chronicle.new issued.now
         (Checkpoint course.now.meddles.now course.now.stop) messages.old.items messages.new.items) }
 {
     chronicle.forget_messages();
@@ -195,7 +193,7 @@ fn checkpoint(
 
 // Power is lost and comes back.
 fn power(chronicle: &mut Chronicle, issued: &[Bytes], messages: &mut Vec<Bytes>) -> Said
-    ensures { ComesTo chronicle.old chronicle.new issued.now Power messages.old.items messages.new.items result }
+    ensures { WentByEvent chronicle.old chronicle.new issued.now Power messages.old.items messages.new.items result }
 {
     chronicle.empty();
     quiet(Reply::Power)
@@ -208,7 +206,7 @@ fn extend(
     value: &Digest,
     messages: &mut Vec<Bytes>,
 ) -> Result<Said, Memory>
-    ensures { IfOk result (ComesTo chronicle.old chronicle.new issued.now (Extend value.now.bytes) messages.old.items messages.new.items) }
+    ensures { IfOk result (WentByEvent chronicle.old chronicle.new issued.now (Extend value.now.bytes) messages.old.items messages.new.items) }
 {
     chronicle.forget_messages();
     chronicle.bring(value)?;
@@ -225,7 +223,7 @@ fn follow(
     messages: &mut Vec<Bytes>,
 ) -> Result<Said, Memory>
     requires { key.now ≡ world_key }
-    ensures { IfOk result (ComesTo chronicle.old chronicle.new issued.now (event_of event.now) messages.old.items messages.new.items) }
+    ensures { IfOk result (WentByEvent chronicle.old chronicle.new issued.now (event_of event.now) messages.old.items messages.new.items) }
 {
     match event {
         Event::Ask {
@@ -282,7 +280,7 @@ impl Expecting {
     ghost use Rattle.mm_schedule.specs.Events.{event_of};
     ghost use Rattle.mm_schedule.specs.Replies.{IsPrintable};
     ghost use Rattle.mm_run.specs.Held.{world_of};
-    ghost use Rattle.mm_expect.specs.Traced.{IsAfter, StandsLater, first_traced, after_event};
+    ghost use Rattle.mm_expect.specs.Traced.{IsAfter, StandsLater, first_traced, after_traced};
     ghost use Rattle.mm_expect.specs.Hears.{Hears};
     ghost use Rattle.mm_expect.specs.Judged.{DecidesLater};
 
@@ -291,7 +289,7 @@ impl Expecting {
         ensures first { IfOk result (λ it. it ≡ first_traced header.now) }
         ensures after { IfOk result (IsAfter header.now []) }
     {
-        let key = HmacKey::new(&key());
+        let key = HmacKey::new(&world_key());
         let chronicle = Chronicle::new(alloc, header.variant, header.module)?;
         let snapshot = chronicle.snapshot(&key)?;
         let mut issued = Vec::new(alloc);
@@ -306,7 +304,7 @@ impl Expecting {
 
     /// Follows one event. After want of memory nothing is said of what stands.
     pub fn event(&mut self, event: &Event) -> Result<Heard, Memory>
-        ensures state { OnOk result (self.new ≡ after_event self.old (event_of event.now)) }
+        ensures state { OnOk result (self.new ≡ after_traced self.old (event_of event.now)) }
         ensures hears { IfOk result (Hears (world_of self.old.header) self.old.history self.old.issued (event_of event.now)) }
         ensures after { OnOk result (StandsLater self.old (event_of event.now) self.new) }
         ensures genuine { IfOk result (λ heard. DecidesLater self.old (event_of event.now) heard.is_genuine) }

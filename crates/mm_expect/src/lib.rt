@@ -7,13 +7,10 @@ mod chronicle;
 mod course;
 mod expecting;
 mod judging;
-mod kept;
-mod keys;
 mod lists;
 mod marks;
 mod messages;
 mod naming;
-mod offered;
 mod offers;
 mod replies;
 

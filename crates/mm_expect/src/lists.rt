@@ -2,12 +2,12 @@
 
 ghost use Rattle.std.specs.Prelude.{◌≡◌, ◌<◌, vec_len, vec_capacity};
 ghost use Rattle.mm_model.specs.History.{renamed};
-ghost use Rattle.mm_expect.specs.Kept.{kept_batch, kept_entries};
+ghost use Rattle.mm_model.specs.Kept.{kept_batch, kept_entries};
 
-use crate::kept::{self, KeptBatch, KeptEntry};
 use crate::marks::register_of;
 use mm_base::Memory;
 use mm_digest::Digest;
+use mm_model::{KeptBatch, KeptEntry, copy_entries, last_is, some_value};
 use mm_module::Batch;
 use std::alloc::Global;
 use std::marker::Model;
@@ -25,7 +25,7 @@ pub(crate) struct Lists {
 
 impl Model for Lists {
     ghost use Rattle.mm_model.specs.History.{History};
-    ghost use Rattle.mm_expect.specs.Kept.{kept_batches, kept_entries, kept_segments};
+    ghost use Rattle.mm_model.specs.Kept.{kept_batches, kept_entries, kept_segments};
 
     ghost Value = { History };
 
@@ -55,7 +55,7 @@ impl Lists {
     ghost use Rattle.mm_model.specs.Chains.{register_of};
     ghost use Rattle.mm_model.specs.Judge.{is_last};
     ghost use Rattle.mm_model.specs.Life.{is_empty, has_value};
-    ghost use Rattle.mm_expect.specs.Kept.{kept_batches, kept_segments};
+    ghost use Rattle.mm_model.specs.Kept.{kept_batches, kept_segments};
 
     /// The first history. Takes no memory.
     pub(crate) fn new(alloc: Global) -> Lists
@@ -76,7 +76,7 @@ impl Lists {
         ensures ok { OnOk result (self.new ≡ committed Basic self.old.is_open self.old (batch_of batch.entry)) }
         ensures err { OnErr result (self.new ≡ self.old) }
     {
-        let kept = KeptBatch::copy_of(self.alloc, batch)?;
+        let kept = KeptBatch::copy_of(self.alloc, &batch)?;
         self.batches.push(kept)?;
         Ok(())
     }
@@ -86,9 +86,9 @@ impl Lists {
         ensures ok { OnOk result (self.new ≡ committed Opt true self.old (batch_of batch.entry)) }
         ensures err { OnErr result (self.new ≡ self.old) }
     {
-        let kept = KeptBatch::copy_of(self.alloc, batch)?;
-        let current = KeptBatch::copy_of(self.alloc, batch)?;
-        let own = KeptBatch::copy_of(self.alloc, batch)?;
+        let kept = KeptBatch::copy_of(self.alloc, &batch)?;
+        let current = KeptBatch::copy_of(self.alloc, &batch)?;
+        let own = KeptBatch::copy_of(self.alloc, &batch)?;
         self.batches.reserve(1)?;
         self.current.reserve(1)?;
         self.items.reserve(1)?;
@@ -103,9 +103,9 @@ impl Lists {
         ensures ok { OnOk result (self.new ≡ committed Opt false self.old (batch_of batch.entry)) }
         ensures err { OnErr result (self.new ≡ self.old) }
     {
-        let kept = KeptBatch::copy_of(self.alloc, batch)?;
-        let current = KeptBatch::copy_of(self.alloc, batch)?;
-        let own = KeptBatch::copy_of(self.alloc, batch)?;
+        let kept = KeptBatch::copy_of(self.alloc, &batch)?;
+        let current = KeptBatch::copy_of(self.alloc, &batch)?;
+        let own = KeptBatch::copy_of(self.alloc, &batch)?;
         self.batches.reserve(1)?;
         self.current.reserve(1)?;
         self.items.reserve(1)?;
@@ -142,7 +142,7 @@ impl Lists {
         }) }
         ensures err { OnErr result (self.new ≡ self.old) }
     {
-        let segment = kept::copy_entries(self.alloc, self.items.as_slice())?;
+        let segment = copy_entries(self.alloc, self.items.as_slice())?;
         self.closed.push(segment)?;
         self.current.clear();
         self.is_open = false;
@@ -202,14 +202,14 @@ impl Lists {
     pub(crate) fn has_value(&self) -> bool
         ensures { result ≡ has_value self.now.items }
     {
-        kept::some_value(self.items.as_slice())
+        some_value(self.items.as_slice())
     }
 
     /// Whether this is the last batch.
     pub(crate) fn ends_with(&self, batch: Batch<'_>) -> bool
         ensures { result ≡ is_last self.now.batches (batch_of batch.entry) }
     {
-        kept::last_is(self.batches.as_slice(), batch)
+        last_is(self.batches.as_slice(), &batch)
     }
 
     /// What the register reads, under this barrier.

@@ -4,13 +4,13 @@ ghost use Rattle.std.specs.Prelude.{◌≡◌};
 ghost use Rattle.mm_module.specs.Batches.{batch_of};
 ghost use Rattle.mm_model.specs.Chains.{guard, link, register_of, own_values};
 ghost use Rattle.mm_model.specs.History.{value_of, values_of};
-ghost use Rattle.mm_expect.specs.Kept.{kept_batches, kept_entry, kept_entries};
+ghost use Rattle.mm_model.specs.Kept.{kept_batches, kept_entry, kept_entries};
 
-use crate::kept::{KeptBatch, KeptEntry};
 use mm_digest::{
     Digest, Variant, anchored, extended, secured, secured_batch, start, successor, successor_batch,
     zero,
 };
+use mm_model::{KeptBatch, KeptEntry};
 use mm_module::Batch;
 
 /// What a history comes to.
@@ -36,7 +36,7 @@ impl Marks {
     ghost use Rattle.mm_module.specs.Batch.{size_of};
     ghost use Rattle.mm_module.specs.Batches.{batch_of};
     ghost use Rattle.mm_model.specs.Places.{digest_of};
-    ghost use Rattle.mm_expect.specs.Marks.{with_value, emptied, closed_by, linked, grown, opened};
+    ghost use Rattle.mm_expect.specs.Marks.{with_value, emptied, closed_marks, linked_marks, grown, opened_marks};
 
     /// Those of the first history.
     pub(crate) fn first(variant: Variant, id: u8) -> Marks
@@ -83,7 +83,7 @@ impl Marks {
 
     // The anchor, or the summary, after a segment was closed.
     fn closed_cell(&self, variant: Variant) -> Digest
-        ensures { result.bytes ≡ (closed_by variant self.now true true).cell.bytes }
+        ensures { result.bytes ≡ (closed_marks variant self.now true true).cell.bytes }
     {
         match variant {
             Variant::Basic => self.cell,
@@ -93,7 +93,7 @@ impl Marks {
 
     /// After the open segment was closed, by whether it holds a value that stands for no batch, and whether it is empty.
     pub(crate) fn closed(self, variant: Variant, has_value: bool, is_bare: bool) -> Marks
-        ensures { result ≡ closed_by variant self has_value is_bare }
+        ensures { result ≡ closed_marks variant self has_value is_bare }
     {
         Marks {
             cell: self.closed_cell(variant),
@@ -108,7 +108,7 @@ impl Marks {
     pub(crate) fn linked(self, batch: Batch<'_>, size: u64) -> Marks
         requires size { size ≡ size_of (batch_of batch) }
         requires fits { self.total + size < 2 ^ 64 }
-        ensures { result ≡ linked self (batch_of batch.entry) }
+        ensures { result ≡ linked_marks self (batch_of batch.entry) }
     {
         Marks {
             total: self.total + size,
@@ -134,7 +134,7 @@ impl Marks {
     /// item before.
     pub(crate) fn opened(self, size: u64, guard: &Digest, register: Digest, is_alone: bool) -> Marks
         requires { self.total + size < 2 ^ 64 }
-        ensures { result ≡ opened self size guard.now.bytes register.bytes is_alone }
+        ensures { result ≡ opened_marks self size guard.now.bytes register.bytes is_alone }
     {
         Marks {
             total: self.total + size,

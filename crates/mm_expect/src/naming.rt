@@ -14,15 +14,15 @@ ghost use Rattle.mm_expect.specs.Genuine.{EachOfferIsDecided, BasicIssuedAreGenu
 ghost use Rattle.mm_seal.specs.Body.{content_of};
 ghost use Rattle.mm_model.specs.Places.{Names};
 ghost use Rattle.mm_expect.specs.Recorded.{barrier_of, instance_with};
-ghost use Rattle.mm_expect.specs.Kept.{kept_batches, kept_entries, kept_segments};
-ghost use Rattle.mm_expect.specs.Naming.{BasicNamesAreDecided, OptNamesAreDecided, first_with, same_batches, anchor_at, is_at, is_behind, is_here, is_inside_at, some_place, place_in, IsDecided};
+ghost use Rattle.mm_model.specs.Kept.{kept_batches, kept_entries, kept_segments};
+ghost use Rattle.mm_expect.specs.Naming.{BasicNamesAreDecided, OptNamesAreDecided, first_with, same_batches, anchor_at, is_at, is_behind, is_here, is_inside_at, some_place, is_place_in, IsDecided};
 
-use crate::kept::{KeptBatch, KeptEntry, some_value};
 use crate::lists::Lists;
 use crate::marks::{link, own_register, register_of};
 use mm_base::{Bytes, Memory};
 use mm_call::{Ran, run_batch};
 use mm_digest::{Digest, Variant, anchored, start, zero};
+use mm_model::{KeptBatch, KeptEntry, some_value};
 use mm_module::Module;
 use mm_modules::AnyModule;
 use mm_seal::{Body, Place};
@@ -95,7 +95,7 @@ fn same_batches(batches: &[KeptBatch], others: &[KeptBatch]) -> bool
         return false;
     }
     'at: for i in 0..batches.len() {
-        if !batches[i].is_that(others[i].lent()) {
+        if !batches[i].is(&others[i]) {
             return false;
         }
     }
@@ -279,7 +279,7 @@ fn is_place(
     named: &[KeptBatch],
     place: &Place,
 ) -> bool
-    ensures { result ≡ place_in variant id barrier.now lists.now (kept_batches named.now) place.now }
+    ensures { result ≡ is_place_in variant id barrier.now lists.now (kept_batches named.now) place.now }
 {
     match variant {
         Variant::Basic => match place {

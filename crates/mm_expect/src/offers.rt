@@ -12,10 +12,10 @@ ghost use Rattle.mm_expect.specs.Recorded.{instance_of};
 
 use crate::chronicle::Chronicle;
 use crate::naming::is_named;
-use crate::offered::offered;
 use mm_base::{Bytes, Memory};
 use mm_digest::HmacKey;
 use mm_module::Module;
+use mm_run::offered;
 use mm_schedule::{Event, Offer};
 use mm_seal::{Body, parts};
 

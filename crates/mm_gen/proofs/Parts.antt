@@ -13,7 +13,7 @@ use Rattle.std.proofs.lemmas.Str.Parse.{numerals_by_value, tells_all_ascii_digit
 use Rattle.mm_base.specs.Input.{IsUnbroken}
 use Rattle.mm_modules.specs.declared.any.AnyModule.{AnyModule}
 use Rattle.mm_modules.specs.declared.any.AnyModule.TheVariants.{Counter, Limiter, Quota, Ledger, Dispenser, ReceiptCounter, ReceiptLimiter, ReceiptQuota}
-use Rattle.mm_gen.specs.Requests.{account_request, counter_request, limiter_request, dispenser_request, request_of}
+use Rattle.mm_gen.specs.Requests.{account_request, counter_request, limiter_request, dispenser_request, request_chosen}
 use Rattle.mm_gen.proofs.Rows.{in_both}
 
 pub record IsPart (size : ℕ) (bytes : List ℕ) : Type 0 where
@@ -106,8 +106,8 @@ dispenser-part choice =
     in_both (IsPart 80) (choice % 4 == 0) _ _ (long_literal (codes "seed 0000000000000000000000000000000000000000000000000000000000000000") refl (omega arith))
     (wider 40 80 _ (numbered (codes "draw ") (choice / 4 % 16 + 1) refl (omega arith) (omega arith)) (omega arith))
 
-pub request-part : (module_asked : AnyModule) (choice : ℕ) → IsPart 80 (request_of module_asked choice)
-unfolding request_of
+pub request-part : (module_asked : AnyModule) (choice : ℕ) → IsPart 80 (request_chosen module_asked choice)
+unfolding request_chosen
 request-part Counter choice = counter-part choice
 request-part Limiter choice = limiter-part choice
 request-part Quota choice = account-part choice

@@ -16,8 +16,8 @@ use Rattle.mm_schedule.specs.Events.{Ask, Checkpoint, Power}
 use Rattle.mm_schedule.specs.Spelling.{SpellsNumber, SpellsOffer, SpellsStep, SpellsStop}
 use Rattle.mm_gen.specs.declared.words.Words.{Words}
 use Rattle.mm_gen.specs.Laws.{IsEventLine}
-use Rattle.mm_gen.specs.Requests.{request_of}
-use Rattle.mm_gen.specs.Turns.{asked, cut_word, pair, row_14, row_15, turn_lines}
+use Rattle.mm_gen.specs.Requests.{request_chosen}
+use Rattle.mm_gen.specs.Turns.{ask_text, cut_word, pair, row_14, row_15, turn_lines}
 use Rattle.mm_gen.proofs.Parts.{IsPart, both, literal, number, request-part, wider}
 use Rattle.mm_gen.proofs.Rows.{in_both}
 
@@ -42,9 +42,9 @@ spelled_step : (n : ℕ) → SpellsStep (1 + n % 5) (decimal (1 + n % 5))
 spelled_step n = record { low = omega arith; high = omega arith; digit = refl }
 
 ask_line : (stop : Stop) (ending : List ℕ) (offer : Offer) (from request : List ℕ)
-    → Ends stop ending → Offers offer from → IsPart 80 request → IsEventLine (ending ++ asked from request)
+    → Ends stop ending → Offers offer from → IsPart 80 request → IsEventLine (ending ++ ask_text from request)
 ask_line stop ending offer from request ends offers part =
-    let line = both 80 200 ending (asked from request) ends.part (both 20 180 (codes "ask ") (from ++ 32 ∷ request) (literal (codes "ask ") refl (omega arith))
+    let line = both 80 200 ending (ask_text from request) ends.part (both 20 180 (codes "ask ") (from ++ 32 ∷ request) (literal (codes "ask ") refl (omega arith))
     (both 80 100 from (32 ∷ request) offers.part (both 20 80 (32 ∷ []) request (literal (32 ∷ []) refl (omega arith)) part))) in
     record {
       event = Ask [] stop offer (One request);
@@ -145,7 +145,7 @@ events-15 Opt = (checkpoint-line, tt)
 pub turn_events : (header : Header) (first : ℕ) (words : Words) → 0 < first → first < 10 ^ 9 → AreEvents (turn_lines header first words)
 unfolding turn_lines
 turn_events header first words some low =
-    let request : List ℕ = request_of header.module words.request in
+    let request : List ℕ = request_chosen header.module words.request in
     let part : IsPart 80 request = request-part header.module words.request in
     let snapshot : words.number % first < 10 ^ 9 = omega (arith, mod_below words.number first some, low) in
     in_both AreEvents (nat_lt (words.row % 16) 9) _ _ (ask_line Quiet [] Last (codes "last") request quiet last part, tt)

@@ -9,7 +9,7 @@ use Rattle.mm_gen.specs.declared.line.Snapshot.{Snapshot}
 use Rattle.mm_gen.specs.declared.line.Snapshot.TheVariants.{Last, Number, Flip}
 use Rattle.mm_gen.specs.declared.turn.Turn.{Turn}
 use Rattle.mm_gen.specs.declared.turn.Turn.TheVariants.{One, Pair}
-use Rattle.mm_gen.specs.Turns.{asked}
+use Rattle.mm_gen.specs.Turns.{ask_text}
 
 abbrev pub stop_text : Stop → List ℕ
 stop_text Quiet = []
@@ -24,10 +24,10 @@ snapshot_text (Number number) = decimal number
 snapshot_text (Flip number byte) = codes "flip " ++ decimal number ++ 32 ∷ decimal byte
 
 abbrev pub line_text : List ℕ → Line → List ℕ
-line_text request (Ask stop snapshot) = stop_text stop ++ asked (snapshot_text snapshot) request
+line_text request (Ask stop snapshot) = stop_text stop ++ ask_text (snapshot_text snapshot) request
 line_text request Checkpoint = codes "checkpoint"
 line_text request Power = codes "power"
 
-abbrev pub lines_of : List ℕ → Turn → List (List ℕ)
-lines_of request (One line) = line_text request line ∷ []
-lines_of request (Pair first second) = line_text request first ∷ line_text request second ∷ []
+abbrev pub lines_of_turn : List ℕ → Turn → List (List ℕ)
+lines_of_turn request (One line) = line_text request line ∷ []
+lines_of_turn request (Pair first second) = line_text request first ∷ line_text request second ∷ []

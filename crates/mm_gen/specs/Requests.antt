@@ -37,12 +37,12 @@ dispenser_request choice =
     if choice % 4 == 0 then codes "seed 0000000000000000000000000000000000000000000000000000000000000000"
     else codes "draw " ++ decimal (choice / 4 % 16 + 1)
 
-unfoldable pub request_of : AnyModule → ℕ → List ℕ
-request_of Counter choice = counter_request choice
-request_of Limiter choice = limiter_request choice
-request_of Quota choice = account_request choice
-request_of Ledger choice = account_request choice
-request_of Dispenser choice = dispenser_request choice
-request_of ReceiptCounter choice = counter_request choice
-request_of ReceiptLimiter choice = limiter_request choice
-request_of ReceiptQuota choice = account_request choice
+unfoldable pub request_chosen : AnyModule → ℕ → List ℕ
+request_chosen Counter choice = counter_request choice
+request_chosen Limiter choice = limiter_request choice
+request_chosen Quota choice = account_request choice
+request_chosen Ledger choice = account_request choice
+request_chosen Dispenser choice = dispenser_request choice
+request_chosen ReceiptCounter choice = counter_request choice
+request_chosen ReceiptLimiter choice = limiter_request choice
+request_chosen ReceiptQuota choice = account_request choice

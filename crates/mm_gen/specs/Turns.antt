@@ -5,15 +5,15 @@ use Rattle.mm_digest.specs.declared.variant.Variant.{Variant}
 use Rattle.mm_digest.specs.declared.variant.Variant.TheVariants.{Basic, Opt}
 use Rattle.mm_schedule.specs.declared.header.Header.{Header}
 use Rattle.mm_gen.specs.declared.words.Words.{Words}
-use Rattle.mm_gen.specs.Requests.{request_of}
+use Rattle.mm_gen.specs.Requests.{request_chosen}
 
 -- a request is asked of an offer
-abbrev pub asked : List ℕ → List ℕ → List ℕ
-asked offer request = codes "ask " ++ offer ++ 32 ∷ request
+abbrev pub ask_text : List ℕ → List ℕ → List ℕ
+ask_text offer request = codes "ask " ++ offer ++ 32 ∷ request
 
 -- a request is asked of the last snapshot in a call that is stopped, and asked once more
 abbrev pub pair : List ℕ → List ℕ → List (List ℕ)
-pair stop request = (stop ++ asked (codes "last") request) ∷ asked (codes "last") request ∷ []
+pair stop request = (stop ++ ask_text (codes "last") request) ∷ ask_text (codes "last") request ∷ []
 
 -- what ends a call of row 11: in Opt a cut would lose an open segment
 abbrev pub cut_word : Variant → List ℕ
@@ -36,12 +36,12 @@ row_15 Opt = codes "checkpoint" ∷ []
 unfoldable pub turn_lines : Header → ℕ → Words → List (List ℕ)
 turn_lines header first words =
     let row = words.row % 16 in
-    let request = request_of header.module words.request in
+    let request = request_chosen header.module words.request in
     let snapshot = decimal (words.number % first) in
     let step = decimal (1 + words.number % 5) in
-    if nat_lt row 9 then asked (codes "last") request ∷ []
-    else if row == 9 then asked snapshot request ∷ []
-    else if row == 10 then asked (codes "flip " ++ snapshot ++ 32 ∷ decimal (words.detail % 128)) request ∷ []
+    if nat_lt row 9 then ask_text (codes "last") request ∷ []
+    else if row == 9 then ask_text snapshot request ∷ []
+    else if row == 10 then ask_text (codes "flip " ++ snapshot ++ 32 ∷ decimal (words.detail % 128)) request ∷ []
     else if row == 11 then pair (cut_word header.variant ++ step ++ 32 ∷ []) request
     else if row == 12 then pair (codes "drop " ++ step ++ 32 ∷ []) request
     else if row == 13 then pair (codes "fail " ++ step ++ effect_word words.detail) request

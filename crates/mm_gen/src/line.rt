@@ -3,7 +3,7 @@
 ghost use Rattle.std.specs.Prelude.{◌≡◌, ◌++◌, ◌∷◌, [], OnOk};
 ghost use Rattle.std.specs.Fmt.{decimal};
 ghost use Rattle.mm_gen.specs.Lines.{line_text, snapshot_text, stop_text};
-ghost use Rattle.mm_gen.specs.Requests.{request_of};
+ghost use Rattle.mm_gen.specs.Requests.{request_chosen};
 
 use crate::request::put_request;
 use mm_base::{Bytes, Memory, put_decimal};
@@ -34,7 +34,7 @@ pub enum Line {
 
 /// Puts the line with its LF at the end, its request chosen by a number.
 pub fn put_line(into: &mut Bytes, line: &Line, module: AnyModule, choice: u32) -> Result<(), Memory>
-    ensures { OnOk result (into.new ≡ into.old ++ line_text (request_of «module» choice) line.now ++ 10 ∷ []) }
+    ensures { OnOk result (into.new ≡ into.old ++ line_text (request_chosen «module» choice) line.now ++ 10 ∷ []) }
 {
     match line {
         Line::Ask { stop, snapshot } => {

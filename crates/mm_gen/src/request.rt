@@ -2,15 +2,15 @@
 
 ghost use Rattle.std.specs.Prelude.{◌≡◌, ◌+◌, ◌/◌, ◌%◌, ◌++◌, ◌∷◌, codes, OnOk};
 ghost use Rattle.std.specs.Fmt.{decimal};
-ghost use Rattle.mm_gen.specs.Requests.{account_name, account_request, amount_text, counter_request, dispenser_request, limiter_request, request_of};
+ghost use Rattle.mm_gen.specs.Requests.{account_name, account_request, amount_text, counter_request, dispenser_request, limiter_request, request_chosen};
 
 use mm_base::{Bytes, Memory, put_decimal};
 use mm_modules::AnyModule;
 
 /// Puts the request of a module that this number chooses at the end.
-#[tactic(auto, unfolding(crate::specs::Requests::request_of))]
+#[tactic(auto, unfolding(crate::specs::Requests::request_chosen))]
 pub fn put_request(into: &mut Bytes, module: AnyModule, choice: u32) -> Result<(), Memory>
-    ensures { OnOk result (into.new ≡ into.old ++ request_of «module» choice) }
+    ensures { OnOk result (into.new ≡ into.old ++ request_chosen «module» choice) }
 {
     match module {
         AnyModule::Counter => put_counter_request(into, choice),

@@ -4,8 +4,8 @@ ghost use Rattle.std.specs.Prelude.{◌≡◌, ◌<◌, ℕ, List, [], ◌∷◌
 ghost use Rattle.std.specs.Fmt.{decimal};
 ghost use Rattle.mm_base.specs.Input.{joined};
 ghost use Rattle.mm_platform.specs.declared.plan.Stop.TheVariants.{Quiet};
-ghost use Rattle.mm_gen.specs.Lines.{lines_of, stop_text};
-ghost use Rattle.mm_gen.specs.Requests.{request_of};
+ghost use Rattle.mm_gen.specs.Lines.{lines_of_turn, stop_text};
+ghost use Rattle.mm_gen.specs.Requests.{request_chosen};
 ghost use Rattle.mm_gen.specs.Turns.{cut_word, row_14, row_15, turn_lines};
 ghost use Rattle.mm_gen.specs.declared.line.Line.TheVariants.{Ask};
 ghost use Rattle.mm_gen.specs.declared.line.Snapshot.TheVariants.{Last};
@@ -29,7 +29,7 @@ pub enum Turn {
 #[tactic(auto, unfolding(crate::specs::Turns::turn_lines))]
 fn turn_of(header: &Header, first: u32, words: &Words) -> Turn
     requires { 0 < first }
-    ensures { lines_of (request_of header.now.module words.now.request) result ≡ turn_lines header.now first words.now }
+    ensures { lines_of_turn (request_chosen header.now.module words.now.request) result ≡ turn_lines header.now first words.now }
 {
     let step = 1 + (words.number % 5) as u8;
     let number = words.number % first;
@@ -85,7 +85,7 @@ fn cut_of(variant: Variant, step: u8) -> Stop
 }
 
 fn row_14_of(variant: Variant) -> Turn
-    ensures { (request : List ℕ) → lines_of request result ≡ row_14 variant }
+    ensures { (request : List ℕ) → lines_of_turn request result ≡ row_14 variant }
 {
     match variant {
         Variant::Basic => Turn::One(Line::Power),
@@ -94,7 +94,7 @@ fn row_14_of(variant: Variant) -> Turn
 }
 
 fn row_15_of(variant: Variant) -> Turn
-    ensures { (request : List ℕ) → lines_of request result ≡ row_15 variant }
+    ensures { (request : List ℕ) → lines_of_turn request result ≡ row_15 variant }
 {
     match variant {
         Variant::Basic => Turn::One(Line::Power),

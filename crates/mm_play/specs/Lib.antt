@@ -3,3 +3,4 @@ pub mod Takes
 pub mod Plays
 pub mod Turns
 pub mod Tells
+pub mod Counting

@@ -14,6 +14,7 @@ use Rattle.mm_base.specs.declared.replay_fault.ReplayFault.{ReplayFault}
 use Rattle.mm_base.specs.declared.replay_fault.ReplayFault.TheVariants.{LineLong}
 use Rattle.mm_module.specs.Meaning.{Meaning}
 use Rattle.mm_module.specs.Words.{is_space}
+use Rattle.mm_module.specs.LineLaws.{and-true}
 use Rattle.mm_play.specs.declared.player.Refused.{Refused}
 use Rattle.mm_play.specs.declared.player.Refused.TheVariants.{Bad, Much}
 use Rattle.mm_play.specs.Play.{Told, told, stopped, line_limit, refusal_at, answered, run}
@@ -75,10 +76,6 @@ record IsFormed (asked : Asked) : Type 0 where
 abbrev MayWait : Option Asked → Type 0
 MayWait None = Unit {0}
 MayWait (Some asked) = IsFormed asked
-
-and-true : (a b : Bool) → (a && b) ≡ true → (a ≡ true) × (b ≡ true)
-and-true true b is = (refl, is)
-and-true false b is = cc
 
 numbered-formed : (request : List ℕ) (number : ℕ) (flag : Bool) → (nat_le 1 number && nat_le number (2 ^ 48) && nat_le (length request) 4096) ≡ flag
     → MayWait (if flag then Some (record { position = number; request = request }) else None)

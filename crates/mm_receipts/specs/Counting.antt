@@ -4,28 +4,19 @@ use Rattle.std.proofs.Common.{refl, ap, subst, arith}
 use Rattle.std.proofs.lemmas.Bool.Decides.{nat_tests}
 use Rattle.mm_play.specs.declared.player.Refused.{Refused}
 use Rattle.mm_play.specs.declared.player.Refused.TheVariants.{Bad, Much}
+use Rattle.mm_play.specs.Counting.{no_answer, same_next, left_or}
 use Rattle.mm_receipts.specs.declared.pair.Asked.{Asked}
 use Rattle.mm_receipts.specs.declared.pair.Verdict.{Verdict}
 use Rattle.mm_receipts.specs.declared.pair.Verdict.TheVariants.{NoForm, NoTag, Clash, Good}
 use Rattle.mm_receipts.specs.Checking.{Tally, Checking, most_pairs, is_too_much, asked_at, first_by, verdict_of, after_pair, second_answer, waits, settles, answer_at, receipts_answer, lines_left_at}
-
-refuses : (why : Refused) (reply : List ℕ) (next : Checking) → (let r : Result (List ℕ × Checking) Refused = Err why in r ≡ Ok (reply, next)) → ⊥
-refuses why reply next h = cc
-
-same_next : (reply said : List ℕ) (next it : Checking) → (let r : Result (List ℕ × Checking) Refused = Ok (said, it) in r ≡ Ok (reply, next)) → it ≡ next
-same_next reply said next it h = let p : (said, it) ≡ (reply, next) = cc in ap (λ (q : List ℕ × Checking). q.1) p
-
-left_or : (a b : Bool) → (a || b) ≡ false → a ≡ false
-left_or true b h = h
-left_or false b h = refl
 
 few_pairs : (tally : Tally) (line : List ℕ) → is_too_much tally line ≡ false → tally.pairs < most_pairs
 few_pairs tally line h = let a : nat_le most_pairs tally.pairs ≡ false = left_or (nat_le most_pairs tally.pairs) _ h in grind (arith, nat_tests)
 
 first_counts : (tally : Tally) (line : List ℕ) (found : Option Asked) (much : Bool) (reply : List ℕ) (next : Checking) → is_too_much tally line ≡ much
     → waits (first_by tally line found) ≡ Ok (reply, next) → lines_left_at next < 2 * (most_pairs - tally.pairs)
-first_counts tally line None much reply next is h = absurd (refuses Bad reply next h)
-first_counts tally line (Some asked) true reply next is h = absurd (refuses Much reply next (rw is at h))
+first_counts tally line None much reply next is h = absurd (no_answer Bad reply next h)
+first_counts tally line (Some asked) true reply next is h = absurd (no_answer Much reply next (rw is at h))
 first_counts tally line (Some asked) false reply next is h =
     subst (λ (c : Checking). lines_left_at c < 2 * (most_pairs - tally.pairs)) (same_next reply _ next _ (rw is at h)) (omega (arith, few_pairs tally line is))
 
@@ -37,7 +28,7 @@ after-pairs tally asked output Good = refl
 
 second_counts : (tally : Tally) (asked : Asked) (line : List ℕ) (much : Bool) (reply : List ℕ) (next : Checking) → is_too_much tally line ≡ much
     → settles (second_answer tally asked line) ≡ Ok (reply, next) → lines_left_at next < 2 * (most_pairs - tally.pairs) - 1
-second_counts tally asked line true reply next is h = absurd (refuses Much reply next (rw is at h))
+second_counts tally asked line true reply next is h = absurd (no_answer Much reply next (rw is at h))
 second_counts tally asked line false reply next is h =
     subst (λ (c : Checking). lines_left_at c < 2 * (most_pairs - tally.pairs) - 1) (same_next reply _ next _ (rw is at h))
     (omega (arith, few_pairs tally line is, after-pairs tally asked line (verdict_of tally asked line)))

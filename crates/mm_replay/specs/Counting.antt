@@ -7,26 +7,16 @@ use Rattle.mm_schedule.specs.Events.{Event}
 use Rattle.mm_schedule.specs.Grammar.{event_at}
 use Rattle.mm_play.specs.declared.player.Refused.{Refused}
 use Rattle.mm_play.specs.declared.player.Refused.TheVariants.{Bad, Much}
+use Rattle.mm_play.specs.Counting.{no_answer, same_next, left_or}
 use Rattle.mm_replay.specs.Text.{text_of}
 use Rattle.mm_replay.specs.Schedule.{Running, begun, is_too_much, outcome_in, after_event, most_events, Stage, AtHeader, InEvents, event_answer, header_answer, schedule_answer, lines_left_at}
-
--- no answer and an answer are two
-no_answer : (why : Refused) (reply : List ℕ) (next : Stage) → (let r : Result (List ℕ × Stage) Refused = Err why in r ≡ Ok (reply, next)) → ⊥
-no_answer why reply next h = cc
-
-same_next : (reply said : List ℕ) (next stage : Stage) → (let r : Result (List ℕ × Stage) Refused = Ok (said, stage) in r ≡ Ok (reply, next)) → stage ≡ next
-same_next reply said next stage h = let p : (said, stage) ≡ (reply, next) = cc in ap (λ (q : List ℕ × Stage). q.1) p
 
 header_counts : (found : Option Header) (reply : List ℕ) (next : Stage) → header_answer found ≡ Ok (reply, next) → lines_left_at next < most_events + 1
 header_counts None reply next h = absurd (no_answer Bad reply next h)
 header_counts (Some i) reply next h =
     subst (λ (s : Stage). lines_left_at s < most_events + 1) (same_next reply _ next (InEvents (begun i)) h) (omega arith)
 
-left_or : (a b : Bool) → (a || b) ≡ false → a ≡ false
-left_or true b h = h
-left_or false b h = refl
-
-few_events : (r : Running) (line : List ℕ) → is_too_much r line ≡ false → r.events < most_events
+pub few_events : (r : Running) (line : List ℕ) → is_too_much r line ≡ false → r.events < most_events
 few_events r line h = let a : nat_le most_events r.events ≡ false = left_or (nat_le most_events r.events) _ h in grind (arith, nat_tests)
 
 event_counts : (r : Running) (line : List ℕ) (event : Event) (much : Bool) (reply : List ℕ) (next : Stage) → is_too_much r line ≡ much

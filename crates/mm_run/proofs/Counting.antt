@@ -107,7 +107,7 @@ last_false false false c e = e
 le_of : (n : ℕ) → nat_lt 64 n ≡ false → n ≤ 64
 le_of n h = grind (arith, nat_tests)
 
-short_size : (b : Batch) → is_long b ≡ false → size_of (normal b) ≤ 64
+pub short_size : (b : Batch) → is_long b ≡ false → size_of (normal b) ≤ 64
 short_size b e =
     let f : nat_lt 64 (size_of b) ≡ false = last_false (nat_lt 4096 (length (text_of b))) (list_any is_lf (text_of b)) (nat_lt 64 (size_of b)) e in
     let few : size_of b ≤ 64 = le_of (size_of b) f in

@@ -1,3 +1,4 @@
+pub mod Flipping
 pub mod GoingOn
 pub mod Following
 pub mod BasicRuns

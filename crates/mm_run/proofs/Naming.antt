@@ -117,7 +117,7 @@ closes-append (Reset ∷ xs) ys a b = closes-append xs ys a b
 closes-append (Close ∷ xs) ys a b = cc
 closes-append (PowerMove ∷ xs) ys a b = closes-append xs ys a b
 
-closes-foreign : (values : List (List ℕ)) → closes (map Foreign values) ≡ false
+pub closes-foreign : (values : List (List ℕ)) → closes (map Foreign values) ≡ false
 closes-foreign [] = refl
 closes-foreign (v ∷ values) = closes-foreign values
 
@@ -164,7 +164,7 @@ admitted_lives Live here repeat fits again e = refl
 admitted_lives Spoiled here repeat fits again e = cc
 admitted_lives LostLife here repeat fits again e = cc
 
-unless_lost : (lost : Bool) (found : Result Found Refusal) (f : Found) → (if lost then Err refusal.Lost else found) ≡ Ok f → found ≡ Ok f
+pub unless_lost : (lost : Bool) (found : Result Found Refusal) (f : Found) → (if lost then Err refusal.Lost else found) ≡ Ok f → found ≡ Ok f
 unless_lost true found f e = cc
 unless_lost false found f e = e
 
@@ -327,7 +327,7 @@ offered_named meaning key barrier y issued meddles stop (Some bytes) b h =
     if_named (opt meaning key barrier) (is_long b) _ _ h (asked_named meaning key barrier y issued stop (course_of stop meddles) bytes (normal b) h)
 
 -- the step behind the reading steps of a checkpoint
-abbrev last_steps : Bool → List Step
+abbrev pub last_steps : Bool → List Step
 last_steps true = []
 last_steps false = Writes Close ∷ []
 

@@ -268,7 +268,7 @@ module _ (meaning : Meaning) (key barrier : List ℕ) (all others : List (List �
     foreign = λ y d v k c messages. foreign_keeps y d v k c messages;
   }
 
-anchor-nil : (id : ℕ) → start_of Opt id ≡ anchor_of id []
+pub anchor-nil : (id : ℕ) → start_of Opt id ≡ anchor_of id []
 unfolding anchor_of
 anchor-nil id = refl
 

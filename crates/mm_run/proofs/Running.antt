@@ -42,7 +42,7 @@ use Rattle.mm_call.proofs.Calling.{requests-push, before_last, said_last}
 use Rattle.mm_call.proofs.Endings.{again_of, fresh_of}
 use Rattle.mm_call.proofs.BasicLaw.{unlacked}
 use Rattle.mm_schedule.specs.Events.{Event, Ask, Checkpoint, Power, Extend}
-use Rattle.mm_schedule.specs.Machine.{RunsOn, Repeats, RunsUntold, StepsOn, StaysOn, Steps, Runs}
+use Rattle.mm_schedule.specs.Machine.{RunsOn, Repeats, RunsUntold, StepsOn, AsksNone, Steps, Runs}
 use Rattle.mm_schedule.specs.declared.reply.Way.{Way}
 use Rattle.mm_schedule.specs.declared.reply.Reply.{Reply}
 use Rattle.mm_schedule.specs.declared.reply.Reply.TheVariants.{Told, No, Kept, Nothing, Closed, Checkpointed as CheckpointedReply, Power as PowerReply, Extended}
@@ -283,7 +283,7 @@ pub checkpoint_none : (variant : Variant) (is_open is_lost : Bool) (fates : ℕ 
 checkpoint_none variant is_open is_lost fates = walk_none fates 1 _ (checkpoint_commits variant is_open is_lost)
 
 -- what a checkpoint says tells no request
-closing_stays : (how : Way) (closing : Closing) (requests after : List (List ℕ)) → after ≡ requests → StaysOn requests (closing_reply how closing) after
+closing_stays : (how : Way) (closing : Closing) (requests after : List (List ℕ)) → after ≡ requests → AsksNone requests (closing_reply how closing) after
 closing_stays how Closes requests after e = e
 closing_stays how HasNone requests after e = e
 closing_stays how NoSegment requests after e = e
@@ -300,7 +300,7 @@ closing_none i stop (Stops fault closed) y = stop_none i stop y
 
 checkpointed_steps : (i : Instance) (y : History) (issued : List (List ℕ)) (meddles : List Meddle) (stop : Stop) (is_lost : Bool)
     → (let o : Outcome History = closed_outcome (by_lists i) stop issued (checkpointed_with i (by_lists i) y (course_of stop meddles) is_lost) in
-    StaysOn (requests_of y.batches) o.reply (requests_of o.state.batches))
+    AsksNone (requests_of y.batches) o.reply (requests_of o.state.batches))
 checkpointed_steps i y issued meddles stop is_lost =
     let c : Course = course_of stop meddles in
     let o : Checkpointed History = checkpointed_with i (by_lists i) y c is_lost in

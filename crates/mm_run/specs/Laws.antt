@@ -49,8 +49,8 @@ continued first second = record {
 }
 
 -- A schedule goes on from what stands after its first events, by either level; and so do its messages.
-abbrev pub GoesOn : Type 0
-GoesOn = (i : Instance) (es fs : List Event) (y : History) (d : Digests) (issued : List (List ℕ)) →
+abbrev pub SchedulesGoOn : Type 0
+SchedulesGoOn = (i : Instance) (es fs : List Event) (y : History) (d : Digests) (issued : List (List ℕ)) →
     let lists : Followed History = followed i (by_lists i) y issued es in
     let digests : Followed Digests = followed i (by_digests i) d issued es in
     (followed i (by_lists i) y issued (es ++ fs) ≡ continued lists (followed i (by_lists i) lists.state lists.issued fs))

@@ -1,4 +1,5 @@
 pub mod Offered
+pub mod OfferedBytes
 pub mod Folds
 pub mod Premises
 pub mod Held

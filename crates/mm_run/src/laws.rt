@@ -6,7 +6,7 @@ ghost use Rattle.mm_module.specs.CounterTable.{counter};
 ghost use Rattle.mm_model.specs.Instance.{basic, opt};
 ghost use Rattle.mm_run.specs.Held.{world_barrier};
 ghost use Rattle.mm_run.specs.Premises.{IsClearRun, IsGenuineRun};
-ghost use Rattle.mm_run.specs.Laws.{BasicIsExpected, OptIsExpected, ExpectedRuns, GoesOn, IssuedNamePositions, one_ask};
+ghost use Rattle.mm_run.specs.Laws.{BasicIsExpected, OptIsExpected, ExpectedRuns, SchedulesGoOn, IssuedNamePositions, one_ask};
 
 /// A schedule of Basic is told as expected, where no two messages of the run share a digest and each right offer
 /// names a position.
@@ -26,7 +26,7 @@ pub fn expected_runs()
 
 /// A schedule goes on from what stands after its first events.
 pub fn schedules_go_on()
-    ensures { GoesOn }
+    ensures { SchedulesGoOn }
 {}
 
 /// Every snapshot that was issued names a position of the history, after each schedule.

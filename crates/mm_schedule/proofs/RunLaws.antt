@@ -5,7 +5,7 @@ use Rattle.mm_module.specs.Meaning.{Meaning}
 use Rattle.mm_schedule.specs.declared.reply.Reply.{Reply}
 use Rattle.mm_schedule.specs.declared.reply.Reply.TheVariants.{Told, No, Kept, Nothing, Closed, Checkpointed, Power, Extended}
 use Rattle.mm_schedule.specs.Events as events
-use Rattle.mm_schedule.specs.Machine.{Runs, Steps, StepsOn, StaysOn}
+use Rattle.mm_schedule.specs.Machine.{Runs, Steps, StepsOn, AsksNone}
 
 asked-fixed : (meaning : Meaning) (requests : List (List ℕ)) (batch : Batch) (reply : Reply) (a b : List (List ℕ))
     → StepsOn meaning requests batch reply a → StepsOn meaning requests batch reply b → a ≡ b
@@ -19,7 +19,7 @@ asked-fixed meaning requests batch Checkpointed a b one two = one ∙ sym two
 asked-fixed meaning requests batch Power a b one two = one ∙ sym two
 asked-fixed meaning requests batch Extended a b one two = one ∙ sym two
 
-stays-fixed : (requests : List (List ℕ)) (reply : Reply) (a b : List (List ℕ)) → StaysOn requests reply a → StaysOn requests reply b → a ≡ b
+stays-fixed : (requests : List (List ℕ)) (reply : Reply) (a b : List (List ℕ)) → AsksNone requests reply a → AsksNone requests reply b → a ≡ b
 stays-fixed requests (Told again before outputs) a b one two = absurd one
 stays-fixed requests (Kept way position) a b one two = absurd one
 stays-fixed requests (No cause) a b one two = one ∙ sym two

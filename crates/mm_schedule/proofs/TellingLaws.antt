@@ -8,7 +8,7 @@ use Rattle.mm_module.proofs.RunLaws.{outputs_from-append, length-outputs_from}
 use Rattle.mm_schedule.specs.declared.reply.Reply.{Reply}
 use Rattle.mm_schedule.specs.declared.reply.Reply.TheVariants.{Told, No, Kept, Nothing, Closed, Checkpointed, Power, Extended}
 use Rattle.mm_schedule.specs.Events as events
-use Rattle.mm_schedule.specs.Machine.{Runs, Steps, StepsOn, StaysOn, said_to}
+use Rattle.mm_schedule.specs.Machine.{Runs, Steps, StepsOn, AsksNone, said_to}
 use Rattle.mm_schedule.specs.Tellings.{Telling, tellings_from, tellings_of, tellings_in, WasSaid, TellsWhatWasSaid}
 
 -- the first item behind a front of a list
@@ -83,7 +83,7 @@ asked-grows meaning requests batch Checkpointed after s = same-grows requests af
 asked-grows meaning requests batch Power after s = same-grows requests after s
 asked-grows meaning requests batch Extended after s = same-grows requests after s
 
-stays-grows : (requests : List (List ℕ)) (reply : Reply) (after : List (List ℕ)) → StaysOn requests reply after → Grows requests after
+stays-grows : (requests : List (List ℕ)) (reply : Reply) (after : List (List ℕ)) → AsksNone requests reply after → Grows requests after
 stays-grows requests (Told again before outputs) after s = absurd s
 stays-grows requests (Kept way position) after s = absurd s
 stays-grows requests (No cause) after s = same-grows requests after s
@@ -124,7 +124,7 @@ asked-tells meaning requests batch Checkpointed between more after s is = tt
 asked-tells meaning requests batch Power between more after s is = tt
 asked-tells meaning requests batch Extended between more after s is = tt
 
-stays-tells : (outputs requests : List (List ℕ)) (reply : Reply) (after : List (List ℕ)) → StaysOn requests reply after → AllByRecursion (WasSaid outputs) (tellings_of reply)
+stays-tells : (outputs requests : List (List ℕ)) (reply : Reply) (after : List (List ℕ)) → AsksNone requests reply after → AllByRecursion (WasSaid outputs) (tellings_of reply)
 stays-tells outputs requests (Told again before said) after s = absurd s
 stays-tells outputs requests (Kept way position) after s = tt
 stays-tells outputs requests (No cause) after s = tt

@@ -42,22 +42,22 @@ StepsOn meaning requests batch Power after = after ≡ requests
 StepsOn meaning requests batch Extended after = after ≡ requests
 
 -- one step where no batch is asked: none is told or kept, and nothing is run
-abbrev pub StaysOn : List (List ℕ) → Reply → List (List ℕ) → Type 0
-StaysOn requests (Told again before outputs) after = ⊥
-StaysOn requests (Kept way position) after = ⊥
-StaysOn requests (No cause) after = after ≡ requests
-StaysOn requests (Nothing way) after = after ≡ requests
-StaysOn requests (Closed way) after = after ≡ requests
-StaysOn requests Checkpointed after = after ≡ requests
-StaysOn requests Power after = after ≡ requests
-StaysOn requests Extended after = after ≡ requests
+abbrev pub AsksNone : List (List ℕ) → Reply → List (List ℕ) → Type 0
+AsksNone requests (Told again before outputs) after = ⊥
+AsksNone requests (Kept way position) after = ⊥
+AsksNone requests (No cause) after = after ≡ requests
+AsksNone requests (Nothing way) after = after ≡ requests
+AsksNone requests (Closed way) after = after ≡ requests
+AsksNone requests Checkpointed after = after ≡ requests
+AsksNone requests Power after = after ≡ requests
+AsksNone requests Extended after = after ≡ requests
 
 -- one step: the requests before, an event, its reply, and the requests after
 abbrev pub Steps : Meaning → List (List ℕ) → events.Event → Reply → List (List ℕ) → Type 0
 Steps meaning requests (events.Ask meddles stop offer batch) reply after = StepsOn meaning requests batch reply after
-Steps meaning requests (events.Checkpoint meddles stop) reply after = StaysOn requests reply after
-Steps meaning requests events.Power reply after = StaysOn requests reply after
-Steps meaning requests (events.Extend value) reply after = StaysOn requests reply after
+Steps meaning requests (events.Checkpoint meddles stop) reply after = AsksNone requests reply after
+Steps meaning requests events.Power reply after = AsksNone requests reply after
+Steps meaning requests (events.Extend value) reply after = AsksNone requests reply after
 
 -- one step after another: a reply for each event, all on one list of requests
 abbrev pub Runs : Meaning → List (List ℕ) → List events.Event → List Reply → List (List ℕ) → Type 0

@@ -23,7 +23,7 @@ use Rattle.mm_modules.specs.declared.any.AnyModule.TheVariants.{Counter, Limiter
 use Rattle.mm_modules.specs.Modules.{name_of}
 use Rattle.mm_schedule.specs.Headers.{variant_text}
 use Rattle.mm_schedule.specs.declared.header.Header.{Header}
-use Rattle.mm_words.specs.Commands.{IsGenerated, Spells, generated_words, header_words}
+use Rattle.mm_words.specs.Commands.{IsGenerated, SpellsCommand, generated_words, header_words}
 use Rattle.mm_words.specs.Forms.{IsMatched, is_refused}
 use Rattle.mm_words.specs.declared.command.Command.{Command}
 use Rattle.mm_words.specs.declared.command.Command.TheVariants.{Init, Run, Checkpoint, Power, Replay, Check, Gen, Bulk, Receipts, Help}
@@ -119,7 +119,7 @@ receipts_kept digits key gives = record { few = omega arith; kept = rw (key_kept
 kept_as : (words others : List (List ℕ)) → words ≡ others → AreKept others → AreKept words
 kept_as words others same kept = let P : List (List ℕ) → Type 0 = λ w. AreKept w in subst P (sym same) kept
 
-pub are_kept : (command : Command) (words : List (List ℕ)) → Spells command words → IsMatched command → AreKept words
+pub are_kept : (command : Command) (words : List (List ℕ)) → SpellsCommand command words → IsMatched command → AreKept words
 are_kept (Init header) words spells matched = kept_as words _ spells.spelled (header_kept header)
 are_kept Run words spells matched = kept_as words _ spells.spelled (alone_kept (codes "run") refl)
 are_kept Checkpoint words spells matched = kept_as words _ spells.spelled (alone_kept (codes "checkpoint") refl)

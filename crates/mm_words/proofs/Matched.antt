@@ -19,8 +19,8 @@ use Rattle.mm_modules.specs.Modules.{module_named, name_of}
 use Rattle.mm_schedule.specs.Headers.{variant_at, variant_text}
 use Rattle.mm_schedule.specs.declared.header.Header.{Header}
 use Rattle.mm_words.specs.App.{the_app}
-use Rattle.mm_words.specs.Commands.{IsGenerated, Spells, generated_words, header_words}
-use Rattle.mm_words.specs.Forms.{IsMatched, command_in, generated_in, header_in, key_in}
+use Rattle.mm_words.specs.Commands.{IsGenerated, SpellsCommand, generated_words, header_words}
+use Rattle.mm_words.specs.Forms.{IsMatched, command_in, generated_in, header_in, key_found}
 use Rattle.mm_words.specs.declared.command.Command.{Command}
 use Rattle.mm_words.specs.declared.command.Command.TheVariants.{Init, Run, Checkpoint, Power, Replay, Check, Gen, Bulk, Receipts, Help}
 use Rattle.mm_words.specs.declared.command.Generated.{Generated}
@@ -75,8 +75,8 @@ generated_again it found allowed number count header =
 
 -- a key, read
 key_again : (digits key : List ℕ) (found : Found) → first_of (codes "KEY") (rows_of found) ≡ Some digits → value_at digits ≡ Some key
-    → key_in found ≡ Some key
-unfolding key_in
+    → key_found found ≡ Some key
+unfolding key_found
 key_again digits key found is gives = rw (first_value-rows found (codes "KEY") ∙ is, gives) refl
 
 given_header : (name : List ℕ) (header : Header) (it : Text) (found : Found)
@@ -97,7 +97,7 @@ given_generated name it given_name found allowed is = (
 )
 
 given_key : (name digits key : List ℕ) (it : Text) (found : Found) → value_at digits ≡ Some key
-    → given_by it found ≡ with_key name digits → (it ≡ name) × (key_in found ≡ Some key)
+    → given_by it found ≡ with_key name digits → (it ≡ name) × (key_found found ≡ Some key)
 given_key name digits key it found gives is = (
   ap (λ (g : Given). g.name) is,
   key_again digits key found (ap (λ (g : Given). g.key) is) gives,
@@ -201,7 +201,7 @@ receipts_brings digits key gives = record {
 brings_as : (command : Command) (words others : List (List ℕ)) → words ≡ others → Brings command others → Brings command words
 brings_as command words others same brings = let P : List (List ℕ) → Type 0 = λ w. Brings command w in subst P (sym same) brings
 
-pub brings : (command : Command) (words : List (List ℕ)) → Spells command words → IsMatched command → Brings command words
+pub brings : (command : Command) (words : List (List ℕ)) → SpellsCommand command words → IsMatched command → Brings command words
 brings (Init header) words spells matched = brings_as (Init header) words _ spells.spelled (init_brings header)
 brings Run words spells matched = brings_as Run words _ spells.spelled run_brings
 brings Checkpoint words spells matched = brings_as Checkpoint words _ spells.spelled checkpoint_brings
@@ -214,14 +214,14 @@ brings (Receipts key) words spells matched =
     let given = spells.spelled in brings_as (Receipts key) words _ given.2 (receipts_brings given.0 key given.1)
 brings Help words spells matched = absurd matched
 
-pub is_taken : (command : Command) (words : List (List ℕ)) → Spells command words → IsMatched command → takes the_app words ≡ true
+pub is_taken : (command : Command) (words : List (List ℕ)) → SpellsCommand command words → IsMatched command → takes the_app words ≡ true
 is_taken command words spells matched = (brings command words spells matched).is.taken
 
 same_given : (one other : Given) → Some one ≡ Some other → one ≡ other
 same_given one other is = ap (λ (o : Option Given). option_map_or (λ (g : Given). g) o one) is
 
 -- what is matched of a command's words is the command
-pub is_matched : (command : Command) (words : List (List ℕ)) (name : Text) (found : Found) → Spells command words → IsMatched command
+pub is_matched : (command : Command) (words : List (List ℕ)) (name : Text) (found : Found) → SpellsCommand command words → IsMatched command
     → subcommand_of the_app words ≡ Some (name, rows_of found) → command_in name found ≡ Some command
 is_matched command words name found spells matched is =
     let it = brings command words spells matched in
@@ -231,6 +231,6 @@ no_given : {g : Given} → None ≡ Some g → ⊥
 no_given none = cc
 
 -- a subcommand is met
-pub some_met : (command : Command) (words : List (List ℕ)) → Spells command words → IsMatched command → subcommand_of the_app words ≡ None → ⊥
+pub some_met : (command : Command) (words : List (List ℕ)) → SpellsCommand command words → IsMatched command → subcommand_of the_app words ≡ None → ⊥
 some_met command words spells matched none =
     no_given (sym (ap (option_map given_in) none) ∙ (brings command words spells matched).is.met)

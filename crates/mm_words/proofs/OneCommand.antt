@@ -11,7 +11,7 @@ use Rattle.mm_modules.specs.Modules.{module_named, name_of}
 use Rattle.mm_schedule.specs.Headers.{variant_at, variant_text}
 use Rattle.mm_schedule.specs.Words.{◌>>=◌}
 use Rattle.mm_schedule.specs.declared.header.Header.{Header}
-use Rattle.mm_words.specs.Commands.{IsGenerated, Spells}
+use Rattle.mm_words.specs.Commands.{IsGenerated, SpellsCommand}
 use Rattle.mm_words.specs.declared.command.Command.{Command}
 use Rattle.mm_words.specs.declared.command.Command.TheVariants.{Init, Run, Checkpoint, Power, Replay, Check, Gen, Bulk, Receipts, Help}
 use Rattle.mm_words.specs.declared.command.Generated.{Generated}
@@ -57,7 +57,7 @@ generated-again it allowed =
       header-again it.header,
     ) refl
 
-command-again : (command : Command) (words : List (List ℕ)) → Spells command words → command_by words ≡ Some command
+command-again : (command : Command) (words : List (List ℕ)) → SpellsCommand command words → command_by words ≡ Some command
 command-again (Init header) words spells = ap command_by spells.spelled ∙ rw (header-again header) refl
 command-again Run words spells = ap command_by spells.spelled
 command-again Checkpoint words spells = ap command_by spells.spelled
@@ -69,7 +69,7 @@ command-again (Bulk it) words spells = ap command_by spells.spelled ∙ rw (gene
 command-again (Receipts key) words spells = let given = spells.spelled in ap command_by given.2 ∙ rw given.1 refl
 command-again Help words spells = ap command_by spells.spelled
 
-pub one_command : (words : List (List ℕ)) (command other : Command) → Spells command words → Spells other words → command ≡ other
+pub one_command : (words : List (List ℕ)) (command other : Command) → SpellsCommand command words → SpellsCommand other words → command ≡ other
 one_command words command other one two =
     ap (λ (o : Option Command). option_map_or (λ (it : Command). it) o command)
     (sym (command-again command words one) ∙ command-again other words two)

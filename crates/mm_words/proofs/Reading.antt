@@ -10,7 +10,7 @@ use Rattle.std.proofs.lemmas.List.{length-map}
 use Rattle.std.proofs.lemmas.Slice.Eq.{bytes_eq-Decides}
 use Rattle.clap.specs.Walk.{Row, Text}
 use Rattle.mm_module.specs.Values.{value_at}
-use Rattle.mm_words.specs.Commands.{AreReceiptsWords, AreWordsOf, Spells}
+use Rattle.mm_words.specs.Commands.{AreReceiptsWords, AreWordsOf, SpellsCommand}
 use Rattle.mm_words.specs.Forms.{IsMatched, is_refused}
 use Rattle.mm_words.specs.declared.command.Command.{Command}
 use Rattle.mm_words.specs.declared.command.Command.TheVariants.{Init, Run, Checkpoint, Power, Replay, Check, Gen, Bulk, Receipts, Help}
@@ -61,7 +61,7 @@ other_words words others is same =
     let clash : false ≡ true = sym is ∙ (pointwise_decides bytes_eq-Decides words others).1 same in cc
 
 -- where `--help` doesn't stand alone the command has a subcommand
-pub no_help : (words : List (List ℕ)) (command : Command) → Spells command words
+pub no_help : (words : List (List ℕ)) (command : Command) → SpellsCommand command words
     → pointwise bytes_eq words (codes "--help" ∷ []) ≡ false → IsMatched command
 no_help words (Init header) spells is = tt
 no_help words Run spells is = tt
@@ -75,7 +75,7 @@ no_help words (Receipts key) spells is = tt
 no_help words Help spells is = other_words words (codes "--help" ∷ []) is spells.spelled
 
 -- words that are refused spell none
-pub too_many : (words : List (Bor (List ℕ))) (command : Command) → Spells command (map (λ (word : Bor (List ℕ)). word.now) words)
+pub too_many : (words : List (Bor (List ℕ))) (command : Command) → SpellsCommand command (map (λ (word : Bor (List ℕ)). word.now) words)
     → IsMatched command → 5 < length words → ⊥
 too_many words command spells matched many =
     let texts : List (List ℕ) = map (λ (word : Bor (List ℕ)). word.now) words in
@@ -83,7 +83,7 @@ too_many words command spells matched many =
     let same : length texts ≡ length words = length-map words (λ (word : Bor (List ℕ)). word.now) in
     absurd (omega arith)
 
-pub one_refused : (words : List (List ℕ)) (command : Command) → Spells command words → IsMatched command
+pub one_refused : (words : List (List ℕ)) (command : Command) → SpellsCommand command words → IsMatched command
     → list_any is_refused words ≡ true → ⊥
 one_refused words command spells matched is =
     let clash : true ≡ false = sym is ∙ (are_kept command words spells matched).kept in cc

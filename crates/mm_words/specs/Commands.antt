@@ -41,21 +41,21 @@ pub record IsGenerated (it : Generated) : Type 0 where
   pub count : it.count ≤ 20000
 
 -- the numbers of a command are within their bounds
-abbrev pub IsAllowed : Command → Type 0
-IsAllowed (Init header) = Unit {0}
-IsAllowed Run = Unit {0}
-IsAllowed Checkpoint = Unit {0}
-IsAllowed Power = Unit {0}
-IsAllowed Replay = Unit {0}
-IsAllowed Check = Unit {0}
-IsAllowed (Gen it) = IsGenerated it
-IsAllowed (Bulk it) = IsGenerated it
-IsAllowed (Receipts key) = Unit {0}
-IsAllowed Help = Unit {0}
+abbrev pub IsInBounds : Command → Type 0
+IsInBounds (Init header) = Unit {0}
+IsInBounds Run = Unit {0}
+IsInBounds Checkpoint = Unit {0}
+IsInBounds Power = Unit {0}
+IsInBounds Replay = Unit {0}
+IsInBounds Check = Unit {0}
+IsInBounds (Gen it) = IsGenerated it
+IsInBounds (Bulk it) = IsGenerated it
+IsInBounds (Receipts key) = Unit {0}
+IsInBounds Help = Unit {0}
 
 -- the words spell the command
-pub record Spells (command : Command) (words : List (List ℕ)) : Type 0 where
-  pub allowed : IsAllowed command
+pub record SpellsCommand (command : Command) (words : List (List ℕ)) : Type 0 where
+  pub allowed : IsInBounds command
   pub spelled : AreWordsOf command words
 
 -- the help, a line for each form, and what its capital words stand for

@@ -44,8 +44,8 @@ generated_in found =
     Some (record { number = number; count = count; header = header })
 
 -- the key of a word of 64 hexadecimal digits
-unfoldable pub key_in : Found → Option (List ℕ)
-key_in found = first_value found (codes "KEY") >>= value_at
+unfoldable pub key_found : Found → Option (List ℕ)
+key_found found = first_value found (codes "KEY") >>= value_at
 
 -- the command of a subcommand with this name, and what was matched behind it
 unfoldable pub command_in : List ℕ → Found → Option Command
@@ -58,7 +58,7 @@ command_in name found =
     else if bytes_eq name (codes "check") then Some Check
     else if bytes_eq name (codes "gen") then (generated_in found >>= λ generated. Some (Gen generated))
     else if bytes_eq name (codes "bulk") then (generated_in found >>= λ generated. Some (Bulk generated))
-    else if bytes_eq name (codes "receipts") then (key_in found >>= λ key. Some (Receipts key))
+    else if bytes_eq name (codes "receipts") then (key_found found >>= λ key. Some (Receipts key))
     else None
 
 -- the command has a subcommand

@@ -2,8 +2,8 @@
 
 ghost use Rattle.std.specs.Prelude.{◌≡◌, ◌≤◌, IfSome};
 ghost use Rattle.clap.specs.Words.{found_of};
-ghost use Rattle.mm_words.specs.Commands.{IsAllowed, IsGenerated};
-ghost use Rattle.mm_words.specs.Forms.{command_in, count_at, generated_in, header_in, key_in};
+ghost use Rattle.mm_words.specs.Commands.{IsInBounds, IsGenerated};
+ghost use Rattle.mm_words.specs.Forms.{command_in, count_at, generated_in, header_in, key_found};
 
 use crate::command::{Command, Generated};
 use clap::ArgMatches;
@@ -18,7 +18,7 @@ const MOST: u64 = 20_000;
 /// The command of a subcommand with this name and these matches.
 #[tactic(auto, unfolding(crate::specs::Forms::command_in))]
 pub fn command_in(name: &str, matches: &ArgMatches<'_>) -> Option<Command>
-    ensures allowed { IfSome result IsAllowed }
+    ensures allowed { IfSome result IsInBounds }
     ensures matched { result ≡ command_in name.now (found_of matches.now) }
 {
     match name {
@@ -78,9 +78,9 @@ fn header_in(matches: &ArgMatches<'_>) -> Option<Header>
 }
 
 /// The key of a word, None where the word is not 64 hexadecimal digits.
-#[tactic(auto, unfolding(crate::specs::Forms::key_in))]
+#[tactic(auto, unfolding(crate::specs::Forms::key_found))]
 fn key_in(matches: &ArgMatches<'_>) -> Option<[u8; 32]>
-    ensures { result ≡ key_in (found_of matches.now) }
+    ensures { result ≡ key_found (found_of matches.now) }
 {
     let digits = matches.get_str("KEY")?;
     value_in(digits.as_bytes())

@@ -3,7 +3,7 @@
 ghost use Rattle.std.specs.Prelude.{◌≡◌, Err, IfOk, map};
 ghost use Rattle.std.specs.List.{list_any};
 ghost use Rattle.clap.specs.Words.{kind_of};
-ghost use Rattle.mm_words.specs.Commands.{IsAllowed, Spells};
+ghost use Rattle.mm_words.specs.Commands.{IsInBounds, SpellsCommand};
 ghost use Rattle.mm_words.specs.Forms.{Gets, IsMatched, is_refused};
 ghost use Rattle.mm_words.specs.declared.command.Command.{Command as Told};
 ghost use Rattle.mm_words.specs.declared.fault.WordsFault.TheVariants as fault;
@@ -22,9 +22,9 @@ const LONGEST: usize = 5;
 /// The command that these words spell, those after the program's name; words spell at most one. `Usage` comes exactly
 /// where they spell none, but for want of memory.
 pub fn read_words(alloc: Global, words: &[&str]) -> Result<Command, WordsFault>
-    ensures ok { IfOk result (λ command. Spells command (map (λ s. s.now) words.now)) }
-    ensures one { IfOk result (λ command. (other : Told) → Spells other (map (λ s. s.now) words.now) → other ≡ command) }
-    ensures usage { result ≡ Err fault.Usage → (command : Told) → Spells command (map (λ s. s.now) words.now) → ⊥ }
+    ensures ok { IfOk result (λ command. SpellsCommand command (map (λ s. s.now) words.now)) }
+    ensures one { IfOk result (λ command. (other : Told) → SpellsCommand other (map (λ s. s.now) words.now) → other ≡ command) }
+    ensures usage { result ≡ Err fault.Usage → (command : Told) → SpellsCommand command (map (λ s. s.now) words.now) → ⊥ }
 {
     if is_alone(words, "--help") {
         return Ok(Command::Help);
@@ -54,8 +54,8 @@ fn is_refused(word: &str) -> bool
 
 /// The command that `clap` finds in the words.
 fn parsed(alloc: Global, words: &[&str]) -> Result<Command, WordsFault>
-    ensures allowed { IfOk result IsAllowed }
-    ensures gets { (command : Told) → Spells command (map (λ s. s.now) words.now) → IsMatched command → Gets command result }
+    ensures allowed { IfOk result IsInBounds }
+    ensures gets { (command : Told) → SpellsCommand command (map (λ s. s.now) words.now) → IsMatched command → Gets command result }
 {
     let Ok(line) = command_line(alloc) else {
         return Err(WordsFault::Memory);

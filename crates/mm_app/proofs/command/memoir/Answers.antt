@@ -4,7 +4,7 @@ use Rattle.mm_play.specs.Plays.{IsBlamed}
 use Rattle.mm_words.specs.declared.command.Command.{Command}
 use Rattle.mm_words.specs.declared.command.Command.TheVariants.{Check, Receipts, Replay}
 use Rattle.mm_words.proofs.OneCommand.{one_command}
-use Rattle.mm_app.specs.Blame.{BlamesSource, is_platform_fault, is_store_fault}
+use Rattle.mm_app.specs.Blame.{BlamesSource, tells_platform_fault, tells_store_fault}
 use Rattle.mm_app.specs.Commands.{DoesOrLacks}
 use Rattle.mm_app.specs.Outside.{outside}
 use Rattle.mm_app.specs.Status.{EndsUnrefused, stop_line}
@@ -120,22 +120,22 @@ returns-in-Err-Memory-clause-source g c command spells =
 
 pub returns-in-Err-Usage-clause-device : goal.returns-in-Err-Usage-clause-device
 returns-in-Err-Usage-clause-device g c =
-    subst (λ (s : Status). IsBlamed (is_platform_fault s) (g.P.Device.standing c.args.platform.now).faults (g.P.Device.standing c.args.platform.now).faults) (sym c.stopped.ensures.status) refl
+    subst (λ (s : Status). IsBlamed (tells_platform_fault s) (g.P.Device.standing c.args.platform.now).faults (g.P.Device.standing c.args.platform.now).faults) (sym c.stopped.ensures.status) refl
 
 pub returns-in-Err-Usage-clause-slots : goal.returns-in-Err-Usage-clause-slots
 returns-in-Err-Usage-clause-slots g c =
-    subst (λ (s : Status). IsBlamed (is_store_fault s) (g.T.Store.kept c.args.store.now).faults (g.T.Store.kept c.args.store.now).faults) (sym c.stopped.ensures.status) refl
+    subst (λ (s : Status). IsBlamed (tells_store_fault s) (g.T.Store.kept c.args.store.now).faults (g.T.Store.kept c.args.store.now).faults) (sym c.stopped.ensures.status) refl
 
 pub returns-in-Err-Usage-clause-wrote : goal.returns-in-Err-Usage-clause-wrote
 returns-in-Err-Usage-clause-wrote g c = output_stopped _ c.stopped.result _ _ _ _ no_usage c.stopped.ensures.told
 
 pub returns-in-Err-Memory-clause-device : goal.returns-in-Err-Memory-clause-device
 returns-in-Err-Memory-clause-device g c =
-    subst (λ (s : Status). IsBlamed (is_platform_fault s) (g.P.Device.standing c.args.platform.now).faults (g.P.Device.standing c.args.platform.now).faults) (sym c.stopped-in-Err-Memory.ensures.status) refl
+    subst (λ (s : Status). IsBlamed (tells_platform_fault s) (g.P.Device.standing c.args.platform.now).faults (g.P.Device.standing c.args.platform.now).faults) (sym c.stopped-in-Err-Memory.ensures.status) refl
 
 pub returns-in-Err-Memory-clause-slots : goal.returns-in-Err-Memory-clause-slots
 returns-in-Err-Memory-clause-slots g c =
-    subst (λ (s : Status). IsBlamed (is_store_fault s) (g.T.Store.kept c.args.store.now).faults (g.T.Store.kept c.args.store.now).faults) (sym c.stopped-in-Err-Memory.ensures.status) refl
+    subst (λ (s : Status). IsBlamed (tells_store_fault s) (g.T.Store.kept c.args.store.now).faults (g.T.Store.kept c.args.store.now).faults) (sym c.stopped-in-Err-Memory.ensures.status) refl
 
 pub returns-in-Err-Memory-clause-wrote : goal.returns-in-Err-Memory-clause-wrote
 returns-in-Err-Memory-clause-wrote g c = output_stopped _ c.stopped-in-Err-Memory.result _ _ _ _ no_memory c.stopped-in-Err-Memory.ensures.told

@@ -1,5 +1,5 @@
 use Rattle.std.proofs.Common.{◌≡◌, take}
-use Rattle.mm_expect.specs.Kept.{kept_segments}
+use Rattle.mm_model.specs.Kept.{kept_segments}
 use Rattle.mm_expect.specs.Naming.{anchor_at}
 use Rattle.mm_expect.proofs.naming.anchor_at.Given as goal
 

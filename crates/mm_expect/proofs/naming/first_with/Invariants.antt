@@ -1,6 +1,6 @@
 use Rattle.std.proofs.Common.{◌≡◌, ◌++◌, take, drop}
 use Rattle.std.specs.Option.{option_map}
-use Rattle.mm_expect.specs.Kept.{kept_batches}
+use Rattle.mm_model.specs.Kept.{kept_batches}
 use Rattle.mm_expect.specs.Naming.{first_with}
 use Rattle.mm_expect.proofs.naming.first_with.Given as goal
 

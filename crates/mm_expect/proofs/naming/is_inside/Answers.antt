@@ -1,6 +1,6 @@
-use Rattle.std.proofs.Common.{List, ◌≡◌, ℕ, Bool, true, false, ◌&&◌, sym, ap, ◌∙◌}
-use Rattle.mm_expect.specs.Kept.{kept_batches}
-use Rattle.mm_expect.specs.declared.kept.KeptBatch.{KeptBatch}
+use Rattle.std.proofs.Common.{List, Bool, false, ◌&&◌, sym, ap, ◌∙◌}
+use Rattle.mm_model.specs.Kept.{kept_batches}
+use Rattle.mm_model.specs.declared.kept.KeptBatch.{KeptBatch}
 use Rattle.mm_expect.specs.Naming.{is_behind, same_batches}
 use Rattle.mm_expect.proofs.PlaceLaws.{inside_by, back_is}
 use Rattle.mm_expect.proofs.naming.is_inside.Goals as goal

@@ -1,5 +1,5 @@
-use Rattle.std.proofs.Common.{◌≡◌, drop, length}
-use Rattle.mm_expect.specs.Kept.{kept_batches}
+use Rattle.std.proofs.Common.{◌≡◌, drop}
+use Rattle.mm_model.specs.Kept.{kept_batches}
 use Rattle.mm_expect.specs.Naming.{same_batches}
 use Rattle.mm_expect.proofs.naming.same_batches.Given as goal
 

@@ -1,5 +1,5 @@
 use Rattle.std.proofs.Common.{take, drop}
-use Rattle.mm_expect.specs.Kept.{kept_batches, kept_segments}
+use Rattle.mm_model.specs.Kept.{kept_batches, kept_segments}
 use Rattle.mm_expect.proofs.PlaceLaws.{Reached}
 use Rattle.mm_expect.proofs.naming.some_place.Given as goal
 

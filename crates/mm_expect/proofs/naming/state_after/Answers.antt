@@ -1,4 +1,4 @@
-use Rattle.std.proofs.Common.{◌≡◌, ℕ, List, ◌∙◌, ap, sym, subst, take}
+use Rattle.std.proofs.Common.{ℕ, List, ◌∙◌, ap, sym, subst, take}
 use Rattle.std.specs.Bool.{IsTrue}
 use Rattle.mm_modules.specs.Modules.{meaning_of}
 use Rattle.mm_modules.specs.ModulesLaws.{any_is_lawful}
@@ -6,7 +6,7 @@ use Rattle.mm_module.specs.Batches.{batch_of}
 use Rattle.mm_module.proofs.RunLaws.{state_after-is_spelled}
 use Rattle.mm_model.specs.History.{requests_of}
 use Rattle.mm_model.specs.Long.{is_long}
-use Rattle.mm_expect.specs.Kept.{kept_batches}
+use Rattle.mm_model.specs.Kept.{kept_batches}
 use Rattle.mm_expect.proofs.PlaceLaws.{state_taken, short_at}
 use Rattle.mm_expect.proofs.naming.state_after.Goals as goal
 

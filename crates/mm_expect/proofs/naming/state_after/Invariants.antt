@@ -1,8 +1,8 @@
-use Rattle.std.proofs.Common.{◌≡◌, take, IsTrue}
+use Rattle.std.proofs.Common.{◌≡◌, take}
 use Rattle.mm_modules.specs.Modules.{meaning_of}
 use Rattle.mm_module.specs.Meaning.{state_after}
 use Rattle.mm_model.specs.History.{requests_of}
-use Rattle.mm_expect.specs.Kept.{kept_batches}
+use Rattle.mm_model.specs.Kept.{kept_batches}
 use Rattle.mm_expect.proofs.naming.state_after.Given as goal
 
 abbrev pub invariant-batches : goal.invariant-batches

@@ -1,6 +1,6 @@
 use Rattle.std.proofs.Common.{sym, ap, ◌∙◌}
 use Rattle.std.specs.Prelude.{option_map}
-use Rattle.mm_expect.specs.OfferedBytes.{bytes_in}
+use Rattle.mm_run.specs.OfferedBytes.{bytes_in}
 use Rattle.mm_expect.specs.Recorded.{instance_of}
 use Rattle.mm_expect.proofs.JudgeLaws.{decided_number, decided_last, decided_none, decided_some}
 use Rattle.mm_expect.proofs.offers.is_genuine_offer.Goals as goal

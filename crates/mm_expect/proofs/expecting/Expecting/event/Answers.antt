@@ -3,13 +3,13 @@ use Rattle.mm_modules.specs.ModulesLaws.{any_is_lawful}
 use Rattle.mm_schedule.specs.declared.reply.Reply.{Reply}
 use Rattle.mm_schedule.specs.Events.{event_of}
 use Rattle.mm_schedule.specs.Replies.{IsPrintable}
-use Rattle.mm_expect.specs.Coming.{ComesTo}
+use Rattle.mm_expect.specs.Coming.{WentByEvent}
 use Rattle.mm_expect.specs.Recorded.{instance_of}
 use Rattle.mm_run.specs.Held.{world_of}
 use Rattle.mm_run.specs.Premises.{IsGenuineEvent}
 use Rattle.mm_expect.specs.Judged.{DecidesEvent}
 use Rattle.mm_expect.specs.Naming.{IsDecided}
-use Rattle.mm_expect.specs.Traced.{Traced, IsAfter, after_event}
+use Rattle.mm_expect.specs.Traced.{Traced, IsAfter, after_traced}
 use Rattle.mm_expect.proofs.AfterLaws.{event_state, goes_after}
 use Rattle.mm_expect.proofs.JudgeLaws.{event_decided}
 use Rattle.mm_expect.proofs.PrintLaws.{printable}
@@ -18,11 +18,11 @@ use Rattle.mm_expect.proofs.expecting.Expecting.event.Goals as goal
 pub returns-clause-state : goal.returns-clause-state
 returns-clause-state c =
     let happens = event_of c.args.event.now in
-    let So : List (List ℕ) → Type 0 = λ v. ComesTo c.self.inside.chronicle c.follow.new.chronicle v happens c.new-messages.result.items
+    let So : List (List ℕ) → Type 0 = λ v. WentByEvent c.self.inside.chronicle c.follow.new.chronicle v happens c.new-messages.result.items
     c.follow.new.messages.items c.in_ok-reply.field-0 in
     event_state c.self.inside.chronicle c.follow.new.chronicle c.self.inside.issued.items c.keep.new.issued.items happens c.new-messages.result.items
     c.follow.new.messages.items c.in_ok-reply.field-0 (subst So c.as_slice-2.ensures.value c.in_ok-reply.ensures) c.in_ok-keep.ensures
-    ∙ ap (λ (t : Traced). after_event t happens) c.self.view_is
+    ∙ ap (λ (t : Traced). after_traced t happens) c.self.view_is
 
 pub returns-clause-after : goal.returns-clause-after
 returns-clause-after c = λ header events at.

@@ -1,7 +1,7 @@
 -- The offered bytes of the code.
 use Rattle.std.specs.Prelude.{ℕ, List}
-use Rattle.mm_expect.specs.declared.offered.OfferedBytes.{OfferedBytes}
-use Rattle.mm_expect.specs.declared.offered.OfferedBytes.TheVariants.{Lent, Made}
+use Rattle.mm_run.specs.declared.offer.OfferedBytes.{OfferedBytes}
+use Rattle.mm_run.specs.declared.offer.OfferedBytes.TheVariants.{Lent, Made}
 
 abbrev pub bytes_in : OfferedBytes → List ℕ
 bytes_in (Lent bytes) = bytes.now

@@ -1,6 +1,6 @@
 use Rattle.std.proofs.Common.{◌<◌, ◌∙◌, length, rules}
-use Rattle.mm_expect.proofs.Flipping.{flipped_is}
-use Rattle.mm_expect.proofs.offered.flip.Goals as goal
+use Rattle.mm_run.proofs.Flipping.{flipped_is}
+use Rattle.mm_run.proofs.offer.flip.Goals as goal
 
 pub returns : goal.returns
 returns c =

@@ -3,7 +3,7 @@
 ghost use Rattle.std.specs.Prelude.{◌≡◌, ◌∷◌, ◌++◌, IfOk, slice_get, option_copied};
 ghost use Rattle.std.specs.Option.{option_map};
 ghost use Rattle.mm_run.specs.Offered.{offered_bytes, flipped};
-ghost use Rattle.mm_expect.specs.OfferedBytes.{bytes_in};
+ghost use Rattle.mm_run.specs.OfferedBytes.{bytes_in};
 
 use mm_base::{Bytes, Memory};
 use mm_schedule::Offer;
