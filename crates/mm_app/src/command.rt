@@ -98,7 +98,7 @@ pub fn memoir<P: Platform, T: Store, S: Source, E: Source, K: Sink>(
         (E.left entropy.old) (E.faults entropy.old) (K.received out.old) (K.faults out.old) in
         let new = outside (P.standing platform.new) (T.kept store.new) (S.left input.new) (S.faults input.new)
         (E.left entropy.new) (E.faults entropy.new) (K.received out.new) (K.faults out.new) in
-        (command : Told) → Spells command (map (λ s. s.now) words.now) → DoesOrLacks command old new result }
+        (command : Told) → SpellsCommand command (map (λ s. s.now) words.now) → DoesOrLacks command old new result }
 
     // A schedule within the grammar and the limits is not refused.
     ensures complete { SpellsCommand Replay (map (λ s. s.now) words.now) → (bytes : List ℕ) → (next : Stage) → S.left input.old ≡ Some bytes
@@ -134,7 +134,7 @@ pub fn memoir<P: Platform, T: Store, S: Source, E: Source, K: Sink>(
         (E.left entropy.old) (E.faults entropy.old) (K.received out.old) (K.faults out.old) in
         let new = outside (P.standing platform.new) (T.kept store.new) (S.left input.new) (S.faults input.new)
         (E.left entropy.new) (E.faults entropy.new) (K.received out.new) (K.faults out.new) in
-        (command : Told) → Spells command (map (λ s. s.now) words.now) → BlamesSource command old new result }
+        (command : Told) → SpellsCommand command (map (λ s. s.now) words.now) → BlamesSource command old new result }
     ensures wrote { BlamesOutput result (K.faults out.old) (K.faults out.new) }
 {
     match read_words(alloc, words) {
