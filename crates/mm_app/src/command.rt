@@ -52,11 +52,15 @@ fn done<P: Platform, T: Store, S: Source, E: Source, K: Sink>(
         (E.left entropy.new) (E.faults entropy.new) (K.received out.new) (K.faults out.new) in
         DoesOrLacks command.now old new result }
     ensures complete { command.now ≡ Replay → (bytes : List ℕ) → (next : Stage) → S.left input.old ≡ Some bytes
-        → (run_of (schedule_answer header_at) schedule_closing AtHeader bytes).outcome ≡ Ok next → EndsUnrefused result }
-    ensures receipts { (key : List ℕ) → command.now ≡ Receipts key → (bytes : List ℕ) → (next : Checking) → S.left input.old ≡ Some bytes
-        → (run_of receipts_answer receipts_closing (first_checking key) bytes).outcome ≡ Ok next → EndsUnrefused result }
+        → (run_of (schedule_answer header_at) schedule_closing AtHeader bytes).outcome ≡ Ok next
+        → EndsUnrefused result }
+    ensures receipts { (key : List ℕ) → command.now ≡ Receipts key
+        → (bytes : List ℕ) → (next : Checking) → S.left input.old ≡ Some bytes
+        → (run_of receipts_answer receipts_closing (first_checking key) bytes).outcome ≡ Ok next
+        → EndsUnrefused result }
     ensures check { command.now ≡ Check → (bytes : List ℕ) → (next : checked.Stage) → S.left input.old ≡ Some bytes
-        → (run_of (checked.check_answer header_at) checked.check_closing checked.AtHeader bytes).outcome ≡ Ok next → EndsUnrefused result }
+        → (run_of (checked.check_answer header_at) checked.check_closing checked.AtHeader bytes).outcome ≡ Ok next
+        → EndsUnrefused result }
     ensures usage { result ≡ Usage → ⊥ }
     ensures platform { (UsesPlatform command.now → ⊥) → platform.new ≡ platform.old }
     ensures store { (UsesStore command.now → ⊥) → store.new ≡ store.old }
@@ -101,16 +105,22 @@ pub fn memoir<P: Platform, T: Store, S: Source, E: Source, K: Sink>(
         (command : Told) → SpellsCommand command (map (λ s. s.now) words.now) → DoesOrLacks command old new result }
 
     // A schedule within the grammar and the limits is not refused.
-    ensures complete { SpellsCommand Replay (map (λ s. s.now) words.now) → (bytes : List ℕ) → (next : Stage) → S.left input.old ≡ Some bytes
-        → (run_of (schedule_answer header_at) schedule_closing AtHeader bytes).outcome ≡ Ok next → EndsUnrefused result }
+    ensures complete { SpellsCommand Replay (map (λ s. s.now) words.now)
+        → (bytes : List ℕ) → (next : Stage) → S.left input.old ≡ Some bytes
+        → (run_of (schedule_answer header_at) schedule_closing AtHeader bytes).outcome ≡ Ok next
+        → EndsUnrefused result }
 
     // Lines that are pairs within the limits are not refused.
-    ensures receipts { (key : List ℕ) → SpellsCommand (Receipts key) (map (λ s. s.now) words.now) → (bytes : List ℕ) → (next : Checking) → S.left input.old ≡ Some bytes
-        → (run_of receipts_answer receipts_closing (first_checking key) bytes).outcome ≡ Ok next → EndsUnrefused result }
+    ensures receipts { (key : List ℕ) → SpellsCommand (Receipts key) (map (λ s. s.now) words.now)
+        → (bytes : List ℕ) → (next : Checking) → S.left input.old ≡ Some bytes
+        → (run_of receipts_answer receipts_closing (first_checking key) bytes).outcome ≡ Ok next
+        → EndsUnrefused result }
 
     // Nor is a recorded run within the grammar and the limits.
-    ensures check { SpellsCommand Check (map (λ s. s.now) words.now) → (bytes : List ℕ) → (next : checked.Stage) → S.left input.old ≡ Some bytes
-        → (run_of (checked.check_answer header_at) checked.check_closing checked.AtHeader bytes).outcome ≡ Ok next → EndsUnrefused result }
+    ensures check { SpellsCommand Check (map (λ s. s.now) words.now)
+        → (bytes : List ℕ) → (next : checked.Stage) → S.left input.old ≡ Some bytes
+        → (run_of (checked.check_answer header_at) checked.check_closing checked.AtHeader bytes).outcome ≡ Ok next
+        → EndsUnrefused result }
 
     // The headline: what is written for a schedule is one run of the module on one list of requests.
     ensures headline { SpellsCommand Replay (map (λ s. s.now) words.now)
@@ -128,7 +138,8 @@ pub fn memoir<P: Platform, T: Store, S: Source, E: Source, K: Sink>(
     ensures entropy { SpellNo TakesEntropy (map (λ s. s.now) words.now) → entropy.new ≡ entropy.old }
 
     // A count of faults rose exactly where the status blames it; the output's too where its stop line was cut short.
-    ensures device { IsBlamed (tells_platform_fault result) (P.standing platform.old).faults (P.standing platform.new).faults }
+    ensures device { IsBlamed (tells_platform_fault result) (P.standing platform.old).faults
+        (P.standing platform.new).faults }
     ensures slots { IsBlamed (tells_store_fault result) (T.kept store.old).faults (T.kept store.new).faults }
     ensures source { let old = outside (P.standing platform.old) (T.kept store.old) (S.left input.old) (S.faults input.old)
         (E.left entropy.old) (E.faults entropy.old) (K.received out.old) (K.faults out.old) in
