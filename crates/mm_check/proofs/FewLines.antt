@@ -1,19 +1,16 @@
 -- An event is answered by few lines.
-use Rattle.std.proofs.Common.{◌≡◌, ℕ, ◌+◌, ◌-◌, ◌*◌, ◌≤◌, Bool, true, false, List, [], ◌∷◌, length, Option, None, Some, Result, Ok, Err, refl, ap, arith, length-append, nat_lt}
-use Rattle.std.specs.Prelude.{◌||◌, if◌then◌else◌}
-use Rattle.std.specs.List.{list_any}
-use Rattle.std.proofs.lemmas.Bool.Decides.{nat_tests}
+use Rattle.std.proofs.Common.{◌≡◌, ℕ, ◌+◌, ◌-◌, ◌*◌, ◌≤◌, Bool, true, false, List, [], ◌∷◌, length, Option, None, Some, Result, Ok, Err, refl, arith, length-append}
+use Rattle.std.specs.Prelude.{if◌then◌else◌}
 use Rattle.std.proofs.lemmas.List.{length-drop}
-use Rattle.mm_module.specs.Batch.{Batch, text_of, size_of, normal}
+use Rattle.mm_module.specs.Batch.{Batch, size_of, normal}
 use Rattle.mm_module.specs.Meaning.{outputs_from}
-use Rattle.mm_module.proofs.BatchLaws.{members_of-normal}
 use Rattle.mm_module.proofs.RunLaws.{length-outputs_from}
 use Rattle.mm_platform.specs.declared.fault.StepFault.{StepFault}
 use Rattle.mm_platform.specs.declared.plan.Meddle.{Meddle}
 use Rattle.mm_platform.specs.declared.plan.Stop.{Stop}
 use Rattle.mm_model.specs.Instance.{Instance}
 use Rattle.mm_model.specs.History.{History, Move, requests_of, total_of, first_history}
-use Rattle.mm_model.specs.Long.{is_lf, is_long}
+use Rattle.mm_model.specs.Long.{is_long}
 use Rattle.mm_model.specs.declared.refusal.Refusal.{Refusal}
 use Rattle.mm_call.specs.Answers.{last_outputs}
 use Rattle.mm_call.specs.Courses.{Course, Walked, walk, commits}

@@ -1,7 +1,5 @@
 -- The run of the events that are read.
-use Rattle.std.proofs.Common.{◌≡◌, ◌∙◌, ℕ, ◌<◌, nat_le, Bool, true, false, List, [], ◌∷◌, ◌++◌, length, map, refl, sym, ap, subst, arith, append-nil, length-append}
-use Rattle.std.specs.Prelude.{◌||◌}
-use Rattle.std.proofs.lemmas.Bool.Decides.{nat_tests}
+use Rattle.std.proofs.Common.{◌≡◌, ◌∙◌, ℕ, ◌<◌, false, List, [], ◌∷◌, ◌++◌, length, refl, sym, ap, subst, arith, append-nil, length-append}
 use Rattle.std.proofs.lemmas.List.{map-append}
 use Rattle.mm_schedule.specs.declared.header.Header.{Header}
 use Rattle.mm_schedule.specs.declared.event.Event.{Event as CodeEvent}
@@ -13,7 +11,7 @@ use Rattle.mm_call.specs.Levels.{by_digests}
 use Rattle.mm_run.specs.Folds.{Outcome, Followed, outcome_of, first_issued, first_digests, replies_by_digests}
 use Rattle.mm_run.specs.Held.{world_of}
 use Rattle.mm_run.proofs.GoingOn.{goes_on}
-use Rattle.mm_replay.specs.Schedule.{Running, begun, is_too_much, outcome_in, after_event, most_events}
+use Rattle.mm_replay.specs.Schedule.{Running, begun, is_too_much, outcome_in, after_event}
 use Rattle.mm_replay.specs.Counting.{few_events}
 use Rattle.mm_check.specs.Guards.{events_of}
 use Rattle.mm_check.specs.Numbering.{lines_of_all, expected_lines}

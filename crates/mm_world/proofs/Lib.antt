@@ -1,4 +1,3 @@
-pub mod Flipping
 pub mod Committing
 pub mod Asking
 pub mod Calling

@@ -1,5 +1,4 @@
 pub mod Stands
 pub mod Calls
 pub mod Held
-pub mod OfferedBytes
 pub mod Asks

@@ -13,7 +13,6 @@ ghost use Rattle.mm_run.specs.Offered.{offered_bytes};
 ghost use Rattle.mm_world.specs.Asks.{AsksAs, ChecksAs};
 ghost use Rattle.mm_world.specs.Calls.{refused_as, told_as, broken_as, takes_effect, CalledAs, Restores, Settles, closes_at, closing_as, stops_in};
 
-use crate::offered::offered;
 use mm_base::{Bytes, Memory};
 use mm_call::{Ended, KeptKey};
 use mm_digest::Variant;
@@ -21,6 +20,7 @@ use mm_model::{BatchAnswer, Refusal, is_long};
 use mm_module::{Batch, Module};
 use mm_opt::{CheckpointRefusal, Checkpointed};
 use mm_platform::{Meddle, MemPlatform, Platform, Stop};
+use mm_run::offered;
 use mm_schedule::{Cause, Offer, Reply, Way};
 use std::alloc::Global;
 

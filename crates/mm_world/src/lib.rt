@@ -2,8 +2,6 @@
 #![tactic(auto)]
 
 mod call;
-mod keys;
-mod offered;
 mod parts;
 mod world;
 

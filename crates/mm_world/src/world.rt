@@ -7,13 +7,13 @@ ghost use Rattle.mm_model.specs.Standing.{cell_of, issued_bytes};
 ghost use Rattle.mm_run.specs.Held.{world_of};
 
 use crate::call::{Called, asked, checkpoint};
-use crate::keys::{barrier, key};
 use crate::parts::{first, keep, listed};
 use mm_base::{Bytes, Memory};
 use mm_call::{KeptKey, Provisioned};
 use mm_digest::{Digest, Variant};
 use mm_module::Batch;
 use mm_platform::{Meddle, MemPlatform, Platform, Stop};
+use mm_run::{world_barrier, world_key};
 use mm_schedule::{Event, Header, Offer, Reply};
 use std::alloc::Global;
 use std::marker::Model;
@@ -46,8 +46,13 @@ fn provisioned(alloc: Global, header: &Header) -> Result<Provisioned, Memory>
     ensures snapshot { IfOk result (λ made. made.snapshot ≡ issued_bytes (world_of header.now) first_history) }
 {
     match header.variant {
-        Variant::Basic => mm_basic::provision(alloc, &header.module, &key(), &barrier()),
-        Variant::Opt => mm_opt::provision(alloc, &header.module, &key(), &barrier()),
+        Variant::Basic => mm_basic::provision(
+            alloc,
+            &header.module,
+            &world_key(),
+            &world_barrier(),
+        ),
+        Variant::Opt => mm_opt::provision(alloc, &header.module, &world_key(), &world_barrier()),
     }
 }
 
