@@ -8,7 +8,7 @@ use Rattle.mm_module.specs.Meaning.{Meaning}
 use Rattle.mm_model.specs.Instance.{Instance, basic}
 use Rattle.mm_model.specs.History.{first_history}
 use Rattle.mm_host.specs.Begins.{IsFirst, first_slots}
-use Rattle.mm_host.specs.Continuing.{AreToFollow, CanServe, Continues, ContinuesTo, IsInHand, history_then, told_in}
+use Rattle.mm_host.specs.Continuing.{AreToFollow, Continues, ContinuesTo, IsInHand, history_then, told_in}
 use Rattle.mm_host.specs.Recovery.{CanRecover, IsAskedFor}
 use Rattle.mm_host.specs.Sessions.{Sessions}
 use Rattle.mm_host.specs.declared.fault.SessionFault.{SessionFault}
