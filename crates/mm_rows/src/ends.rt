@@ -285,33 +285,16 @@ fn an_output_that_fails_at_the_stop_line_changes_no_status(rt: HostRuntime) -> R
     Ok(())
 }
 
-// Replays a schedule of one request over streams whose first call fails.
-fn check_first(
-    rt: &impl Abort,
-    alloc: Global,
-    failing_reads: &[u64],
-    failing_writes: &[u64],
-    written: &str,
-    code: u8,
-) -> Result<(), Fail> {
-    let mut streams = sound();
-    streams.failing_reads = failing_reads;
-    streams.failing_writes = failing_writes;
-    check_over(
-        rt,
-        alloc,
-        ONE_REQUEST.as_bytes(),
-        &streams,
-        written.as_bytes(),
-        code,
-    )
-}
-
 const ONE_REQUEST: &str = "memoir 1 basic counter\nask last add 5\n";
 
 /// The first call fails: the input's is told, and after the output's nothing is.
 #[test]
 fn a_first_call_that_fails_is_the_end(rt: HostRuntime) -> Result<(), Fail> {
-    check_first(&rt, rt.alloc(), &[1], &[], "stop read\n", 3)?;
-    check_first(&rt, rt.alloc(), &[], &[1], "", 4)
+    let schedule = ONE_REQUEST.as_bytes();
+    let mut streams = sound();
+    streams.failing_reads = &[1];
+    check_over(&rt, rt.alloc(), schedule, &streams, b"stop read\n", 3)?;
+    streams.failing_reads = &[];
+    streams.failing_writes = &[1];
+    check_over(&rt, rt.alloc(), schedule, &streams, b"", 4)
 }
