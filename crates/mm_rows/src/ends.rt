@@ -285,12 +285,10 @@ fn an_output_that_fails_at_the_stop_line_changes_no_status(rt: HostRuntime) -> R
     Ok(())
 }
 
-const ONE_REQUEST: &str = "memoir 1 basic counter\nask last add 5\n";
-
 /// The first call fails: the input's is told, and after the output's nothing is.
 #[test]
 fn a_first_call_that_fails_is_the_end(rt: HostRuntime) -> Result<(), Fail> {
-    let schedule = ONE_REQUEST.as_bytes();
+    let schedule = b"memoir 1 basic counter\nask last add 5\n";
     let mut streams = sound();
     streams.failing_reads = &[1];
     check_over(&rt, rt.alloc(), schedule, &streams, b"stop read\n", 3)?;
