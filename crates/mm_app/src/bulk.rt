@@ -1,6 +1,7 @@
 //! The command `bulk`: a schedule is made from a number, run, and told in five lines.
 
 ghost use Rattle.std.specs.Prelude.{◌≤◌};
+ghost use Rattle.mm_base.specs.Limits.{most_events};
 ghost use Rattle.mm_app.specs.Bulk.{RunsInBulk, TellsSummary};
 
 use crate::status::Status;
@@ -12,7 +13,7 @@ use std::alloc::Global;
 
 /// Runs the schedule of a number, and tells what came of it.
 pub fn run_in_bulk<K: Sink>(alloc: Global, it: &Generated, out: &mut K) -> Status
-    requires { it.now.count ≤ 20000 }
+    requires { it.now.count ≤ most_events }
     ensures { RunsInBulk it.now (K.received out.old) (K.received out.new) (K.faults out.old) (K.faults out.new) result }
 {
     match bulk(alloc, it.number, it.count, &it.header) {

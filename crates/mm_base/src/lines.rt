@@ -3,10 +3,11 @@
 ghost use Rattle.std.specs.Prelude.{◌≡◌, ◌≢◌, ◌+◌, ◌-◌, ◌<◌, ◌≤◌, List, ℕ, [], length, drop, take, slice_index, slice_range, IfOk, MatchOption};
 ghost use Rattle.std.specs.Io.KnownBytes.{ReadConsumes};
 ghost use Rattle.mm_base.specs.Faults.{CountsFaults};
-ghost use Rattle.mm_base.specs.declared.lines.TheConstants.{LONGEST_LINE, ROOM};
+ghost use Rattle.mm_base.specs.declared.lines.TheConstants.{ROOM};
 ghost use Rattle.std.specs.Borrow.{sem};
 ghost use Rattle.std.specs.Io.BufRead.{Rests};
 ghost use Rattle.mm_base.specs.Input.{IsUnbroken};
+ghost use Rattle.mm_base.specs.Limits.{longest_line};
 ghost use Rattle.mm_base.specs.Lines.{Breaks, CountsReads, Looks, Refills, Sees, seen_at_end};
 
 use crate::fault::{Failed, Memory};
@@ -15,9 +16,6 @@ use memchr::memchr;
 use std::alloc::Global;
 use std::marker::Model;
 use thiserror::Error;
-
-/// The most bytes that a line may be asked to have.
-pub const LONGEST_LINE: usize = 8400;
 
 /// The bytes that a reader holds at most, which are far more than a line has, so that held bytes are
 /// seldom moved.
@@ -91,7 +89,7 @@ impl LineReader {
 
     /// The next line of the source, of at most `limit` bytes. Takes no memory.
     pub fn next<S: Source>(&mut self, source: &mut S, limit: usize) -> Result<Read<'_>, LineFault>
-        requires { limit ≤ LONGEST_LINE }
+        requires { limit ≤ longest_line }
         ensures* after { sem 𝓛 (Rests the_row self.entry (NextLine limit (S.left source.old) (S.left source.new) self.old result)) }
         ensures counted { CountsReads (S.faults source.old) (S.faults source.new) result }
     {
@@ -165,7 +163,7 @@ impl Held {
 
     /// Takes bytes until a line, the end of the input or a fault is seen.
     fn see<S: Source>(&mut self, source: &mut S, limit: usize) -> Result<Seen, LineFault>
-        requires { limit ≤ LONGEST_LINE }
+        requires { limit ≤ longest_line }
         ensures seen { Sees limit (S.left source.old) (S.left source.new) (held_in self.old) (held_in self.new) result }
         ensures counted { CountsReads (S.faults source.old) (S.faults source.new) result }
     {
@@ -205,7 +203,7 @@ impl Held {
 
     /// Takes more bytes from the source, and answers how many.
     fn refill<S: Source>(&mut self, source: &mut S) -> Result<usize, Failed>
-        requires { length (held_in self.old) ≤ LONGEST_LINE }
+        requires { length (held_in self.old) ≤ longest_line }
         ensures refilled { Refills (S.left source.old) (S.left source.new) (held_in self.old) (held_in self.new) result }
         ensures counted { CountsFaults (S.faults source.old) (S.faults source.new) result }
     {
@@ -219,7 +217,7 @@ impl Held {
 
     /// Moves the bytes to the front of the buffer where they stand at its end.
     fn make_room(&mut self)
-        requires { length (held_in self.old) ≤ LONGEST_LINE }
+        requires { length (held_in self.old) ≤ longest_line }
         ensures same { held_in self.new ≡ held_in self.old }
         ensures room { self.new.end < ROOM }
     {

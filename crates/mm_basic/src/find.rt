@@ -1,7 +1,8 @@
 //! What a call finds in the cell and the offer.
 
-ghost use Rattle.std.specs.Prelude.{◌≡◌, ◌≤◌, ◌^◌, ◌↔◌, false, None, IsTrue};
+ghost use Rattle.std.specs.Prelude.{◌≡◌, ◌≤◌, ◌↔◌, false, None, IsTrue};
 ghost use Rattle.std.specs.Str.{bytes_eq};
+ghost use Rattle.mm_base.specs.Limits.{last_position};
 ghost use Rattle.mm_digest.specs.declared.variant.Variant.TheVariants.{Basic};
 ghost use Rattle.mm_module.specs.Batch.{Many, normal};
 ghost use Rattle.mm_module.specs.Batches.{batch_of};
@@ -74,7 +75,7 @@ fn weigh<M: Module>(
 ) -> Result<Found, Refusal>
     requires cell { FitsVariant cell.now.variant cell.now.flag cell.now.barrier }
     requires variant { variant_of offered.now.content.place ≡ Basic }
-    requires position { offered.now.content.position ≤ 2 ^ 48 }
+    requires position { offered.now.content.position ≤ last_position }
     requires short { is_long (batch_of batch) ≡ false }
     ensures { OrMemory (found_in (M.meaning «module».now) (Both cell.now offered.now) (batch_of batch.entry))
         result }

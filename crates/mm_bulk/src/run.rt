@@ -2,6 +2,7 @@
 
 ghost use Rattle.std.specs.Prelude.{◌≡◌, ◌≤◌, ℕ, List, length, true, is_some, Some, Err, IfOk};
 ghost use Rattle.sha2.specs.Sha256.{sha256};
+ghost use Rattle.mm_base.specs.Limits.{longest_line, most_events};
 ghost use Rattle.mm_schedule.specs.Grammar.{event_at};
 ghost use Rattle.mm_schedule.specs.Replies.{IsPrintable};
 ghost use Rattle.mm_gen.specs.Schedules.{schedule_lines};
@@ -32,7 +33,7 @@ use std::alloc::Global;
 /// `TooMuch` comes exactly where a replay of the schedule's text answers so: where an event line, with those before it
 /// and the snapshots issued till then, has more than 268,435,456 bytes. That event isn't run.
 pub fn bulk(alloc: Global, number: u64, count: u32, header: &Header) -> Result<Summary, BulkFault>
-    requires count { count ≤ 20000 }
+    requires count { count ≤ most_events }
     ensures sums { IfOk result (SumsUp header.now (schedule_lines number count header.now)) }
     ensures limit { IsLimited (is_over (begun header.now) (schedule_lines number count header.now)) result }
     ensures replayed { IsReplayed (replay_of number count header.now) result }
@@ -47,7 +48,7 @@ fn run_schedule(
     count: u32,
     header: &Header,
 ) -> Result<Summary, BulkFault>
-    requires count { count ≤ 20000 }
+    requires count { count ≤ most_events }
     ensures sums { IfOk result (SumsUp header.now (schedule_lines number count header.now)) }
     ensures limit { IsLimited (is_over (begun header.now) (schedule_lines number count header.now)) result }
 {
@@ -84,7 +85,7 @@ fn behind_header(text: &[u8]) -> &[u8]
 
 /// The reply to an event line.
 fn answered(alloc: Global, line: &[u8], progress: &mut Progress) -> Result<Reply, BulkFault>
-    requires short { length line.now ≤ 8400 }
+    requires short { length line.now ≤ longest_line }
     requires known { is_some (event_at line.now) ≡ true }
     ensures reply { IfOk result (Answered (running progress.old) (running progress.new) line.now) }
     ensures printable { IfOk result IsPrintable }

@@ -3,13 +3,14 @@ use Rattle.std.specs.Prelude.{◌≡◌, ℕ, ◌+◌, ◌<◌, ◌^◌, Bool, t
 use Rattle.std.specs.Str.{bytes_eq}
 use Rattle.std.proofs.Common.{refl, subst, arith}
 use Rattle.std.proofs.lemmas.Bool.Decides.{nat_tests}
+use Rattle.mm_base.specs.Limits.{most_events}
 use Rattle.mm_schedule.specs.declared.header.Header.{Header}
 use Rattle.mm_schedule.specs.Events.{Event}
 use Rattle.mm_schedule.specs.Grammar.{event_at}
 use Rattle.mm_play.specs.declared.player.Refused.{Refused}
 use Rattle.mm_play.specs.declared.player.Refused.TheVariants.{Bad, Much}
 use Rattle.mm_play.specs.Counting.{no_answer, same_next}
-use Rattle.mm_replay.specs.Schedule.{is_too_much, most_events}
+use Rattle.mm_replay.specs.Schedule.{is_too_much}
 use Rattle.mm_replay.specs.Counting.{few_events}
 use Rattle.mm_check.specs.Checking.{Read, first_read, after_read, Compared, first_compared, after_compared, Stage, AtHeader, InEvents, InReplies, headed, read_event, check_answer, check_left, most_recorded, section_line}
 

@@ -1,6 +1,7 @@
 //! The premises and the expected lines of a list of events.
 
 ghost use Rattle.std.specs.Prelude.{◌≡◌, ◌+◌, ◌<◌, ◌≤◌, [], length, take, IfOk, OnOk};
+ghost use Rattle.mm_base.specs.Limits.{most_events};
 ghost use Rattle.mm_check.specs.Guards.{events_of};
 ghost use Rattle.mm_check.specs.Lists.{pair_of};
 ghost use Rattle.mm_check.specs.Deciding.{StandsBehind, DecidesRun, premise_by, forged_then};
@@ -59,7 +60,7 @@ impl Deciding {
         index: usize,
     ) -> Result<(), Memory>
         requires within { index < length events.now }
-        requires few { length events.now ≤ 20000 }
+        requires few { length events.now ≤ most_events }
         requires stands { StandsBehind header.now (events_of (take index events.now)) self.old }
         ensures { OnOk result (StandsBehind header.now (events_of (take (index + 1) events.now)) self.new) }
     {
@@ -94,7 +95,7 @@ impl Deciding {
 
     // What all events come to.
     fn finish(mut self, alloc: Global, header: &Header, events: &[Event]) -> Result<Decided, Memory>
-        requires few { length events.now ≤ 20000 }
+        requires few { length events.now ≤ most_events }
         requires stands { StandsBehind header.now (events_of events.now) self }
         ensures { IfOk result (DecidesRun header.now (events_of events.now)) }
     {
@@ -123,7 +124,7 @@ fn forged_then(forged: Option<u32>, is_genuine: bool, number: u32) -> Option<u32
 
 /// What these events come to: what is told of the premises, and the lines that are expected.
 pub(crate) fn decide(alloc: Global, header: &Header, events: &[Event]) -> Result<Decided, Memory>
-    requires { length events.now ≤ 20000 }
+    requires { length events.now ≤ most_events }
     ensures { IfOk result (DecidesRun header.now (events_of events.now)) }
 {
     let mut deciding = Deciding::begin(alloc, header)?;

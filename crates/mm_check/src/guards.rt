@@ -6,6 +6,7 @@ ghost use Rattle.std.specs.Cmp.Lexicographic.{slice_cmp};
 ghost use Rattle.std.specs.List.{list_any};
 ghost use Rattle.std.specs.Ordering.{nat_cmp};
 ghost use Rattle.std.specs.Str.{bytes_eq};
+ghost use Rattle.mm_base.specs.Limits.{most_events};
 ghost use Rattle.mm_module.specs.Batch.{Many, normal};
 ghost use Rattle.mm_module.specs.Batches.{batch_of};
 ghost use Rattle.mm_model.specs.Chains.{guard, own_values};
@@ -150,7 +151,7 @@ fn brings_some(guards: &BTreeSet<[u8; 32]>, event: &Event) -> bool
 
 /// The first event, from 1, at which others extend the register by a value of the set.
 fn first_among(guards: &BTreeSet<[u8; 32]>, events: &[Event]) -> Option<u32>
-    requires { length events.now ≤ 20000 }
+    requires { length events.now ≤ most_events }
     ensures { (known : List (List ℕ)) → HasAll known guards.now → result ≡ first_where (is_secured known) (events_of events.now) }
 {
     'events: for index in 0..events.len() {
@@ -168,7 +169,7 @@ pub(crate) fn first_secured(
     variant: Variant,
     events: &[Event],
 ) -> Result<Option<u32>, Memory>
-    requires { length events.now ≤ 20000 }
+    requires { length events.now ≤ most_events }
     ensures { IfOk result (λ found. found ≡ secured_by variant world_barrier (events_of events.now)) }
 {
     match variant {

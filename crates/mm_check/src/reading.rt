@@ -1,6 +1,7 @@
 //! The events of a recorded run, as they are read.
 
 ghost use Rattle.std.specs.Prelude.{◌≡◌, ◌≤◌, ◌++◌, ◌∷◌, [], length, IfOk, OnOk};
+ghost use Rattle.mm_base.specs.Limits.{longest_line};
 ghost use Rattle.mm_schedule.specs.Grammar.{event_at};
 ghost use Rattle.mm_schedule.specs.Replies.{IsPrintable, lines_of};
 ghost use Rattle.mm_run.specs.Held.{world_of};
@@ -87,7 +88,7 @@ impl Reading {
 
     /// Behind the event of a line.
     pub fn take(mut self, alloc: Global, line: &[u8]) -> Result<Reading, TakeFault>
-        requires { length line.now ≤ 8400 }
+        requires { length line.now ≤ longest_line }
         ensures { ReadsEvent (read_event self line.now (event_at line.now)) result }
     {
         let event = event_in(alloc, line)?;

@@ -11,6 +11,7 @@ use Rattle.hex.specs.Hex.{encode_lower, lower_digits}
 use Rattle.hex.proofs.HexLemmas.{length-encode_with}
 use Rattle.mm_base.specs.Decimals.{number_of}
 use Rattle.mm_base.specs.Fields.{eight_bytes}
+use Rattle.mm_base.specs.Limits.{last_position}
 use Rattle.mm_module.specs.Bytes.{is_byte, are_bytes}
 use Rattle.mm_module.specs.LineLaws.{is_unbroken, and-true, and-both, All-are_bytes, IsText, IsLine-text, is_unbroken-decimal, length-decimal}
 use Rattle.mm_module.specs.Meaning.{IsLawful}
@@ -32,7 +33,7 @@ use Rattle.mm_dispenser.specs.declared.dispenser.Says.TheVariants as says
 -- a seed with a place
 pub record IsSeeded (seed : List ℕ) (place : ℕ) : Type 0 where
   pub formed : IsValue seed
-  pub within : place ≤ 2 ^ 48
+  pub within : place ≤ last_position
 
 -- a state that can be spelled
 abbrev pub IsDispenserState : State → Type 0
@@ -75,10 +76,10 @@ SaysWords (says.Words seed place count) = (place < 2 ^ 64) × (count ≤ 16)
 SaysWords _ = Unit {0}
 
 -- a state that can be spelled and what can be said
-drawn-IsOutcome : (seed : List ℕ) (place count : ℕ) (flag : Bool) → nat_le (place + count) (2 ^ 48) ≡ flag → IsSeeded seed place → count ≤ 16
+drawn-IsOutcome : (seed : List ℕ) (place count : ℕ) (flag : Bool) → nat_le (place + count) last_position ≡ flag → IsSeeded seed place → count ≤ 16
     → IsOutcome IsDispenserState SaysWords (if flag then (Seeded seed (place + count), says.Words seed place count) else (Seeded seed place, says.Full))
 drawn-IsOutcome seed place count true is good few =
-    let room : place + count ≤ 2 ^ 48 = grind (arith, nat_tests) in
+    let room : place + count ≤ last_position = grind (arith, nat_tests) in
     record { state = record { formed = good.formed; within = room }; said = (omega (arith, good.within), few) }
 drawn-IsOutcome seed place count false is good few = record { state = good; said = tt }
 
@@ -86,11 +87,11 @@ pub outcome_of-IsOutcome : (state : State) (request : Option Request) → IsDisp
 outcome_of-IsOutcome Unset (Some (Seed seed)) good asked = record { state = record { formed = asked; within = omega arith }; said = tt }
 outcome_of-IsOutcome (Seeded seed place) (Some (Seed other)) good asked = record { state = good; said = tt }
 outcome_of-IsOutcome Unset (Some (Draw count)) good asked = record { state = tt; said = tt }
-outcome_of-IsOutcome (Seeded seed place) (Some (Draw count)) good asked = drawn-IsOutcome seed place count (nat_le (place + count) (2 ^ 48)) refl good asked
+outcome_of-IsOutcome (Seeded seed place) (Some (Draw count)) good asked = drawn-IsOutcome seed place count (nat_le (place + count) last_position) refl good asked
 outcome_of-IsOutcome Unset None good asked = record { state = tt; said = tt }
 outcome_of-IsOutcome (Seeded seed place) None good asked = record { state = good; said = tt }
 
-drawn-drawn : (seed : List ℕ) (place count : ℕ) (flag : Bool) → nat_le (place + count) (2 ^ 48) ≡ flag
+drawn-drawn : (seed : List ℕ) (place count : ℕ) (flag : Bool) → nat_le (place + count) last_position ≡ flag
     → IsDrawn (if◌then◌else◌ {A = State × Says} flag (Seeded seed (place + count), says.Words seed place count) (Seeded seed place, says.Full)).1
 drawn-drawn seed place count true is = grind (arith, nat_tests)
 drawn-drawn seed place count false is = tt
@@ -100,7 +101,7 @@ pub outcome_of-drawn : (state : State) (request : Option Request) → IsDrawn (o
 outcome_of-drawn Unset (Some (Seed seed)) = tt
 outcome_of-drawn (Seeded seed place) (Some (Seed other)) = tt
 outcome_of-drawn Unset (Some (Draw count)) = tt
-outcome_of-drawn (Seeded seed place) (Some (Draw count)) = drawn-drawn seed place count (nat_le (place + count) (2 ^ 48)) refl
+outcome_of-drawn (Seeded seed place) (Some (Draw count)) = drawn-drawn seed place count (nat_le (place + count) last_position) refl
 outcome_of-drawn Unset None = tt
 outcome_of-drawn (Seeded seed place) None = tt
 
@@ -112,7 +113,7 @@ seeded_of-joined seed place good =
     let front = take-front 32 seed (eight_bytes place) good.formed.long in
     let back = drop-front 32 seed (eight_bytes place) good.formed.long in
     let read : of_eight_bytes (eight_bytes place) ≡ place = of_eight_bytes-eight place (omega (arith, good.within)) in
-    let room : nat_le place (2 ^ 48) ≡ true = let most : place ≤ 2 ^ 48 = good.within in grind (arith, nat_tests) in
+    let room : nat_le place last_position ≡ true = let most : place ≤ last_position = good.within in grind (arith, nat_tests) in
     rw (counted, front, back, read, room) refl
 
 -- a spelling is read back
@@ -127,14 +128,14 @@ abbrev MayBeState : Option State → Type 0
 MayBeState None = Unit {0}
 MayBeState (Some state) = IsDispenserState state
 
-placed-reads : (seed : List ℕ) (place : ℕ) (flag : Bool) → nat_le place (2 ^ 48) ≡ flag → IsValue seed → MayBeState (if flag then Some (Seeded seed place) else None)
+placed-reads : (seed : List ℕ) (place : ℕ) (flag : Bool) → nat_le place last_position ≡ flag → IsValue seed → MayBeState (if flag then Some (Seeded seed place) else None)
 placed-reads seed place true is formed = record { formed = formed; within = grind (arith, nat_tests) }
 placed-reads seed place false is formed = tt
 
 seeded-reads : (bytes : List ℕ) (flag : Bool) → (length bytes == 40) ≡ flag → are_bytes bytes ≡ true → MayBeState (if flag then placed (take 32 bytes) (of_eight_bytes (drop 32 bytes)) else None)
 seeded-reads bytes true is good =
     let long : length bytes ≡ 40 = grind (arith, nat_tests) in
-    placed-reads (take 32 bytes) (of_eight_bytes (drop 32 bytes)) (nat_le (of_eight_bytes (drop 32 bytes)) (2 ^ 48)) refl
+    placed-reads (take 32 bytes) (of_eight_bytes (drop 32 bytes)) (nat_le (of_eight_bytes (drop 32 bytes)) last_position) refl
     (record { long = length-take-le 32 bytes (omega arith); bytes = are_bytes-take 32 bytes good })
 seeded-reads bytes false is good = tt
 

@@ -1,9 +1,10 @@
 -- What a session comes to by lists alone, in either variant: its replies are those of one run of the module, and the
 -- slots that it leaves fit the history that the platform stands for.
-use Rattle.std.specs.Prelude.{◌≡◌, ◌≢◌, ◌+◌, ◌-◌, ◌<◌, ◌≤◌, ◌^◌, ℕ, List, [], ◌∷◌, ◌++◌, Option, None, Some, Result, Ok, Err, IsSome, true, nat_eq, if◌then◌else◌, ◌⊎◌}
+use Rattle.std.specs.Prelude.{◌≡◌, ◌≢◌, ◌+◌, ◌-◌, ◌<◌, ◌≤◌, ℕ, List, [], ◌∷◌, ◌++◌, Option, None, Some, Result, Ok, Err, IsSome, true, nat_eq, if◌then◌else◌, ◌⊎◌}
 use Rattle.std.proofs.Common.{inl, inr}
 use Rattle.std.specs.List.{Contains}
 use Rattle.mm_base.specs.Input.{lines_of}
+use Rattle.mm_base.specs.Limits.{last_position}
 use Rattle.mm_digest.specs.declared.variant.Variant.{Variant}
 use Rattle.mm_digest.specs.declared.variant.Variant.TheVariants.{Basic, Opt}
 use Rattle.mm_platform.specs.Standing.{Item, Standing}
@@ -42,7 +43,7 @@ use Rattle.mm_host.specs.Waiting.{IsWaiting}
 abbrev pub AreToFollow : List (List ℕ) → List Batch → Instance → History → List (List ℕ) → Type 0
 AreToFollow all asked i y [] = Unit {0}
 AreToFollow all asked i y (line ∷ lines) =
-    Contains asked (One line) × Within (offer_messages i (issued i y).place (One line)) all × (total_of y.batches < 2 ^ 48)
+    Contains asked (One line) × Within (offer_messages i (issued i y).place (One line)) all × (total_of y.batches < last_position)
     × AreToFollow all asked i (moved i y (Commit (One line))) lines
 
 -- the history once what waits is answered, but for others' values; where nothing waits, nothing is committed

@@ -1,6 +1,7 @@
 -- A line that is asked: its record is written before, and the answer's snapshot after. Nothing is asked for these steps.
 use Rattle.std.specs.Prelude.{◌≡◌, ◌+◌, ◌%◌, ℕ, List, [], ◌∷◌, ◌++◌, Result, Ok, Err}
 use Rattle.mm_base.specs.Lines.{IsWithin}
+use Rattle.mm_base.specs.Limits.{longest_request}
 use Rattle.mm_digest.specs.declared.variant.Variant.{Variant}
 use Rattle.mm_platform.specs.Standing.{Standing}
 use Rattle.mm_module.specs.Meaning.{Meaning}
@@ -45,13 +46,9 @@ pub record Served : Type 0 where
   pub line : List ℕ
   pub answer : Answer
 
--- the most bytes of a line, its LF apart
-abbrev pub line_limit : ℕ
-line_limit = 4096
-
 -- The line is asked and answered, and the session goes on.
 pub record ServesFirst (variant : Variant) (meaning : Meaning) (from : Place) (c : Served) (goes : Place → Type 0) : Type 0 where
-  pub within : IsWithin line_limit c.line
+  pub within : IsWithin longest_request c.line
   pub platform : Standing
   pub store : Kept
   pub asks : AsksLine variant meaning from.platform platform from.store store from.last c.line (Ok (Answered c.answer))

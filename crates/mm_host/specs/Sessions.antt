@@ -3,6 +3,7 @@ use Rattle.std.specs.Prelude.{◌≡◌, ◌+◌, ◌<◌, ◌≤◌, ℕ, List,
 use Rattle.std.specs.Io.KnownBytes.{Appends, Consumes, IsAtEnd}
 use Rattle.mm_base.specs.Input.{joined}
 use Rattle.mm_base.specs.Lines.{IsLong, IsWithin}
+use Rattle.mm_base.specs.Limits.{longest_request}
 use Rattle.mm_digest.specs.declared.variant.Variant.{Variant}
 use Rattle.mm_platform.specs.Standing.{Standing}
 use Rattle.mm_module.specs.Meaning.{Meaning}
@@ -13,7 +14,7 @@ use Rattle.mm_host.specs.declared.fault.SessionFault.TheVariants.{Memory, Store,
 use Rattle.mm_host.specs.declared.resuming.Resumed.{Resumed}
 use Rattle.mm_host.specs.Resumes.{Resumes}
 use Rattle.mm_host.specs.Saying.{text_of, Says}
-use Rattle.mm_host.specs.Serving.{AsksLine, Place, Served, Serves, line_limit, lines_served, replies_to}
+use Rattle.mm_host.specs.Serving.{AsksLine, Place, Served, Serves, lines_served, replies_to}
 
 -- the most lines
 abbrev pub most_lines : ℕ
@@ -28,7 +29,7 @@ pub record IsAtRest (at : Place) (after : Standing) (new : Kept) (sent : List �
 -- The bytes begin with a line, its LF and what is held behind.
 pub record BeginsWith (bytes line held : List ℕ) : Type 0 where
   pub cut : bytes ≡ line ++ 10 ∷ held
-  pub within : IsWithin line_limit line
+  pub within : IsWithin longest_request line
 
 -- The line in hand is asked, and comes to a fault; or its reply isn't written whole.
 pub record StopsInLine (variant : Variant) (meaning : Meaning) (number : ℕ) (at : Place) (after : Standing) (new : Kept) (more sent : List ℕ) (fault : SessionFault) : Type 0 where
@@ -44,13 +45,13 @@ pub record StopsInLine (variant : Variant) (meaning : Meaning) (number : ℕ) (a
 -- before it.
 abbrev pub Stops : Variant → Meaning → ℕ → Place → Standing → Kept → Option (List ℕ) → List ℕ → List ℕ → SessionFault → Type 0
 -- the source failed before the line's LF
-Stops variant meaning number at after new left more sent ReadFault = IsAtRest at after new sent × IsWithin line_limit more
+Stops variant meaning number at after new left more sent ReadFault = IsAtRest at after new sent × IsWithin longest_request more
 -- the input ended within the line
 Stops variant meaning number at after new left more sent (BadLine line) =
-    IsAtRest at after new sent × (line ≡ number) × IsWithin line_limit more × (0 < length more) × IsAtEnd left
+    IsAtRest at after new sent × (line ≡ number) × IsWithin longest_request more × (0 < length more) × IsAtEnd left
 -- more bytes came than a line may have
 Stops variant meaning number at after new left more sent (LineLong line) =
-    IsAtRest at after new sent × (line ≡ number) × IsLong line_limit more
+    IsAtRest at after new sent × (line ≡ number) × IsLong longest_request more
 -- the line is one too many
 Stops variant meaning number at after new left more sent TooMuch =
     IsAtRest at after new sent × (number ≡ most_lines + 1) × (line : List ℕ) × (held : List ℕ) × BeginsWith more line held

@@ -9,6 +9,7 @@ use Rattle.std.proofs.lemmas.Bool.Decides.{nat_tests}
 use Rattle.std.proofs.lemmas.Fmt.{digits_decimal, length-decimal-le}
 use Rattle.std.proofs.lemmas.List.Folds.{list_all_at}
 use Rattle.std.proofs.lemmas.Str.Parse.{numerals_by_value, tells_all_ascii_digits}
+use Rattle.mm_base.specs.Limits.{longest_request}
 use Rattle.mm_module.specs.Bytes.{is_byte, are_bytes}
 use Rattle.mm_module.specs.Meaning.{IsLine}
 
@@ -72,7 +73,7 @@ pub record IsText (most : ℕ) (text : List ℕ) : Type 0 where
   pub unbroken : is_unbroken text ≡ true
 
 -- such a text is a line
-pub IsLine-text : (most : ℕ) (text : List ℕ) → most ≤ 4096 → IsText most text → IsLine text
+pub IsLine-text : (most : ℕ) (text : List ℕ) → most ≤ longest_request → IsText most text → IsLine text
 IsLine-text most text few is = record { short = omega (arith, is.short, few); unbroken = All-is_unbroken text is.unbroken }
 
 -- a text with no LF, from each byte

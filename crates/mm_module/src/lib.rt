@@ -3,7 +3,6 @@
 
 mod batch;
 mod counter;
-mod limits;
 mod machine;
 mod outputs;
 mod texts;
@@ -12,7 +11,6 @@ mod words;
 
 pub use batch::Batch;
 pub use counter::Counter;
-pub use limits::{LAST_POSITION, LONGEST_REQUEST};
 pub use machine::{Module, Short, Stepped, is_line};
 pub use outputs::Outputs;
 pub use texts::{are_visible, text_and_number, u64_of_bytes};

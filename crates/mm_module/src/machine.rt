@@ -3,8 +3,7 @@
 ghost use Rattle.std.specs.Prelude.{◌≡◌, ◌↔◌, IfOk, IsTrue};
 ghost use Rattle.mm_module.specs.Meaning.{Meaning, IsLine, IsLawful, IsShort};
 
-use crate::limits::LONGEST_REQUEST;
-use mm_base::{Bytes, Memory};
+use mm_base::{Bytes, LONGEST_REQUEST, Memory};
 use std::alloc::Global;
 
 /// What one request gave: the state after it, and what the module says.

@@ -4,6 +4,7 @@ ghost use Rattle.std.specs.Prelude.{◌≡◌, ◌≢◌, ◌<◌, ◌≤◌, le
 ghost use Rattle.std.specs.Borrow.{Lends, sem};
 ghost use Rattle.mm_store.specs.Slots.{Slots, slot_in};
 ghost use Rattle.mm_store.specs.Calls.{ReadsSlot, WritesSlot};
+ghost use Rattle.mm_store.specs.declared.store.TheConstants.{LONGEST_SLOT};
 ghost use Rattle.mm_pages.specs.Bytes.{page_count};
 ghost use Rattle.mm_pages.specs.Paged.{kept_on};
 ghost use Rattle.mm_pages.specs.Rows.{no_rows, row_in};
@@ -76,7 +77,7 @@ impl<D: PageDevice + Drop> Store for PageStore<D> {
 
     fn write(&mut self, slot: u8, bytes: &[u8]) -> Result<(), StoreFault>
         requires slot { slot < 4 }
-        requires short { length bytes.now ≤ 1100000 }
+        requires short { length bytes.now ≤ LONGEST_SLOT }
         ensures writes { WritesSlot slot bytes.now (kept_on (D.pages self.old.device)) (kept_on (D.pages self.new.device)) result }
         ensures no_want { result ≢ Err StoreFault.Memory }
         ensures rows { self.new.rows ≡ rows_after_write slot bytes.now self.old.rows result }

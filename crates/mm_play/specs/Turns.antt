@@ -6,8 +6,9 @@ use Rattle.mm_base.specs.Input.{IsUnbroken}
 use Rattle.mm_base.specs.declared.fault.WriteFault as write
 use Rattle.mm_base.specs.declared.replay_fault.ReplayFault.{ReplayFault}
 use Rattle.mm_base.specs.declared.replay_fault.ReplayFault.TheVariants.{Memory, ReadFault, WriteFault, BadLine, LineLong, TooMuch}
+use Rattle.mm_base.specs.Limits.{longest_line}
 use Rattle.mm_play.specs.declared.player.Refused.{Refused}
-use Rattle.mm_play.specs.Play.{Told, told, stopped, line_limit, refusal_at, run_from}
+use Rattle.mm_play.specs.Play.{Told, told, stopped, refusal_at, run_from}
 use Rattle.mm_play.specs.Takes.{IsFrontOf}
 use Rattle.mm_play.specs.Plays.{ForWhole}
 
@@ -36,7 +37,7 @@ pub record AnswersLine {P : Type 0} (answer : P → List ℕ → Result (List �
   pub line : List ℕ
   pub reply : List ℕ
   pub unbroken : IsUnbroken line
-  pub short : length line ≤ line_limit
+  pub short : length line ≤ longest_line
   pub cut : bytes ≡ line ++ 10 ∷ held
   pub answered : answer player line ≡ Ok (reply, next)
   pub said_behind : said ≡ pending ++ reply

@@ -1,21 +1,20 @@
 //! The loop over the lines of an input.
 
-ghost use Rattle.std.specs.Prelude.{◌≡◌, ◌+◌, ◌≤◌, ◌<◌, ◌^◌, ℕ, List, false, [], length, OnOk};
+ghost use Rattle.std.specs.Prelude.{◌≡◌, ◌+◌, ◌≤◌, ◌<◌, ℕ, List, false, [], length, OnOk};
 ghost use Rattle.std.specs.Io.KnownBytes.{Appends, IsAtEnd};
 ghost use Rattle.mm_base.specs.Faults.{CountsFaults};
 ghost use Rattle.mm_base.specs.Input.{IsUnbroken};
 ghost use Rattle.mm_base.specs.Streams.{Sends};
+ghost use Rattle.mm_base.specs.Limits.{longest_line};
 ghost use Rattle.mm_play.specs.Turns.{Advances, Answers, Ends, SendsDue, SendsThen, Turns};
 ghost use Rattle.mm_play.specs.Plays.{Plays, IsBlamed, is_read_fault, is_write_fault};
 
 use crate::player::{Player, Refused, TakeFault};
 use mm_base::{
-    Bytes, LineFault, LineReader, Read, ReplayFault, Sink, Source, WriteFault, write_all,
+    Bytes, LONGEST_LINE, LineFault, LineReader, Read, ReplayFault, Sink, Source, WriteFault,
+    write_all,
 };
 use std::alloc::Global;
-
-/// The most bytes of a line, its LF apart.
-const LINE_LIMIT: usize = 8400;
 
 /// Where so many bytes are pending they are sent, though more lines are at hand.
 const MANY_PENDING: usize = 65536;
@@ -28,7 +27,7 @@ fn answer_line<P: Player>(
     player: &mut P,
     pending: &mut Bytes,
 ) -> Result<bool, ReplayFault>
-    requires { length line.now ≤ 8400 }
+    requires { length line.now ≤ longest_line }
     ensures { Answers number (P.answer player.old line.now) player.new pending.old pending.new result }
 {
     match player.take(alloc, line) {
@@ -77,7 +76,7 @@ fn answer_next<P: Player, S: Source>(
     ensures read { IsBlamed (is_read_fault result) (S.faults input.old) (S.faults input.new) }
     ensures unwritten { is_write_fault result ≡ false }
 {
-    match reader.next(input, LINE_LIMIT) {
+    match reader.next(input, LONGEST_LINE) {
         Ok(Read::Line(line)) => answer_line(alloc, number, line, player, pending),
         Ok(Read::Tail) => Err(ReplayFault::BadLine { line: number }),
         Ok(Read::End) => end_input(alloc, number, player, pending),

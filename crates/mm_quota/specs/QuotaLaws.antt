@@ -11,13 +11,13 @@ use Rattle.mm_module.specs.LineLaws.{and-true, All-are_bytes, IsText, IsLine-tex
 use Rattle.mm_module.specs.Meaning.{IsLawful, IsShort}
 use Rattle.mm_module.specs.TableLaws.{IsOutcome}
 use Rattle.mm_module.specs.Words.{words_of}
-use Rattle.mm_quota.specs.Table.{Account, Action, Open, Use, Free, Left, Request, Sum, On, Says, IsOpened, IsThere, IsFull, IsNone, IsUsed, IsOver, IsUnder, HasLeft, HasSum, IsBad, order_of, account_named, put, total_used, decision_of, settled, outcome_of, text_of, is_name, opening_of, action_of, request_of, is_account, count_bytes, spelling_of, is_state, stepped, quota}
+use Rattle.mm_quota.specs.Table.{Account, Action, Open, Use, Free, Left, Request, Sum, On, Says, IsOpened, IsThere, IsFull, IsNone, IsUsed, IsOver, IsUnder, HasLeft, HasSum, IsBad, order_of, account_named, put, total_used, decision_of, settled, outcome_of, text_of, is_name, opening_of, action_of, request_of, is_account, count_bytes, spelling_of, is_state, stepped, quota, greatest_limit}
 use Rattle.mm_quota.specs.LedgerLaws.{rises-put, list_all-put, length-put, length-put-there, IsFound, FoundOf, account_named-found}
 use Rattle.mm_quota.specs.SpellingLaws.{IsAccount-from, is_account-made, is_account-named, IsLedger, is_state-SpellsLedger, are_bytes-state, length-spelling_of, is_state-spelling_of}
 
 -- an action and a request that can be read
 abbrev pub IsAction : Action → Type 0
-IsAction (Open limit) = limit ≤ 2 ^ 48
+IsAction (Open limit) = limit ≤ greatest_limit
 IsAction _ = Unit {0}
 
 abbrev pub IsQuotaRequest : Option Request → Type 0
@@ -29,12 +29,12 @@ abbrev IsActionIf : Option Action → Type 0
 IsActionIf None = Unit {0}
 IsActionIf (Some action) = IsAction action
 
-opening-action : (limit : ℕ) (flag : Bool) → nat_le limit (2 ^ 48) ≡ flag → IsActionIf (if flag then Some (Open limit) else None)
+opening-action : (limit : ℕ) (flag : Bool) → nat_le limit greatest_limit ≡ flag → IsActionIf (if flag then Some (Open limit) else None)
 opening-action limit true is = grind (arith, nat_tests)
 opening-action limit false is = tt
 
 word-action : (number : ℕ) (opens uses frees : Bool) → IsActionIf (if opens then opening_of number else (if uses then Some (Use number) else (if frees then Some (Free number) else None)))
-word-action number true uses frees = opening-action number (nat_le number (2 ^ 48)) refl
+word-action number true uses frees = opening-action number (nat_le number greatest_limit) refl
 word-action number false true frees = tt
 word-action number false false true = tt
 word-action number false false false = tt
@@ -107,7 +107,7 @@ free-decision full name account number false is found =
     let kept = IsAccount-from account found.passed in
     record { change = tt; said = omega (arith, kept.within, kept.limited) }
 
-open-decision : (full : Bool) (name : List ℕ) (limit : ℕ) → is_name name ≡ true → limit ≤ 2 ^ 48 → IsDecision full name None (if full then (None, IsFull) else (Some (record { name = name; limit = limit; used = 0 }), IsOpened))
+open-decision : (full : Bool) (name : List ℕ) (limit : ℕ) → is_name name ≡ true → limit ≤ greatest_limit → IsDecision full name None (if full then (None, IsFull) else (Some (record { name = name; limit = limit; used = 0 }), IsOpened))
 open-decision true name limit named limited = record { change = tt; said = tt }
 open-decision false name limit named limited = record { change = record { good = is_account-made (record { name = name; limit = limit; used = 0 }) named limited (omega arith); named = refl; room = λ no. refl }; said = tt }
 
@@ -142,7 +142,7 @@ settled-ledger most accounts name (Some account) is ledger =
     }
 
 -- the sum of what is used
-total_used-le : (accounts : List Account) → list_all is_account accounts ≡ true → total_used accounts ≤ 2 ^ 48 * length accounts
+total_used-le : (accounts : List Account) → list_all is_account accounts ≡ true → total_used accounts ≤ greatest_limit * length accounts
 total_used-le [] all = omega arith
 total_used-le (account ∷ accounts) all =
     let w = and-true (is_account account) (list_all is_account accounts) all in

@@ -111,9 +111,13 @@ text_of IsBad = codes "bad"
 unfoldable pub is_name : List ℕ → Bool
 is_name bytes = nat_le 1 (length bytes) && nat_le (length bytes) 32 && list_all is_visible bytes
 
--- an opening, where the limit is at most 2 ^ 48
+-- the greatest limit of an account
+abbrev pub greatest_limit : ℕ
+greatest_limit = 2 ^ 48
+
+-- an opening, where the limit may be one
 abbrev pub opening_of : ℕ → Option Action
-opening_of limit = if nat_le limit (2 ^ 48) then Some (Open limit) else None
+opening_of limit = if nat_le limit greatest_limit then Some (Open limit) else None
 
 -- the action of a word with a number
 abbrev pub action_of : List ℕ → ℕ → Option Action
@@ -129,9 +133,9 @@ request_of (word ∷ name ∷ []) = if bytes_eq word (codes "left") && is_name n
 request_of (word ∷ name ∷ number ∷ []) = if is_name name then option_map (λ action. On name action) (option_and_then (action_of word) (number_of number)) else None
 request_of _ = None
 
--- an account of a ledger: its name is one, its limit at most 2 ^ 48, and at most that is used
+-- an account of a ledger: its name is one, its limit may be one, and at most that is used
 unfoldable pub is_account : Account → Bool
-is_account account = is_name account.name && nat_le account.limit (2 ^ 48) && nat_le account.used account.limit
+is_account account = is_name account.name && nat_le account.limit greatest_limit && nat_le account.used account.limit
 
 -- the names rise strictly from this one on
 abbrev pub rises : List ℕ → List Account → Bool

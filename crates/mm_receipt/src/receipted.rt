@@ -1,6 +1,7 @@
 //! A module whose outputs are receipts.
 
-ghost use Rattle.std.specs.Prelude.{◌≡◌, ◌+◌, ◌++◌, ◌<◌, ◌≤◌, ◌^◌, None, Some, IfOk, OnOk, IsTrue, length};
+ghost use Rattle.std.specs.Prelude.{◌≡◌, ◌+◌, ◌++◌, ◌<◌, ◌≤◌, None, Some, IfOk, OnOk, IsTrue, length};
+ghost use Rattle.mm_base.specs.Limits.{last_position};
 ghost use Rattle.mm_module.specs.Meaning.{IsLine};
 ghost use Rattle.mm_module.specs.Words.{words_of};
 ghost use Rattle.mm_receipt.specs.Table.{key_of_words, keyed_text, unkeyed, receipted, stamped, key_bytes, key_in, is_keyed, is_front, kept_by, kept_of, spelling_of, outcome_of};
@@ -8,8 +9,8 @@ ghost use Rattle.mm_receipt.specs.Views.{as_kept};
 ghost use Rattle.mm_receipt.specs.ReceiptedLaws.{receipted_is_lawful};
 
 use crate::receipt::receipt;
-use mm_base::{Bytes, Memory, bytes_of_u64};
-use mm_module::{LAST_POSITION, Module, Short, Stepped, Words, u64_of_bytes, value_in};
+use mm_base::{Bytes, LAST_POSITION, Memory, bytes_of_u64};
+use mm_module::{Module, Short, Stepped, Words, u64_of_bytes, value_in};
 use std::alloc::Global;
 
 /// A module round another, which counts the requests and says each output of the other with a receipt under a key.
@@ -137,7 +138,7 @@ fn text_of_key(alloc: Global, key: Option<[u8; 32]>) -> Result<Bytes, Memory>
 
 /// A request before a key is set.
 fn step_unkeyed(alloc: Global, kept: Kept<'_>, request: &[u8]) -> Result<Stepped, Memory>
-    requires { kept.count < 2 ^ 48 }
+    requires { kept.count < last_position }
     ensures state { IfOk result (λ stepped. stepped.state ≡ spelling_of (unkeyed (as_kept kept.entry) (key_of_words (words_of request.now))).0) }
     ensures output { IfOk result (λ stepped. stepped.output ≡ (unkeyed (as_kept kept.entry) (key_of_words (words_of request.now))).1) }
 {
@@ -159,7 +160,7 @@ impl<M: Short> Receipted<M> {
     ) -> Result<Stepped, Memory>
         requires spelled { IsTrue ((M.meaning self.now.inner).is_spelled kept.inner.now) }
         requires line { IsLine request.now }
-        requires room { kept.count < 2 ^ 48 }
+        requires room { kept.count < last_position }
         ensures state { IfOk result (λ stepped. stepped.state ≡ spelling_of (stamped (M.meaning self.now.inner) (as_kept kept.entry) request.now key.now).0) }
         ensures output { IfOk result (λ stepped. stepped.output ≡ (stamped (M.meaning self.now.inner) (as_kept kept.entry) request.now key.now).1) }
     {

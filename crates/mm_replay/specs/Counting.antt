@@ -2,6 +2,7 @@
 use Rattle.std.specs.Prelude.{◌≡◌, ℕ, ◌+◌, ◌-◌, ◌<◌, ◌^◌, Bool, true, false, nat_le, List, Option, None, Some, Result, Ok, Err, if◌then◌else◌}
 use Rattle.std.proofs.Common.{refl, subst, arith}
 use Rattle.std.proofs.lemmas.Bool.Decides.{nat_tests}
+use Rattle.mm_base.specs.Limits.{most_events}
 use Rattle.mm_schedule.specs.declared.header.Header.{Header}
 use Rattle.mm_schedule.specs.Events.{Event}
 use Rattle.mm_schedule.specs.Grammar.{event_at}
@@ -9,7 +10,7 @@ use Rattle.mm_play.specs.declared.player.Refused.{Refused}
 use Rattle.mm_play.specs.declared.player.Refused.TheVariants.{Bad, Much}
 use Rattle.mm_play.specs.Counting.{no_answer, same_next, left_or}
 use Rattle.mm_replay.specs.Text.{text_of}
-use Rattle.mm_replay.specs.Schedule.{Running, begun, is_too_much, outcome_in, after_event, most_events, Stage, AtHeader, InEvents, event_answer, header_answer, schedule_answer, lines_left_at}
+use Rattle.mm_replay.specs.Schedule.{Running, begun, is_too_much, outcome_in, after_event, Stage, AtHeader, InEvents, event_answer, header_answer, schedule_answer, lines_left_at}
 
 header_counts : (found : Option Header) (reply : List ℕ) (next : Stage) → header_answer found ≡ Ok (reply, next) → lines_left_at next < most_events + 1
 header_counts None reply next h = absurd (no_answer Bad reply next h)
