@@ -1,4 +1,4 @@
--- What a module is: a small state machine whose states, requests and outputs are byte lists.
+-- What a module is: a small program whose states, requests and outputs are byte lists.
 use Rattle.std.specs.Prelude.{◌≢◌, ℕ, ◌≤◌, ◌<◌, List, [], ◌∷◌, length, Bool, IsTrue, All}
 use Rattle.mm_base.specs.Limits.{limit_of, longest_request}
 

@@ -15,11 +15,11 @@ pub struct Stepped {
     pub output: Bytes,
 }
 
-/// A small state machine whose states, requests and outputs are byte lists.
+/// A small program whose states, requests and outputs are byte lists.
 ///
 /// A state has at most 65,536 bytes, or 1,048,576 where the id is 128 or more.
 pub trait Module {
-    /// The machine as functions of byte lists: what each call below gives.
+    /// The module as functions of byte lists: what each call below gives.
     ghost meaning: { Self → Meaning };
 
     /// The number under which cells and snapshots name the module.
