@@ -14,7 +14,8 @@ use std::alloc::Global;
 /// Runs the schedule of a number, and tells what came of it.
 pub fn run_in_bulk<K: Sink>(alloc: Global, it: &Generated, out: &mut K) -> Status
     requires { it.now.count ≤ most_events }
-    ensures { RunsInBulk it.now (K.received out.old) (K.received out.new) (K.faults out.old) (K.faults out.new) result }
+    ensures { RunsInBulk it.now (K.received out.old) (K.received out.new) (K.faults out.old)
+        (K.faults out.new) result }
 {
     match bulk(alloc, it.number, it.count, &it.header) {
         Ok(summary) => tell_summary(alloc, it.count, &summary, out),
@@ -25,7 +26,8 @@ pub fn run_in_bulk<K: Sink>(alloc: Global, it: &Generated, out: &mut K) -> Statu
 
 // Writes the five lines.
 fn tell_summary<K: Sink>(alloc: Global, events: u32, summary: &Summary, out: &mut K) -> Status
-    ensures { TellsSummary events summary.now (K.received out.old) (K.received out.new) (K.faults out.old) (K.faults out.new) result }
+    ensures { TellsSummary events summary.now (K.received out.old) (K.received out.new)
+        (K.faults out.old) (K.faults out.new) result }
 {
     match summary_text(alloc, events, summary) {
         Ok(text) => written(text.as_slice(), out),

@@ -17,7 +17,8 @@ pub fn write_schedule<K: Sink>(alloc: Global, it: &Generated, out: &mut K) -> St
     requires { it.now.count ≤ most_events }
     ensures { WritesText (schedule_text it.now.number it.now.count it.now.header)
         (K.received out.old) (K.received out.new) (K.faults out.old) (K.faults out.new) result
-        ⊎ StopsAs Status.Memory (K.received out.old) (K.received out.new) (K.faults out.old) (K.faults out.new) result }
+        ⊎ StopsAs Status.Memory (K.received out.old) (K.received out.new) (K.faults out.old)
+        (K.faults out.new) result }
 {
     match generate(alloc, it.number, it.count, &it.header) {
         Ok(text) => written(text.as_slice(), out),

@@ -22,8 +22,10 @@ pub fn start_instance<P: Platform, T: Store, E: Source, K: Sink>(
     out: &mut K,
 ) -> Status
     ensures { StartsInstance header.now
-        (devices (P.standing platform.old) (T.kept store.old) (E.left entropy.old) (E.faults entropy.old))
-        (devices (P.standing platform.new) (T.kept store.new) (E.left entropy.new) (E.faults entropy.new))
+        (devices (P.standing platform.old) (T.kept store.old) (E.left entropy.old)
+            (E.faults entropy.old))
+        (devices (P.standing platform.new) (T.kept store.new) (E.left entropy.new)
+            (E.faults entropy.new))
         (K.received out.old) (K.received out.new) (K.faults out.old) (K.faults out.new) result }
 {
     let answer = init(

@@ -35,7 +35,8 @@ pub fn find<M: Module>(
     keys: &mut KeptKey,
 ) -> Result<Found, Refusal>
     requires { is_long (batch_of batch) ≡ false }
-    ensures finds { FindsIn (M.meaning «module».now) bytes.now offer.now (batch_of batch.entry) result }
+    ensures finds { FindsIn (M.meaning «module».now) bytes.now offer.now (batch_of batch.entry)
+        result }
     ensures no_fault { fault_in result ≡ None }
 {
     let cell = match read_cell(bytes) {
@@ -77,7 +78,8 @@ fn weigh<M: Module>(
     requires variant { variant_of offered.now.content.place ≡ Basic }
     requires position { offered.now.content.position ≤ last_position }
     requires short { is_long (batch_of batch) ≡ false }
-    ensures { OrMemory (found_in (M.meaning «module».now) (Both cell.now offered.now) (batch_of batch.entry))
+    ensures { OrMemory
+        (found_in (M.meaning «module».now) (Both cell.now offered.now) (batch_of batch.entry))
         result }
 {
     let body = offered.body();
@@ -139,7 +141,8 @@ fn link_text(summary: &Digest, text: &[u8]) -> Digest
 
 // The verdict on an offered summary, with the summary that the batch leads to.
 fn verdict(summary: &Digest, offered: &Digest, next: &Digest) -> Verdict
-    ensures { result ≡ verdict_by false (bytes_eq offered.now.bytes summary.now.bytes) (bytes_eq next.now.bytes summary.now.bytes) }
+    ensures { result ≡ verdict_by false (bytes_eq offered.now.bytes summary.now.bytes)
+        (bytes_eq next.now.bytes summary.now.bytes) }
 {
     if offered == summary {
         return Verdict::Fresh;

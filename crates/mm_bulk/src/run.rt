@@ -35,7 +35,8 @@ use std::alloc::Global;
 pub fn bulk(alloc: Global, number: u64, count: u32, header: &Header) -> Result<Summary, BulkFault>
     requires count { count ≤ most_events }
     ensures sums { IfOk result (SumsUp header.now (schedule_lines number count header.now)) }
-    ensures limit { IsLimited (is_over (begun header.now) (schedule_lines number count header.now)) result }
+    ensures limit { IsLimited (is_over (begun header.now) (schedule_lines number count header.now))
+        result }
     ensures replayed { IsReplayed (replay_of number count header.now) result }
 {
     run_schedule(alloc, number, count, header)
@@ -50,7 +51,8 @@ fn run_schedule(
 ) -> Result<Summary, BulkFault>
     requires count { count ≤ most_events }
     ensures sums { IfOk result (SumsUp header.now (schedule_lines number count header.now)) }
-    ensures limit { IsLimited (is_over (begun header.now) (schedule_lines number count header.now)) result }
+    ensures limit { IsLimited (is_over (begun header.now) (schedule_lines number count header.now))
+        result }
 {
     let schedule = generate(alloc, number, count, header)?;
     let mut rest = behind_header(schedule.as_slice());
@@ -75,7 +77,8 @@ fn run_schedule(
 
 /// What follows the first line.
 fn behind_header(text: &[u8]) -> &[u8]
-    ensures { (first behind : List ℕ) → line_at text.now ≡ Some (first, behind) → result.now ≡ behind }
+    ensures { (first behind : List ℕ) → line_at text.now ≡ Some (first, behind)
+        → result.now ≡ behind }
 {
     match first_line(text) {
         Some((_, behind)) => behind,
@@ -89,7 +92,8 @@ fn answered(alloc: Global, line: &[u8], progress: &mut Progress) -> Result<Reply
     requires known { is_some (event_at line.now) ≡ true }
     ensures reply { IfOk result (Answered (running progress.old) (running progress.new) line.now) }
     ensures printable { IfOk result IsPrintable }
-    ensures limit { result ≡ Err BulkFault.TooMuch → is_too_much (running progress.old) line.now ≡ true }
+    ensures limit { result ≡ Err BulkFault.TooMuch
+        → is_too_much (running progress.old) line.now ≡ true }
 {
     let event = match read_event(alloc, line) {
         Ok(event) => event,

@@ -31,9 +31,12 @@ pub fn examine<M: Module>(
 ) -> Result<bool, Refusal>
     requires position { offered.now.content.position ≤ last_position }
     requires short { is_long (batch_of batch) ≡ false }
-    ensures answer { result ≡ examined (M.meaning «module».now) key.now offered.now (batch_of batch.entry) verdict }
-    ensures spelled { OnOk result (IsTrue ((M.meaning «module».now).is_spelled offered.now.content.state)) }
-    ensures fits { OnOk result (offered.now.content.position + size_of (batch_of batch.entry) ≤ last_position) }
+    ensures answer { result ≡ examined (M.meaning «module».now) key.now offered.now
+        (batch_of batch.entry) verdict }
+    ensures spelled { OnOk result
+        (IsTrue ((M.meaning «module».now).is_spelled offered.now.content.state)) }
+    ensures fits { OnOk result (offered.now.content.position + size_of (batch_of batch.entry)
+        ≤ last_position) }
 {
     let body = offered.body();
     if !module.state_is_spelled(body.state) {

@@ -67,9 +67,11 @@ pub fn run_batch<M: Module>(
     requires spelled { IsTrue ((M.meaning «module».now).is_spelled state.now) }
     requires short { is_long (batch_of batch) ≡ false }
     ensures state { IfOk result (λ ran.
-        ran.state ≡ state_from (M.meaning «module».now) state.now (members_of (batch_of batch.entry))) }
+        ran.state ≡ state_from (M.meaning «module».now) state.now
+        (members_of (batch_of batch.entry))) }
     ensures outputs { IfOk result (λ ran.
-        ran.outputs ≡ outputs_from (M.meaning «module».now) state.now (members_of (batch_of batch.entry))) }
+        ran.outputs ≡ outputs_from (M.meaning «module».now) state.now
+        (members_of (batch_of batch.entry))) }
 {
     let mut ran = run_first(alloc, module, state, batch)?;
     'members: for i in 1..batch.len() {

@@ -62,7 +62,8 @@ impl Deciding {
         requires within { index < length events.now }
         requires few { length events.now ≤ most_events }
         requires stands { StandsBehind header.now (events_of (take index events.now)) self.old }
-        ensures { OnOk result (StandsBehind header.now (events_of (take (index + 1) events.now)) self.new) }
+        ensures { OnOk result
+            (StandsBehind header.now (events_of (take (index + 1) events.now)) self.new) }
     {
         let heard = self.expecting.event(&events[index])?;
         self.numbers.list_all(alloc, heard.messages.as_slice())?;
@@ -73,7 +74,8 @@ impl Deciding {
 
     // What is told of the premises, by the first event at which others bring a guard.
     fn premise(&self, secured: Option<u32>) -> Premise
-        ensures { result ≡ premise_by (pair_of self.now.numbers.digests.shared) self.now.numbers.digests.zero secured self.now.forged }
+        ensures { result ≡ premise_by (pair_of self.now.numbers.digests.shared)
+            self.now.numbers.digests.zero secured self.now.forged }
     {
         if let Some(pair) = self.numbers.digests.shared {
             return Premise::Shared {

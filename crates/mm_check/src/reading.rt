@@ -39,9 +39,11 @@ impl Model for Reading {
 
     ghost Value = { Read };
 
-    ghost view = { λ it. record { header = it.header; running = running it.progress; events = events_of it.events.items; told = it.told.items } };
+    ghost view = { λ it. record { header = it.header; running = running it.progress;
+        events = events_of it.events.items; told = it.told.items } };
 
-    ghost invariant = { λ it. RunsBehind it.header (running it.progress) (events_of it.events.items) it.told.items };
+    ghost invariant = { λ it. RunsBehind it.header (running it.progress) (events_of it.events.items)
+        it.told.items };
 }
 
 /// The event of a line.
@@ -101,7 +103,8 @@ impl Reading {
 
     /// What the events come to, for recorded lines to be compared.
     pub fn decide(self, alloc: Global) -> Result<(Header, Vec<Event>, Decided), Memory>
-        ensures { IfOk result (λ it. (it.0 ≡ self.header) × (events_of it.1.items ≡ self.events) × DecidesRun self.header self.events it.2) }
+        ensures { IfOk result (λ it. (it.0 ≡ self.header) × (events_of it.1.items ≡ self.events)
+            × DecidesRun self.header self.events it.2) }
     {
         let Reading {
             header,
@@ -115,7 +118,8 @@ impl Reading {
 
     /// The verdicts where no lines are recorded: the lines of the run itself are tested.
     pub fn finish(mut self, alloc: Global) -> Result<Verdicts, Memory>
-        ensures { IfOk result (AreVerdicts self.header self.events (run_lines (world_of self.header) self.events)) }
+        ensures { IfOk result
+            (AreVerdicts self.header self.events (run_lines (world_of self.header) self.events)) }
     {
         let decided = decide(alloc, &self.header, self.events.as_slice())?;
         let report = self.progress.report();

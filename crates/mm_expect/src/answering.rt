@@ -26,7 +26,8 @@ impl Chronicle {
 
     // Where the snapshot of an answer stands.
     fn place_now(&self) -> Place
-        ensures { result ≡ issued_place self.now.variant self.now.history.is_open (instance_of self.now) self.now.history }
+        ensures { result ≡ issued_place self.now.variant self.now.history.is_open
+            (instance_of self.now) self.now.history }
     {
         match self.variant {
             Variant::Basic => Place::Basic(self.marks.cell),
@@ -46,7 +47,8 @@ impl Chronicle {
     pub(crate) fn snapshot(&self, key: &HmacKey) -> Result<Bytes, Memory>
         requires key { key.now ≡ world_key }
         requires few { total_of self.now.history.batches ≤ last_position }
-        ensures { IfOk result (λ bytes. bytes ≡ issued_bytes (instance_of self.now) self.now.history) }
+        ensures { IfOk result
+            (λ bytes. bytes ≡ issued_bytes (instance_of self.now) self.now.history) }
     {
         let body = Body {
             module: self.module.id(),
@@ -68,7 +70,9 @@ impl Chronicle {
         requires few { total_of self.now.history.batches ≤ last_position }
         requires short { is_long (batch_of batch) ≡ false }
         requires last { is_last self.now.history.batches (batch_of batch) ≡ true }
-        ensures { IfOk result (λ ended. ended ≡ Answered (answer_on (instance_of self.now) self.now.history (batch_of batch.entry) again)) }
+        ensures { IfOk result
+            (λ ended. ended ≡ Answered
+                (answer_on (instance_of self.now) self.now.history (batch_of batch.entry) again)) }
     {
         let Ran { outputs, .. } = run_batch(
             self.alloc,

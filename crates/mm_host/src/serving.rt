@@ -42,18 +42,20 @@ pub fn session<M: Module, P: Platform, T: Store, S: Source, K: Sink>(
     input: &mut S,
     out: &mut K,
 ) -> Result<(), SessionFault>
-    ensures sessions { Sessions variant (M.meaning «module».now) (P.standing platform.old) (P.standing platform.new)
-        (T.kept store.old) (T.kept store.new) (S.left input.old) (S.left input.new)
-        (K.received out.old) (K.received out.new) result }
-    ensures platform { IsBlamed (is_platform_fault result) (P.standing platform.old).faults (P.standing platform.new).faults }
-    ensures store { IsBlamed (is_store_fault result) (T.kept store.old).faults (T.kept store.new).faults }
+    ensures sessions { Sessions variant (M.meaning «module».now) (P.standing platform.old)
+        (P.standing platform.new) (T.kept store.old) (T.kept store.new) (S.left input.old)
+        (S.left input.new) (K.received out.old) (K.received out.new) result }
+    ensures platform { IsBlamed (is_platform_fault result) (P.standing platform.old).faults
+        (P.standing platform.new).faults }
+    ensures store { IsBlamed (is_store_fault result) (T.kept store.old).faults
+        (T.kept store.new).faults }
     ensures read { IsBlamed (is_read_fault result) (S.faults input.old) (S.faults input.new) }
     ensures wrote { IsBlamed (is_write_fault result) (K.faults out.old) (K.faults out.new) }
     ensures named { IsRefusalNamed result }
     ensures lines { SparesLines (S.left input.old) result }
-    ensures continues { Continues variant (M.meaning «module».now) (P.standing platform.old) (P.standing platform.new)
-        (T.kept store.old) (T.kept store.new) (S.left input.old) (S.left input.new)
-        (K.received out.old) (K.received out.new) result }
+    ensures continues { Continues variant (M.meaning «module».now) (P.standing platform.old)
+        (P.standing platform.new) (T.kept store.old) (T.kept store.new) (S.left input.old)
+        (S.left input.new) (K.received out.old) (K.received out.new) result }
 {
     session_by_steps(alloc, variant, module, platform, store, input, out)
 }
@@ -68,9 +70,9 @@ fn session_by_steps<M: Module, P: Platform, T: Store, S: Source, K: Sink>(
     input: &mut S,
     out: &mut K,
 ) -> Result<(), SessionFault>
-    ensures sessions { Sessions variant (M.meaning «module».now) (P.standing platform.old) (P.standing platform.new)
-        (T.kept store.old) (T.kept store.new) (S.left input.old) (S.left input.new)
-        (K.received out.old) (K.received out.new) result }
+    ensures sessions { Sessions variant (M.meaning «module».now) (P.standing platform.old)
+        (P.standing platform.new) (T.kept store.old) (T.kept store.new) (S.left input.old)
+        (S.left input.new) (K.received out.old) (K.received out.new) result }
     ensures read { IsBlamed (is_read_fault result) (S.faults input.old) (S.faults input.new) }
     ensures wrote { IsBlamed (is_write_fault result) (K.faults out.old) (K.faults out.new) }
 {
@@ -142,8 +144,8 @@ fn turn<M: Module, P: Platform, T: Store, S: Source, K: Sink>(
     requires sized { IsSized last.now }
     ensures turns { Turns variant (M.meaning «module».now) number
         (record { platform = P.standing platform.old; store = T.kept store.old; last = last.now })
-        (P.standing platform.new) (T.kept store.new) (S.left input.old) (S.left input.new) reader.old reader.new
-        (K.received out.old) (K.received out.new) result }
+        (P.standing platform.new) (T.kept store.new) (S.left input.old) (S.left input.new)
+        reader.old reader.new (K.received out.old) (K.received out.new) result }
     ensures sized { IfOk result (λ next. IfSome next IsSized) }
     ensures read { IsBlamed (is_read_fault result) (S.faults input.old) (S.faults input.new) }
     ensures wrote { IsBlamed (is_write_fault result) (K.faults out.old) (K.faults out.new) }
@@ -175,7 +177,8 @@ fn take_line<M: Module, P: Platform, T: Store, K: Sink>(
     requires line { IsWithin longest_request line.now }
     ensures takes { TakesLine variant (M.meaning «module».now) number
         (record { platform = P.standing platform.old; store = T.kept store.old; last = last.now })
-        (P.standing platform.new) (T.kept store.new) (K.received out.old) (K.received out.new) line.now result }
+        (P.standing platform.new) (T.kept store.new) (K.received out.old) (K.received out.new)
+        line.now result }
     ensures sized { IfOk result (λ next. IfSome next IsSized) }
     ensures wrote { IsBlamed (is_write_fault result) (K.faults out.old) (K.faults out.new) }
 {
@@ -203,7 +206,8 @@ fn serve<M: Module, P: Platform, T: Store, K: Sink>(
     requires line { IsWithin longest_request line.now }
     ensures asks { AsksAndTells variant (M.meaning «module».now)
         (record { platform = P.standing platform.old; store = T.kept store.old; last = last.now })
-        (P.standing platform.new) (T.kept store.new) (K.received out.old) (K.received out.new) line.now result }
+        (P.standing platform.new) (T.kept store.new) (K.received out.old) (K.received out.new)
+        line.now result }
     ensures sized { IfOk result IsSized }
     ensures wrote { IsBlamed (is_write_fault result) (K.faults out.old) (K.faults out.new) }
 {
@@ -224,8 +228,8 @@ fn ask_line<M: Module, P: Platform, T: Store>(
 ) -> Result<Resumed, HostFault>
     requires sized { IsSized last.now }
     requires line { IsWithin longest_request line.now }
-    ensures asks { AsksLine variant (M.meaning «module».now) (P.standing platform.old) (P.standing platform.new)
-        (T.kept store.old) (T.kept store.new) last.now line.now result }
+    ensures asks { AsksLine variant (M.meaning «module».now) (P.standing platform.old)
+        (P.standing platform.new) (T.kept store.old) (T.kept store.new) last.now line.now result }
     ensures sized { IfOk result IsSized }
 {
     match write_record(alloc, store, last.position() + 1, line) {
@@ -252,7 +256,8 @@ fn write_record<T: Store>(
     requires least { 1 ≤ position }
     requires most { position ≤ last_position + 1 }
     requires line { IsWithin longest_request request.now }
-    ensures { WritesSlot (2 + position % 2) (pending_spelling (record { position = position; request = request.now }))
+    ensures { WritesSlot (2 + position % 2)
+        (pending_spelling (record { position = position; request = request.now }))
         (T.kept store.old) (T.kept store.new) result }
 {
     let bytes = pending_bytes(alloc, position, request)?;

@@ -77,7 +77,8 @@ fn write_answer<K: Sink>(answer: &Answer, out: &mut K) -> Result<(), WriteFault>
 }
 
 fn write_refusal<K: Sink>(refusal: Refusal, out: &mut K) -> Result<(), WriteFault>
-    ensures sent { Sends (K.received out.old) (K.received out.new) (refusal_text (cause_of refusal)) result }
+    ensures sent { Sends (K.received out.old) (K.received out.new) (refusal_text (cause_of refusal))
+        result }
     ensures told { OnErr result (cause_of refusal ≢ None) }
     ensures counted { CountsFaults (K.faults out.old) (K.faults out.new) result }
 {

@@ -38,8 +38,10 @@ pub trait Module {
     fn step(&self, alloc: Global, state: &[u8], request: &[u8]) -> Result<Stepped, Memory>
         requires spelled { IsTrue ((meaning self.now).is_spelled state.now) }
         requires line { IsLine request.now }
-        ensures state { IfOk result (λ stepped. stepped.state ≡ (meaning self.now).next state.now request.now) }
-        ensures output { IfOk result (λ stepped. stepped.output ≡ (meaning self.now).says state.now request.now) };
+        ensures state { IfOk result (λ stepped. stepped.state
+            ≡ (meaning self.now).next state.now request.now) }
+        ensures output { IfOk result (λ stepped. stepped.output
+            ≡ (meaning self.now).says state.now request.now) };
 
     /// The laws hold at every module.
     ghost is_lawful: { (it : Self) → IsLawful (meaning it) };

@@ -67,7 +67,8 @@ pub fn find<M: Module>(
     keys: &mut KeptKey,
 ) -> Result<Found, Refusal>
     requires { is_long (batch_of batch) ≡ false }
-    ensures finds { FindsIn (M.meaning «module».now) cell.now register.now.bytes offer.now (batch_of batch.entry) result }
+    ensures finds { FindsIn (M.meaning «module».now) cell.now register.now.bytes offer.now
+        (batch_of batch.entry) result }
     ensures no_fault { fault_in result ≡ None }
     ensures sized { length register.now.bytes ≡ 32 }
 {
@@ -97,7 +98,8 @@ fn weigh<M: Module>(
     requires variant { variant_of offered.now.content.place ≡ Opt }
     requires position { offered.now.content.position ≤ last_position }
     requires short { is_long (batch_of batch) ≡ false }
-    ensures { OrMemory (found_at (M.meaning «module».now) cell.now register.now.bytes (Ok offered.now)
+    ensures { OrMemory
+        (found_at (M.meaning «module».now) cell.now register.now.bytes (Ok offered.now)
         (batch_of batch.entry)) result }
 {
     let body = offered.body();

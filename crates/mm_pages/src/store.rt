@@ -52,7 +52,8 @@ impl<D: PageDevice + Drop> PageStore<D> {
     /// The device. The digests stay as they are, whatever is done to it: from then on they may not be those of
     /// what it has.
     pub fn device(&mut self) -> &mut D
-        ensures* writes_back { sem 𝓛 (Lends (the_row D.row D.PageDevice) D.row self.entry result (λ device. record self.old { device = device })) }
+        ensures* writes_back { sem 𝓛 (Lends (the_row D.row D.PageDevice) D.row self.entry result
+            (λ device. record self.old { device = device })) }
         ensures value { result.now ≡ self.old.device }
     {
         &mut self.device
@@ -64,9 +65,11 @@ impl<D: PageDevice + Drop> Store for PageStore<D> {
 
     fn read(&mut self, alloc: Global, slot: u8) -> Result<Bytes, StoreFault>
         requires { slot < 4 }
-        ensures reads { ReadsSlot slot (kept_on (D.pages self.old.device)) (kept_on (D.pages self.new.device)) result }
+        ensures reads { ReadsSlot slot (kept_on (D.pages self.old.device))
+            (kept_on (D.pages self.new.device)) result }
         ensures rows { self.new.rows ≡ rows_after_read slot self.old.rows result }
-        ensures step { KeepsStep (D.pages self.old.device) (D.pages self.new.device) self.old.rows self.new.rows }
+        ensures step { KeepsStep (D.pages self.old.device) (D.pages self.new.device) self.old.rows
+            self.new.rows }
     {
         let result = read_bytes(&mut self.device, alloc, slot);
         if let Err(StoreFault::Failed) = result {
@@ -78,13 +81,16 @@ impl<D: PageDevice + Drop> Store for PageStore<D> {
     fn write(&mut self, slot: u8, bytes: &[u8]) -> Result<(), StoreFault>
         requires slot { slot < 4 }
         requires short { length bytes.now ≤ LONGEST_SLOT }
-        ensures writes { WritesSlot slot bytes.now (kept_on (D.pages self.old.device)) (kept_on (D.pages self.new.device)) result }
+        ensures writes { WritesSlot slot bytes.now (kept_on (D.pages self.old.device))
+            (kept_on (D.pages self.new.device)) result }
         ensures no_want { result ≢ Err StoreFault.Memory }
         ensures rows { self.new.rows ≡ rows_after_write slot bytes.now self.old.rows result }
 
         // Of the pages of the new bytes those are read back of which no digest is kept, or that of the new page.
         ensures looks { OnOk result ((D.pages self.new.device).page_reads
-            ≡ counted_by (looks_at (row_in self.old.rows slot) bytes.now (page_count (length bytes.now))) (D.pages self.old.device).page_reads) }
+            ≡ counted_by
+                (looks_at (row_in self.old.rows slot) bytes.now (page_count (length bytes.now)))
+                (D.pages self.old.device).page_reads) }
 
         // Where the digests kept are those of what an honest device has there, as they are while this store
         // alone writes to it, the pages that differ are written.
@@ -92,15 +98,18 @@ impl<D: PageDevice + Drop> Store for PageStore<D> {
             → (told : Slots) → (D.pages self.old.device).slots ≡ Some told
             → AreOf (row_in self.old.rows slot) (slot_in told slot)
             → (D.pages self.new.device).page_writes
-            ≡ counted_by (changes_of (slot_in told slot) bytes.now (page_count (length bytes.now))) (D.pages self.old.device).page_writes) }
-        ensures step { KeepsStep (D.pages self.old.device) (D.pages self.new.device) self.old.rows self.new.rows }
+            ≡ counted_by (changes_of (slot_in told slot) bytes.now (page_count (length bytes.now)))
+                (D.pages self.old.device).page_writes) }
+        ensures step { KeepsStep (D.pages self.old.device) (D.pages self.new.device) self.old.rows
+            self.new.rows }
 
         // A length is set once at most, and not at all where the bytes are there already.
         ensures settled { OnOk result ((D.pages self.old.device).is_honest ≡ true
             → (told : Slots) → (D.pages self.old.device).slots ≡ Some told
             → AreOf (row_in self.old.rows slot) (slot_in told slot) → slot_in told slot ≡ bytes.now
             → (D.pages self.new.device).length_writes ≡ (D.pages self.old.device).length_writes) }
-        ensures lengths { OnOk result (IsOneMoreAtMost (D.pages self.old.device).length_writes (D.pages self.new.device).length_writes) }
+        ensures lengths { OnOk result (IsOneMoreAtMost (D.pages self.old.device).length_writes
+            (D.pages self.new.device).length_writes) }
     {
         if put_bytes(&mut self.device, &mut self.digests, slot, bytes).is_err() {
             self.digests.cut(slot, 0);

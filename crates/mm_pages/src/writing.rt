@@ -22,7 +22,8 @@ pub fn put_bytes<D: PageDevice>(
 ) -> Result<(), Failed>
     requires slot { slot < 4 }
     requires short { length bytes.now ≤ LONGEST_SLOT }
-    ensures { PutsBytes slot bytes.now (D.pages device.old) (D.pages device.new) digests.old digests.new result }
+    ensures { PutsBytes slot bytes.now (D.pages device.old) (D.pages device.new) digests.old
+        digests.new result }
 {
     put_pages(device, digests, slot, bytes)?;
     digests.cut(slot, page_count(bytes.len()));
@@ -38,7 +39,8 @@ fn put_pages<D: PageDevice>(
 ) -> Result<(), Failed>
     requires slot { slot < 4 }
     requires short { length bytes.now ≤ LONGEST_SLOT }
-    ensures { PutsPages slot bytes.now (D.pages device.old) (D.pages device.new) digests.old digests.new result }
+    ensures { PutsPages slot bytes.now (D.pages device.old) (D.pages device.new) digests.old
+        digests.new result }
 {
     for page in 0..page_count(bytes.len()) {
         put_page(device, digests, slot, page, &page_of(bytes, page))?;
@@ -57,7 +59,8 @@ fn put_page<D: PageDevice>(
     requires slot { slot < 4 }
     requires page { page < 4297 }
     requires reached { page ≤ length (row_in digests.old slot) }
-    ensures { PutsPage slot page bytes.now (D.pages device.old) (D.pages device.new) digests.old digests.new result }
+    ensures { PutsPage slot page bytes.now (D.pages device.old) (D.pages device.new) digests.old
+        digests.new result }
 {
     let digest = Digest {
         bytes: Sha256::digest(bytes),
@@ -84,7 +87,8 @@ fn holds_page<D: PageDevice>(
 ) -> Result<bool, Failed>
     requires slot { slot < 4 }
     requires page { page < 4297 }
-    ensures { HoldsPage slot page kept digest.now bytes.now (D.pages device.old) (D.pages device.new) result }
+    ensures { HoldsPage slot page kept digest.now bytes.now (D.pages device.old)
+        (D.pages device.new) result }
 {
     if !may_be(kept, digest) {
         return Ok(false);

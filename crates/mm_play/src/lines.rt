@@ -28,7 +28,8 @@ fn answer_line<P: Player>(
     pending: &mut Bytes,
 ) -> Result<bool, ReplayFault>
     requires { length line.now ≤ longest_line }
-    ensures { Answers number (P.answer player.old line.now) player.new pending.old pending.new result }
+    ensures { Answers number (P.answer player.old line.now) player.new pending.old pending.new
+        result }
 {
     match player.take(alloc, line) {
         Ok(reply) => match pending.append(reply.as_slice()) {
@@ -71,8 +72,8 @@ fn answer_next<P: Player, S: Source>(
     pending: &mut Bytes,
 ) -> Result<bool, ReplayFault>
     requires { IsUnbroken reader.old → pending.old ≡ [] }
-    ensures advances { Advances P.answer P.closing number player.old player.new (S.left input.old) (S.left input.new)
-        reader.old reader.new pending.old pending.new result }
+    ensures advances { Advances P.answer P.closing number player.old player.new (S.left input.old)
+        (S.left input.new) reader.old reader.new pending.old pending.new result }
     ensures read { IsBlamed (is_read_fault result) (S.faults input.old) (S.faults input.new) }
     ensures unwritten { is_write_fault result ≡ false }
 {
@@ -104,7 +105,8 @@ fn send_due<K: Sink>(
     out: &mut K,
 ) -> Result<(), WriteFault>
     ensures same { reader.new ≡ reader.old }
-    ensures sent { SendsDue (K.received out.old) (K.received out.new) pending.old pending.new result }
+    ensures sent { SendsDue (K.received out.old) (K.received out.new) pending.old pending.new
+        result }
     ensures none { OnOk result (IsUnbroken reader.old → pending.new ≡ []) }
     ensures counted { CountsFaults (K.faults out.old) (K.faults out.new) result }
 {
@@ -144,8 +146,9 @@ fn turn<P: Player, S: Source, K: Sink>(
     pending: &mut Bytes,
     out: &mut K,
 ) -> Result<bool, ReplayFault>
-    ensures turns { Turns P.answer P.closing number player.old player.new (S.left input.old) (S.left input.new)
-        reader.old reader.new (K.received out.old) (K.received out.new) pending.old pending.new result }
+    ensures turns { Turns P.answer P.closing number player.old player.new (S.left input.old)
+        (S.left input.new) reader.old reader.new (K.received out.old) (K.received out.new)
+        pending.old pending.new result }
     ensures read { IsBlamed (is_read_fault result) (S.faults input.old) (S.faults input.new) }
     ensures wrote { IsBlamed (is_write_fault result) (K.faults out.old) (K.faults out.new) }
 {
@@ -173,8 +176,8 @@ pub fn play<P: Player, S: Source, K: Sink>(
     input: &mut S,
     out: &mut K,
 ) -> Result<(), ReplayFault>
-    ensures plays { Plays P.answer P.closing player.old player.new (S.left input.old) (S.left input.new)
-        (K.received out.old) (K.received out.new) result }
+    ensures plays { Plays P.answer P.closing player.old player.new (S.left input.old)
+        (S.left input.new) (K.received out.old) (K.received out.new) result }
     ensures read { IsBlamed (is_read_fault result) (S.faults input.old) (S.faults input.new) }
     ensures wrote { IsBlamed (is_write_fault result) (K.faults out.old) (K.faults out.new) }
 {

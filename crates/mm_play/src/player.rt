@@ -47,7 +47,8 @@ pub trait Player {
         ensures { IfOk result (λ last. last ≡ closing self.now) };
 
     /// Each answered line is one fewer.
-    ghost counts_down: { (it next : Self) (line reply : List ℕ) → answer it line ≡ Ok (reply, next) → lines_left next < lines_left it };
+    ghost counts_down: { (it next : Self) (line reply : List ℕ) → answer it line ≡ Ok (reply, next)
+        → lines_left next < lines_left it };
 
     /// It ends.
     ghost few: { (it : Self) → lines_left it < 2 ^ 31 };

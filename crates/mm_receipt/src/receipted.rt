@@ -118,7 +118,8 @@ fn put_key(bytes: &mut Bytes, key: Option<[u8; 32]>) -> Result<(), Memory>
 
 /// The bytes of a state.
 fn spelled(alloc: Global, count: u64, key: Option<[u8; 32]>, inner: &[u8]) -> Result<Bytes, Memory>
-    ensures { IfOk result (λ bytes. bytes ≡ spelling_of (record { count = count; key = key; inner = inner.now })) }
+    ensures { IfOk result
+        (λ bytes. bytes ≡ spelling_of (record { count = count; key = key; inner = inner.now })) }
 {
     let mut bytes = Bytes::copy_of(alloc, &bytes_of_u64(count))?;
     put_key(&mut bytes, key)?;
@@ -139,8 +140,10 @@ fn text_of_key(alloc: Global, key: Option<[u8; 32]>) -> Result<Bytes, Memory>
 /// A request before a key is set.
 fn step_unkeyed(alloc: Global, kept: Kept<'_>, request: &[u8]) -> Result<Stepped, Memory>
     requires { kept.count < last_position }
-    ensures state { IfOk result (λ stepped. stepped.state ≡ spelling_of (unkeyed (as_kept kept.entry) (key_of_words (words_of request.now))).0) }
-    ensures output { IfOk result (λ stepped. stepped.output ≡ (unkeyed (as_kept kept.entry) (key_of_words (words_of request.now))).1) }
+    ensures state { IfOk result (λ stepped. stepped.state
+        ≡ spelling_of (unkeyed (as_kept kept.entry) (key_of_words (words_of request.now))).0) }
+    ensures output { IfOk result (λ stepped. stepped.output
+        ≡ (unkeyed (as_kept kept.entry) (key_of_words (words_of request.now))).1) }
 {
     let key = key_of(request);
     Ok(Stepped {
@@ -161,8 +164,11 @@ impl<M: Short> Receipted<M> {
         requires spelled { IsTrue ((M.meaning self.now.inner).is_spelled kept.inner.now) }
         requires line { IsLine request.now }
         requires room { kept.count < last_position }
-        ensures state { IfOk result (λ stepped. stepped.state ≡ spelling_of (stamped (M.meaning self.now.inner) (as_kept kept.entry) request.now key.now).0) }
-        ensures output { IfOk result (λ stepped. stepped.output ≡ (stamped (M.meaning self.now.inner) (as_kept kept.entry) request.now key.now).1) }
+        ensures state { IfOk result (λ stepped. stepped.state
+            ≡ spelling_of
+                (stamped (M.meaning self.now.inner) (as_kept kept.entry) request.now key.now).0) }
+        ensures output { IfOk result (λ stepped. stepped.output
+            ≡ (stamped (M.meaning self.now.inner) (as_kept kept.entry) request.now key.now).1) }
     {
         let position = kept.count + 1;
         let stepped = self.inner.step(alloc, kept.inner, request)?;
@@ -175,7 +181,8 @@ impl<M: Short> Receipted<M> {
 impl<M: Short> Module for Receipted<M> {
     ghost meaning = { λ it. receipted (M.meaning it.inner) };
 
-    ghost is_lawful = { λ it. receipted_is_lawful (M.meaning it.inner) (M.is_lawful it.inner) (M.is_short it.inner) };
+    ghost is_lawful = { λ it. receipted_is_lawful (M.meaning it.inner) (M.is_lawful it.inner)
+        (M.is_short it.inner) };
 
     fn id(&self) -> u8 {
         self.inner.id().wrapping_add(64)

@@ -79,7 +79,8 @@ impl Tally {
     /// Takes the first line of a pair.
     pub fn first(&mut self, alloc: Global, line: &[u8]) -> Result<Asked, TakeFault>
         requires { length line.now ≤ longest_line }
-        ensures first { IsFirst (first_answer (tallied self.old) line.now) (tallied self.new) result }
+        ensures first { IsFirst (first_answer (tallied self.old) line.now) (tallied self.new)
+            result }
         ensures short { IfOk result (λ asked. length asked.request ≤ longest_request) }
     {
         let (position, request) = match read_asked(line) {
@@ -146,7 +147,8 @@ impl Tally {
     ) -> Result<(), Memory>
         requires line { length output.now ≤ longest_line }
         requires room { is_too_much (tallied self.old) output.now ≡ false }
-        ensures { OnOk result (tallied self.new ≡ after_pair (tallied self.old) asked output.now verdict) }
+        ensures { OnOk result (tallied self.new
+            ≡ after_pair (tallied self.old) asked output.now verdict) }
     {
         self.count(output);
         match verdict {
@@ -163,7 +165,8 @@ impl Tally {
     pub fn second(&mut self, alloc: Global, asked: Asked, line: &[u8]) -> Result<Bytes, TakeFault>
         requires line { length line.now ≤ longest_line }
         requires short { length asked.request ≤ longest_request }
-        ensures { Takes (second_answer (tallied self.old) asked line.now) (tallied self.new) result }
+        ensures { Takes (second_answer (tallied self.old) asked line.now) (tallied self.new)
+            result }
     {
         if self.is_full(line) {
             return Err(TakeFault::Refused(Refused::Much));
@@ -182,7 +185,8 @@ impl Tally {
 
 /// The position and the request of the first line of a pair.
 fn read_asked(line: &[u8]) -> Option<(u64, &[u8])>
-    ensures asked { option_map (λ (p : _). record { position = p.0; request = p.1.now }) result ≡ asked_at line.now }
+    ensures asked { option_map (λ (p : _). record { position = p.0; request = p.1.now }) result
+        ≡ asked_at line.now }
     ensures short { IfSome result (λ p. length p.1.now ≤ longest_request) }
 {
     let at = space_in(line)?;

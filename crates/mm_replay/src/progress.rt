@@ -17,7 +17,8 @@ const MOST_KEPT: u64 = 268_435_456;
 
 // The bytes of the issued snapshot with this number. None where it isn't issued.
 fn snapshot_length(world: &World, number: u32) -> u64
-    ensures some { (snapshot : List ℕ) → slice_get world.now.issued number ≡ Some snapshot → result ≡ length snapshot }
+    ensures some { (snapshot : List ℕ) → slice_get world.now.issued number ≡ Some snapshot
+        → result ≡ length snapshot }
     ensures none { slice_get world.now.issued number ≡ None → result ≡ 0 }
     ensures bound { result < 2 ^ 63 }
 {
@@ -83,9 +84,11 @@ impl Progress {
     fn run(&mut self, line: &[u8], event: &Event) -> Result<Reply, Memory>
         requires line { length line.now ≤ longest_line }
         requires room { is_too_much (running self.old) line.now ≡ false }
-        ensures reply { IfOk result (λ reply. reply ≡ (outcome_in (running self.old) (event_of event.now)).reply) }
+        ensures reply { IfOk result
+            (λ reply. reply ≡ (outcome_in (running self.old) (event_of event.now)).reply) }
         ensures printable { IfOk result IsPrintable }
-        ensures after { OnOk result (running self.new ≡ after_event (running self.old) line.now (event_of event.now)) }
+        ensures after { OnOk result (running self.new
+            ≡ after_event (running self.old) line.now (event_of event.now)) }
     {
         let before = self.world.issued();
         let reply = self.world.event(event)?;
@@ -99,7 +102,8 @@ impl Progress {
     /// 20,001, or where the event lines and the snapshots issued have more than 268,435,456 bytes; it isn't run then.
     pub fn answer(&mut self, line: &[u8], event: &Event) -> Result<Reply, TakeFault>
         requires { length line.now ≤ longest_line }
-        ensures answers { AnswersEvent (running self.old) (running self.new) line.now (event_of event.now) result }
+        ensures answers { AnswersEvent (running self.old) (running self.new) line.now
+            (event_of event.now) result }
         ensures printable { IfOk result IsPrintable }
     {
         if self.is_full(line) {
@@ -114,7 +118,8 @@ impl Progress {
     /// Answers an event line by its reply.
     pub fn take(&mut self, alloc: Global, line: &[u8]) -> Result<Bytes, TakeFault>
         requires { length line.now ≤ longest_line }
-        ensures { Takes (event_answer (running self.old) line.now (event_at line.now)) (InEvents (running self.new)) result }
+        ensures { Takes (event_answer (running self.old) line.now (event_at line.now))
+            (InEvents (running self.new)) result }
     {
         let event = match read_event(alloc, line) {
             Ok(event) => event,
@@ -134,7 +139,8 @@ impl Progress {
 
     /// Puts the last line at the end.
     pub fn close(&self, into: &mut Bytes) -> Result<(), Memory>
-        ensures { OnOk result (into.new ≡ into.old ++ end_line (running self.now).digests.count (length (running self.now).issued)) }
+        ensures { OnOk result (into.new ≡ into.old ++ end_line (running self.now).digests.count
+            (length (running self.now).issued)) }
     {
         put_end(self.world.committed(), self.world.issued(), into)
     }

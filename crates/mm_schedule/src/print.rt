@@ -70,7 +70,8 @@ fn print_words(first: &[u8], second: &[u8], into: &mut [u8; 4200]) -> usize
 
 fn print_kept(way: Way, position: u64, into: &mut [u8; 4200]) -> usize
     ensures within { result ≤ 4200 }
-    ensures line { take result into.new ≡ way_text way ++ codes " kept " ++ decimal position ++ 10 ∷ [] }
+    ensures line { take result into.new
+        ≡ way_text way ++ codes " kept " ++ decimal position ++ 10 ∷ [] }
 {
     let at = put(into, 0, way.text());
     let at = put(into, at, b" kept ");

@@ -262,7 +262,8 @@ fn offered_in(bytes: &[u8]) -> Option<Offered<'_>>
 
 // The content that these bytes are the front of.
 fn body_of(front: &[u8]) -> Option<Body<'_>>
-    ensures { MatchOption result (IsNoFront front.now) (λ body. IsFrontOf front.now (content_of body)) }
+    ensures { MatchOption result (IsNoFront front.now)
+        (λ body. IsFrontOf front.now (content_of body)) }
 {
     let variant = variant_at(front)?;
     let (head, rest) = front.split_at(6);
@@ -308,7 +309,8 @@ fn place_len(variant: Variant) -> usize
 
 // The place in front, and the rest.
 fn split_place(variant: Variant, bytes: &[u8]) -> Option<(Place, &[u8])>
-    ensures { MatchOption result (length bytes.now < place_length variant) (λ p. PlacedIn bytes.now variant p.0 p.1.now) }
+    ensures { MatchOption result (length bytes.now < place_length variant)
+        (λ p. PlacedIn bytes.now variant p.0 p.1.now) }
 {
     let (digest, rest) = split_digest(bytes)?;
     match variant {

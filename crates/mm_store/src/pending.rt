@@ -28,7 +28,8 @@ pub fn pending_bytes(alloc: Global, position: u64, request: &[u8]) -> Result<Byt
     requires least { 1 ≤ position }
     requires most { position ≤ last_position + 1 }
     requires line { IsWithin longest_request request.now }
-    ensures { IfOk result (λ bytes. bytes ≡ pending_spelling (record { position = position; request = request.now })) }
+    ensures { IfOk result (λ bytes. bytes
+        ≡ pending_spelling (record { position = position; request = request.now })) }
 {
     let mut bytes = Bytes::with_capacity(alloc, 48 + request.len())?;
     put_front(&mut bytes, position, request)?;
@@ -40,7 +41,8 @@ pub fn pending_bytes(alloc: Global, position: u64, request: &[u8]) -> Result<Byt
 // Puts what is hashed at the end.
 fn put_front(bytes: &mut Bytes, position: u64, request: &[u8]) -> Result<(), Memory>
     requires { length request.now ≤ longest_request }
-    ensures { OnOk result (bytes.new ≡ bytes.old ++ pending_front (record { position = position; request = request.now })) }
+    ensures { OnOk result (bytes.new
+        ≡ bytes.old ++ pending_front (record { position = position; request = request.now })) }
 {
     bytes.append(b"MMP1")?;
     bytes.append(&bytes_of_u64(position))?;
