@@ -23,7 +23,8 @@ Does (Init header) old new status =
     StartsInstance header (devices old.standing old.kept old.entropy old.takes) (devices new.standing new.kept new.entropy new.takes)
     old.received new.received old.writes new.writes status
 Does Run old new status =
-    RunsInstance old.standing new.standing old.kept new.kept old.left new.left old.received new.received old.reads new.reads old.writes new.writes status
+    RunsInstance old.standing new.standing old.kept new.kept old.left new.left old.received new.received old.reads new.reads old.writes
+        new.writes status
 Does Checkpoint old new status =
     Checkpoints old.standing new.standing old.received new.received old.writes new.writes status
 Does Power old new status =

@@ -59,7 +59,8 @@ pub record IsAskedFrom (all : List (List ℕ)) (i : Instance) (y : History) (old
   pub clear : (content : Content) → IsRight i offer content → IsClearFor all i y content.place (normal b)
 
 -- State continuity of the reading step: what it finds is what the history gives, and the platform still stands for it.
-pub record FindsOn (i : Instance) (y : History) (expects : Result Found Refusal) (new : Standing) (found : Result Found Refusal) : Type 0 where
+pub record FindsOn (i : Instance) (y : History) (expects : Result Found Refusal) (new : Standing)
+    (found : Result Found Refusal) : Type 0 where
   pub found_is : fault_in found ≡ None → OrMemory expects found
   pub stands : StandsFor i new y
 

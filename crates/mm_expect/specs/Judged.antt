@@ -29,4 +29,5 @@ DecidesEvent i y issued event is_genuine = AreIssued i y issued → IsDecided is
 -- It is decided whether the event is genuine, from where the expected run of some events stands.
 abbrev pub DecidesLater : Traced → Event → Bool → Type 0
 DecidesLater it event is_genuine =
-    (header : Header) (events : List Event) → IsAfter header events it → IsDecided is_genuine (IsGenuineEvent (world_of header) it.history it.issued event)
+    (header : Header) (events : List Event) → IsAfter header events it
+    → IsDecided is_genuine (IsGenuineEvent (world_of header) it.history it.issued event)

@@ -72,7 +72,8 @@ Says came sent result =
     ((sent ≡ text_of came) × (result ≡ comes_as came))
     ⊎ ((result ≡ Err WriteFault) × (text_of came ≢ []) × IsFrontOf sent (text_of came))
 
-pub record Tells (came : Result Resumed HostFault) (received received' : Option (List ℕ)) (result : Result Resumed SessionFault) : Type 0 where
+pub record Tells (came : Result Resumed HostFault) (received received' : Option (List ℕ))
+    (result : Result Resumed SessionFault) : Type 0 where
   pub sent : List ℕ
   pub appended : Appends received received' sent
   pub says : Says came sent result

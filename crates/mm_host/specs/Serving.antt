@@ -23,13 +23,15 @@ abbrev pub record_for : Resumed → List ℕ → Pending
 record_for last line = record { position = position_at last + 1; request = line }
 
 -- The request is asked with the last snapshot, and the answer's snapshot is kept.
-abbrev pub AfterRecord : Variant → Meaning → Standing → Standing → Result Unit StoreFault → Kept → Kept → Resumed → List ℕ → Result Resumed HostFault → Type 0
+abbrev pub AfterRecord : Variant → Meaning → Standing → Standing → Result Unit StoreFault → Kept → Kept → Resumed → List ℕ
+    → Result Resumed HostFault → Type 0
 AfterRecord variant meaning before after (Err why) old new last line result =
     (after ≡ before) × (new ≡ old) × (result ≡ Err (store_fault_as why))
 AfterRecord variant meaning before after (Ok _) old new last line result =
     AsksAndKeeps variant meaning before after old new (snapshot_at last) line result
 
-pub record AsksLine (variant : Variant) (meaning : Meaning) (before after : Standing) (old new : Kept) (last : Resumed) (line : List ℕ) (result : Result Resumed HostFault) : Type 0 where
+pub record AsksLine (variant : Variant) (meaning : Meaning) (before after : Standing) (old new : Kept) (last : Resumed) (line : List ℕ)
+    (result : Result Resumed HostFault) : Type 0 where
   pub middle : Kept
   pub recorded : Result Unit StoreFault
   pub records : WritesSlot (2 + (position_at last + 1) % 2) (pending_spelling (record_for last line)) old middle recorded

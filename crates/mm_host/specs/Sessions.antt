@@ -32,7 +32,8 @@ pub record BeginsWith (bytes line held : List ℕ) : Type 0 where
   pub within : IsWithin longest_request line
 
 -- The line in hand is asked, and comes to a fault; or its reply isn't written whole.
-pub record StopsInLine (variant : Variant) (meaning : Meaning) (number : ℕ) (at : Place) (after : Standing) (new : Kept) (more sent : List ℕ) (fault : SessionFault) : Type 0 where
+pub record StopsInLine (variant : Variant) (meaning : Meaning) (number : ℕ) (at : Place) (after : Standing) (new : Kept)
+    (more sent : List ℕ) (fault : SessionFault) : Type 0 where
   pub line : List ℕ
   pub held : List ℕ
   pub begins : BeginsWith more line held
@@ -58,7 +59,8 @@ Stops variant meaning number at after new left more sent TooMuch =
 -- the line was asked
 Stops variant meaning number at after new left more sent Memory = StopsInLine variant meaning number at after new more sent Memory
 Stops variant meaning number at after new left more sent Store = StopsInLine variant meaning number at after new more sent Store
-Stops variant meaning number at after new left more sent (Refused why) = StopsInLine variant meaning number at after new more sent (Refused why)
+Stops variant meaning number at after new left more sent (Refused why) =
+    StopsInLine variant meaning number at after new more sent (Refused why)
 Stops variant meaning number at after new left more sent WriteFault = StopsInLine variant meaning number at after new more sent WriteFault
 
 -- Ok: the input ended behind a whole line.
@@ -67,7 +69,8 @@ Ends variant meaning number at after new left more sent (Ok _) = IsAtRest at aft
 Ends variant meaning number at after new left more sent (Err fault) = Stops variant meaning number at after new left more sent fault
 
 -- Some lines are served from where the session began, and there it ends.
-pub record ServesLines (variant : Variant) (meaning : Meaning) (from : Place) (after : Standing) (new : Kept) (left : Option (List ℕ)) (taken sent : List ℕ) (result : Result Unit SessionFault) : Type 0 where
+pub record ServesLines (variant : Variant) (meaning : Meaning) (from : Place) (after : Standing) (new : Kept) (left : Option (List ℕ))
+    (taken sent : List ℕ) (result : Result Unit SessionFault) : Type 0 where
   pub calls : List Served
   pub few : length calls ≤ most_lines
   pub at : Place
@@ -86,7 +89,8 @@ pub record StopsAtOnce (begun : Result Resumed HostFault) (taken sent : List ℕ
   pub nothing : taken ≡ []
 
 -- What waited is told, and the lines are served.
-pub record GoesOn (variant : Variant) (meaning : Meaning) (begun : Result Resumed HostFault) (platform after : Standing) (store new : Kept) (left : Option (List ℕ)) (taken sent : List ℕ) (result : Result Unit SessionFault) : Type 0 where
+pub record GoesOn (variant : Variant) (meaning : Meaning) (begun : Result Resumed HostFault) (platform after : Standing) (store new : Kept)
+    (left : Option (List ℕ)) (taken sent : List ℕ) (result : Result Unit SessionFault) : Type 0 where
   pub first : Resumed
   pub begins : begun ≡ Ok first
   pub replies : List ℕ
@@ -94,13 +98,15 @@ pub record GoesOn (variant : Variant) (meaning : Meaning) (begun : Result Resume
   pub lines : ServesLines variant meaning (record { platform = platform; store = store; last = first }) after new left taken replies result
 
 -- It stops at once, or it goes on, as what waited came to.
-abbrev pub AfterResume : Variant → Meaning → Result Resumed HostFault → Standing → Standing → Kept → Kept → Option (List ℕ) → List ℕ → List ℕ → Result Unit SessionFault → Type 0
+abbrev pub AfterResume : Variant → Meaning → Result Resumed HostFault → Standing → Standing → Kept → Kept → Option (List ℕ) → List ℕ
+    → List ℕ → Result Unit SessionFault → Type 0
 AfterResume variant meaning begun platform after store new left taken sent result =
     ((after ≡ platform) × (new ≡ store) × StopsAtOnce begun taken sent result)
     ⊎ GoesOn variant meaning begun platform after store new left taken sent result
 
 -- The call: these bytes were taken of the input, and those written.
-pub record Sessions (variant : Variant) (meaning : Meaning) (before after : Standing) (old new : Kept) (left left' received received' : Option (List ℕ)) (result : Result Unit SessionFault) : Type 0 where
+pub record Sessions (variant : Variant) (meaning : Meaning) (before after : Standing) (old new : Kept)
+    (left left' received received' : Option (List ℕ)) (result : Result Unit SessionFault) : Type 0 where
   pub taken : List ℕ
   pub sent : List ℕ
   pub consumed : Consumes left left' taken

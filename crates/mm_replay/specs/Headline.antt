@@ -35,7 +35,8 @@ abbrev pub IsContinuous : Header → List Event → Type 0
 IsContinuous header events =
     let i = world_of header in
     IsClearRun i events → IsGenuineRun i events →
-    IsOneRun header events (replies_by_digests i events).replies (replies_by_digests i events).state.count (length (replies_by_digests i events).issued)
+    IsOneRun header events (replies_by_digests i events).replies (replies_by_digests i events).state.count
+        (length (replies_by_digests i events).issued)
 
 -- Behind these event lines, and their events, the line is one too many: it is event 20,001, or the event lines with it
 -- and the snapshots issued before it have more than 268,435,456 bytes.
@@ -49,7 +50,8 @@ IsWithinLimits header lines = (before : List (List ℕ)) (line : List ℕ) (afte
     → lines ≡ before ++ line ∷ after → map event_at before ≡ map Some events → IsOver header before events line → ⊥
 
 -- The lines are a header and events. What is written is the replies to the events, by digests, and then the last line.
-pub record AnswersEvents (heading : List ℕ → Option Header) (lines : List (List ℕ)) (written : List ℕ) (last : ℕ → ℕ → List ℕ) : Type 0 where
+pub record AnswersEvents (heading : List ℕ → Option Header) (lines : List (List ℕ)) (written : List ℕ)
+    (last : ℕ → ℕ → List ℕ) : Type 0 where
   pub first : List ℕ
   pub others : List (List ℕ)
   pub header : Header

@@ -59,7 +59,8 @@ end_line committed issued = codes "end " ++ decimal committed ++ 32 ∷ [] ++ de
 
 -- what a reply has to meet to be printed: short outputs, and positions of at most 2^48
 abbrev pub IsPrintable : Reply → Type 0
-IsPrintable (Told again before outputs) = (All (λ (output : List ℕ). length output ≤ longest_request) outputs) × (before + length outputs ≤ last_position)
+IsPrintable (Told again before outputs) = (All (λ (output : List ℕ). length output ≤ longest_request) outputs)
+    × (before + length outputs ≤ last_position)
 IsPrintable (No cause) = Unit {0}
 IsPrintable (Kept way position) = Unit {0}
 IsPrintable (Nothing way) = Unit {0}
