@@ -33,4 +33,4 @@ pub record RunsInBulk (it : Generated) (received received' : Option (List ℕ)) 
 abbrev pub TellsSummary : ℕ → Summary → (received received' : Option (List ℕ)) (writes writes' : ℕ) → Status → Type 0
 TellsSummary count summary received received' writes writes' status =
     Tells (Ok (bulk_text count summary)) received received' writes writes' status
-        ⊎ Tells (Err Memory) received received' writes writes' status
+    ⊎ Tells (Err Memory) received received' writes writes' status

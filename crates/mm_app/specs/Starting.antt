@@ -5,17 +5,11 @@ use Rattle.mm_host.specs.Init.{Devices, Inits}
 use Rattle.mm_host.specs.declared.init_fault.InitFault.{InitFault}
 use Rattle.mm_host.specs.declared.init_fault.InitFault.TheVariants as init
 use Rattle.mm_modules.specs.Modules.{meaning_of}
-use Rattle.mm_platform.specs.Standing.{Standing}
 use Rattle.mm_schedule.specs.declared.header.Header.{Header}
-use Rattle.mm_store.specs.Kept.{Kept}
 use Rattle.mm_app.specs.Status.{line_of}
 use Rattle.mm_app.specs.Telling.{Tells}
 use Rattle.mm_app.specs.declared.status.Status.{Status}
 use Rattle.mm_app.specs.declared.status.Status.TheVariants.{Memory, PlatformFault, Already, ReadFault, Short, StoreFault}
-
--- the platform, the store and the entropy
-abbrev pub devices : Standing → Kept → (entropy : Option (List ℕ)) (takes : ℕ) → Devices
-devices standing kept entropy takes = record { platform = standing; store = kept; left = entropy; source_faults = takes }
 
 -- what is told of a first start
 abbrev pub init_told : Result (Unit {0}) InitFault → Result (List ℕ) Status

@@ -64,7 +64,7 @@ fn done<P: Platform, T: Store, S: Source, E: Source, K: Sink>(
     ensures check { command.now ≡ Check → (bytes : List ℕ) → (next : checked.Stage)
         → S.left input.old ≡ Some bytes
         → (run_of (checked.check_answer header_at) checked.check_closing checked.AtHeader
-            bytes).outcome ≡ Ok next
+        bytes).outcome ≡ Ok next
         → EndsUnrefused result }
     ensures usage { result ≡ Usage → ⊥ }
     ensures platform { (UsesPlatform command.now → ⊥) → platform.new ≡ platform.old }
@@ -128,7 +128,7 @@ pub fn memoir<P: Platform, T: Store, S: Source, E: Source, K: Sink>(
     ensures check { SpellsCommand Check (map (λ s. s.now) words.now)
         → (bytes : List ℕ) → (next : checked.Stage) → S.left input.old ≡ Some bytes
         → (run_of (checked.check_answer header_at) checked.check_closing checked.AtHeader
-            bytes).outcome ≡ Ok next
+        bytes).outcome ≡ Ok next
         → EndsUnrefused result }
 
     // The headline: what is written for a schedule is one run of the module on one list of requests.

@@ -92,7 +92,7 @@ impl LineReader {
         requires { limit ≤ longest_line }
         ensures* after { sem 𝓛
             (Rests the_row self.entry
-                (NextLine limit (S.left source.old) (S.left source.new) self.old result)) }
+            (NextLine limit (S.left source.old) (S.left source.new) self.old result)) }
         ensures counted { CountsReads (S.faults source.old) (S.faults source.new) result }
     {
         match self.held.see(source, limit)? {

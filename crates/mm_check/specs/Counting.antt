@@ -27,7 +27,7 @@ header_fewer (Some header) reply next h =
 
 event_fewer : (r : Read) (line : List ℕ) (event : Event) (much : Bool) (reply : List ℕ) (next : Stage) → is_too_much r.running line ≡ much
     → (let a : Result (List ℕ × Stage) Refused = if much then Err Much else Ok ([], InEvents (after_read r line event)) in
-        a ≡ Ok (reply, next))
+    a ≡ Ok (reply, next))
     → check_left next < check_left (InEvents r)
 event_fewer r line event true reply next is h = absurd (no_answer Much reply next h)
 event_fewer r line event false reply next is h =
@@ -40,7 +40,7 @@ found_fewer r line (Some event) reply next h = event_fewer r line event (is_too_
 
 read_fewer : (r : Read) (line : List ℕ) (section : Bool) (reply : List ℕ) (next : Stage)
     → (let a : Result (List ℕ × Stage) Refused = if section then Ok ([], InReplies (first_compared r))
-        else read_event r line (event_at line) in a ≡ Ok (reply, next))
+    else read_event r line (event_at line) in a ≡ Ok (reply, next))
     → check_left next < check_left (InEvents r)
 read_fewer r line true reply next h = fewer (check_left (InEvents r)) reply [] next (InReplies (first_compared r)) h (omega arith)
 read_fewer r line false reply next h = found_fewer r line (event_at line) reply next h
@@ -50,7 +50,7 @@ few_recorded count h = grind (arith, nat_tests)
 
 compare_fewer : (c : Compared) (line : List ℕ) (much : Bool) (reply : List ℕ) (next : Stage) → nat_le most_recorded c.count ≡ much
     → (let a : Result (List ℕ × Stage) Refused = if much then Err Much else Ok ([], InReplies (after_compared c line)) in
-        a ≡ Ok (reply, next))
+    a ≡ Ok (reply, next))
     → check_left next < check_left (InReplies c)
 compare_fewer c line true reply next is h = absurd (no_answer Much reply next h)
 compare_fewer c line false reply next is h =

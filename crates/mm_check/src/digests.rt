@@ -61,7 +61,7 @@ fn zero_then(found: Option<u32>, digest: &Digest, number: u32) -> Option<u32>
 fn put(firsts: &mut BTreeMap<[u8; 32], u32>, digest: [u8; 32], number: u32) -> Result<(), Memory>
     ensures { OnOk result ((d : List ℕ) → get (slice_cmp nat_cmp) firsts.new d
         ≡ (if is_eq (slice_cmp nat_cmp digest d) then Some number
-            else get (slice_cmp nat_cmp) firsts.old d)) }
+        else get (slice_cmp nat_cmp) firsts.old d)) }
 {
     match firsts.insert(digest, number) {
         Ok(_) => Ok(()),

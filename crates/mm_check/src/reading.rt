@@ -39,8 +39,12 @@ impl Model for Reading {
 
     ghost Value = { Read };
 
-    ghost view = { λ it. record { header = it.header; running = running it.progress;
-        events = events_of it.events.items; told = it.told.items } };
+    ghost view = { λ it. record {
+      header = it.header;
+      running = running it.progress;
+      events = events_of it.events.items;
+      told = it.told.items;
+    } };
 
     ghost invariant = { λ it. RunsBehind it.header (running it.progress) (events_of it.events.items)
         it.told.items };

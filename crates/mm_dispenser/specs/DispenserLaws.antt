@@ -82,7 +82,7 @@ SaysWords _ = Unit {0}
 drawn-IsOutcome : (seed : List ℕ) (place count : ℕ) (flag : Bool) → nat_le (place + count) last_position ≡ flag → IsSeeded seed place
     → count ≤ 16
     → IsOutcome IsDispenserState SaysWords (if flag then (Seeded seed (place + count), says.Words seed place count)
-        else (Seeded seed place, says.Full))
+    else (Seeded seed place, says.Full))
 drawn-IsOutcome seed place count true is good few =
     let room : place + count ≤ last_position = grind (arith, nat_tests) in
     record { state = record { formed = good.formed; within = room }; said = (omega (arith, good.within), few) }
@@ -99,8 +99,10 @@ outcome_of-IsOutcome Unset None good asked = record { state = tt; said = tt }
 outcome_of-IsOutcome (Seeded seed place) None good asked = record { state = good; said = tt }
 
 drawn-drawn : (seed : List ℕ) (place count : ℕ) (flag : Bool) → nat_le (place + count) last_position ≡ flag
-    → IsDrawn (if◌then◌else◌ {A = State × Says} flag (Seeded seed (place + count), says.Words seed place count) (Seeded seed place,
-        says.Full)).1
+    → IsDrawn (if◌then◌else◌ {A = State × Says} flag (Seeded seed (place + count), says.Words seed place count) (
+      Seeded seed place,
+      says.Full,
+    )).1
 drawn-drawn seed place count true is = grind (arith, nat_tests)
 drawn-drawn seed place count false is = tt
 
@@ -117,7 +119,7 @@ outcome_of-drawn (Seeded seed place) None = tt
 seeded_of-joined : (seed : List ℕ) (place : ℕ) → IsSeeded seed place → seeded_of (seed ++ eight_bytes place) ≡ Some (Seeded seed place)
 seeded_of-joined seed place good =
     let long : length (seed ++ eight_bytes place) ≡ 40 =
-        omega (arith, length-append seed (eight_bytes place), length-eight place, good.formed.long) in
+    omega (arith, length-append seed (eight_bytes place), length-eight place, good.formed.long) in
     let counted : (length (seed ++ eight_bytes place) == 40) ≡ true = grind (arith, nat_tests) in
     let front = take-front 32 seed (eight_bytes place) good.formed.long in
     let back = drop-front 32 seed (eight_bytes place) good.formed.long in
@@ -191,8 +193,11 @@ unfolding state_of
 short-state [] is = omega arith
 short-state (form ∷ []) is = omega arith
 short-state (form ∷ first ∷ rest) is =
-    omega (arith, short-by (first ∷ rest) (form == 1) (length (first ∷ rest) == 40)
-        (placed (take 32 (first ∷ rest)) (of_eight_bytes (drop 32 (first ∷ rest)))) refl is)
+    omega (
+      arith,
+      short-by (first ∷ rest) (form == 1) (length (first ∷ rest) == 40)
+          (placed (take 32 (first ∷ rest)) (of_eight_bytes (drop 32 (first ∷ rest)))) refl is,
+    )
 
 are_bytes-spelling_of : (state : State) → IsDispenserState state → are_bytes (spelling_of state) ≡ true
 are_bytes-spelling_of Unset good = refl
@@ -217,8 +222,12 @@ unbroken-word_text word = is_unbroken-encoded (to_be_bytes w32 word)
 length-words_text : (seed : List ℕ) (place count : ℕ) → length (words_text seed place count) ≡ 9 * count
 length-words_text seed place zero = refl
 length-words_text seed place (suc count) =
-    omega (arith, length-append (word_text (word_of seed place)) (words_text seed (place + 1) count), length-word_text (word_of seed place),
-        length-words_text seed (place + 1) count)
+    omega (
+      arith,
+      length-append (word_text (word_of seed place)) (words_text seed (place + 1) count),
+      length-word_text (word_of seed place),
+      length-words_text seed (place + 1) count,
+    )
 
 unbroken-words_text : (seed : List ℕ) (place count : ℕ) → is_unbroken (words_text seed place count) ≡ true
 unbroken-words_text seed place zero = refl
@@ -233,8 +242,13 @@ text_of-IsText says.Taken is = record { short = omega arith; unbroken = refl }
 text_of-IsText says.Unset is = record { short = omega arith; unbroken = refl }
 text_of-IsText says.Full is = record { short = omega arith; unbroken = refl }
 text_of-IsText (says.Words seed place count) is = record {
-  short = omega (arith, length-append (decimal place) (words_text seed place count), length-decimal place is.0,
-      length-words_text seed place count, is.1);
+  short = omega (
+    arith,
+    length-append (decimal place) (words_text seed place count),
+    length-decimal place is.0,
+    length-words_text seed place count,
+    is.1,
+  );
   unbroken = list_all-append (λ byte. not (byte == 10)) (decimal place) (words_text seed place count)
       ∙ and-both _ _ (is_unbroken-decimal place is.0) (unbroken-words_text seed place count);
 }
@@ -255,8 +269,10 @@ dispenser_says state request is = text_of-IsText _ (stepped-IsOutcome state requ
 pub dispenser_is_lawful : IsLawful dispenser
 dispenser_is_lawful = record {
   begins = search (rules, dispenser_begins);
-  goes_on = λ state request is. search (rules,
-      is_state-spelling_of (stepped state request).0 (stepped-IsOutcome state request (search (rules, is))).state);
+  goes_on = λ state request is. search (
+    rules,
+    is_state-spelling_of (stepped state request).0 (stepped-IsOutcome state request (search (rules, is))).state,
+  );
   fits = λ state is. let w = state-parts state (search (rules, is)) in omega (arith, short-state state w.1);
   has_bytes = λ state is. All-are_bytes state (state-parts state (search (rules, is))).0;
   says_lines = λ state request is. IsLine-text 170 _ (omega arith) (dispenser_says state request (search (rules, is)));

@@ -31,7 +31,7 @@ impl Chronicle {
     fn read(&mut self, course: &Course<'_>) -> Result<Option<StepFault>, Memory>
         ensures { IfOk result (Walks self.old self.new
             (walk (planned (plan_of course.now.stop course.now.meddles.now)) 1
-                (reading_steps self.old.variant))) }
+            (reading_steps self.old.variant))) }
     {
         match self.variant {
             Variant::Basic => self.walk(course, 1, &[Step::Reads]),
@@ -77,7 +77,7 @@ impl Chronicle {
         requires short { is_long (batch_of batch) ≡ false }
         ensures { IfOk result
             (CallsBy self.old self.new
-                (called (instance_of self.old) (by_lists (instance_of self.old)) self.old.history
+            (called (instance_of self.old) (by_lists (instance_of self.old)) self.old.history
             (course_of course.now.stop course.now.meddles.now) bytes.now (batch_of batch.entry))) }
     {
         if let Some(fault) = self.read(course)? {
@@ -121,8 +121,8 @@ impl Chronicle {
     pub(crate) fn checkpoint(&mut self, course: &Course<'_>) -> Result<Closing, Memory>
         ensures { IfOk result
             (WentByCheckpoint self.old self.new
-                (checkpointed (instance_of self.old) (by_lists (instance_of self.old))
-                self.old.history
+            (checkpointed (instance_of self.old) (by_lists (instance_of self.old))
+            self.old.history
             (course_of course.now.stop course.now.meddles.now))) }
     {
         match self.variant {
@@ -141,8 +141,8 @@ impl Chronicle {
     fn check_shut(&mut self, course: &Course<'_>, closing: Closing) -> Result<Closing, Memory>
         ensures { IfOk result
             (ShutBy self.old self.new
-                (walk (planned (plan_of course.now.stop course.now.meddles.now)) 1 (Reads ∷ []))
-                closing) }
+            (walk (planned (plan_of course.now.stop course.now.meddles.now)) 1 (Reads ∷ []))
+            closing) }
     {
         match self.walk(course, 1, &[Step::Reads])? {
             None => Ok(closing),
@@ -159,8 +159,8 @@ impl Chronicle {
         requires inside { self.old.history.is_open ≡ true }
         ensures { IfOk result
             (WentByCheckpoint self.old self.new
-                (checkpointed (instance_of self.old) (by_lists (instance_of self.old))
-                self.old.history
+            (checkpointed (instance_of self.old) (by_lists (instance_of self.old))
+            self.old.history
             (course_of course.now.stop course.now.meddles.now))) }
     {
         if let Some(fault) = self.walk(course, 1, &[Step::Reads, Step::Reads])? {

@@ -248,7 +248,8 @@ impl Chronicle {
         requires guards { value.now.bytes ≡ guard (instance_of self.old).barrier (batch_of batch) }
         ensures { OnOk result
             (self.new ≡ record self.old {
-                history = committed Opt true self.old.history (batch_of batch.entry) }) }
+              history = committed Opt true self.old.history (batch_of batch.entry);
+            }) }
     {
         self.lists.add_inside(batch)?;
         self.marks = self.marks.grown(size, value);

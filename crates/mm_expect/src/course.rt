@@ -110,7 +110,7 @@ impl Chronicle {
         requires { IsShortStep step.now }
         ensures { OnOk result
             (Went self.old self.new
-                (step_moves (step_as step.now) is_made (due number course.now.meddles.now))) }
+            (step_moves (step_as step.now) is_made (due number course.now.meddles.now))) }
     {
         match step {
             Step::Reads => self.bring_due(course, number),
@@ -136,8 +136,8 @@ impl Chronicle {
         requires few { number + length steps.now < 256 }
         ensures { IfOk result
             (Walks self.old self.new
-                (walk (planned (plan_of course.now.stop course.now.meddles.now)) number
-                (steps_of steps.now))) }
+            (walk (planned (plan_of course.now.stop course.now.meddles.now)) number
+            (steps_of steps.now))) }
     {
         let Some((step, later)) = steps.split_first() else {
             return Ok(None);

@@ -316,7 +316,7 @@ pub(crate) fn is_named(
     requires short { list_any is_long lists.now.batches ≡ false }
     ensures { IfOk result
         (λ yes. IsDecided yes
-            (Names (instance_with variant «module».now) lists.now (content_of body.now))) }
+        (Names (instance_with variant «module».now) lists.now (content_of body.now))) }
 {
     let batches = lists.batches();
     let count = match first_with(batches, body.position) {

@@ -44,7 +44,7 @@ fn are_genuine(chronicle: &Chronicle, key: &HmacKey, bytes: &[u8]) -> Result<boo
     requires { key.now ≡ world_key }
     ensures { IfOk result
         (λ yes. IsDecided yes
-            (IsGenuine (instance_of chronicle.now) chronicle.now.history bytes.now)) }
+        (IsGenuine (instance_of chronicle.now) chronicle.now.history bytes.now)) }
 {
     match right_body(chronicle, key, bytes) {
         None => Ok(true),

@@ -8,7 +8,7 @@ ghost use Rattle.mm_model.specs.History.{first_history};
 ghost use Rattle.mm_model.specs.Standing.{cell_of, issued_bytes};
 ghost use Rattle.mm_store.specs.declared.store.TheConstants.{LONGEST_SLOT};
 ghost use Rattle.mm_host.specs.Begins.{Leaves, TellsUse, BlamesDevice};
-ghost use Rattle.mm_host.specs.Init.{Devices, LooksAtCell, TakesBytes, taken_into, instance_from, PutsAll, first_puts, SetsUp, SetsUpBoth, TakesAndSetsUp, Inits};
+ghost use Rattle.mm_host.specs.Init.{devices, LooksAtCell, TakesBytes, taken_into, instance_from, PutsAll, first_puts, SetsUp, SetsUpBoth, TakesAndSetsUp, Inits};
 
 use crate::init_fault::InitFault;
 use mm_base::{Failed, Memory, Source};
@@ -33,21 +33,21 @@ pub fn init<M: Module, P: Platform, T: Store, E: Source>(
     entropy: &mut E,
 ) -> Result<(), InitFault>
     ensures steps { Inits variant (M.meaning «module».now)
-        (record { platform = P.standing platform.old; store = T.kept store.old;
-            left = E.left entropy.old; source_faults = E.faults entropy.old })
-        (record { platform = P.standing platform.new; store = T.kept store.new;
-            left = E.left entropy.new; source_faults = E.faults entropy.new }) result }
+        (devices (P.standing platform.old) (T.kept store.old) (E.left entropy.old)
+        (E.faults entropy.old))
+        (devices (P.standing platform.new) (T.kept store.new) (E.left entropy.new)
+        (E.faults entropy.new)) result }
     ensures leaves { Leaves variant (M.meaning «module».now)
-        (record { platform = P.standing platform.old; store = T.kept store.old;
-            left = E.left entropy.old; source_faults = E.faults entropy.old })
-        (record { platform = P.standing platform.new; store = T.kept store.new;
-            left = E.left entropy.new; source_faults = E.faults entropy.new }) result }
-    ensures tells { TellsUse (record { platform = P.standing platform.old; store = T.kept store.old;
-        left = E.left entropy.old; source_faults = E.faults entropy.old }) result }
-    ensures faults { BlamesDevice (record { platform = P.standing platform.old;
-        store = T.kept store.old; left = E.left entropy.old; source_faults = E.faults entropy.old })
-        (record { platform = P.standing platform.new; store = T.kept store.new;
-            left = E.left entropy.new; source_faults = E.faults entropy.new }) result }
+        (devices (P.standing platform.old) (T.kept store.old) (E.left entropy.old)
+        (E.faults entropy.old))
+        (devices (P.standing platform.new) (T.kept store.new) (E.left entropy.new)
+        (E.faults entropy.new)) result }
+    ensures tells { TellsUse (devices (P.standing platform.old) (T.kept store.old)
+        (E.left entropy.old) (E.faults entropy.old)) result }
+    ensures faults { BlamesDevice (devices (P.standing platform.old) (T.kept store.old)
+        (E.left entropy.old) (E.faults entropy.old))
+        (devices (P.standing platform.new) (T.kept store.new) (E.left entropy.new)
+        (E.faults entropy.new)) result }
 {
     init_by_steps(alloc, variant, module, platform, store, entropy)
 }
@@ -62,10 +62,10 @@ fn init_by_steps<M: Module, P: Platform, T: Store, E: Source>(
     entropy: &mut E,
 ) -> Result<(), InitFault>
     ensures { Inits variant (M.meaning «module».now)
-        (record { platform = P.standing platform.old; store = T.kept store.old;
-            left = E.left entropy.old; source_faults = E.faults entropy.old })
-        (record { platform = P.standing platform.new; store = T.kept store.new;
-            left = E.left entropy.new; source_faults = E.faults entropy.new }) result }
+        (devices (P.standing platform.old) (T.kept store.old) (E.left entropy.old)
+        (E.faults entropy.old))
+        (devices (P.standing platform.new) (T.kept store.new) (E.left entropy.new)
+        (E.faults entropy.new)) result }
 {
     match is_blank(platform) {
         Err(fault) => Err(InitFault::from(fault)),
@@ -94,10 +94,10 @@ fn take_and_set_up<M: Module, P: Platform, T: Store, E: Source>(
     entropy: &mut E,
 ) -> Result<(), InitFault>
     ensures { TakesAndSetsUp variant (M.meaning «module».now)
-        (record { platform = P.standing platform.old; store = T.kept store.old;
-            left = E.left entropy.old; source_faults = E.faults entropy.old })
-        (record { platform = P.standing platform.new; store = T.kept store.new;
-            left = E.left entropy.new; source_faults = E.faults entropy.new })
+        (devices (P.standing platform.old) (T.kept store.old) (E.left entropy.old)
+        (E.faults entropy.old))
+        (devices (P.standing platform.new) (T.kept store.new) (E.left entropy.new)
+        (E.faults entropy.new))
         result }
 {
     let mut secrets = [0; 64];
@@ -166,7 +166,7 @@ fn provision<M: Module>(
 ) -> Result<Provisioned, Memory>
     ensures cell { IfOk result (λ made. made.cell
         ≡ cell_spelling
-            (cell_of (instance_from variant (M.meaning «module».now) secrets.now) first_history)) }
+        (cell_of (instance_from variant (M.meaning «module».now) secrets.now) first_history)) }
     ensures snapshot { IfOk result (λ made. made.snapshot
         ≡ issued_bytes (instance_from variant (M.meaning «module».now) secrets.now) first_history) }
 {

@@ -62,8 +62,10 @@ GuardRead-from tries left count secret is =
     let v = and-true (is_tries tries && nat_le left tries) (count == length secret) w.0 in
     let u = and-true (is_tries tries) (nat_le left tries) v.0 in
     let t = IsTries-from tries u.0 in
-    record { guard = record { some = t.some; few = t.few; rest = grind (arith, nat_tests); formed = IsSecret-from secret w.1 };
-        counted = grind (arith, nat_tests) }
+    record {
+      guard = record { some = t.some; few = t.few; rest = grind (arith, nat_tests); formed = IsSecret-from secret w.1 };
+      counted = grind (arith, nat_tests);
+    }
 
 is_guard-IsGuard : (tries left : ℕ) (secret : List ℕ) → IsGuard tries left secret → is_guard tries left (length secret) secret ≡ true
 unfolding is_guard
@@ -130,8 +132,10 @@ guessed tries left secret true right is = record { state = is; said = tt }
 guessed tries left secret false true is =
     record { state = record { some = is.some; few = is.few; rest = omega arith; formed = is.formed }; said = tt }
 guessed tries left secret false false is =
-    record { state = record { some = is.some; few = is.few; rest = omega (arith, is.rest); formed = is.formed };
-    said = omega (arith, is.rest, is.few) }
+    record {
+      state = record { some = is.some; few = is.few; rest = omega (arith, is.rest); formed = is.formed };
+      said = omega (arith, is.rest, is.few);
+    }
 
 pub outcome_of-IsOutcome : (state : State) (request : Option Request) → IsLimiterState state → IsLimiterRequest request
     → IsOutcome IsLimiterState SaysGuesses (outcome_of state request)
@@ -245,8 +249,10 @@ limiter_says state request is = text_of-IsText _ (stepped-IsOutcome state reques
 pub limiter_is_lawful : IsLawful limiter
 limiter_is_lawful = record {
   begins = search (rules, limiter_begins);
-  goes_on = λ state request is. search (rules,
-      is_state-spelling_of (stepped state request).0 (stepped-IsOutcome state request (search (rules, is))).state);
+  goes_on = λ state request is. search (
+    rules,
+    is_state-spelling_of (stepped state request).0 (stepped-IsOutcome state request (search (rules, is))).state,
+  );
   fits = λ state is. omega (arith, limiter_fits state (search (rules, is)));
   has_bytes = λ state is. All-are_bytes state (limiter_bytes state (search (rules, is)));
   says_lines = λ state request is. IsLine-text 26 _ (omega arith) (limiter_says state request (search (rules, is)));
@@ -270,5 +276,5 @@ pub short_after : (state request : List ℕ) → is_state state ≡ true → (wa
 unfolding stepped
 short_after state request is was was_is asked asked_is after after_is =
     let e : after ≡ stepped state request = after_is ∙ ap (λ w. outcome_of w asked) was_is
-        ∙ ap (λ a. outcome_of (unwrap_or (state_of state) Unset) a) asked_is in
+    ∙ ap (λ a. outcome_of (unwrap_or (state_of state) Unset) a) asked_is in
     subst (λ (o : State × Says). IsShortSecret o.0) (sym e) (short_secret _ (stepped-IsOutcome state request is).state)

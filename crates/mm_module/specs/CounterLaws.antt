@@ -28,8 +28,17 @@ unfolding of_eight_bytes
 value-lt state is =
     let eight = length-state state is in
     let small = bytes-state state is in
-    omega (arith, small 0 0 (omega arith), small 1 0 (omega arith), small 2 0 (omega arith), small 3 0 (omega arith),
-        small 4 0 (omega arith), small 5 0 (omega arith), small 6 0 (omega arith), small 7 0 (omega arith))
+    omega (
+      arith,
+      small 0 0 (omega arith),
+      small 1 0 (omega arith),
+      small 2 0 (omega arith),
+      small 3 0 (omega arith),
+      small 4 0 (omega arith),
+      small 5 0 (omega arith),
+      small 6 0 (omega arith),
+      small 7 0 (omega arith),
+    )
 
 -- the state of a value is one
 is_state-eight : (value : ℕ) → is_state (eight_bytes value) ≡ true

@@ -22,7 +22,7 @@ pub fn provision<M: Module>(
 ) -> Result<Provisioned, Memory>
     ensures cell { IfOk result (λ made.
         made.cell ≡ cell_spelling
-            (cell_of (opt (M.meaning «module».now) key.now barrier.now) first_history)) }
+        (cell_of (opt (M.meaning «module».now) key.now barrier.now) first_history)) }
     ensures snapshot { IfOk result (λ made.
         made.snapshot ≡ issued_bytes (opt (M.meaning «module».now) key.now barrier.now)
         first_history) }

@@ -320,7 +320,8 @@ impl PageDevice for MemPages {
             result }
         ensures failing { IsErr result ↔ (self.old.ahead ≡ 1) }
         ensures after { self.new ≡ record (after_reading self.old result) {
-            page_reads = counted self.old.page_reads } }
+          page_reads = counted self.old.page_reads;
+        } }
     {
         self.page_reads = self.page_reads.saturating_add(1);
         if self.is_to_fail() {
@@ -338,8 +339,8 @@ impl PageDevice for MemPages {
         ensures failing { IsErr result ↔ (self.old.ahead ≡ 1) }
         ensures after { self.new
             ≡ record (after_changing slot (with_page page bytes.now) self.old result) {
-          page_writes = counted self.old.page_writes;
-        } }
+              page_writes = counted self.old.page_writes;
+            } }
     {
         self.page_writes = self.page_writes.saturating_add(1);
         if self.is_to_fail_in(slot) {

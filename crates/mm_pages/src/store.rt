@@ -89,8 +89,8 @@ impl<D: PageDevice + Drop> Store for PageStore<D> {
         // Of the pages of the new bytes those are read back of which no digest is kept, or that of the new page.
         ensures looks { OnOk result ((D.pages self.new.device).page_reads
             ≡ counted_by
-                (looks_at (row_in self.old.rows slot) bytes.now (page_count (length bytes.now)))
-                (D.pages self.old.device).page_reads) }
+            (looks_at (row_in self.old.rows slot) bytes.now (page_count (length bytes.now)))
+            (D.pages self.old.device).page_reads) }
 
         // Where the digests kept are those of what an honest device has there, as they are while this store
         // alone writes to it, the pages that differ are written.
@@ -99,7 +99,7 @@ impl<D: PageDevice + Drop> Store for PageStore<D> {
             → AreOf (row_in self.old.rows slot) (slot_in told slot)
             → (D.pages self.new.device).page_writes
             ≡ counted_by (changes_of (slot_in told slot) bytes.now (page_count (length bytes.now)))
-                (D.pages self.old.device).page_writes) }
+            (D.pages self.old.device).page_writes) }
         ensures step { KeepsStep (D.pages self.old.device) (D.pages self.new.device) self.old.rows
             self.new.rows }
 

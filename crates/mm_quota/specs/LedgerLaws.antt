@@ -48,7 +48,7 @@ account_named-absent name previous (account ∷ accounts) less rising =
     let w = and-true (is_lt (order_of previous account.name)) (rises account.name accounts) rising in
     let below : order_of name account.name ≡ Less = nat_list_cmp_total.trans name previous account.name less (is_lt-Less _ w.0) in
     account_named-other name account accounts (bytes_eq-order name account.name Less below)
-        ∙ account_named-absent name account.name accounts below w.1
+    ∙ account_named-absent name account.name accounts below w.1
 
 -- what a put keeps: names that rise
 rises-step : (previous : List ℕ) (new account : Account) (accounts : List Account) (order : Ordering)
@@ -71,7 +71,7 @@ rises-put previous new [] less rising = and-both _ _ (ap is_lt less) refl
 rises-put previous new (account ∷ accounts) less rising =
     rises-step previous new account accounts (order_of new.name account.name) refl less rising
     (λ below. rises-put account.name new accounts below
-        (and-true (is_lt (order_of previous account.name)) (rises account.name accounts) rising).1)
+    (and-true (is_lt (order_of previous account.name)) (rises account.name accounts) rising).1)
 
 -- what a put keeps: a test of each account
 all-step : (p : Account → Bool) (new account : Account) (accounts : List Account) (order : Ordering) → p new ≡ true
@@ -107,8 +107,8 @@ same-step : (new account : Account) (accounts : List Account) (order : Ordering)
     → length (match_ordering order (new ∷ account ∷ accounts) (new ∷ accounts) (account ∷ put new accounts)) ≡ suc (length accounts)
 same-step new account accounts Less is rising there more =
     let none : account_named new.name (account ∷ accounts) ≡ None =
-        account_named-other new.name account accounts (bytes_eq-order new.name account.name Less is)
-        ∙ account_named-absent new.name account.name accounts is rising in
+    account_named-other new.name account accounts (bytes_eq-order new.name account.name Less is)
+    ∙ account_named-absent new.name account.name accounts is rising in
     let no : is_some {T = Account} None ≡ true = rw none at there in cc
 same-step new account accounts Equal is rising there more = refl
 same-step new account accounts Greater is rising there more =

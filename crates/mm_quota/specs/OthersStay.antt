@@ -30,7 +30,7 @@ settled-others : (full : Bool) (wanted name : List ℕ) (accounts : List Account
 settled-others full wanted name accounts None is apart = refl
 settled-others full wanted name accounts (Some account) is apart =
     account_named-put-other name account accounts
-        (differ name account.name (bytes_eq name account.name) refl (λ same. apart (sym is.named ∙ same)))
+    (differ name account.name (bytes_eq name account.name) refl (λ same. apart (sym is.named ∙ same)))
 
 outcome-others : (most : ℕ) (accounts : List Account) (request : Option Request) (name : List ℕ) → IsLedger most accounts
     → IsQuotaRequest request → name_in request ≢ Some name
@@ -38,7 +38,7 @@ outcome-others : (most : ℕ) (accounts : List Account) (request : Option Reques
 outcome-others most accounts (Some Sum) name ledger asked apart = refl
 outcome-others most accounts (Some (On wanted action)) name ledger asked apart =
     let d = decision_of-is (nat_le most (length accounts)) wanted (account_named wanted accounts) action asked.0 asked.1
-        (account_named-found is_account wanted accounts ledger.good) in
+    (account_named-found is_account wanted accounts ledger.good) in
     settled-others (nat_le most (length accounts)) wanted name accounts _ d.change (λ same. apart (ap (λ (n : List ℕ). Some n) same))
 outcome-others most accounts None name ledger asked apart = refl
 
@@ -48,6 +48,6 @@ others_stay most state request small is = λ name apart.
     let h = is_state-SpellsLedger most state is in
     let o = stepped-IsOutcome most state request small is in
     ap (λ (accounts : List Account). account_named name accounts) (ledger_of-spelling_of most (stepped most state request).0 small o.state)
-        ∙
+    ∙
     unfold stepped in outcome-others most (ledger_of state) (request_of (words_of request)) name h.ledger
-        (request_of-IsQuotaRequest (words_of request)) apart
+    (request_of-IsQuotaRequest (words_of request)) apart

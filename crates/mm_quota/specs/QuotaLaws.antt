@@ -103,10 +103,16 @@ use-decision : (full : Bool) (name : List ℕ) (account : Account) (number : ℕ
 use-decision full name account number true is found =
     let kept = IsAccount-from account found.passed in
     let fits : number ≤ account.limit - account.used = grind (arith, nat_tests) in
-    record { change =
-        record { good = is_account-made (record account { used = account.used + number }) (is_account-named account found.passed)
-        kept.limited (omega (arith, fits, kept.within)); named = found.named; room = λ no. absurd (let clash : true ≡ false = no in cc) };
-        said = omega (arith, fits, kept.within, kept.limited) }
+    record {
+      change =
+          record {
+            good = is_account-made (record account { used = account.used + number }) (is_account-named account found.passed)
+                kept.limited (omega (arith, fits, kept.within));
+            named = found.named;
+            room = λ no. absurd (let clash : true ≡ false = no in cc);
+          };
+      said = omega (arith, fits, kept.within, kept.limited);
+    }
 use-decision full name account number false is found =
     let kept = IsAccount-from account found.passed in
     record { change = tt; said = omega (arith, kept.limited) }
@@ -117,10 +123,16 @@ free-decision : (full : Bool) (name : List ℕ) (account : Account) (number : �
     then (Some (record account { used = account.used - number }), IsUsed (account.used - number)) else (None, IsUnder account.used))
 free-decision full name account number true is found =
     let kept = IsAccount-from account found.passed in
-    record { change =
-        record { good = is_account-made (record account { used = account.used - number }) (is_account-named account found.passed)
-        kept.limited (omega (arith, kept.within)); named = found.named; room = λ no. absurd (let clash : true ≡ false = no in cc) };
-        said = omega (arith, kept.within, kept.limited) }
+    record {
+      change =
+          record {
+            good = is_account-made (record account { used = account.used - number }) (is_account-named account found.passed)
+                kept.limited (omega (arith, kept.within));
+            named = found.named;
+            room = λ no. absurd (let clash : true ≡ false = no in cc);
+          };
+      said = omega (arith, kept.within, kept.limited);
+    }
 free-decision full name account number false is found =
     let kept = IsAccount-from account found.passed in
     record { change = tt; said = omega (arith, kept.within, kept.limited) }
@@ -129,8 +141,14 @@ open-decision : (full : Bool) (name : List ℕ) (limit : ℕ) → is_name name �
     → IsDecision full name None (if full then (None, IsFull) else (Some (record { name = name; limit = limit; used = 0 }), IsOpened))
 open-decision true name limit named limited = record { change = tt; said = tt }
 open-decision false name limit named limited =
-    record { change = record { good = is_account-made (record { name = name; limit = limit; used = 0 }) named limited (omega arith);
-    named = refl; room = λ no. refl }; said = tt }
+    record {
+      change = record {
+        good = is_account-made (record { name = name; limit = limit; used = 0 }) named limited (omega arith);
+        named = refl;
+        room = λ no. refl;
+      };
+      said = tt;
+    }
 
 pub decision_of-is : (full : Bool) (name : List ℕ) (found : Option Account) (action : Action) → is_name name ≡ true → IsAction action
     → FoundOf is_account name found → IsDecision full name found (decision_of full name found action)
@@ -183,7 +201,7 @@ outcome_of-is most accounts (Some Sum) small ledger asked =
     record { state = ledger; said = omega (arith, total_used-le accounts ledger.good, ledger.few) }
 outcome_of-is most accounts (Some (On name action)) small ledger asked =
     let d = decision_of-is (nat_le most (length accounts)) name (account_named name accounts) action asked.0 asked.1
-        (account_named-found is_account name accounts ledger.good) in
+    (account_named-found is_account name accounts ledger.good) in
     record { state = settled-ledger most accounts name _ d.change ledger; said = d.said }
 outcome_of-is most accounts None small ledger asked = record { state = ledger; said = tt }
 
@@ -226,9 +244,11 @@ pub quota_is_lawful : (id most : ℕ) → most < 2 ^ 16 → 2 + 49 * most ≤ li
 quota_is_lawful id most small allowed = record {
   begins = search (rules, subst (λ bytes. is_state most bytes ≡ true) empty_bytes (is_state-spelling_of most [] small (empty_ledger most)));
   goes_on =
-      λ state request is. search (rules,
-      is_state-spelling_of most (stepped most state request).0 small
-      (stepped-IsOutcome most state request small (search (rules, is))).state);
+      λ state request is. search (
+        rules,
+        is_state-spelling_of most (stepped most state request).0 small
+            (stepped-IsOutcome most state request small (search (rules, is))).state,
+      );
   fits = λ state is. omega (arith, quota_fits most state (search (rules, is)), allowed);
   has_bytes = λ state is. All-are_bytes state (are_bytes-state most state (search (rules, is)));
   says_lines = λ state request is. IsLine-text 26 _ (omega arith) (quota_says id most state request small (search (rules, is)));

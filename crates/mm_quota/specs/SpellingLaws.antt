@@ -81,11 +81,15 @@ account_after-parts : (name limit used more : List ℕ) → length limit ≡ 8 �
 unfolding account_after
 account_after-parts name limit used more limit_is used_is =
     let long : nat_le (length name + 16) (length (name ++ (limit ++ (used ++ more)))) ≡ true = let enough : length name + 16
-        ≤ length (name ++ (limit ++ (used ++ more))) = omega (arith, length-append name (limit ++ (used ++ more)),
-        length-append limit (used ++ more), length-append used more) in grind (arith, nat_tests) in
+    ≤ length (name ++ (limit ++ (used ++ more))) = omega (
+      arith,
+      length-append name (limit ++ (used ++ more)),
+      length-append limit (used ++ more),
+      length-append used more,
+    ) in grind (arith, nat_tests) in
     let named : take (length name) (name ++ (limit ++ (used ++ more))) ≡ name = take-append_seam name (limit ++ (used ++ more)) in
     let behind : drop (length name) (name ++ (limit ++ (used ++ more))) ≡ limit ++ (used ++ more) =
-        drop-append_seam name (limit ++ (used ++ more)) in
+    drop-append_seam name (limit ++ (used ++ more)) in
     let limited : take 8 (limit ++ (used ++ more)) ≡ limit = take-front 8 limit (used ++ more) limit_is in
     let after : drop 8 (limit ++ (used ++ more)) ≡ used ++ more = drop-front 8 limit (used ++ more) limit_is in
     let spent : take 8 (used ++ more) ≡ used = take-front 8 used more used_is in
@@ -98,13 +102,13 @@ unfolding account_bytes
 account_at-account_bytes account more is =
     let kept = IsAccount-from account is in
     let grouped : (account.name ++ (eight_bytes account.limit ++ eight_bytes account.used)) ++ more
-        ≡ account.name ++ (eight_bytes account.limit ++ (eight_bytes account.used ++ more)) = simp append_assoc in
+    ≡ account.name ++ (eight_bytes account.limit ++ (eight_bytes account.used ++ more)) = simp append_assoc in
     let limit : of_eight_bytes (eight_bytes account.limit) ≡ account.limit =
-        of_eight_bytes-eight account.limit (omega (arith, kept.limited)) in
+    of_eight_bytes-eight account.limit (omega (arith, kept.limited)) in
     let used : of_eight_bytes (eight_bytes account.used) ≡ account.used =
-        of_eight_bytes-eight account.used (omega (arith, kept.limited, kept.within)) in
+    of_eight_bytes-eight account.used (omega (arith, kept.limited, kept.within)) in
     rw grouped (account_after-parts account.name (eight_bytes account.limit) (eight_bytes account.used) more (length-eight account.limit)
-        (length-eight account.used) ∙ rw (limit, used) refl)
+    (length-eight account.used) ∙ rw (limit, used) refl)
 
 -- bytes of which an account was read are its bytes, and the rest
 abbrev pub IsFront : List ℕ → Option (Account × List ℕ) → Type 0
@@ -113,11 +117,14 @@ IsFront bytes (Some front) = bytes ≡ account_bytes front.0 ++ front.1
 
 front-step : (count : ℕ) (bytes : List ℕ) (flag : Bool) → nat_le (count + 16) (length bytes) ≡ flag → are_bytes bytes ≡ true
     → IsFront (count ∷ bytes) (if flag then
-      Some (record {
+    Some (
+      record {
         name = take count bytes;
         limit = of_eight_bytes (take 8 (drop count bytes));
         used = of_eight_bytes (take 8 (drop 8 (drop count bytes)));
-      }, drop 8 (drop 8 (drop count bytes)))
+      },
+      drop 8 (drop 8 (drop count bytes)),
+    )
     else None)
 unfolding account_bytes
 front-step count bytes true is are =
@@ -130,12 +137,12 @@ front-step count bytes true is are =
     let b2 : are_bytes (drop 8 (drop count bytes)) ≡ true = are_bytes-drop 8 (drop count bytes) b1 in
     let counted : length (take count bytes) ≡ count = length-take-le count bytes (omega arith) in
     let limit : eight_bytes (of_eight_bytes (take 8 (drop count bytes))) ≡ take 8 (drop count bytes) =
-        eight-of_eight_bytes _ (length-take-le 8 (drop count bytes) (omega arith)) (are_bytes-take 8 (drop count bytes) b1) in
+    eight-of_eight_bytes _ (length-take-le 8 (drop count bytes) (omega arith)) (are_bytes-take 8 (drop count bytes) b1) in
     let used : eight_bytes (of_eight_bytes (take 8 (drop 8 (drop count bytes)))) ≡ take 8 (drop 8 (drop count bytes)) =
-        eight-of_eight_bytes _ (length-take-le 8 (drop 8 (drop count bytes)) (omega arith))
-        (are_bytes-take 8 (drop 8 (drop count bytes)) b2) in
+    eight-of_eight_bytes _ (length-take-le 8 (drop 8 (drop count bytes)) (omega arith))
+    (are_bytes-take 8 (drop 8 (drop count bytes)) b2) in
     let whole : bytes ≡ (take count bytes ++ (take 8 (drop count bytes) ++ take 8 (drop 8 (drop count bytes))))
-        ++ drop 8 (drop 8 (drop count bytes)) = sym (simp (append_assoc, take-append-drop)) in
+    ++ drop 8 (drop 8 (drop count bytes)) = sym (simp (append_assoc, take-append-drop)) in
     rw (counted, limit, used) (ap (λ b. count ∷ b) whole)
 front-step count bytes false is are = tt
 
@@ -193,7 +200,7 @@ accounts_from-body_of [] all = refl
 accounts_from-body_of (account ∷ accounts) all =
     let w = and-true (is_account account) (list_all is_account accounts) all in
     let front : account_at (account_bytes account ++ body_of accounts) ≡ Some (account, body_of accounts) =
-        account_at-account_bytes account (body_of accounts) w.0 in
+    account_at-account_bytes account (body_of accounts) w.0 in
     rw front (rw (accounts_from-body_of accounts w.1) refl)
 
 -- what a ledger keeps
@@ -230,7 +237,7 @@ unfolding spelling_of ledger_of
 holds-step most bytes None is long reads holds read = cc
 holds-step most bytes (Some accounts) is long reads holds read =
     let head : count_bytes (of_count_bytes (take 2 bytes)) ≡ take 2 bytes =
-        count_bytes-of_count_bytes (take 2 bytes) (length-take-le 2 bytes long) (are_bytes-take 2 bytes is) in
+    count_bytes-of_count_bytes (take 2 bytes) (length-take-le 2 bytes long) (are_bytes-take 2 bytes is) in
     record {
       ledger = rw read (IsLedger-from most accounts holds);
       spelled = rw read (sym (rw (reads.counted, head, ← reads.whole) (take-append-drop 2 bytes)));
@@ -263,11 +270,11 @@ unfolding account_bytes
 are_bytes-account_bytes account is =
     let kept = IsAccount-from account is in
     let count : is_byte (length account.name) ≡ true = let small : length account.name ≤ 32 = kept.named.short in
-        grind (arith, nat_tests) in
+    grind (arith, nat_tests) in
     and-both _ _ count
-        (are_bytes-append account.name _ (are_bytes-visible account.name kept.named.visible)
-        (are_bytes-append (eight_bytes account.limit) (eight_bytes account.used) (are_bytes-eight account.limit)
-        (are_bytes-eight account.used)))
+    (are_bytes-append account.name _ (are_bytes-visible account.name kept.named.visible)
+    (are_bytes-append (eight_bytes account.limit) (eight_bytes account.used) (are_bytes-eight account.limit)
+    (are_bytes-eight account.used)))
 
 are_bytes-body_of : (accounts : List Account) → list_all is_account accounts ≡ true → are_bytes (body_of accounts) ≡ true
 are_bytes-body_of [] all = refl
@@ -278,21 +285,36 @@ are_bytes-body_of (account ∷ accounts) all =
 -- an account has at most 49 bytes
 pub length-account_bytes : (account : Account) → length (account_bytes account) ≡ length account.name + 17
 unfolding account_bytes
-length-account_bytes account = omega (arith, length-append account.name (eight_bytes account.limit ++ eight_bytes account.used),
-    length-append (eight_bytes account.limit) (eight_bytes account.used), length-eight account.limit, length-eight account.used)
+length-account_bytes account = omega (
+  arith,
+  length-append account.name (eight_bytes account.limit ++ eight_bytes account.used),
+  length-append (eight_bytes account.limit) (eight_bytes account.used),
+  length-eight account.limit,
+  length-eight account.used,
+)
 
 length-body_of : (accounts : List Account) → list_all is_account accounts ≡ true → length (body_of accounts) ≤ 49 * length accounts
 length-body_of [] all = omega arith
 length-body_of (account ∷ accounts) all =
     let w = and-true (is_account account) (list_all is_account accounts) all in
     let kept = IsAccount-from account w.0 in
-    omega (arith, length-append (account_bytes account) (body_of accounts), length-account_bytes account, kept.named.short,
-        length-body_of accounts w.1)
+    omega (
+      arith,
+      length-append (account_bytes account) (body_of accounts),
+      length-account_bytes account,
+      kept.named.short,
+      length-body_of accounts w.1,
+    )
 
 pub length-spelling_of : (most : ℕ) (accounts : List Account) → IsLedger most accounts → length (spelling_of accounts) ≤ 2 + 49 * most
 unfolding spelling_of
-length-spelling_of most accounts is = omega (arith, length-append (count_bytes (length accounts)) (body_of accounts),
-    length-count_bytes (length accounts), length-body_of accounts is.good, is.few)
+length-spelling_of most accounts is = omega (
+  arith,
+  length-append (count_bytes (length accounts)) (body_of accounts),
+  length-count_bytes (length accounts),
+  length-body_of accounts is.good,
+  is.few,
+)
 
 -- a ledger is read that the bytes spell
 accounts_of-spelling_of : (accounts : List Account) → length accounts < 2 ^ 16 → list_all is_account accounts ≡ true
@@ -301,13 +323,13 @@ unfolding accounts_of spelling_of
 accounts_of-spelling_of accounts few all =
     let count = count_bytes (length accounts) in
     let long : nat_le 2 (length (count_bytes (length accounts) ++ body_of accounts)) ≡ true =
-        let enough : 2 ≤ length (count_bytes (length accounts) ++ body_of accounts) =
-        omega (arith, length-append (count_bytes (length accounts)) (body_of accounts), length-count_bytes (length accounts)) in
-        grind (arith, nat_tests) in
+    let enough : 2 ≤ length (count_bytes (length accounts) ++ body_of accounts) =
+    omega (arith, length-append (count_bytes (length accounts)) (body_of accounts), length-count_bytes (length accounts)) in
+    grind (arith, nat_tests) in
     let head : take 2 (count_bytes (length accounts) ++ body_of accounts) ≡ count_bytes (length accounts) =
-        take-front 2 (count_bytes (length accounts)) (body_of accounts) (length-count_bytes (length accounts)) in
+    take-front 2 (count_bytes (length accounts)) (body_of accounts) (length-count_bytes (length accounts)) in
     let tail : drop 2 (count_bytes (length accounts) ++ body_of accounts) ≡ body_of accounts =
-        drop-front 2 (count_bytes (length accounts)) (body_of accounts) (length-count_bytes (length accounts)) in
+    drop-front 2 (count_bytes (length accounts)) (body_of accounts) (length-count_bytes (length accounts)) in
     let counted : of_count_bytes (count_bytes (length accounts)) ≡ length accounts = of_count_bytes-count_bytes (length accounts) few in
     rw (long, head, tail, counted) (accounts_from-body_of accounts all)
 
@@ -322,7 +344,7 @@ pub is_state-spelling_of : (most : ℕ) (accounts : List Account) → most < 2 ^
 unfolding is_state
 is_state-spelling_of most accounts small is =
     let bytes : are_bytes (spelling_of accounts) ≡ true = unfold spelling_of in
-        are_bytes-append (count_bytes (length accounts)) (body_of accounts) (bytes-count_bytes (length accounts))
-        (are_bytes-body_of accounts is.good) in
+    are_bytes-append (count_bytes (length accounts)) (body_of accounts) (bytes-count_bytes (length accounts))
+    (are_bytes-body_of accounts is.good) in
     let read : accounts_of (spelling_of accounts) ≡ Some accounts = accounts_of-spelling_of accounts (omega (arith, is.few)) is.good in
     and-both _ _ bytes (rw read (is_ledger-IsLedger most accounts is))

@@ -75,7 +75,7 @@ decision_of full name None (Open limit) = if full then (None, IsFull)
 decision_of full name None (Use number) = (None, IsNone)
 decision_of full name (Some account) (Use number) =
     if nat_le number (account.limit - account.used)
-        then (Some (record account { used = account.used + number }), IsUsed (account.used + number))
+    then (Some (record account { used = account.used + number }), IsUsed (account.used + number))
     else (None, IsOver (account.limit - account.used))
 decision_of full name None (Free number) = (None, IsNone)
 decision_of full name (Some account) (Free number) =
@@ -175,11 +175,14 @@ spelling_of accounts = count_bytes (length accounts) ++ body_of accounts
 unfoldable pub account_after : ℕ → List ℕ → Option (Account × List ℕ)
 account_after count bytes =
     if nat_le (count + 16) (length bytes) then
-      Some (record {
+    Some (
+      record {
         name = take count bytes;
         limit = of_eight_bytes (take 8 (drop count bytes));
         used = of_eight_bytes (take 8 (drop 8 (drop count bytes)));
-      }, drop 8 (drop 8 (drop count bytes)))
+      },
+      drop 8 (drop 8 (drop count bytes)),
+    )
     else None
 
 -- the account at the front of these bytes, and the bytes after it

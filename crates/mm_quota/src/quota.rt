@@ -46,7 +46,7 @@ fn with_account(
     requires { length account.now.name.now ≤ 255 }
     ensures { IfOk result
         (λ state. state ≡ count_bytes count ++ (place.now.front.now
-            ++ (account_bytes (as_account account.now) ++ place.now.back.now))) }
+        ++ (account_bytes (as_account account.now) ++ place.now.back.now))) }
 {
     let mut state = Bytes::with_capacity(alloc, capacity)?;
     put_count(&mut state, count)?;
@@ -92,10 +92,10 @@ fn acted(
     requires action { IsAction (as_action action) }
     ensures state { IfOk result (λ stepped. stepped.state
         ≡ spelling_of
-            (outcome_of most (ledger_of state.now) (Some (On name.now (as_action action)))).0) }
+        (outcome_of most (ledger_of state.now) (Some (On name.now (as_action action)))).0) }
     ensures output { IfOk result (λ stepped. stepped.output
         ≡ text_of
-            (outcome_of most (ledger_of state.now) (Some (On name.now (as_action action)))).1) }
+        (outcome_of most (ledger_of state.now) (Some (On name.now (as_action action)))).1) }
 {
     let (count, _body) = parts(state);
     let place = Place::of(state, name);

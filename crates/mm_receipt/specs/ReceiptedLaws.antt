@@ -88,17 +88,22 @@ is_front-spelling_of : (kept : Kept) → IsKept kept → is_front (spelling_of k
 is_front-spelling_of kept good =
     let behind = key_bytes kept.key ++ kept.inner in
     let enough : 41 ≤ length (eight_bytes kept.count ++ behind) =
-    omega (arith, length-append (eight_bytes kept.count) behind, length-eight kept.count, length-append (key_bytes kept.key) kept.inner,
-        length-key_bytes kept.key good.keyed) in
+    omega (
+      arith,
+      length-append (eight_bytes kept.count) behind,
+      length-eight kept.count,
+      length-append (key_bytes kept.key) kept.inner,
+      length-key_bytes kept.key good.keyed,
+    ) in
     let long : nat_le 41 (length (eight_bytes kept.count ++ behind)) ≡ true = grind (arith, nat_tests) in
     let front = take-front 8 (eight_bytes kept.count) behind (length-eight kept.count) in
     let back = drop-front 8 (eight_bytes kept.count) behind (length-eight kept.count) in
     let few : nat_le kept.count last_position ≡ true = let most : kept.count ≤ last_position = good.few in grind (arith, nat_tests) in
     let read : nat_le (of_eight_bytes (take 8 (eight_bytes kept.count ++ behind))) last_position ≡ true =
     ap (λ (l : List ℕ). nat_le (of_eight_bytes l) last_position) front
-        ∙ ap (λ n. nat_le n last_position) (of_eight_bytes-eight kept.count (omega (arith, good.few))) ∙ few in
+    ∙ ap (λ n. nat_le n last_position) (of_eight_bytes-eight kept.count (omega (arith, good.few))) ∙ few in
     let keyed : is_keyed (drop 8 (eight_bytes kept.count ++ behind)) ≡ true =
-        ap is_keyed back ∙ is_keyed-joined kept.key kept.inner good.keyed in
+    ap is_keyed back ∙ is_keyed-joined kept.key kept.inner good.keyed in
     and-both _ _ long (and-both _ _ read keyed)
 
 pub is-true : (b : Bool) → IsTrue b → b ≡ true
@@ -111,11 +116,11 @@ unfolding is_state
 is_state-spelling_of inner lawful kept good spelled =
     let bytes : are_bytes kept.inner ≡ true = are_bytes-All kept.inner (lawful.has_bytes kept.inner (search (rules, spelled))) in
     let behind : are_bytes (key_bytes kept.key ++ kept.inner) ≡ true =
-        are_bytes-append (key_bytes kept.key) kept.inner (bytes-key_bytes kept.key good.keyed) bytes in
+    are_bytes-append (key_bytes kept.key) kept.inner (bytes-key_bytes kept.key good.keyed) bytes in
     let all : are_bytes (spelling_of kept) ≡ true =
-        are_bytes-append (eight_bytes kept.count) (key_bytes kept.key ++ kept.inner) (are_bytes-eight kept.count) behind in
+    are_bytes-append (eight_bytes kept.count) (key_bytes kept.key ++ kept.inner) (are_bytes-eight kept.count) behind in
     let inside : inner.is_spelled (kept_of (spelling_of kept)).inner ≡ true =
-        ap (λ (k : Kept). inner.is_spelled k.inner) (kept_of-spelling_of kept good) ∙ spelled in
+    ap (λ (k : Kept). inner.is_spelled k.inner) (kept_of-spelling_of kept good) ∙ spelled in
     and-both _ _ all (and-both _ _ (is_front-spelling_of kept good) inside)
 
 -- what a spelled state says
@@ -155,7 +160,7 @@ pub kept_of-IsKept : (inner : Meaning) (bytes : List ℕ) → SpellsKept inner b
 unfolding kept_of
 kept_of-IsKept inner bytes is =
     kept_by-IsKept (of_eight_bytes (take 8 bytes)) (drop 8 bytes) is.few (omega (arith, length-drop 8 bytes, is.long))
-        (are_bytes-drop 8 bytes is.all)
+    (are_bytes-drop 8 bytes is.all)
 
 kept_by-inner : (count : ℕ) (back : List ℕ) → 33 ≤ length back → length back ≡ 33 + length (kept_by count back).inner
 kept_by-inner count [] long = absurd (omega (arith, long))
@@ -164,8 +169,12 @@ kept_by-inner count (form ∷ rest) long = omega (arith, length-drop 32 rest, lo
 -- a state has 41 bytes in front of the one inside
 kept_of-length : (bytes : List ℕ) → 41 ≤ length bytes → length bytes ≡ 41 + length (kept_of bytes).inner
 unfolding kept_of
-kept_of-length bytes long = omega (arith, length-drop 8 bytes,
-    kept_by-inner (of_eight_bytes (take 8 bytes)) (drop 8 bytes) (omega (arith, length-drop 8 bytes, long)), long)
+kept_of-length bytes long = omega (
+  arith,
+  length-drop 8 bytes,
+  kept_by-inner (of_eight_bytes (take 8 bytes)) (drop 8 bytes) (omega (arith, length-drop 8 bytes, long)),
+  long,
+)
 
 -- the state inside after a request is spelled
 taken-spelled : (inner : Meaning) → IsLawful inner → (kept : Kept) (request : List ℕ) (key : Option (List ℕ))
@@ -181,8 +190,11 @@ full-spelled inner lawful kept request false spelled = taken-spelled inner lawfu
 pub length-digits_of : (key : List ℕ) (position : ℕ) (request said : List ℕ) → length (digits_of key position request said) ≡ 64
 unfolding digits_of
 length-digits_of key position request said =
-    omega (arith, length-encode_with lower_digits (hmac_of key (receipt_message position request said)),
-    length-hmac_of key (receipt_message position request said))
+    omega (
+      arith,
+      length-encode_with lower_digits (hmac_of key (receipt_message position request said)),
+      length-hmac_of key (receipt_message position request said),
+    )
 
 unbroken-digits_of : (key : List ℕ) (position : ℕ) (request said : List ℕ) → is_unbroken (digits_of key position request said) ≡ true
 unfolding digits_of
@@ -206,7 +218,7 @@ taken-IsText : (inner : Meaning) → IsLawful inner → IsShort inner → (kept 
 taken-IsText inner lawful short kept request None spelled = keyed-IsText (key_of_words (words_of request))
 taken-IsText inner lawful short kept request (Some key) spelled =
     receipt-IsText key (kept.count + 1) request (inner.says kept.inner request) (short.output kept.inner request (search (rules, spelled)))
-        (lawful.says_lines kept.inner request (search (rules, spelled))).unbroken
+    (lawful.says_lines kept.inner request (search (rules, spelled))).unbroken
 
 full-IsText : (inner : Meaning) → IsLawful inner → IsShort inner → (kept : Kept) (request : List ℕ) (full : Bool)
     → inner.is_spelled kept.inner ≡ true

@@ -166,7 +166,7 @@ impl<M: Short> Receipted<M> {
         requires room { kept.count < last_position }
         ensures state { IfOk result (λ stepped. stepped.state
             ≡ spelling_of
-                (stamped (M.meaning self.now.inner) (as_kept kept.entry) request.now key.now).0) }
+            (stamped (M.meaning self.now.inner) (as_kept kept.entry) request.now key.now).0) }
         ensures output { IfOk result (λ stepped. stepped.output
             ≡ (stamped (M.meaning self.now.inner) (as_kept kept.entry) request.now key.now).1) }
     {

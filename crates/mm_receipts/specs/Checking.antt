@@ -31,7 +31,7 @@ abbrev pub numbered : List ℕ → Option ℕ → Option Asked
 numbered request None = None
 numbered request (Some number) =
     if nat_le 1 number && nat_le number last_position && nat_le (length request) longest_request
-        then Some (record { position = number; request = request }) else None
+    then Some (record { position = number; request = request }) else None
 
 abbrev pub parted : List ℕ → Option ℕ → Option Asked
 parted line None = None
@@ -87,8 +87,13 @@ verdict_text number Good = codes "good " ++ decimal number ++ 10 ∷ []
 
 -- a pair and its second line are counted
 abbrev pub counted_in : Tally → List ℕ → Tally
-counted_in tally line = record { key = tally.key; known = tally.known; good = tally.good; pairs = tally.pairs + 1;
-    read = tally.read + length line }
+counted_in tally line = record {
+  key = tally.key;
+  known = tally.known;
+  good = tally.good;
+  pairs = tally.pairs + 1;
+  read = tally.read + length line;
+}
 
 -- a good pair is remembered
 abbrev pub remembered : Tally → Asked → List ℕ → Tally
@@ -114,8 +119,10 @@ abbrev pub first_by : Tally → List ℕ → Option Asked → Result (Asked × T
 first_by tally line None = Err Bad
 first_by tally line (Some asked) =
     if is_too_much tally line then Err Much
-    else Ok (asked,
-        record { key = tally.key; known = tally.known; good = tally.good; pairs = tally.pairs; read = tally.read + length line })
+    else Ok (
+      asked,
+      record { key = tally.key; known = tally.known; good = tally.good; pairs = tally.pairs; read = tally.read + length line },
+    )
 
 -- the first line of a pair, which is answered nothing
 abbrev pub first_answer : Tally → List ℕ → Result (Asked × Tally) Refused

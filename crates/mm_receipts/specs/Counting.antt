@@ -21,7 +21,7 @@ first_counts tally line None much reply next is h = absurd (no_answer Bad reply 
 first_counts tally line (Some asked) true reply next is h = absurd (no_answer Much reply next (rw is at h))
 first_counts tally line (Some asked) false reply next is h =
     subst (λ (c : Checking). lines_left_at c < 2 * (most_pairs - tally.pairs)) (same_next reply _ next _ (rw is at h))
-        (omega (arith, few_pairs tally line is))
+    (omega (arith, few_pairs tally line is))
 
 after-pairs : (tally : Tally) (asked : Asked) (output : List ℕ) (verdict : Verdict)
     → (after_pair tally asked output verdict).pairs ≡ tally.pairs + 1

@@ -23,7 +23,7 @@ few_events r line h = let a : nat_le most_events r.events ≡ false = left_or (n
 
 event_counts : (r : Running) (line : List ℕ) (event : Event) (much : Bool) (reply : List ℕ) (next : Stage) → is_too_much r line ≡ much
     → (let a : Result (List ℕ × Stage) Refused = if much then Err Much
-        else Ok (text_of (outcome_in r event).reply, InEvents (after_event r line event)) in a ≡ Ok (reply, next))
+    else Ok (text_of (outcome_in r event).reply, InEvents (after_event r line event)) in a ≡ Ok (reply, next))
     → lines_left_at next < most_events - r.events
 event_counts r line event true reply next is h = absurd (no_answer Much reply next h)
 event_counts r line event false reply next is h =

@@ -36,7 +36,7 @@ IsContinuous header events =
     let i = world_of header in
     IsClearRun i events → IsGenuineRun i events →
     IsOneRun header events (replies_by_digests i events).replies (replies_by_digests i events).state.count
-        (length (replies_by_digests i events).issued)
+    (length (replies_by_digests i events).issued)
 
 -- Behind these event lines, and their events, the line is one too many: it is event 20,001, or the event lines with it
 -- and the snapshots issued before it have more than 268,435,456 bytes.

@@ -125,8 +125,10 @@ impl MemStore {
     pub fn set_slot(&mut self, slot: u8, bytes: &[u8]) -> Result<(), Memory>
         requires { slot < 4 }
         ensures ok { OnOk result
-            (self.new ≡ record self.old { slots = with_slot self.old.slots slot bytes.now;
-                is_honest = false }) }
+            (self.new ≡ record self.old {
+              slots = with_slot self.old.slots slot bytes.now;
+              is_honest = false;
+            }) }
         ensures err { OnErr result (self.new ≡ self.old) }
     {
         let kept = Bytes::copy_of(self.alloc, bytes)?;
@@ -148,7 +150,7 @@ impl MemStore {
         ensures fails { IsTrue result ↔ (self.old.ahead ≡ 1) }
         ensures after { self.new
             ≡ (if result then record (called self.old) { faults = counted self.old.faults }
-                else called self.old) }
+            else called self.old) }
     {
         let fails = self.ahead == 1;
         self.ahead = self.ahead.saturating_sub(1);

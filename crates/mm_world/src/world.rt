@@ -190,7 +190,7 @@ impl World {
         requires { length self.old.issued < 2 ^ 32 - 1 }
         ensures ok { IfOk result
             (Follows (outcome_in self.old (Ask meddles.now stop offer.now (batch_of batch.entry)))
-                self.old self.new) }
+            self.old self.new) }
         ensures memory { OnErr result
             (Wants (Ask meddles.now stop offer.now (batch_of batch.entry)) self.old self.new) }
     {
