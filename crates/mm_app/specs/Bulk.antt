@@ -32,4 +32,5 @@ pub record RunsInBulk (it : Generated) (received received' : Option (List ℕ)) 
 -- The five lines were told, or memory was wanting for them.
 abbrev pub TellsSummary : ℕ → Summary → (received received' : Option (List ℕ)) (writes writes' : ℕ) → Status → Type 0
 TellsSummary count summary received received' writes writes' status =
-    Tells (Ok (bulk_text count summary)) received received' writes writes' status ⊎ Tells (Err Memory) received received' writes writes' status
+    Tells (Ok (bulk_text count summary)) received received' writes writes' status
+    ⊎ Tells (Err Memory) received received' writes writes' status

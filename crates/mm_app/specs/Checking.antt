@@ -18,7 +18,8 @@ pub record RunChecked (left left' received received' : Option (List ℕ)) (reads
   pub ends : status ≡ status_of answer
 
 -- Such a check, and then its stop line. `middle` is what the output had received between the two, and `count` its count.
-pub record ChecksRunAndStops (left left' received received' : Option (List ℕ)) (reads reads' writes writes' : ℕ) (status : Status) : Type 0 where
+pub record ChecksRunAndStops (left left' received received' : Option (List ℕ)) (reads reads' writes writes' : ℕ)
+    (status : Status) : Type 0 where
   pub middle : Option (List ℕ)
   pub count : ℕ
   pub checked : RunChecked left left' received middle reads reads' writes count status

@@ -4,6 +4,7 @@ use Rattle.mm_gen.specs.Schedules.{schedule_text}
 use Rattle.mm_words.specs.Commands.{SpellsCommand, help_text}
 use Rattle.mm_words.specs.declared.command.Command.{Command}
 use Rattle.mm_words.specs.declared.command.Command.TheVariants.{Init, Run, Checkpoint, Power, Replay, Check, Gen, Bulk, Receipts, Help}
+use Rattle.mm_host.specs.Init.{devices}
 use Rattle.mm_app.specs.Bulk.{RunsInBulk}
 use Rattle.mm_app.specs.Checking.{ChecksRunAndStops}
 use Rattle.mm_app.specs.Checkpoint.{Checkpoints}
@@ -12,7 +13,7 @@ use Rattle.mm_app.specs.Power.{LosesPower}
 use Rattle.mm_app.specs.Receipts.{ChecksReceiptsAndStops}
 use Rattle.mm_app.specs.Replaying.{ReplaysAndStops}
 use Rattle.mm_app.specs.Running.{RunsInstance}
-use Rattle.mm_app.specs.Starting.{StartsInstance, devices}
+use Rattle.mm_app.specs.Starting.{StartsInstance}
 use Rattle.mm_app.specs.Telling.{EndsAtOnce, GivesText}
 use Rattle.mm_app.specs.declared.status.Status.{Status}
 use Rattle.mm_app.specs.declared.status.Status.TheVariants.{Memory}
@@ -23,7 +24,8 @@ Does (Init header) old new status =
     StartsInstance header (devices old.standing old.kept old.entropy old.takes) (devices new.standing new.kept new.entropy new.takes)
     old.received new.received old.writes new.writes status
 Does Run old new status =
-    RunsInstance old.standing new.standing old.kept new.kept old.left new.left old.received new.received old.reads new.reads old.writes new.writes status
+    RunsInstance old.standing new.standing old.kept new.kept old.left new.left old.received new.received old.reads new.reads old.writes
+    new.writes status
 Does Checkpoint old new status =
     Checkpoints old.standing new.standing old.received new.received old.writes new.writes status
 Does Power old new status =

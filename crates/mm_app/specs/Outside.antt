@@ -15,7 +15,8 @@ pub record Outside : Type 0 where
   pub received : Option (List ℕ)
   pub writes : ℕ
 
-abbrev pub outside : Standing → Kept → (left : Option (List ℕ)) (reads : ℕ) (entropy : Option (List ℕ)) (takes : ℕ) (received : Option (List ℕ)) (writes : ℕ) → Outside
+abbrev pub outside : Standing → Kept
+    → (left : Option (List ℕ)) (reads : ℕ) (entropy : Option (List ℕ)) (takes : ℕ) (received : Option (List ℕ)) (writes : ℕ) → Outside
 outside standing kept left reads entropy takes received writes = record {
   standing = standing;
   kept = kept;

@@ -18,7 +18,8 @@ pub record Replayed (left left' received received' : Option (List ℕ)) (reads r
   pub ends : status ≡ status_of answer
 
 -- A replay, and then its stop line. `middle` is what the output had received between the two, and `count` its count.
-pub record ReplaysAndStops (left left' received received' : Option (List ℕ)) (reads reads' writes writes' : ℕ) (status : Status) : Type 0 where
+pub record ReplaysAndStops (left left' received received' : Option (List ℕ)) (reads reads' writes writes' : ℕ)
+    (status : Status) : Type 0 where
   pub middle : Option (List ℕ)
   pub count : ℕ
   pub replayed : Replayed left left' received middle reads reads' writes count status

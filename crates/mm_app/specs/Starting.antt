@@ -5,17 +5,11 @@ use Rattle.mm_host.specs.Init.{Devices, Inits}
 use Rattle.mm_host.specs.declared.init_fault.InitFault.{InitFault}
 use Rattle.mm_host.specs.declared.init_fault.InitFault.TheVariants as init
 use Rattle.mm_modules.specs.Modules.{meaning_of}
-use Rattle.mm_platform.specs.Standing.{Standing}
 use Rattle.mm_schedule.specs.declared.header.Header.{Header}
-use Rattle.mm_store.specs.Kept.{Kept}
 use Rattle.mm_app.specs.Status.{line_of}
 use Rattle.mm_app.specs.Telling.{Tells}
 use Rattle.mm_app.specs.declared.status.Status.{Status}
 use Rattle.mm_app.specs.declared.status.Status.TheVariants.{Memory, PlatformFault, Already, ReadFault, Short, StoreFault}
-
--- the platform, the store and the entropy
-abbrev pub devices : Standing → Kept → (entropy : Option (List ℕ)) (takes : ℕ) → Devices
-devices standing kept entropy takes = record { platform = standing; store = kept; left = entropy; source_faults = takes }
 
 -- what is told of a first start
 abbrev pub init_told : Result (Unit {0}) InitFault → Result (List ℕ) Status
@@ -29,7 +23,8 @@ init_told (Err init.Store) = Err StoreFault
 
 -- An instance of this variant and module was started, or wasn't: its steps; what they left, from which a session goes
 -- on; when a cell is told to be in use; whose count of faults rose; and what was told.
-pub record StartsInstance (header : Header) (before after : Devices) (received received' : Option (List ℕ)) (writes writes' : ℕ) (status : Status) : Type 0 where
+pub record StartsInstance (header : Header) (before after : Devices) (received received' : Option (List ℕ)) (writes writes' : ℕ)
+    (status : Status) : Type 0 where
   pub answer : Result (Unit {0}) InitFault
   pub steps : Inits header.variant (meaning_of header.module) before after answer
   pub leaves : Leaves header.variant (meaning_of header.module) before after answer

@@ -1,6 +1,7 @@
 //! The command `bulk`: a schedule is made from a number, run, and told in five lines.
 
 ghost use Rattle.std.specs.Prelude.{◌≤◌};
+ghost use Rattle.mm_base.specs.Limits.{most_events};
 ghost use Rattle.mm_app.specs.Bulk.{RunsInBulk, TellsSummary};
 
 use crate::status::Status;
@@ -12,8 +13,9 @@ use std::alloc::Global;
 
 /// Runs the schedule of a number, and tells what came of it.
 pub fn run_in_bulk<K: Sink>(alloc: Global, it: &Generated, out: &mut K) -> Status
-    requires { it.now.count ≤ 20000 }
-    ensures { RunsInBulk it.now (K.received out.old) (K.received out.new) (K.faults out.old) (K.faults out.new) result }
+    requires { it.now.count ≤ most_events }
+    ensures { RunsInBulk it.now (K.received out.old) (K.received out.new) (K.faults out.old)
+        (K.faults out.new) result }
 {
     match bulk(alloc, it.number, it.count, &it.header) {
         Ok(summary) => tell_summary(alloc, it.count, &summary, out),
@@ -24,7 +26,8 @@ pub fn run_in_bulk<K: Sink>(alloc: Global, it: &Generated, out: &mut K) -> Statu
 
 // Writes the five lines.
 fn tell_summary<K: Sink>(alloc: Global, events: u32, summary: &Summary, out: &mut K) -> Status
-    ensures { TellsSummary events summary.now (K.received out.old) (K.received out.new) (K.faults out.old) (K.faults out.new) result }
+    ensures { TellsSummary events summary.now (K.received out.old) (K.received out.new)
+        (K.faults out.old) (K.faults out.new) result }
 {
     match summary_text(alloc, events, summary) {
         Ok(text) => written(text.as_slice(), out),

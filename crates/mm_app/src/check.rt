@@ -15,10 +15,12 @@ use std::alloc::Global;
 
 // Checks the run, and says how that ended.
 fn checked<S: Source, K: Sink>(alloc: Global, input: &mut S, out: &mut K) -> Status
-    ensures checked { RunChecked (S.left input.old) (S.left input.new) (K.received out.old) (K.received out.new)
-        (S.faults input.old) (S.faults input.new) (K.faults out.old) (K.faults out.new) result }
+    ensures checked { RunChecked (S.left input.old) (S.left input.new) (K.received out.old)
+        (K.received out.new) (S.faults input.old) (S.faults input.new) (K.faults out.old)
+        (K.faults out.new) result }
     ensures complete { (bytes : List ℕ) → (next : Stage) → S.left input.old ≡ Some bytes
-        → (run_of (check_answer header_at) check_closing AtHeader bytes).outcome ≡ Ok next → EndsUnrefused result }
+        → (run_of (check_answer header_at) check_closing AtHeader bytes).outcome ≡ Ok next
+        → EndsUnrefused result }
 {
     match check(alloc, input, out) {
         Ok(_) => Status::Done,
@@ -28,10 +30,12 @@ fn checked<S: Source, K: Sink>(alloc: Global, input: &mut S, out: &mut K) -> Sta
 
 /// Checks the recorded run that the input gives, and writes the stop line.
 pub fn check_run<S: Source, K: Sink>(alloc: Global, input: &mut S, out: &mut K) -> Status
-    ensures checks { ChecksRunAndStops (S.left input.old) (S.left input.new) (K.received out.old) (K.received out.new)
-        (S.faults input.old) (S.faults input.new) (K.faults out.old) (K.faults out.new) result }
+    ensures checks { ChecksRunAndStops (S.left input.old) (S.left input.new) (K.received out.old)
+        (K.received out.new) (S.faults input.old) (S.faults input.new) (K.faults out.old)
+        (K.faults out.new) result }
     ensures complete { (bytes : List ℕ) → (next : Stage) → S.left input.old ≡ Some bytes
-        → (run_of (check_answer header_at) check_closing AtHeader bytes).outcome ≡ Ok next → EndsUnrefused result }
+        → (run_of (check_answer header_at) check_closing AtHeader bytes).outcome ≡ Ok next
+        → EndsUnrefused result }
 {
     let status = checked(alloc, input, out);
     let _ = write_stop(status, out);

@@ -46,20 +46,25 @@ fn done<P: Platform, T: Store, S: Source, E: Source, K: Sink>(
     out: &mut K,
 ) -> Status
     requires { IsInBounds command.now }
-    ensures does { let old = outside (P.standing platform.old) (T.kept store.old) (S.left input.old) (S.faults input.old)
-        (E.left entropy.old) (E.faults entropy.old) (K.received out.old) (K.faults out.old) in
-        let new = outside (P.standing platform.new) (T.kept store.new) (S.left input.new) (S.faults input.new)
-        (E.left entropy.new) (E.faults entropy.new) (K.received out.new) (K.faults out.new) in
+    ensures does { let old = outside (P.standing platform.old) (T.kept store.old) (S.left input.old)
+        (S.faults input.old) (E.left entropy.old) (E.faults entropy.old) (K.received out.old)
+        (K.faults out.old) in
+        let new = outside (P.standing platform.new) (T.kept store.new) (S.left input.new)
+        (S.faults input.new) (E.left entropy.new) (E.faults entropy.new) (K.received out.new)
+        (K.faults out.new) in
         DoesOrLacks command.now old new result }
-    ensures complete { command.now ≡ Replay → (bytes : List ℕ) → (next : Stage) → S.left input.old ≡ Some bytes
+    ensures complete { command.now ≡ Replay → (bytes : List ℕ) → (next : Stage)
+        → S.left input.old ≡ Some bytes
         → (run_of (schedule_answer header_at) schedule_closing AtHeader bytes).outcome ≡ Ok next
         → EndsUnrefused result }
     ensures receipts { (key : List ℕ) → command.now ≡ Receipts key
         → (bytes : List ℕ) → (next : Checking) → S.left input.old ≡ Some bytes
         → (run_of receipts_answer receipts_closing (first_checking key) bytes).outcome ≡ Ok next
         → EndsUnrefused result }
-    ensures check { command.now ≡ Check → (bytes : List ℕ) → (next : checked.Stage) → S.left input.old ≡ Some bytes
-        → (run_of (checked.check_answer header_at) checked.check_closing checked.AtHeader bytes).outcome ≡ Ok next
+    ensures check { command.now ≡ Check → (bytes : List ℕ) → (next : checked.Stage)
+        → S.left input.old ≡ Some bytes
+        → (run_of (checked.check_answer header_at) checked.check_closing checked.AtHeader
+        bytes).outcome ≡ Ok next
         → EndsUnrefused result }
     ensures usage { result ≡ Usage → ⊥ }
     ensures platform { (UsesPlatform command.now → ⊥) → platform.new ≡ platform.old }
@@ -98,11 +103,14 @@ pub fn memoir<P: Platform, T: Store, S: Source, E: Source, K: Sink>(
     entropy: &mut E,
     out: &mut K,
 ) -> Status
-    ensures does { let old = outside (P.standing platform.old) (T.kept store.old) (S.left input.old) (S.faults input.old)
-        (E.left entropy.old) (E.faults entropy.old) (K.received out.old) (K.faults out.old) in
-        let new = outside (P.standing platform.new) (T.kept store.new) (S.left input.new) (S.faults input.new)
-        (E.left entropy.new) (E.faults entropy.new) (K.received out.new) (K.faults out.new) in
-        (command : Told) → SpellsCommand command (map (λ s. s.now) words.now) → DoesOrLacks command old new result }
+    ensures does { let old = outside (P.standing platform.old) (T.kept store.old) (S.left input.old)
+        (S.faults input.old) (E.left entropy.old) (E.faults entropy.old) (K.received out.old)
+        (K.faults out.old) in
+        let new = outside (P.standing platform.new) (T.kept store.new) (S.left input.new)
+        (S.faults input.new) (E.left entropy.new) (E.faults entropy.new) (K.received out.new)
+        (K.faults out.new) in
+        (command : Told) → SpellsCommand command (map (λ s. s.now) words.now)
+        → DoesOrLacks command old new result }
 
     // A schedule within the grammar and the limits is not refused.
     ensures complete { SpellsCommand Replay (map (λ s. s.now) words.now)
@@ -119,33 +127,42 @@ pub fn memoir<P: Platform, T: Store, S: Source, E: Source, K: Sink>(
     // Nor is a recorded run within the grammar and the limits.
     ensures check { SpellsCommand Check (map (λ s. s.now) words.now)
         → (bytes : List ℕ) → (next : checked.Stage) → S.left input.old ≡ Some bytes
-        → (run_of (checked.check_answer header_at) checked.check_closing checked.AtHeader bytes).outcome ≡ Ok next
+        → (run_of (checked.check_answer header_at) checked.check_closing checked.AtHeader
+        bytes).outcome ≡ Ok next
         → EndsUnrefused result }
 
     // The headline: what is written for a schedule is one run of the module on one list of requests.
     ensures headline { SpellsCommand Replay (map (λ s. s.now) words.now)
-        → ReplaysOneRun (S.left input.old) (S.left input.new) (K.received out.old) (K.received out.new) result }
+        → ReplaysOneRun (S.left input.old) (S.left input.new) (K.received out.old)
+        (K.received out.new) result }
 
     // Usage comes exactly where the words spell no command, but for want of memory.
     ensures usage { result ≡ Usage → SpellNone (map (λ s. s.now) words.now) }
     ensures none { SpellNone (map (λ s. s.now) words.now)
-        → IsRefused (K.received out.old) (K.received out.new) (K.faults out.old) (K.faults out.new) result }
+        → IsRefused (K.received out.old) (K.received out.new) (K.faults out.old) (K.faults out.new)
+        result }
 
     // A command leaves the objects that it doesn't use as they were.
-    ensures platform { SpellNo UsesPlatform (map (λ s. s.now) words.now) → platform.new ≡ platform.old }
+    ensures platform { SpellNo UsesPlatform (map (λ s. s.now) words.now)
+        → platform.new ≡ platform.old }
     ensures store { SpellNo UsesStore (map (λ s. s.now) words.now) → store.new ≡ store.old }
     ensures input { SpellNo ReadsInput (map (λ s. s.now) words.now) → input.new ≡ input.old }
-    ensures entropy { SpellNo TakesEntropy (map (λ s. s.now) words.now) → entropy.new ≡ entropy.old }
+    ensures entropy { SpellNo TakesEntropy (map (λ s. s.now) words.now)
+        → entropy.new ≡ entropy.old }
 
     // A count of faults rose exactly where the status blames it; the output's too where its stop line was cut short.
     ensures device { IsBlamed (tells_platform_fault result) (P.standing platform.old).faults
         (P.standing platform.new).faults }
-    ensures slots { IsBlamed (tells_store_fault result) (T.kept store.old).faults (T.kept store.new).faults }
-    ensures source { let old = outside (P.standing platform.old) (T.kept store.old) (S.left input.old) (S.faults input.old)
-        (E.left entropy.old) (E.faults entropy.old) (K.received out.old) (K.faults out.old) in
-        let new = outside (P.standing platform.new) (T.kept store.new) (S.left input.new) (S.faults input.new)
-        (E.left entropy.new) (E.faults entropy.new) (K.received out.new) (K.faults out.new) in
-        (command : Told) → SpellsCommand command (map (λ s. s.now) words.now) → BlamesSource command old new result }
+    ensures slots { IsBlamed (tells_store_fault result) (T.kept store.old).faults
+        (T.kept store.new).faults }
+    ensures source { let old = outside (P.standing platform.old) (T.kept store.old)
+        (S.left input.old) (S.faults input.old) (E.left entropy.old) (E.faults entropy.old)
+        (K.received out.old) (K.faults out.old) in
+        let new = outside (P.standing platform.new) (T.kept store.new) (S.left input.new)
+        (S.faults input.new) (E.left entropy.new) (E.faults entropy.new) (K.received out.new)
+        (K.faults out.new) in
+        (command : Told) → SpellsCommand command (map (λ s. s.now) words.now)
+        → BlamesSource command old new result }
     ensures wrote { BlamesOutput result (K.faults out.old) (K.faults out.new) }
 {
     match read_words(alloc, words) {

@@ -14,10 +14,12 @@ use std::alloc::Global;
 
 // Checks the receipts, and says how that ended.
 fn checked<S: Source, K: Sink>(alloc: Global, key: &[u8; 32], input: &mut S, out: &mut K) -> Status
-    ensures checked { ReceiptsChecked key.now (S.left input.old) (S.left input.new) (K.received out.old) (K.received out.new)
-        (S.faults input.old) (S.faults input.new) (K.faults out.old) (K.faults out.new) result }
+    ensures checked { ReceiptsChecked key.now (S.left input.old) (S.left input.new)
+        (K.received out.old) (K.received out.new) (S.faults input.old) (S.faults input.new)
+        (K.faults out.old) (K.faults out.new) result }
     ensures complete { (bytes : List ℕ) → (next : Checking) → S.left input.old ≡ Some bytes
-        → (run_of receipts_answer receipts_closing (first_checking key.now) bytes).outcome ≡ Ok next → EndsUnrefused result }
+        → (run_of receipts_answer receipts_closing (first_checking key.now) bytes).outcome ≡ Ok next
+        → EndsUnrefused result }
 {
     match receipts(alloc, key, input, out) {
         Ok(_) => Status::Done,
@@ -32,10 +34,12 @@ pub fn check_receipts<S: Source, K: Sink>(
     input: &mut S,
     out: &mut K,
 ) -> Status
-    ensures checks { ChecksReceiptsAndStops key.now (S.left input.old) (S.left input.new) (K.received out.old) (K.received out.new)
-        (S.faults input.old) (S.faults input.new) (K.faults out.old) (K.faults out.new) result }
+    ensures checks { ChecksReceiptsAndStops key.now (S.left input.old) (S.left input.new)
+        (K.received out.old) (K.received out.new) (S.faults input.old) (S.faults input.new)
+        (K.faults out.old) (K.faults out.new) result }
     ensures complete { (bytes : List ℕ) → (next : Checking) → S.left input.old ≡ Some bytes
-        → (run_of receipts_answer receipts_closing (first_checking key.now) bytes).outcome ≡ Ok next → EndsUnrefused result }
+        → (run_of receipts_answer receipts_closing (first_checking key.now) bytes).outcome ≡ Ok next
+        → EndsUnrefused result }
 {
     let status = checked(alloc, key, input, out);
     let _ = write_stop(status, out);

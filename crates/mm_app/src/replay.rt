@@ -15,10 +15,12 @@ use std::alloc::Global;
 
 // Replays the input, and says how it ended.
 fn replayed<S: Source, K: Sink>(alloc: Global, input: &mut S, out: &mut K) -> Status
-    ensures replayed { Replayed (S.left input.old) (S.left input.new) (K.received out.old) (K.received out.new)
-        (S.faults input.old) (S.faults input.new) (K.faults out.old) (K.faults out.new) result }
+    ensures replayed { Replayed (S.left input.old) (S.left input.new) (K.received out.old)
+        (K.received out.new) (S.faults input.old) (S.faults input.new) (K.faults out.old)
+        (K.faults out.new) result }
     ensures complete { (bytes : List ℕ) → (next : Stage) → S.left input.old ≡ Some bytes
-        → (run_of (schedule_answer header_at) schedule_closing AtHeader bytes).outcome ≡ Ok next → EndsUnrefused result }
+        → (run_of (schedule_answer header_at) schedule_closing AtHeader bytes).outcome ≡ Ok next
+        → EndsUnrefused result }
 {
     match replay(alloc, input, out) {
         Ok(_) => Status::Done,
@@ -28,10 +30,12 @@ fn replayed<S: Source, K: Sink>(alloc: Global, input: &mut S, out: &mut K) -> St
 
 /// Replays the input, and writes the stop line.
 pub fn replay_and_stop<S: Source, K: Sink>(alloc: Global, input: &mut S, out: &mut K) -> Status
-    ensures replays { ReplaysAndStops (S.left input.old) (S.left input.new) (K.received out.old) (K.received out.new)
-        (S.faults input.old) (S.faults input.new) (K.faults out.old) (K.faults out.new) result }
+    ensures replays { ReplaysAndStops (S.left input.old) (S.left input.new) (K.received out.old)
+        (K.received out.new) (S.faults input.old) (S.faults input.new) (K.faults out.old)
+        (K.faults out.new) result }
     ensures complete { (bytes : List ℕ) → (next : Stage) → S.left input.old ≡ Some bytes
-        → (run_of (schedule_answer header_at) schedule_closing AtHeader bytes).outcome ≡ Ok next → EndsUnrefused result }
+        → (run_of (schedule_answer header_at) schedule_closing AtHeader bytes).outcome ≡ Ok next
+        → EndsUnrefused result }
 {
     let status = replayed(alloc, input, out);
     let _ = write_stop(status, out);

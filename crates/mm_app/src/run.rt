@@ -22,9 +22,10 @@ pub fn run_instance<P: Platform, T: Store, S: Source, K: Sink>(
     input: &mut S,
     out: &mut K,
 ) -> Status
-    ensures { RunsInstance (P.standing platform.old) (P.standing platform.new) (T.kept store.old) (T.kept store.new)
-        (S.left input.old) (S.left input.new) (K.received out.old) (K.received out.new)
-        (S.faults input.old) (S.faults input.new) (K.faults out.old) (K.faults out.new) result }
+    ensures { RunsInstance (P.standing platform.old) (P.standing platform.new) (T.kept store.old)
+        (T.kept store.new) (S.left input.old) (S.left input.new) (K.received out.old)
+        (K.received out.new) (S.faults input.old) (S.faults input.new) (K.faults out.old)
+        (K.faults out.new) result }
 {
     match look(platform) {
         Err(status) => stopped(status, out),
@@ -69,9 +70,10 @@ fn serve_and_stop<P: Platform, T: Store, S: Source, K: Sink>(
     input: &mut S,
     out: &mut K,
 ) -> Status
-    ensures { ServesAndStops header.now (P.standing platform.old) (P.standing platform.new) (T.kept store.old) (T.kept store.new)
-        (S.left input.old) (S.left input.new) (K.received out.old) (K.received out.new)
-        (S.faults input.old) (S.faults input.new) (K.faults out.old) (K.faults out.new) result }
+    ensures { ServesAndStops header.now (P.standing platform.old) (P.standing platform.new)
+        (T.kept store.old) (T.kept store.new) (S.left input.old) (S.left input.new)
+        (K.received out.old) (K.received out.new) (S.faults input.old) (S.faults input.new)
+        (K.faults out.old) (K.faults out.new) result }
 {
     let status = serve(alloc, header, platform, store, input, out);
     let _ = write_stop(status, out);
@@ -87,9 +89,10 @@ fn serve<P: Platform, T: Store, S: Source, K: Sink>(
     input: &mut S,
     out: &mut K,
 ) -> Status
-    ensures { ServedInstance header.now (P.standing platform.old) (P.standing platform.new) (T.kept store.old) (T.kept store.new)
-        (S.left input.old) (S.left input.new) (K.received out.old) (K.received out.new)
-        (S.faults input.old) (S.faults input.new) (K.faults out.old) (K.faults out.new) result }
+    ensures { ServedInstance header.now (P.standing platform.old) (P.standing platform.new)
+        (T.kept store.old) (T.kept store.new) (S.left input.old) (S.left input.new)
+        (K.received out.old) (K.received out.new) (S.faults input.old) (S.faults input.new)
+        (K.faults out.old) (K.faults out.new) result }
 {
     let answer = session(
         alloc,

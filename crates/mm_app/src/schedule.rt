@@ -1,6 +1,7 @@
 //! The command `gen`: a schedule is made from a number.
 
 ghost use Rattle.std.specs.Prelude.{◌≡◌, ◌≤◌, ◌⊎◌};
+ghost use Rattle.mm_base.specs.Limits.{most_events};
 ghost use Rattle.mm_gen.specs.Schedules.{schedule_text};
 ghost use Rattle.mm_app.specs.Telling.{StopsAs, WritesText};
 
@@ -13,10 +14,11 @@ use std::alloc::Global;
 
 /// Writes the schedule of a number.
 pub fn write_schedule<K: Sink>(alloc: Global, it: &Generated, out: &mut K) -> Status
-    requires { it.now.count ≤ 20000 }
+    requires { it.now.count ≤ most_events }
     ensures { WritesText (schedule_text it.now.number it.now.count it.now.header)
         (K.received out.old) (K.received out.new) (K.faults out.old) (K.faults out.new) result
-        ⊎ StopsAs Status.Memory (K.received out.old) (K.received out.new) (K.faults out.old) (K.faults out.new) result }
+        ⊎ StopsAs Status.Memory (K.received out.old) (K.received out.new) (K.faults out.old)
+        (K.faults out.new) result }
 {
     match generate(alloc, it.number, it.count, &it.header) {
         Ok(text) => written(text.as_slice(), out),

@@ -1,6 +1,7 @@
 //! The command `init`: an instance of a variant and a module is started on a blank platform.
 
-ghost use Rattle.mm_app.specs.Starting.{StartsInstance, devices, init_told};
+ghost use Rattle.mm_host.specs.Init.{devices};
+ghost use Rattle.mm_app.specs.Starting.{StartsInstance, init_told};
 ghost use Rattle.mm_app.specs.Telling.{Tells};
 
 use crate::status::Status;
@@ -22,8 +23,10 @@ pub fn start_instance<P: Platform, T: Store, E: Source, K: Sink>(
     out: &mut K,
 ) -> Status
     ensures { StartsInstance header.now
-        (devices (P.standing platform.old) (T.kept store.old) (E.left entropy.old) (E.faults entropy.old))
-        (devices (P.standing platform.new) (T.kept store.new) (E.left entropy.new) (E.faults entropy.new))
+        (devices (P.standing platform.old) (T.kept store.old) (E.left entropy.old)
+        (E.faults entropy.old))
+        (devices (P.standing platform.new) (T.kept store.new) (E.left entropy.new)
+        (E.faults entropy.new))
         (K.received out.old) (K.received out.new) (K.faults out.old) (K.faults out.new) result }
 {
     let answer = init(

@@ -42,7 +42,8 @@ pub fn write_stop<K: Sink>(status: Status, out: &mut K) -> Result<(), WriteFault
 
 // Writes the words and the number as a line.
 fn write_numbered<K: Sink>(words: &[u8], number: u32, out: &mut K) -> Result<(), WriteFault>
-    ensures sent { Sends (K.received out.old) (K.received out.new) (words.now ++ (decimal number ++ 10 ∷ [])) result }
+    ensures sent { Sends (K.received out.old) (K.received out.new)
+        (words.now ++ (decimal number ++ 10 ∷ [])) result }
     ensures counted { CountsFaults (K.faults out.old) (K.faults out.new) result }
 {
     let mut buffer = Buffer::new();

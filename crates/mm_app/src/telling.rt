@@ -10,7 +10,8 @@ use mm_base::{Sink, write_all};
 /// Writes the stop line of a status.
 pub fn stopped<K: Sink>(status: Status, out: &mut K) -> Status
     ensures status { result ≡ status }
-    ensures told { StopsAs status (K.received out.old) (K.received out.new) (K.faults out.old) (K.faults out.new) result }
+    ensures told { StopsAs status (K.received out.old) (K.received out.new) (K.faults out.old)
+        (K.faults out.new) result }
 {
     let _ = write_stop(status, out);
     status
@@ -18,7 +19,8 @@ pub fn stopped<K: Sink>(status: Status, out: &mut K) -> Status
 
 /// Writes a text.
 pub fn written<K: Sink>(text: &[u8], out: &mut K) -> Status
-    ensures { WritesText text.now (K.received out.old) (K.received out.new) (K.faults out.old) (K.faults out.new) result }
+    ensures { WritesText text.now (K.received out.old) (K.received out.new) (K.faults out.old)
+        (K.faults out.new) result }
 {
     match write_all(out, text) {
         Ok(()) => Status::Done,

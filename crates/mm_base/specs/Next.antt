@@ -23,6 +23,7 @@ Reads limit left (Err ReadFault) held = IsWithin limit held
 Reads limit left (Err LineLong) held = IsLong limit held
 
 -- one call: what it takes of the source, and what it answers
-pub record NextLine (limit : ℕ) (left left' : Option (List ℕ)) (held : List ℕ) (result : Result Read LineFault) (held' : List ℕ) : Type 0 where
+pub record NextLine (limit : ℕ) (left left' : Option (List ℕ)) (held : List ℕ) (result : Result Read LineFault)
+    (held' : List ℕ) : Type 0 where
   pub takes : Takes left left' held (said_by result) held'
   pub reads : Reads limit left' result held'

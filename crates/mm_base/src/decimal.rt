@@ -15,7 +15,8 @@ use itoa::Buffer;
 pub fn read_decimal(bytes: &[u8]) -> Option<u64>
     ensures value { result ≡ number_of bytes.now }
     ensures spelled { IfSome result (λ number. bytes.now ≡ decimal number) }
-    ensures only { (number : ℕ) → number < 2 ^ 64 → bytes.now ≡ decimal number → result ≡ Some number }
+    ensures only { (number : ℕ) → number < 2 ^ 64 → bytes.now ≡ decimal number
+        → result ≡ Some number }
 {
     if !has_decimal_form(bytes) {
         return None;

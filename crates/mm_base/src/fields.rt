@@ -5,7 +5,8 @@ ghost use Rattle.mm_base.specs.Fields.{eight_bytes, four_bytes};
 
 /// The number in the 8 bytes in front, and the rest. None exactly where there are fewer bytes.
 pub fn split_u64(bytes: &[u8]) -> Option<(u64, &[u8])>
-    ensures { MatchOption result (length bytes.now < 8) (λ p. (bytes.now ≡ eight_bytes p.0 ++ p.1.now) × (p.0 < 2 ^ 64)) }
+    ensures { MatchOption result (length bytes.now < 8)
+        (λ p. (bytes.now ≡ eight_bytes p.0 ++ p.1.now) × (p.0 < 2 ^ 64)) }
 {
     let (front, rest) = bytes.split_first_chunk::<8>()?;
     Some((u64::from_be_bytes(*front), rest))
@@ -13,7 +14,8 @@ pub fn split_u64(bytes: &[u8]) -> Option<(u64, &[u8])>
 
 /// The number in the 4 bytes in front, and the rest. None exactly where there are fewer bytes.
 pub fn split_u32(bytes: &[u8]) -> Option<(u32, &[u8])>
-    ensures { MatchOption result (length bytes.now < 4) (λ p. (bytes.now ≡ four_bytes p.0 ++ p.1.now) × (p.0 < 2 ^ 32)) }
+    ensures { MatchOption result (length bytes.now < 4)
+        (λ p. (bytes.now ≡ four_bytes p.0 ++ p.1.now) × (p.0 < 2 ^ 32)) }
 {
     let (front, rest) = bytes.split_first_chunk::<4>()?;
     Some((u32::from_be_bytes(*front), rest))

@@ -3,10 +3,11 @@
 ghost use Rattle.std.specs.Prelude.{◌≡◌, ◌≢◌, ◌+◌, ◌-◌, ◌<◌, ◌≤◌, List, ℕ, [], length, drop, take, slice_index, slice_range, IfOk, MatchOption};
 ghost use Rattle.std.specs.Io.KnownBytes.{ReadConsumes};
 ghost use Rattle.mm_base.specs.Faults.{CountsFaults};
-ghost use Rattle.mm_base.specs.declared.lines.TheConstants.{LONGEST_LINE, ROOM};
+ghost use Rattle.mm_base.specs.declared.lines.TheConstants.{ROOM};
 ghost use Rattle.std.specs.Borrow.{sem};
 ghost use Rattle.std.specs.Io.BufRead.{Rests};
 ghost use Rattle.mm_base.specs.Input.{IsUnbroken};
+ghost use Rattle.mm_base.specs.Limits.{longest_line};
 ghost use Rattle.mm_base.specs.Lines.{Breaks, CountsReads, Looks, Refills, Sees, seen_at_end};
 
 use crate::fault::{Failed, Memory};
@@ -15,9 +16,6 @@ use memchr::memchr;
 use std::alloc::Global;
 use std::marker::Model;
 use thiserror::Error;
-
-/// The most bytes that a line may be asked to have.
-pub const LONGEST_LINE: usize = 8400;
 
 /// The bytes that a reader holds at most, which are far more than a line has, so that held bytes are
 /// seldom moved.
@@ -91,8 +89,10 @@ impl LineReader {
 
     /// The next line of the source, of at most `limit` bytes. Takes no memory.
     pub fn next<S: Source>(&mut self, source: &mut S, limit: usize) -> Result<Read<'_>, LineFault>
-        requires { limit ≤ LONGEST_LINE }
-        ensures* after { sem 𝓛 (Rests the_row self.entry (NextLine limit (S.left source.old) (S.left source.new) self.old result)) }
+        requires { limit ≤ longest_line }
+        ensures* after { sem 𝓛
+            (Rests the_row self.entry
+            (NextLine limit (S.left source.old) (S.left source.new) self.old result)) }
         ensures counted { CountsReads (S.faults source.old) (S.faults source.new) result }
     {
         match self.held.see(source, limit)? {
@@ -140,7 +140,8 @@ impl Held {
     /// Where the first line ends, counted from the first byte held.
     fn find_break(&mut self) -> Option<usize>
         ensures same { held_in self.new ≡ held_in self.old }
-        ensures found { MatchOption result (IsUnbroken (held_in self.old)) (Breaks (held_in self.old)) }
+        ensures found { MatchOption result (IsUnbroken (held_in self.old))
+            (Breaks (held_in self.old)) }
     {
         let unseen = &self.buffer[self.scanned..self.end];
         let Some(at) = line_feed(unseen) else {
@@ -165,8 +166,9 @@ impl Held {
 
     /// Takes bytes until a line, the end of the input or a fault is seen.
     fn see<S: Source>(&mut self, source: &mut S, limit: usize) -> Result<Seen, LineFault>
-        requires { limit ≤ LONGEST_LINE }
-        ensures seen { Sees limit (S.left source.old) (S.left source.new) (held_in self.old) (held_in self.new) result }
+        requires { limit ≤ longest_line }
+        ensures seen { Sees limit (S.left source.old) (S.left source.new) (held_in self.old)
+            (held_in self.new) result }
         ensures counted { CountsReads (S.faults source.old) (S.faults source.new) result }
     {
         'refills: loop {
@@ -197,7 +199,8 @@ impl Held {
         requires { Breaks (held_in self.old) size }
         ensures rest { held_in self.new ≡ drop (size + 1) (held_in self.old) }
         ensures room { size < self.new.start }
-        ensures line { slice_range self.new.buffer.items (self.new.start - 1 - size) (self.new.start - 1) ≡ take size (held_in self.old) }
+        ensures line { slice_range self.new.buffer.items (self.new.start - 1 - size)
+            (self.new.start - 1) ≡ take size (held_in self.old) }
     {
         self.start += size + 1;
         self.scanned = self.start;
@@ -205,8 +208,9 @@ impl Held {
 
     /// Takes more bytes from the source, and answers how many.
     fn refill<S: Source>(&mut self, source: &mut S) -> Result<usize, Failed>
-        requires { length (held_in self.old) ≤ LONGEST_LINE }
-        ensures refilled { Refills (S.left source.old) (S.left source.new) (held_in self.old) (held_in self.new) result }
+        requires { length (held_in self.old) ≤ longest_line }
+        ensures refilled { Refills (S.left source.old) (S.left source.new) (held_in self.old)
+            (held_in self.new) result }
         ensures counted { CountsFaults (S.faults source.old) (S.faults source.new) result }
     {
         self.make_room();
@@ -219,7 +223,7 @@ impl Held {
 
     /// Moves the bytes to the front of the buffer where they stand at its end.
     fn make_room(&mut self)
-        requires { length (held_in self.old) ≤ LONGEST_LINE }
+        requires { length (held_in self.old) ≤ longest_line }
         ensures same { held_in self.new ≡ held_in self.old }
         ensures room { self.new.end < ROOM }
     {
@@ -247,7 +251,8 @@ fn take_behind<S: Source>(source: &mut S, buffer: &mut Vec<u8>, at: usize) -> Re
     ensures room { length buffer.new.items ≡ length buffer.old.items }
     ensures front { take at buffer.new.items ≡ take at buffer.old.items }
     ensures within { IfOk result (λ count. at + count ≤ length buffer.old.items) }
-    ensures taken { ReadConsumes (S.left source.old) (S.left source.new) result (drop at buffer.new.items) }
+    ensures taken { ReadConsumes (S.left source.old) (S.left source.new) result
+        (drop at buffer.new.items) }
     ensures counted { CountsFaults (S.faults source.old) (S.faults source.new) result }
 {
     let (_, free) = buffer.split_at_mut(at);

@@ -47,7 +47,8 @@ impl Model for MemSink {
       faults = sink.faults;
     } };
 
-    ghost invariant = { λ sink. length sink.received.items + sink.room ≤ vec_capacity sink.received };
+    ghost invariant = { λ sink. length sink.received.items + sink.room
+        ≤ vec_capacity sink.received };
 }
 
 impl MemSink {
@@ -83,7 +84,8 @@ impl Sink for MemSink {
     fn give(&mut self, piece: &[u8]) -> Result<usize, Failed>
         ensures within { IfOk result (λ count. count ≤ length piece.now) }
         ensures some { IfOk result (λ count. 0 < length piece.now → 0 < count) }
-        ensures given { WriteAppends (Some self.old.received) (Some self.new.received) result piece.now }
+        ensures given { WriteAppends (Some self.old.received) (Some self.new.received) result
+            piece.now }
         ensures counted { CountsFaults self.old.faults self.new.faults result }
         ensures failing { IsErr result ↔ (Contains self.old.failing (counted self.old.calls)
             ⊎ ((self.old.room ≡ 0) × (0 < length piece.now))) }

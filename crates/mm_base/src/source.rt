@@ -91,7 +91,8 @@ impl Source for MemSource {
         ensures taken { ReadConsumes (Some self.old.left) (Some self.new.left) result buf.new }
         ensures counted { CountsFaults self.old.faults self.new.faults result }
         ensures failing { IsErr result ↔ Contains self.old.failing (counted self.old.calls) }
-        ensures given { IfOk result (λ count. count ≡ min (min (length self.old.left) self.old.piece) (length buf.old)) }
+        ensures given { IfOk result
+            (λ count. count ≡ min (min (length self.old.left) self.old.piece) (length buf.old)) }
         ensures after { self.new ≡ after_take self.old result }
     {
         self.calls = self.calls.saturating_add(1);

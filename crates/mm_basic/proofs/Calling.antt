@@ -1,8 +1,9 @@
 -- What a call finds over the platform is what is found by digests, but for want of memory.
-use Rattle.std.proofs.Common.{◌≡◌, ℕ, ◌+◌, ◌^◌, Bool, true, false, List, length, Some, Result, Ok, Err, ◌⊎◌, inl, inr, refl, sym, ap, ◌∙◌, subst}
+use Rattle.std.proofs.Common.{◌≡◌, ℕ, ◌+◌, Bool, true, false, List, length, Some, Result, Ok, Err, ◌⊎◌, inl, inr, refl, sym, ap, ◌∙◌, subst}
 use Rattle.std.specs.Prelude.{nat_le}
 use Rattle.std.specs.Str.{bytes_eq}
 use Rattle.std.proofs.lemmas.Slice.Eq.{bytes_eq-Decides}
+use Rattle.mm_base.specs.Limits.{last_position}
 use Rattle.mm_digest.specs.declared.variant.Variant.TheVariants.{Basic}
 use Rattle.mm_digest.specs.declared.digest.Digest.{Digest}
 use Rattle.mm_module.specs.Meaning.{Meaning}
@@ -130,9 +131,9 @@ found_basic meaning key digest register count o id position state tag b found m 
     let v : Verdict = basic_verdict digest o.bytes (normal b) in
     let s : Bool = meaning.is_spelled state in
     let t : Bool = bytes_eq tag (tag_of key offered) in
-    let fits : Bool = nat_le (position + size_of b) (2 ^ 48) in
-    let fits' : Bool = nat_le (position + size_of (normal b)) (2 ^ 48) in
-    let same : fits ≡ fits' = ap (λ (x : List (List ℕ)). nat_le (position + length x) (2 ^ 48)) (sym (members_of-normal b)) in
+    let fits : Bool = nat_le (position + size_of b) last_position in
+    let fits' : Bool = nat_le (position + size_of (normal b)) last_position in
+    let same : fits ≡ fits' = ap (λ (x : List (List ℕ)). nat_le (position + length x) last_position) (sym (members_of-normal b)) in
     let examined_to = found_examined meaning key digest register count o id position state b (weighed s t v fits) found
     (λ (e : weighed s t v fits ≡ Ok false). fresh_summary o.bytes digest (normal b) (weighed_only s t v fits false e).verdict)
     (λ (e : weighed s t v fits ≡ Ok true). again_summary o.bytes digest (normal b) (weighed_only s t v fits true e).verdict) m in

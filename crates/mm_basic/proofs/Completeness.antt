@@ -1,9 +1,10 @@
 -- A right offer that the verdict accepts is answered.
-use Rattle.std.proofs.Common.{◌≡◌, ℕ, ◌+◌, ◌≤◌, ◌^◌, Bool, true, false, List, Option, None, Some, Result, Ok, Err, refl, sym, ap, subst, inl, inr}
+use Rattle.std.proofs.Common.{◌≡◌, ℕ, ◌+◌, ◌≤◌, Bool, true, false, List, Option, None, Some, Result, Ok, Err, refl, sym, ap, subst, inl, inr}
 use Rattle.std.specs.Prelude.{nat_le}
 use Rattle.std.specs.Str.{bytes_eq}
 use Rattle.std.proofs.lemmas.Bool.{le-leb}
 use Rattle.std.proofs.lemmas.Slice.Eq.{bytes_eq-Decides}
+use Rattle.mm_base.specs.Limits.{last_position}
 use Rattle.mm_digest.specs.declared.variant.Variant.TheVariants.{Basic}
 use Rattle.mm_digest.proofs.Lengths.{length-hmac_of}
 use Rattle.mm_platform.specs.declared.fault.StepFault.{StepFault}
@@ -41,12 +42,12 @@ given_found : (again : Bool) (i : Instance) (y : History) (b : Batch) → IsFoun
 given_found true i y b = record { found = _; is = refl }
 given_found false i y b = record { found = _; is = refl }
 
-accepted_found : (meaning : Meaning) (key : List ℕ) (y : History) (content : Content) (b : Batch) → meaning.is_spelled content.state ≡ true → IsAccepted (judge Basic y content.position (normal b)) → content.position + size_of b ≤ 2 ^ 48 → IsFound (expected_found (basic meaning key) y (Ok (offered_of key content)) b)
+accepted_found : (meaning : Meaning) (key : List ℕ) (y : History) (content : Content) (b : Batch) → meaning.is_spelled content.state ≡ true → IsAccepted (judge Basic y content.position (normal b)) → content.position + size_of b ≤ last_position → IsFound (expected_found (basic meaning key) y (Ok (offered_of key content)) b)
 accepted_found meaning key y content b spelled accepted fits =
     let v : Verdict = judge Basic y content.position (normal b) in
     let t : Bool = bytes_eq (tag_of key content) (tag_of key content) in
-    let e = weighs (meaning.is_spelled content.state) t (nat_le (content.position + size_of b) (2 ^ 48)) v spelled
-    ((bytes_eq-Decides (tag_of key content) (tag_of key content)).1 refl) (le-leb (content.position + size_of b) (2 ^ 48) fits) accepted in
+    let e = weighs (meaning.is_spelled content.state) t (nat_le (content.position + size_of b) last_position) v spelled
+    ((bytes_eq-Decides (tag_of key content) (tag_of key content)).1 refl) (le-leb (content.position + size_of b) last_position fits) accepted in
     subst (λ (r : Result Bool Refusal). IsFound (expected_found_by r (basic meaning key) y b)) (sym e.is) (given_found e.again (basic meaning key) y b)
 
 memory_only : (found : Found) (why : Refusal) → OrMemory (Ok found) (Err why) → why ≡ Memory

@@ -1,8 +1,9 @@
 -- State continuity of turns and calls.
-use Rattle.std.proofs.Common.{◌≡◌, ℕ, ◌+◌, ◌^◌, Bool, true, false, List, [], ◌∷◌, ◌++◌, Option, None, Some, Result, Ok, Err, refl, sym, ap, ◌∙◌, subst, inl, inr, ◌⊎◌, length}
+use Rattle.std.proofs.Common.{◌≡◌, ℕ, ◌+◌, Bool, true, false, List, [], ◌∷◌, ◌++◌, Option, None, Some, Result, Ok, Err, refl, sym, ap, ◌∙◌, subst, inl, inr, ◌⊎◌, length}
 use Rattle.std.specs.Prelude.{nat_le}
 use Rattle.std.specs.Str.{bytes_eq}
 use Rattle.std.specs.Option.{option_map}
+use Rattle.mm_base.specs.Limits.{last_position}
 use Rattle.mm_digest.specs.declared.variant.Variant.TheVariants.{Basic}
 use Rattle.mm_digest.specs.Messages.{start_of}
 use Rattle.mm_digest.proofs.Lengths.{length-start_of}
@@ -81,7 +82,7 @@ both_alike meaning key y all old offer b offered asked taken =
     λ (p : s ≡ true) (q : t ≡ true). asked.genuine offered.content (right p q) in
     let agree : s ≡ true → t ≡ true → v ≡ w =
     λ (p : s ≡ true) (q : t ≡ true). verdict_on meaning key y all offered.content (normal b) (asked.clear offered.content (right p q)) (names p q) in
-    let fits : Bool = nat_le (offered.content.position + size_of b) (2 ^ 48) in
+    let fits : Bool = nat_le (offered.content.position + size_of b) last_position in
     let same : examined meaning key offered b v ≡ examined meaning key offered b w = weighed_alike s t v w fits agree in
     let next : List ℕ = cell_after (cell_of i y) offered.content b in
     let answer : Bool → BatchAnswer = answer_of meaning key offered.content b in

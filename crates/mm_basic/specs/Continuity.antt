@@ -1,5 +1,6 @@
 -- State continuity: what a call gives from any history that the platform stands for.
-use Rattle.std.specs.Prelude.{◌≡◌, ℕ, ◌+◌, ◌≤◌, ◌^◌, Bool, true, false, List, Option, None, Some, Result, Ok, Err, ◌⊎◌}
+use Rattle.std.specs.Prelude.{◌≡◌, ℕ, ◌+◌, ◌≤◌, Bool, true, false, List, Option, None, Some, Result, Ok, Err, ◌⊎◌}
+use Rattle.mm_base.specs.Limits.{last_position}
 use Rattle.mm_digest.specs.declared.variant.Variant.TheVariants.{Basic}
 use Rattle.mm_platform.specs.declared.fault.StepFault.{StepFault}
 use Rattle.mm_platform.specs.Standing.{Standing}
@@ -58,7 +59,8 @@ pub record IsAskedFrom (all : List (List ℕ)) (i : Instance) (y : History) (old
   pub clear : (content : Content) → IsRight i offer content → IsClearFor all i y content.place (normal b)
 
 -- State continuity of the reading step: what it finds is what the history gives, and the platform still stands for it.
-pub record FindsOn (i : Instance) (y : History) (expects : Result Found Refusal) (new : Standing) (found : Result Found Refusal) : Type 0 where
+pub record FindsOn (i : Instance) (y : History) (expects : Result Found Refusal) (new : Standing)
+    (found : Result Found Refusal) : Type 0 where
   pub found_is : fault_in found ≡ None → OrMemory expects found
   pub stands : StandsFor i new y
 
@@ -126,5 +128,5 @@ abbrev pub IsComplete : Meaning → Standing → Standing → List ℕ → Batch
 IsComplete meaning old new offer b result =
     is_long b ≡ false → (key : List ℕ) (y : History) (all : List (List ℕ)) (content : Content) →
     IsAskedFrom all (basic meaning key) y old offer b → IsRight (basic meaning key) offer content →
-    IsAccepted (judge Basic y content.position (normal b)) → content.position + size_of b ≤ 2 ^ 48 →
+    IsAccepted (judge Basic y content.position (normal b)) → content.position + size_of b ≤ last_position →
     IsAnswered result old new

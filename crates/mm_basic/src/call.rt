@@ -44,7 +44,8 @@ pub enum Turn {
 /// Begins a call. Long exactly where the batch is too long to be asked. Takes no memory.
 pub fn begin(batch: Batch<'_>) -> Result<Call, Refusal>
     ensures ok { IfOk result (λ call. (call ≡ None) × (is_long (batch_of batch.entry) ≡ false)) }
-    ensures long { IfErr result (λ refusal. (refusal ≡ Refusal.Long) × (is_long (batch_of batch.entry) ≡ true)) }
+    ensures long { IfErr result (λ refusal. (refusal ≡ Refusal.Long)
+        × (is_long (batch_of batch.entry) ≡ true)) }
 {
     if mm_model::is_long(&batch) {
         return Err(Refusal::Long);
@@ -97,11 +98,12 @@ impl Call {
         batch: Batch<'_>,
     ) -> Turn
         requires { is_long (batch_of batch) ≡ false }
-        ensures turns { Turns (M.meaning «module».now) self (P.standing platform.old) (P.standing platform.new) offer.now
-            (batch_of batch.entry) result }
-        ensures faults { Blames (turn_fault result) (P.standing platform.old).faults (P.standing platform.new).faults }
-        ensures continuity { TurnContinues (M.meaning «module».now) self (P.standing platform.old) (P.standing platform.new) offer.now
-            (batch_of batch.entry) result }
+        ensures turns { Turns (M.meaning «module».now) self (P.standing platform.old)
+            (P.standing platform.new) offer.now (batch_of batch.entry) result }
+        ensures faults { Blames (turn_fault result) (P.standing platform.old).faults
+            (P.standing platform.new).faults }
+        ensures continuity { TurnContinues (M.meaning «module».now) self (P.standing platform.old)
+            (P.standing platform.new) offer.now (batch_of batch.entry) result }
     {
         self.advance_keeping(alloc, module, platform, offer, batch, &mut KeptKey::new())
     }
@@ -137,11 +139,13 @@ impl Call {
         batch: Batch<'_>,
     ) -> Ended
         requires short { is_long (batch_of batch) ≡ false }
-        ensures finishes { Finishes (M.meaning «module».now) self (P.standing platform.old) (P.standing platform.new) offer.now
-            (batch_of batch.entry) result }
-        ensures ends { self ≡ None → CallsTo Basic (M.meaning «module».now) (P.standing platform.old) (P.standing platform.new)
-            offer.now (batch_of batch.entry) result }
-        ensures faults { Blames (fault_in (result_of result)) (P.standing platform.old).faults (P.standing platform.new).faults }
+        ensures finishes { Finishes (M.meaning «module».now) self (P.standing platform.old)
+            (P.standing platform.new) offer.now (batch_of batch.entry) result }
+        ensures ends { self ≡ None
+            → CallsTo Basic (M.meaning «module».now) (P.standing platform.old)
+            (P.standing platform.new) offer.now (batch_of batch.entry) result }
+        ensures faults { Blames (fault_in (result_of result)) (P.standing platform.old).faults
+            (P.standing platform.new).faults }
     {
         self.finish_keeping(alloc, module, platform, offer, batch, &mut KeptKey::new())
     }
@@ -159,7 +163,8 @@ impl Call {
         requires short { is_long (batch_of batch) ≡ false }
         ensures finishes { Finishes (M.meaning «module».now) self (P.standing platform.old)
             (P.standing platform.new) offer.now (batch_of batch.entry) result }
-        ensures ends { self ≡ None → CallsTo Basic (M.meaning «module».now) (P.standing platform.old)
+        ensures ends { self ≡ None
+            → CallsTo Basic (M.meaning «module».now) (P.standing platform.old)
             (P.standing platform.new) offer.now (batch_of batch.entry) result }
         ensures faults { Blames (fault_in (result_of result)) (P.standing platform.old).faults
             (P.standing platform.new).faults }
@@ -177,8 +182,8 @@ impl Call {
         keys: &mut KeptKey,
     ) -> Ended
         requires { is_long (batch_of batch) ≡ false }
-        ensures { Finishes (M.meaning «module».now) self (P.standing platform.old) (P.standing platform.new) offer.now
-            (batch_of batch.entry) result }
+        ensures { Finishes (M.meaning «module».now) self (P.standing platform.old)
+            (P.standing platform.new) offer.now (batch_of batch.entry) result }
     {
         match self.ready {
             None => ask(alloc, module, platform, offer, batch, keys),
@@ -196,8 +201,8 @@ impl Call {
         keys: &mut KeptKey,
     ) -> Turn
         requires { is_long (batch_of batch) ≡ false }
-        ensures { Turns (M.meaning «module».now) self (P.standing platform.old) (P.standing platform.new) offer.now
-            (batch_of batch.entry) result }
+        ensures { Turns (M.meaning «module».now) self (P.standing platform.old)
+            (P.standing platform.new) offer.now (batch_of batch.entry) result }
     {
         match self.ready {
             None => Turn::first(read(alloc, module, platform, offer, batch, keys)),
@@ -216,8 +221,8 @@ fn ask<M: Module, P: Platform>(
     keys: &mut KeptKey,
 ) -> Ended
     requires { is_long (batch_of batch) ≡ false }
-    ensures { AsksTo (M.meaning «module».now) (P.standing platform.old) (P.standing platform.new) offer.now
-        (batch_of batch.entry) result }
+    ensures { AsksTo (M.meaning «module».now) (P.standing platform.old) (P.standing platform.new)
+        offer.now (batch_of batch.entry) result }
 {
     match read(alloc, module, platform, offer, batch, keys) {
         Err(refusal) => Ended::refused(refusal),

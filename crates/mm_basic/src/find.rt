@@ -1,7 +1,8 @@
 //! What a call finds in the cell and the offer.
 
-ghost use Rattle.std.specs.Prelude.{◌≡◌, ◌≤◌, ◌^◌, ◌↔◌, false, None, IsTrue};
+ghost use Rattle.std.specs.Prelude.{◌≡◌, ◌≤◌, ◌↔◌, false, None, IsTrue};
 ghost use Rattle.std.specs.Str.{bytes_eq};
+ghost use Rattle.mm_base.specs.Limits.{last_position};
 ghost use Rattle.mm_digest.specs.declared.variant.Variant.TheVariants.{Basic};
 ghost use Rattle.mm_module.specs.Batch.{Many, normal};
 ghost use Rattle.mm_module.specs.Batches.{batch_of};
@@ -34,7 +35,8 @@ pub fn find<M: Module>(
     keys: &mut KeptKey,
 ) -> Result<Found, Refusal>
     requires { is_long (batch_of batch) ≡ false }
-    ensures finds { FindsIn (M.meaning «module».now) bytes.now offer.now (batch_of batch.entry) result }
+    ensures finds { FindsIn (M.meaning «module».now) bytes.now offer.now (batch_of batch.entry)
+        result }
     ensures no_fault { fault_in result ≡ None }
 {
     let cell = match read_cell(bytes) {
@@ -74,9 +76,10 @@ fn weigh<M: Module>(
 ) -> Result<Found, Refusal>
     requires cell { FitsVariant cell.now.variant cell.now.flag cell.now.barrier }
     requires variant { variant_of offered.now.content.place ≡ Basic }
-    requires position { offered.now.content.position ≤ 2 ^ 48 }
+    requires position { offered.now.content.position ≤ last_position }
     requires short { is_long (batch_of batch) ≡ false }
-    ensures { OrMemory (found_in (M.meaning «module».now) (Both cell.now offered.now) (batch_of batch.entry))
+    ensures { OrMemory
+        (found_in (M.meaning «module».now) (Both cell.now offered.now) (batch_of batch.entry))
         result }
 {
     let body = offered.body();
@@ -138,7 +141,8 @@ fn link_text(summary: &Digest, text: &[u8]) -> Digest
 
 // The verdict on an offered summary, with the summary that the batch leads to.
 fn verdict(summary: &Digest, offered: &Digest, next: &Digest) -> Verdict
-    ensures { result ≡ verdict_by false (bytes_eq offered.now.bytes summary.now.bytes) (bytes_eq next.now.bytes summary.now.bytes) }
+    ensures { result ≡ verdict_by false (bytes_eq offered.now.bytes summary.now.bytes)
+        (bytes_eq next.now.bytes summary.now.bytes) }
 {
     if offered == summary {
         return Verdict::Fresh;

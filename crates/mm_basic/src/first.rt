@@ -21,7 +21,8 @@ pub fn provision<M: Module>(
     _barrier: &[u8; 32],
 ) -> Result<Provisioned, Memory>
     ensures cell { IfOk result (λ made.
-        made.cell ≡ cell_spelling (cell_of (basic (M.meaning «module».now) key.now) first_history)) }
+        made.cell
+        ≡ cell_spelling (cell_of (basic (M.meaning «module».now) key.now) first_history)) }
     ensures snapshot { IfOk result (λ made.
         made.snapshot ≡ issued_bytes (basic (M.meaning «module».now) key.now) first_history) }
 {

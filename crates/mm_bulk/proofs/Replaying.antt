@@ -7,6 +7,7 @@ use Rattle.std.proofs.lemmas.List.Elements.{recursion_from_All}
 use Rattle.sha2.specs.Sha256.{sha256}
 use Rattle.mm_base.specs.declared.replay_fault.ReplayFault.{ReplayFault}
 use Rattle.mm_base.specs.declared.replay_fault.ReplayFault.TheVariants as fault
+use Rattle.mm_base.specs.Limits.{longest_line, most_events}
 use Rattle.mm_digest.specs.declared.variant.Variant.{Variant}
 use Rattle.mm_digest.specs.declared.variant.Variant.TheVariants.{Basic, Opt}
 use Rattle.mm_modules.specs.declared.any.AnyModule.{AnyModule}
@@ -22,7 +23,7 @@ use Rattle.mm_schedule.proofs.SpelledIsRead.{spelled_is_read}
 use Rattle.mm_gen.specs.Laws.{IsEventLine}
 use Rattle.mm_gen.specs.Schedules.{schedule_lines}
 use Rattle.mm_gen.proofs.Readable.{is_schedule}
-use Rattle.mm_play.specs.Play.{Told, told, after_writing, and_then, ended, line_limit, run}
+use Rattle.mm_play.specs.Play.{Told, told, after_writing, and_then, ended, run}
 use Rattle.mm_run.specs.Folds.{replies_by_digests}
 use Rattle.mm_run.specs.Held.{world_of}
 use Rattle.mm_replay.specs.Schedule.{Running, Stage, AtHeader, InEvents, after_event, begun, is_too_much, outcome_in, schedule_answer, schedule_closing}
@@ -39,16 +40,16 @@ use Rattle.mm_bulk.proofs.Tallying.{heads, left_of, no_events, over_at, over_beh
 abbrev lines_run : ℕ → Running → List (List ℕ) → Told Stage
 lines_run number r lines = run (schedule_answer header_at) number (InEvents r) lines
 
-fits : (line : List ℕ) → length line ≤ 8400 → nat_lt line_limit (length line) ≡ false
+fits : (line : List ℕ) → length line ≤ longest_line → nat_lt longest_line (length line) ≡ false
 fits line short = grind (arith, nat_tests)
 
 -- an event line that passes no limit is answered
-goes : (number : ℕ) (r : Running) (line : List ℕ) (more : List (List ℕ)) (event : Event) → length line ≤ 8400 → event_at line ≡ Some event → is_too_much r line ≡ false
+goes : (number : ℕ) (r : Running) (line : List ℕ) (more : List (List ℕ)) (event : Event) → length line ≤ longest_line → event_at line ≡ Some event → is_too_much r line ≡ false
     → lines_run number r (line ∷ more) ≡ after_writing (text_of (outcome_in r event).reply) (lines_run (number + 1) (after_event r line event) more)
 goes number r line more event short is room = rw (fits line short, is, room) refl
 
 -- one that passes a limit ends the replay
-stops : (number : ℕ) (r : Running) (line : List ℕ) (more : List (List ℕ)) (event : Event) → length line ≤ 8400 → event_at line ≡ Some event → is_too_much r line ≡ true
+stops : (number : ℕ) (r : Running) (line : List ℕ) (more : List (List ℕ)) (event : Event) → length line ≤ longest_line → event_at line ≡ Some event → is_too_much r line ≡ true
     → (lines_run number r (line ∷ more)).outcome ≡ Err fault.TooMuch
 stops number r line more event short is much = rw (fits line short, is, much) refl
 
@@ -63,7 +64,7 @@ record AreAnswered (number : ℕ) (r : Running) (lines : List (List ℕ)) (event
   issued : last.issued ≡ (left_of r events).issued
 
 -- an event line that passes no limit, and the others behind it
-answered_more : (number : ℕ) (r : Running) (line : List ℕ) (lines : List (List ℕ)) (event : Event) (events : List Event) → length line ≤ 8400 → event_at line ≡ Some event
+answered_more : (number : ℕ) (r : Running) (line : List ℕ) (lines : List (List ℕ)) (event : Event) (events : List Event) → length line ≤ longest_line → event_at line ≡ Some event
     → is_too_much r line ≡ false → AreAnswered (number + 1) (after_event r line event) lines events → AreAnswered number r (line ∷ lines) (event ∷ events)
 answered_more number r line lines event events short is room rest = record {
   last = rest.last;
@@ -74,7 +75,7 @@ answered_more number r line lines event events short is room rest = record {
 
 -- by whether the line passes a limit
 answered_line : (number : ℕ) (r : Running) (line : List ℕ) (lines : List (List ℕ)) (event : Event) (events : List Event) (much : Bool) → is_too_much r line ≡ much
-    → length line ≤ 8400 → event_at line ≡ Some event → is_over r (line ∷ lines) ≡ false
+    → length line ≤ longest_line → event_at line ≡ Some event → is_over r (line ∷ lines) ≡ false
     → (is_over (after_event r line event) lines ≡ false → AreAnswered (number + 1) (after_event r line event) lines events)
     → AreAnswered number r (line ∷ lines) (event ∷ events)
 answered_line number r line lines event events true is short read over on = absurd (both_ways (is_over r (line ∷ lines)) (over_at r line lines is) over)
@@ -93,7 +94,7 @@ all_answered (line ∷ lines) (event ∷ events) are read number r over =
 
 -- one of them is one too many
 much_line : (number : ℕ) (r : Running) (line : List ℕ) (lines : List (List ℕ)) (event : Event) (much : Bool) → is_too_much r line ≡ much
-    → length line ≤ 8400 → event_at line ≡ Some event → is_over r (line ∷ lines) ≡ true
+    → length line ≤ longest_line → event_at line ≡ Some event → is_over r (line ∷ lines) ≡ true
     → (is_over (after_event r line event) lines ≡ true → (lines_run (number + 1) (after_event r line event) lines).outcome ≡ Err fault.TooMuch)
     → (lines_run number r (line ∷ lines)).outcome ≡ Err fault.TooMuch
 much_line number r line lines event true is short read over on = stops number r line lines event short read is
@@ -124,7 +125,7 @@ name_short ReceiptCounter = lit≤ tt
 name_short ReceiptLimiter = lit≤ tt
 name_short ReceiptQuota = lit≤ tt
 
-header_short : (header : Header) → length (header_text header) ≤ 8400
+header_short : (header : Header) → length (header_text header) ≤ longest_line
 header_short header =
     omega (arith, length-append (variant_text header.variant) (32 ∷ name_of header.module), variant_short header.variant, name_short header.module)
 
@@ -138,13 +139,13 @@ headed header lines = rw (fits (header_text header) (header_short header), heade
 abbrev ends : Header → List (List ℕ) → Stage → Told Stage
 ends header lines = ended schedule_closing (1 + length (header_text header ∷ lines)) []
 
-whole : (number count : ℕ) (header : Header) → count ≤ 20000
+whole : (number count : ℕ) (header : Header) → count ≤ most_events
     → replay_of number count header ≡ and_then (lines_run 2 (begun header) (schedule_lines number count header)) (ends header (schedule_lines number count header))
 whole number count header few =
     let is = is_schedule number count header few in
     rw (is.lines, is.ends, headed header (schedule_lines number count header)) refl
 
-replayed_ok : (number count : ℕ) (header : Header) (summary : Summary) → count ≤ 20000 → SumsUp header (schedule_lines number count header) summary
+replayed_ok : (number count : ℕ) (header : Header) (summary : Summary) → count ≤ most_events → SumsUp header (schedule_lines number count header) summary
     → is_over (begun header) (schedule_lines number count header) ≡ false → IsReplayed (replay_of number count header) (Ok summary)
 replayed_ok number count header summary few sums over =
     let is = is_schedule number count header few in
@@ -164,7 +165,7 @@ replayed_ok number count header summary few sums over =
 much_stays : (t : Told Stage) (on : Stage → Told Stage) (outcome : Result Stage ReplayFault) → t.outcome ≡ outcome → outcome ≡ Err fault.TooMuch → (and_then t on).outcome ≡ Err fault.TooMuch
 much_stays t on outcome is much = rw (is, much) refl
 
-replayed_much : (number count : ℕ) (header : Header) → count ≤ 20000 → is_over (begun header) (schedule_lines number count header) ≡ true
+replayed_much : (number count : ℕ) (header : Header) → count ≤ most_events → is_over (begun header) (schedule_lines number count header) ≡ true
     → (replay_of number count header).outcome ≡ Err fault.TooMuch
 replayed_much number count header few over =
     let is = is_schedule number count header few in
@@ -174,7 +175,7 @@ replayed_much number count header few over =
     ∙ much_stays (lines_run 2 (begun header) lines) (ends header lines) _ refl stopped
 
 -- what a run of a schedule comes to is what a replay of its text does
-pub replayed : (number count : ℕ) (header : Header) (result : Result Summary BulkFault) → count ≤ 20000
+pub replayed : (number count : ℕ) (header : Header) (result : Result Summary BulkFault) → count ≤ most_events
     → IfOk result (SumsUp header (schedule_lines number count header)) → IsLimited (is_over (begun header) (schedule_lines number count header)) result
     → IsReplayed (replay_of number count header) result
 replayed number count header (Ok summary) few sums limit = replayed_ok number count header summary few sums limit

@@ -10,6 +10,7 @@ use Rattle.std.proofs.lemmas.List.{length-append}
 use Rattle.std.proofs.lemmas.List.Elements.{recursion_from_All}
 use Rattle.sha2.specs.Sha256.{sha256}
 use Rattle.mm_base.specs.Input.{IsUnbroken, joined}
+use Rattle.mm_base.specs.Limits.{longest_line, most_events}
 use Rattle.mm_digest.specs.declared.digest.Digest.{Digest}
 use Rattle.mm_schedule.specs.declared.header.Header.{Header}
 use Rattle.mm_schedule.specs.declared.reply.Reply.{Reply}
@@ -88,7 +89,7 @@ pub record Going (lines : List (List ℕ)) (rest : List ℕ) (r : Running) (coun
   are : AllByRecursion IsEventLine left
   read : map event_at left ≡ map Some events
   whole : map event_at lines ≡ map Some all
-  few : total counts + length left ≤ 20000
+  few : total counts + length left ≤ most_events
   over : is_over r left ≡ is_over (begun r.header) lines
   rests : Rests r counts text (left_of r events) (replies_by_digests (world_of r.header) all)
 
@@ -96,9 +97,9 @@ pub record Going (lines : List (List ℕ)) (rest : List ℕ) (r : Running) (coun
 pub record Next (lines : List (List ℕ)) (rest : List ℕ) (r : Running) (counts : Counts) (text line behind : List ℕ) : Type 0 where
   pub less : length behind < length rest
   pub header : (reply : Reply) (new : Running) → Answered r new line reply → new.header ≡ r.header
-  pub short : length line ≤ 8400
+  pub short : length line ≤ longest_line
   pub known : is_some (event_at line) ≡ true
-  pub room : total counts < 20000
+  pub room : total counts < most_events
   pub over : is_too_much r line ≡ true → is_over (begun r.header) lines ≡ true
   pub on : (reply : Reply) (new : Running) → Answered r new line reply → Going lines behind new (counted counts reply) (text ++ text_of reply)
 
@@ -136,7 +137,7 @@ over_at r line more much = rw much refl
 
 answered_on : (lines more : List (List ℕ)) (line : List ℕ) (r : Running) (counts : Counts) (text : List ℕ) (event : Event) (events all : List Event)
     → AllByRecursion IsEventLine more → map event_at more ≡ map Some events → map event_at lines ≡ map Some all
-    → total counts + length (line ∷ more) ≤ 20000 → is_over (after_event r line event) more ≡ is_over (begun r.header) lines
+    → total counts + length (line ∷ more) ≤ most_events → is_over (after_event r line event) more ≡ is_over (begun r.header) lines
     → Rests r counts text (left_of r (event ∷ events)) (replies_by_digests (world_of r.header) all)
     → Going lines (joined more) (after_event r line event) (counted counts (outcome_in r event).reply) (text ++ text_of (outcome_in r event).reply)
 answered_on lines more line r counts text event events all are read whole few over rests =
@@ -162,7 +163,7 @@ answered_on lines more line r counts text event events all are read whole few ov
 
 next_line : (lines left : List (List ℕ)) (rest : List ℕ) (r : Running) (counts : Counts) (text : List ℕ) (events all : List Event) (line behind : List ℕ)
     → rest ≡ joined left → AllByRecursion IsEventLine left → map event_at left ≡ map Some events → map event_at lines ≡ map Some all
-    → total counts + length left ≤ 20000 → is_over r left ≡ is_over (begun r.header) lines
+    → total counts + length left ≤ most_events → is_over r left ≡ is_over (begun r.header) lines
     → Rests r counts text (left_of r events) (replies_by_digests (world_of r.header) all)
     → line_at rest ≡ Some (line, behind) → Next lines rest r counts text line behind
 next_line lines [] rest r counts text events all line behind bytes are read whole few over rests found =
@@ -258,7 +259,7 @@ events_read [] are = refl
 events_read (line ∷ lines) are =
     rw (spelled_is_read line are.0.event are.0.spelled) (ap (λ (more : List (Option Event)). Some are.0.event ∷ more) (events_read lines are.1))
 
-pub begins : (number count : ℕ) (header : Header) → count ≤ 20000
+pub begins : (number count : ℕ) (header : Header) → count ≤ most_events
     → Going (schedule_lines number count header) (joined (schedule_lines number count header)) (begun header) no_counts []
 begins number count header few =
     let is = is_schedule number count header few in
@@ -305,7 +306,7 @@ told_at header lines r counts committed issued digest text same one two three ma
     subst (λ (m : Header). SumsUp m lines summary) same (subst (λ (it : Summary). SumsUp r.header lines it) (sym equal) made)
 
 -- the beginning, by what stands there
-pub starts : (number count : ℕ) (header : Header) (rest : List ℕ) (r : Running) (counts : Counts) (text : List ℕ) → count ≤ 20000
+pub starts : (number count : ℕ) (header : Header) (rest : List ℕ) (r : Running) (counts : Counts) (text : List ℕ) → count ≤ most_events
     → rest ≡ joined (schedule_lines number count header) → r ≡ begun header → counts ≡ no_counts → text ≡ []
     → Going (schedule_lines number count header) rest r counts text
 starts number count header rest r counts text few one two three four = rw (one, two, three, four) (begins number count header few)

@@ -13,7 +13,8 @@ abbrev pub told_counts : Counts → List ℕ
 told_counts counts = codes "ok " ++ decimal counts.ok ++ codes " again " ++ decimal counts.again ++ codes " no " ++ decimal counts.no
 
 abbrev pub other_counts : Counts → List ℕ
-other_counts counts = codes "kept " ++ decimal counts.kept ++ codes " lost " ++ decimal counts.lost ++ codes " other " ++ decimal counts.other
+other_counts counts = codes "kept " ++ decimal counts.kept ++ codes " lost " ++ decimal counts.lost ++ codes " other "
+    ++ decimal counts.other
 
 abbrev pub end_text : Summary → List ℕ
 end_text it = codes "end " ++ decimal it.committed ++ 32 ∷ decimal it.issued

@@ -1,6 +1,7 @@
 //! Replies counted by their kinds.
 
 ghost use Rattle.std.specs.Prelude.{◌≡◌, ◌+◌, ◌<◌};
+ghost use Rattle.mm_base.specs.Limits.{most_events};
 ghost use Rattle.mm_bulk.specs.Counting.{counted, no_counts, total};
 
 use mm_schedule::Reply;
@@ -33,7 +34,7 @@ impl Counts {
 
     /// Counts one reply more. A reply of several lines is one.
     pub fn count(&mut self, reply: &Reply)
-        requires { total self.old < 20000 }
+        requires { total self.old < most_events }
         ensures counted { self.new ≡ counted self.old reply.now }
         ensures total { total self.new ≡ total self.old + 1 }
     {

@@ -2,6 +2,7 @@
 
 ghost use Rattle.std.specs.Prelude.{◌≡◌, ◌≤◌, ℕ, List, length, true, is_some, Some, Err, IfOk};
 ghost use Rattle.sha2.specs.Sha256.{sha256};
+ghost use Rattle.mm_base.specs.Limits.{longest_line, most_events};
 ghost use Rattle.mm_schedule.specs.Grammar.{event_at};
 ghost use Rattle.mm_schedule.specs.Replies.{IsPrintable};
 ghost use Rattle.mm_gen.specs.Schedules.{schedule_lines};
@@ -32,9 +33,10 @@ use std::alloc::Global;
 /// `TooMuch` comes exactly where a replay of the schedule's text answers so: where an event line, with those before it
 /// and the snapshots issued till then, has more than 268,435,456 bytes. That event isn't run.
 pub fn bulk(alloc: Global, number: u64, count: u32, header: &Header) -> Result<Summary, BulkFault>
-    requires count { count ≤ 20000 }
+    requires count { count ≤ most_events }
     ensures sums { IfOk result (SumsUp header.now (schedule_lines number count header.now)) }
-    ensures limit { IsLimited (is_over (begun header.now) (schedule_lines number count header.now)) result }
+    ensures limit { IsLimited (is_over (begun header.now) (schedule_lines number count header.now))
+        result }
     ensures replayed { IsReplayed (replay_of number count header.now) result }
 {
     run_schedule(alloc, number, count, header)
@@ -47,9 +49,10 @@ fn run_schedule(
     count: u32,
     header: &Header,
 ) -> Result<Summary, BulkFault>
-    requires count { count ≤ 20000 }
+    requires count { count ≤ most_events }
     ensures sums { IfOk result (SumsUp header.now (schedule_lines number count header.now)) }
-    ensures limit { IsLimited (is_over (begun header.now) (schedule_lines number count header.now)) result }
+    ensures limit { IsLimited (is_over (begun header.now) (schedule_lines number count header.now))
+        result }
 {
     let schedule = generate(alloc, number, count, header)?;
     let mut rest = behind_header(schedule.as_slice());
@@ -74,7 +77,8 @@ fn run_schedule(
 
 /// What follows the first line.
 fn behind_header(text: &[u8]) -> &[u8]
-    ensures { (first behind : List ℕ) → line_at text.now ≡ Some (first, behind) → result.now ≡ behind }
+    ensures { (first behind : List ℕ) → line_at text.now ≡ Some (first, behind)
+        → result.now ≡ behind }
 {
     match first_line(text) {
         Some((_, behind)) => behind,
@@ -84,11 +88,12 @@ fn behind_header(text: &[u8]) -> &[u8]
 
 /// The reply to an event line.
 fn answered(alloc: Global, line: &[u8], progress: &mut Progress) -> Result<Reply, BulkFault>
-    requires short { length line.now ≤ 8400 }
+    requires short { length line.now ≤ longest_line }
     requires known { is_some (event_at line.now) ≡ true }
     ensures reply { IfOk result (Answered (running progress.old) (running progress.new) line.now) }
     ensures printable { IfOk result IsPrintable }
-    ensures limit { result ≡ Err BulkFault.TooMuch → is_too_much (running progress.old) line.now ≡ true }
+    ensures limit { result ≡ Err BulkFault.TooMuch
+        → is_too_much (running progress.old) line.now ≡ true }
 {
     let event = match read_event(alloc, line) {
         Ok(event) => event,

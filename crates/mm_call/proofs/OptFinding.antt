@@ -1,9 +1,10 @@
 -- Opt: a call finds the same by digests as by lists, and what it finds names the history.
-use Rattle.std.proofs.Common.{ℕ, ◌≡◌, ◌+◌, ◌^◌, Bool, true, false, ◌&&◌, List, [], ◌∷◌, ◌++◌, Option, Result, Ok, Err, refl, sym, ap, ◌∙◌, subst, arith, inl, inr}
+use Rattle.std.proofs.Common.{ℕ, ◌≡◌, ◌+◌, Bool, true, false, ◌&&◌, List, [], ◌∷◌, ◌++◌, Option, Result, Ok, Err, refl, sym, ap, ◌∙◌, subst, arith, inl, inr}
 use Rattle.std.specs.Prelude.{if◌then◌else◌, nat_le, nat_eq}
 use Rattle.std.specs.Str.{bytes_eq}
 use Rattle.std.specs.List.{Contains, AllByRecursion}
 use Rattle.std.proofs.lemmas.List.Elements.{Contains-append_cases, Contains-push_cases}
+use Rattle.mm_base.specs.Limits.{last_position}
 use Rattle.mm_digest.specs.declared.variant.Variant.TheVariants.{Opt}
 use Rattle.mm_digest.specs.Messages.{zero_bytes}
 use Rattle.mm_module.specs.Meaning.{Meaning, state_after}
@@ -144,7 +145,7 @@ placed_from meaning key barrier all y bytes b (Ok snapshot) e asking found is =
     let names = right.0 in
     let here = nat_eq snapshot.content.position (total_of y.batches) in
     let again = nat_eq (snapshot.content.position + size_of b) (total_of y.batches) && is_last y.batches b in
-    let fits = nat_le (snapshot.content.position + size_of b) (2 ^ 48) in
+    let fits = nat_le (snapshot.content.position + size_of b) last_position in
     let live = admitted_lives (life_of Opt y) here again fits found.again w.2 in
     let admits : admitted (judged Live here again) fits ≡ Ok found.again = ap (λ l. admitted (judged l here again) fits) (sym live) ∙ w.2 in
     let a = admitted_tells here again fits found.again admits in

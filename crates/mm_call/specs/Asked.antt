@@ -73,7 +73,8 @@ pub record IsWithin (all others : List (List ℕ)) (asked : List Batch) (i : Ins
 -- What is asked of a call from a history that makes these moves: the list is clear, and none of the values is the guard
 -- of one of the batches; the history is within them, and so are the batch, the messages of a right offer, which names a
 -- position of the history, and what counts of the moves.
-pub record IsAsked (all others : List (List ℕ)) (asked : List Batch) (i : Instance) (y : History) (moves : List Move) (offer : List ℕ) (b : Batch) : Type 0 where
+pub record IsAsked (all others : List (List ℕ)) (asked : List Batch) (i : Instance) (y : History) (moves : List Move) (offer : List ℕ)
+    (b : Batch) : Type 0 where
   pub clear : IsClear all
   pub apart : AreNoGuards i.barrier others asked
   pub within : IsWithin all others asked i y

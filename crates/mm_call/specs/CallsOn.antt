@@ -19,7 +19,8 @@ use Rattle.mm_call.specs.Asked.{IsWithin, IsAsked}
 
 -- The call over a platform that stood at these digests was this one: its result; the cell and the register; what the
 -- register shows of its moves; and its steps, and those of them that write the cell.
-pub record GoesBy (i : Instance) (d : Digests) (o : Called Digests) (old new : Standing) (result : Result BatchAnswer Refusal) : Type 0 where
+pub record GoesBy (i : Instance) (d : Digests) (o : Called Digests) (old new : Standing)
+    (result : Result BatchAnswer Refusal) : Type 0 where
   pub gives : result ≡ told o.ending
   pub stands : StandsAt i new o.state
   pub items : new.items ≡ option_map (shown i d o.moves) old.items
@@ -27,7 +28,8 @@ pub record GoesBy (i : Instance) (d : Digests) (o : Called Digests) (old new : S
   pub writes : new.writes ≡ counted_by o.writes old.writes
 
 -- The call over a platform that stood for a history was this one, and what was asked of the history holds after it.
-pub record Continues (all others : List (List ℕ)) (asked : List Batch) (i : Instance) (o : Called History) (new : Standing) (result : Result BatchAnswer Refusal) : Type 0 where
+pub record Continues (all others : List (List ℕ)) (asked : List Batch) (i : Instance) (o : Called History) (new : Standing)
+    (result : Result BatchAnswer Refusal) : Type 0 where
   pub gives : result ≡ told o.ending
   pub stands : StandsFor i new o.state
   pub within : IsWithin all others asked i o.state
@@ -35,7 +37,8 @@ pub record Continues (all others : List (List ℕ)) (asked : List Batch) (i : In
 -- A call over a platform, that isn't too long: there is a course, which is that of the plan where one is told, on which
 -- the call goes from any digests that the platform stands at, and from any history that it stands for.
 -- What is asked of the moves is asked of what the register shows of them, by the field `items`.
-pub record CallsOn (variant : Variant) (meaning : Meaning) (old new : Standing) (offer : List ℕ) (b : Batch) (result : Result BatchAnswer Refusal) : Type 0 where
+pub record CallsOn (variant : Variant) (meaning : Meaning) (old new : Standing) (offer : List ℕ) (b : Batch)
+    (result : Result BatchAnswer Refusal) : Type 0 where
   pub course : Course
   pub tells : AreTold old course.fates
   pub goes : (key barrier : List ℕ) (d : Digests) →

@@ -74,7 +74,8 @@ pub record IsClosedWithin (all others : List (List ℕ)) (asked : List Batch) (i
 
 -- Two checkpoints end in the same way, with the same moves, steps and writes; the digests after are those of the
 -- history; and what was asked of the history holds again.
-pub record IsSameCheckpoint (all others : List (List ℕ)) (asked : List Batch) (i : Instance) (lists : Checkpointed History) (digests : Checkpointed Digests) : Type 0 where
+pub record IsSameCheckpoint (all others : List (List ℕ)) (asked : List Batch) (i : Instance) (lists : Checkpointed History)
+    (digests : Checkpointed Digests) : Type 0 where
   pub ending : digests.ending ≡ lists.ending
   pub moves : digests.moves ≡ lists.moves
   pub steps : digests.steps ≡ lists.steps

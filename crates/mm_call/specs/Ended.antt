@@ -76,5 +76,6 @@ pub record CallsTo (variant : Variant) (meaning : Meaning) (old new : Standing) 
   pub calls : CallsOn variant meaning old new offer b (result_of ended)
   pub keeps : (key barrier : List ℕ) (d : Digests) → StandsAt (instance_by variant meaning key barrier) old d →
       KeepsAs calls.course.fates
-      (called (instance_by variant meaning key barrier) (by_digests (instance_by variant meaning key barrier)) d calls.course offer (normal b)) ended
+      (called (instance_by variant meaning key barrier) (by_digests (instance_by variant meaning key barrier)) d calls.course offer
+      (normal b)) ended
   pub plans : StaysPlanned old new (is_broken ended)

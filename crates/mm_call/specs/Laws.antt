@@ -12,7 +12,8 @@ use Rattle.mm_call.specs.Asked.{IsWithin, IsAsked}
 
 -- Two calls end in the same way, with the same moves, steps and writes; the digests after are those of the history; and
 -- what was asked of the history holds again.
-pub record IsSameCall (all others : List (List ℕ)) (asked : List Batch) (i : Instance) (lists : Called History) (digests : Called Digests) : Type 0 where
+pub record IsSameCall (all others : List (List ℕ)) (asked : List Batch) (i : Instance) (lists : Called History)
+    (digests : Called Digests) : Type 0 where
   pub ending : digests.ending ≡ lists.ending
   pub moves : digests.moves ≡ lists.moves
   pub steps : digests.steps ≡ lists.steps
@@ -23,7 +24,8 @@ pub record IsSameCall (all others : List (List ℕ)) (asked : List Batch) (i : I
 -- On every course: where the history is within the list and what counts of the moves is, the call by digests is the
 -- call by lists. Values of others before steps that weren't reached are never asked about.
 abbrev pub CallsAgree : Instance → Type 0
-CallsAgree i = (all others : List (List ℕ)) (asked : List Batch) (y : History) (d : Digests) (course : Course) (offer : List ℕ) (b : Batch) →
+CallsAgree i = (all others : List (List ℕ)) (asked : List Batch) (y : History) (d : Digests) (course : Course) (offer : List ℕ)
+    (b : Batch) →
     Agrees i y d → IsAsked all others asked i y (called i (by_digests i) d course offer b).moves offer b →
     IsSameCall all others asked i (called i (by_lists i) y course offer b) (called i (by_digests i) d course offer b)
 

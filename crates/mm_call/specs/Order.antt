@@ -1,6 +1,7 @@
 -- The order in which an offer is refused.
-use Rattle.std.specs.Prelude.{ℕ, ◌+◌, ◌^◌, Bool, true, false, List, Result, Ok, Err, nat_le}
+use Rattle.std.specs.Prelude.{ℕ, ◌+◌, Bool, true, false, List, Result, Ok, Err, nat_le}
 use Rattle.std.specs.Str.{bytes_eq}
+use Rattle.mm_base.specs.Limits.{last_position}
 use Rattle.mm_module.specs.Meaning.{Meaning}
 use Rattle.mm_module.specs.Batch.{Batch, size_of}
 use Rattle.mm_seal.specs.Snapshot.{Snapshot, tag_of}
@@ -28,4 +29,4 @@ weighed true true verdict fits = admitted verdict fits
 abbrev pub examined : Meaning → List ℕ → Snapshot → Batch → Verdict → Result Bool Refusal
 examined meaning key offered b verdict =
     weighed (meaning.is_spelled offered.content.state) (bytes_eq offered.tag (tag_of key offered.content)) verdict
-    (nat_le (offered.content.position + size_of b) (2 ^ 48))
+    (nat_le (offered.content.position + size_of b) last_position)

@@ -1,18 +1,17 @@
 //! Whether an offer is accepted.
 
-ghost use Rattle.std.specs.Prelude.{◌≡◌, ◌+◌, ◌≤◌, ◌^◌, false, IsTrue, OnOk};
+ghost use Rattle.std.specs.Prelude.{◌≡◌, ◌+◌, ◌≤◌, false, IsTrue, OnOk};
+ghost use Rattle.mm_base.specs.Limits.{last_position};
 ghost use Rattle.mm_module.specs.Batch.{has_tab, size_of};
 ghost use Rattle.mm_module.specs.Batches.{batch_of};
 ghost use Rattle.mm_model.specs.Long.{is_long};
 ghost use Rattle.mm_call.specs.Order.{admitted, examined};
 
+use mm_base::LAST_POSITION;
 use mm_digest::HmacKey;
 use mm_model::{Refusal, Verdict};
 use mm_module::{Batch, Module};
 use mm_seal::Offered;
-
-/// The greatest position.
-const LAST_POSITION: u64 = 1 << 48;
 
 /// Whether a text is several requests.
 pub fn has_tab(text: &[u8]) -> bool
@@ -30,11 +29,14 @@ pub fn examine<M: Module>(
     batch: Batch<'_>,
     verdict: Verdict,
 ) -> Result<bool, Refusal>
-    requires position { offered.now.content.position ≤ 2 ^ 48 }
+    requires position { offered.now.content.position ≤ last_position }
     requires short { is_long (batch_of batch) ≡ false }
-    ensures answer { result ≡ examined (M.meaning «module».now) key.now offered.now (batch_of batch.entry) verdict }
-    ensures spelled { OnOk result (IsTrue ((M.meaning «module».now).is_spelled offered.now.content.state)) }
-    ensures fits { OnOk result (offered.now.content.position + size_of (batch_of batch.entry) ≤ 2 ^ 48) }
+    ensures answer { result ≡ examined (M.meaning «module».now) key.now offered.now
+        (batch_of batch.entry) verdict }
+    ensures spelled { OnOk result
+        (IsTrue ((M.meaning «module».now).is_spelled offered.now.content.state)) }
+    ensures fits { OnOk result (offered.now.content.position + size_of (batch_of batch.entry)
+        ≤ last_position) }
 {
     let body = offered.body();
     if !module.state_is_spelled(body.state) {

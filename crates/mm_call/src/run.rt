@@ -1,6 +1,7 @@
 //! A batch that runs in memory.
 
-ghost use Rattle.std.specs.Prelude.{◌≡◌, ◌+◌, ◌<◌, ◌≤◌, ◌^◌, false, IfOk, IsTrue, Some, slice_get};
+ghost use Rattle.std.specs.Prelude.{◌≡◌, ◌+◌, ◌<◌, ◌≤◌, false, IfOk, IsTrue, Some, slice_get};
+ghost use Rattle.mm_base.specs.Limits.{last_position};
 ghost use Rattle.mm_module.specs.Meaning.{IsLine, state_from, outputs_from};
 ghost use Rattle.mm_module.specs.Batch.{members_of, size_of, normal};
 ghost use Rattle.mm_module.specs.Batches.{batch_of};
@@ -27,7 +28,7 @@ pub fn answer<M: Module>(
     again: bool,
 ) -> Result<BatchAnswer, Memory>
     requires spelled { IsTrue ((M.meaning «module».now).is_spelled offered.now.state.now) }
-    requires fits { offered.now.position + size_of (batch_of batch) ≤ 2 ^ 48 }
+    requires fits { offered.now.position + size_of (batch_of batch) ≤ last_position }
     requires short { is_long (batch_of batch) ≡ false }
     ensures { IfOk result (λ answer. answer ≡ answer_at (M.meaning «module».now) key.now
         (content_of offered.now) place (batch_of batch.entry) again) }
@@ -66,9 +67,11 @@ pub fn run_batch<M: Module>(
     requires spelled { IsTrue ((M.meaning «module».now).is_spelled state.now) }
     requires short { is_long (batch_of batch) ≡ false }
     ensures state { IfOk result (λ ran.
-        ran.state ≡ state_from (M.meaning «module».now) state.now (members_of (batch_of batch.entry))) }
+        ran.state ≡ state_from (M.meaning «module».now) state.now
+        (members_of (batch_of batch.entry))) }
     ensures outputs { IfOk result (λ ran.
-        ran.outputs ≡ outputs_from (M.meaning «module».now) state.now (members_of (batch_of batch.entry))) }
+        ran.outputs ≡ outputs_from (M.meaning «module».now) state.now
+        (members_of (batch_of batch.entry))) }
 {
     let mut ran = run_first(alloc, module, state, batch)?;
     'members: for i in 1..batch.len() {

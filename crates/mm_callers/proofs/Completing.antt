@@ -1,9 +1,10 @@
 -- A welcome offer is found, and a call that finds it and isn't broken off answers.
-use Rattle.std.proofs.Common.{◌≡◌, ℕ, ◌+◌, ◌^◌, ◌&&◌, Bool, true, false, List, [], ◌∷◌, ◌++◌, None, Result, Ok, Err, refl, sym, ap, ◌∙◌, subst, le-leb}
+use Rattle.std.proofs.Common.{◌≡◌, ℕ, ◌+◌, ◌&&◌, Bool, true, false, List, [], ◌∷◌, ◌++◌, None, Result, Ok, Err, refl, sym, ap, ◌∙◌, subst, le-leb}
 use Rattle.std.specs.Prelude.{if◌then◌else◌, nat_eq, nat_le}
 use Rattle.std.specs.Str.{bytes_eq}
 use Rattle.std.proofs.lemmas.Bool.{eq-eqb}
 use Rattle.std.proofs.lemmas.Slice.Eq.{bytes_eq-Decides}
+use Rattle.mm_base.specs.Limits.{last_position}
 use Rattle.mm_digest.specs.declared.variant.Variant.{Variant}
 use Rattle.mm_module.specs.Batch.{Batch, size_of}
 use Rattle.mm_seal.specs.Parts.{parts_of}
@@ -76,8 +77,8 @@ welcome_found i y offer b again w =
     ap (λ (l : Life). if is_lost l then Err refusal.Lost else found_from i (by_lists i) y b (parts_of i.variant i.meaning.id offer)) w.live
     ∙ ap (found_from i (by_lists i) y b) parts
     ∙ ap (found_with w.content) (given (i.meaning.is_spelled w.content.state) (bytes_eq (tag_of i.key w.content) (tag_of i.key w.content))
-    (nat_le (w.content.position + size_of b) (2 ^ 48)) again (judge i.variant y w.content.position b) spelled
-    ((bytes_eq-Decides (tag_of i.key w.content) (tag_of i.key w.content)).1 refl) (le-leb (w.content.position + size_of b) (2 ^ 48) w.fits) verdict)
+    (nat_le (w.content.position + size_of b) last_position) again (judge i.variant y w.content.position b) spelled
+    ((bytes_eq-Decides (tag_of i.key w.content) (tag_of i.key w.content)).1 refl) (le-leb (w.content.position + size_of b) last_position w.fits) verdict)
 
 -- a walk of which no step fails isn't broken off
 done_then : (step : Step) (values : List (List ℕ)) (ends : End) (rest : Walked) → ends ≡ Done → rest.broken ≡ None → (after_step step values ends rest).broken ≡ None

@@ -1,5 +1,6 @@
 -- The clauses of callers of Opt, from those of their calls.
-use Rattle.std.proofs.Common.{◌≡◌, ℕ, ◌≤◌, ◌^◌, Bool, true, false, List, ◌++◌, length, Some, Result, Ok, refl, sym, ap, ◌∙◌, subst}
+use Rattle.std.proofs.Common.{◌≡◌, ℕ, ◌≤◌, Bool, true, false, List, ◌++◌, length, Some, Result, Ok, refl, sym, ap, ◌∙◌, subst}
+use Rattle.mm_base.specs.Limits.{last_position}
 use Rattle.mm_digest.specs.declared.variant.Variant.TheVariants.{Opt}
 use Rattle.mm_digest.specs.Messages.{zero_bytes, start_of, extended_message}
 use Rattle.mm_digest.proofs.Lengths.{length-zero_bytes, length-start_of}
@@ -63,7 +64,7 @@ issued_sized : (flag : Bool) (meaning : Meaning) (key barrier : List ℕ) (y : H
 issued_sized true meaning key barrier y = (length-anchor_of meaning.id _, length-register_of _)
 issued_sized false meaning key barrier y = (length-anchor_of meaning.id _, length-zero_bytes)
 
-pub issued_content : (meaning : Meaning) → IsLawful meaning → (key barrier : List ℕ) (y : History) → total_of y.batches ≤ 2 ^ 48 → IsContent (issued (opt meaning key barrier) y)
+pub issued_content : (meaning : Meaning) → IsLawful meaning → (key barrier : List ℕ) (y : History) → total_of y.batches ≤ last_position → IsContent (issued (opt meaning key barrier) y)
 issued_content meaning lawful key barrier y fits = record {
   place = issued_sized y.is_open meaning key barrier y;
   position = fits;
@@ -101,7 +102,7 @@ asked_next meaning lawful key barrier all others asked y middle offer next first
     let i : Instance = opt meaning key barrier in
     let after : History = left.after in
     let at = answered_at i y after offer (One first) one left.comes in
-    let is : IsContent (issued i after) = issued_content meaning lawful key barrier after (subst (λ (p : ℕ). p ≤ 2 ^ 48) at.0 fit.most) in
+    let is : IsContent (issued i after) = issued_content meaning lawful key barrier after (subst (λ (p : ℕ). p ≤ last_position) at.0 fit.most) in
     let says : (content : Content) → IsRight i next content → issued i after ≡ content = λ content right. issued_once meaning key barrier next after content is (e ∙ at.1) right in
     let next_asked : AreAsked all others asked i after next (One second) = record {
       clear = a.clear;

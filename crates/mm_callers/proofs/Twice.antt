@@ -1,8 +1,9 @@
 -- Two calls, the second on the snapshot of the first answer.
-use Rattle.std.proofs.Common.{◌≡◌, ℕ, ◌≤◌, ◌^◌, ◌&&◌, Bool, true, false, List, [], ◌∷◌, ◌++◌, length, Option, None, Some, Result, Ok, Err, refl, sym, ap, ◌∙◌, subst, inl, inr, arith}
+use Rattle.std.proofs.Common.{◌≡◌, ℕ, ◌≤◌, ◌&&◌, Bool, true, false, List, [], ◌∷◌, ◌++◌, length, Option, None, Some, Result, Ok, Err, refl, sym, ap, ◌∙◌, subst, inl, inr, arith}
 use Rattle.std.specs.Prelude.{if◌then◌else◌}
 use Rattle.std.specs.List.{Contains}
 use Rattle.std.specs.Str.{bytes_eq}
+use Rattle.mm_base.specs.Limits.{last_position}
 use Rattle.mm_digest.specs.declared.variant.Variant.TheVariants.{Basic}
 use Rattle.mm_digest.specs.Messages.{start_of}
 use Rattle.mm_digest.proofs.Lengths.{length-start_of}
@@ -58,7 +59,7 @@ length-summary_of : (id : ℕ) (batches : List Batch) → length (summary_of id 
 unfolding summary_of
 length-summary_of id batches = length-after link_message (start_of Basic id) batches (length-start_of Basic id)
 
-issued_content : (meaning : Meaning) → IsLawful meaning → (key : List ℕ) (y : History) → total_of y.batches ≤ 2 ^ 48 → IsContent (issued (basic meaning key) y)
+issued_content : (meaning : Meaning) → IsLawful meaning → (key : List ℕ) (y : History) → total_of y.batches ≤ last_position → IsContent (issued (basic meaning key) y)
 issued_content meaning lawful key y fits = record {
   place = length-summary_of meaning.id y.batches;
   position = fits;
@@ -106,7 +107,7 @@ pub asked_next : (meaning : Meaning) → IsLawful meaning → (key : List ℕ) (
 asked_next meaning lawful key all others asked y middle offer next first second one o fit e a n =
     let i : Instance = basic meaning key in
     let at = answered_at i y o.after offer (One first) one o.comes in
-    let is : IsContent (issued i o.after) = issued_content meaning lawful key o.after (subst (λ (p : ℕ). p ≤ 2 ^ 48) at.0 fit.most) in
+    let is : IsContent (issued i o.after) = issued_content meaning lawful key o.after (subst (λ (p : ℕ). p ≤ last_position) at.0 fit.most) in
     let once : IsOnce y.batches (One first) o.after.batches = once_after i y o.after offer (One first) one o.comes in
     let says : (content : Content) → IsRight i next content → issued i o.after ≡ content = λ content right. issued_once meaning key next o.after content is (e ∙ at.1) right in
     let next_asked : AreAsked all others asked i o.after next (One second) = record {

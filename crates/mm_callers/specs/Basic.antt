@@ -25,7 +25,8 @@ use Rattle.mm_call.specs.Refusals.{fault_of}
 
 -- What is asked of a history, an offer and a batch. Nothing is asked of what others do, nor of steps: Basic never reads
 -- the register.
-pub record AreAsked (all others : List (List ℕ)) (asked : List Batch) (i : Instance) (y : History) (offer : List ℕ) (b : Batch) : Type 0 where
+pub record AreAsked (all others : List (List ℕ)) (asked : List Batch) (i : Instance) (y : History) (offer : List ℕ)
+    (b : Batch) : Type 0 where
   pub clear : IsClear all
   pub apart : AreNoGuards i.barrier others asked
   pub within : IsWithin all others asked i y
@@ -71,7 +72,8 @@ Says None found why = SaysFound found why
 
 -- After an error the platform stands for a history of which the same holds as was asked, so that the call may be made
 -- again.
-pub record Stays (all others : List (List ℕ)) (asked : List Batch) (i : Instance) (new : Standing) (offer : List ℕ) (b : Batch) : Type 0 where
+pub record Stays (all others : List (List ℕ)) (asked : List Batch) (i : Instance) (new : Standing) (offer : List ℕ)
+    (b : Batch) : Type 0 where
   pub after : History
   pub stands : StandsFor i new after
   pub asked_then : AreAsked all others asked i after offer b
@@ -81,7 +83,8 @@ abbrev pub IsLeft : List Batch → Batch → List Batch → Standing → Standin
 IsLeft before b after old new = (after ≡ before) ⊎ ((after ≡ before ++ b ∷ []) × Rose old.faults new.faults)
 
 -- A call ended with an error, as did what was made of it once more after a fault: what stands, and what is told.
-pub record Refuses (all others : List (List ℕ)) (asked : List Batch) (i : Instance) (y : History) (old new : Standing) (offer : List ℕ) (b : Batch) (why : Refusal) : Type 0 where
+pub record Refuses (all others : List (List ℕ)) (asked : List Batch) (i : Instance) (y : History) (old new : Standing) (offer : List ℕ)
+    (b : Batch) (why : Refusal) : Type 0 where
   pub stays : Stays all others asked i new offer b
   pub left : IsLeft y.batches b stays.after.batches old new
   pub says : Says (fault_of why) (finds i stays.after offer b) why
@@ -111,7 +114,8 @@ pub record AnswersNext (i : Instance) (y : History) (new : Standing) (first seco
 
 -- Two calls, the second on the snapshot of the first answer, ended with an error: the first was refused; or it was
 -- answered, so that the first batch was committed once, and the second was refused on the snapshot of that place.
-pub data RefusesNext (all others : List (List ℕ)) (asked : List Batch) (i : Instance) (y : History) (old new : Standing) (offer : List ℕ) (first second : Batch) (why : Refusal) : Type 0 where
+pub data RefusesNext (all others : List (List ℕ)) (asked : List Batch) (i : Instance) (y : History) (old new : Standing) (offer : List ℕ)
+    (first second : Batch) (why : Refusal) : Type 0 where
   in_first : Refuses all others asked i y old new offer first why → RefusesNext all others asked i y old new offer first second why
   in_second : (batches : List Batch) → IsOnce y.batches first batches → (stays : Stays all others asked i new offer first)
       → IsLeft batches second stays.after.batches old new

@@ -56,26 +56,33 @@ SaysClosing Cell y = ⊥
 SaysClosing Kind y = ⊥
 
 -- The first call was answered: the batch was committed once, and the call may be made again.
-pub record StaysOnce (all others : List (List ℕ)) (asked : List Batch) (i : Instance) (y : History) (new : Standing) (offer : List ℕ) (b : Batch) : Type 0 where
+pub record StaysOnce (all others : List (List ℕ)) (asked : List Batch) (i : Instance) (y : History) (new : Standing) (offer : List ℕ)
+    (b : Batch) : Type 0 where
   pub stays : Stays all others asked i new offer b
   pub once : IsOnce y.batches b stays.after.batches
 
 -- It was made once more behind the checkpoint, and refused as it was found. Where it handed on a device's fault the
 -- register may be emptied, and nothing is known by its items at exit.
-pub record RefusesBehind (all others : List (List ℕ)) (asked : List Batch) (i : Instance) (y : History) (new : Standing) (offer : List ℕ) (b : Batch) (why : Refusal) : Type 0 where
+pub record RefusesBehind (all others : List (List ℕ)) (asked : List Batch) (i : Instance) (y : History) (new : Standing) (offer : List ℕ)
+    (b : Batch) (why : Refusal) : Type 0 where
   pub one : StaysOnce all others asked i y new offer b
   pub says : SaysFound (finds i one.stays.after offer b) why
 
-abbrev pub EndsBehind : Option StepFault → List (List ℕ) → List (List ℕ) → List Batch → Instance → History → Standing → List ℕ → Batch → Refusal → Type 0
+abbrev pub EndsBehind : Option StepFault → List (List ℕ) → List (List ℕ) → List Batch → Instance → History → Standing → List ℕ → Batch
+    → Refusal → Type 0
 EndsBehind (Some fault) all others asked i y new offer b why = Unit {0}
 EndsBehind None all others asked i y new offer b why = RefusesBehind all others asked i y new offer b why
 
 -- The error is that of the call, of the checkpoint, or of the call once more.
-pub data RefusesRepeat (all others : List (List ℕ)) (asked : List Batch) (i : Instance) (y : History) (old new : Standing) (offer : List ℕ) (b : Batch) (why : Halted) : Type 0 where
-  in_first : (is : Refusal) → why ≡ Asking is → Refuses all others asked i y old new offer b is → RefusesRepeat all others asked i y old new offer b why
-  in_closing : (is : CheckpointRefusal) → why ≡ Closing is → (one : StaysOnce all others asked i y new offer b) → SaysClosing is one.stays.after
+pub data RefusesRepeat (all others : List (List ℕ)) (asked : List Batch) (i : Instance) (y : History) (old new : Standing) (offer : List ℕ)
+    (b : Batch) (why : Halted) : Type 0 where
+  in_first : (is : Refusal) → why ≡ Asking is → Refuses all others asked i y old new offer b is
       → RefusesRepeat all others asked i y old new offer b why
-  in_second : (is : Refusal) → why ≡ Asking is → EndsBehind (fault_of is) all others asked i y new offer b is → RefusesRepeat all others asked i y old new offer b why
+  in_closing : (is : CheckpointRefusal) → why ≡ Closing is → (one : StaysOnce all others asked i y new offer b)
+      → SaysClosing is one.stays.after
+      → RefusesRepeat all others asked i y old new offer b why
+  in_second : (is : Refusal) → why ≡ Asking is → EndsBehind (fault_of is) all others asked i y new offer b is
+      → RefusesRepeat all others asked i y old new offer b why
 
 -- A request, a checkpoint and the request once more, where the second reply is told as a repeat. What is asked of what
 -- others do is asked of the register's items at exit.

@@ -1,5 +1,6 @@
 -- When a call is answered: by lists, on every course.
-use Rattle.std.specs.Prelude.{◌≡◌, ℕ, ◌+◌, ◌≤◌, ◌^◌, Bool, true, false, List, [], ◌∷◌, ◌++◌}
+use Rattle.std.specs.Prelude.{◌≡◌, ℕ, ◌+◌, ◌≤◌, Bool, true, false, List, [], ◌∷◌, ◌++◌}
+use Rattle.mm_base.specs.Limits.{last_position}
 use Rattle.mm_module.specs.Meaning.{Meaning}
 use Rattle.mm_module.specs.Batch.{Batch, size_of}
 use Rattle.mm_seal.specs.Snapshot.{Content}
@@ -31,7 +32,7 @@ pub record IsWelcome (i : Instance) (y : History) (offer : List ℕ) (b : Batch)
   pub content : Content
   pub right : IsRight i offer content
   pub offered : IsOfferedAt again y.batches content.position b
-  pub fits : content.position + size_of b ≤ 2 ^ 48
+  pub fits : content.position + size_of b ≤ last_position
 
 -- the batches after such a call
 abbrev pub batches_then : Bool → List Batch → Batch → List Batch

@@ -63,6 +63,7 @@ pub data CountsRepeat (b : Batch) (old new : Standing) (result : Result Replies 
   in_second : (why : Refusal) → result ≡ Err (Asking why) → (answered closed : Standing) (first : BatchAnswer) (said : Checkpointed)
       → Counts Opt b old answered (Ok first) → CountsClosing answered closed (Ok said) → Counts Opt b closed new (Err why)
       → CountsRepeat b old new result
-  replied : (first second : Answer) → result ≡ Ok (record { first = first; second = second }) → (answered closed : Standing) (said : Checkpointed)
+  replied : (first second : Answer) → result ≡ Ok (record { first = first; second = second })
+      → (answered closed : Standing) (said : Checkpointed)
       → Counts Opt b old answered (Ok (whole first)) → CountsClosing answered closed (Ok said)
       → Counts Opt b closed new (Ok (whole second)) → CountsRepeat b old new result

@@ -22,10 +22,10 @@ pub fn ask_again<M: Module, P: Platform>(
     offer: &[u8],
     request: &[u8],
 ) -> Result<Answer, Refusal>
-    ensures again { AsksAgain (M.meaning «module».now) (P.standing platform.old) (P.standing platform.new)
-        offer.now request.now result }
-    ensures counts { CountsAgain Basic (One request.now) (P.standing platform.old) (P.standing platform.new)
-        (whole_in result) }
+    ensures again { AsksAgain (M.meaning «module».now) (P.standing platform.old)
+        (P.standing platform.new) offer.now request.now result }
+    ensures counts { CountsAgain Basic (One request.now) (P.standing platform.old)
+        (P.standing platform.new) (whole_in result) }
 {
     match ask(alloc, module, platform, offer, request) {
         Ok(answer) => Ok(answer),
@@ -43,8 +43,8 @@ pub fn ask_twice<M: Module, P: Platform>(
     first: &[u8],
     second: &[u8],
 ) -> Result<Answer, Refusal>
-    ensures twice { AsksTwice (M.meaning «module».now) (P.standing platform.old) (P.standing platform.new)
-        offer.now first.now second.now result }
+    ensures twice { AsksTwice (M.meaning «module».now) (P.standing platform.old)
+        (P.standing platform.new) offer.now first.now second.now result }
     ensures counts { CountsNext Basic (One first.now) (One second.now) (P.standing platform.old)
         (P.standing platform.new) (whole_in result) }
 {

@@ -35,11 +35,12 @@ pub fn ask_close_repeat<M: Module, P: Platform>(
     offer: &[u8],
     request: &[u8],
 ) -> Result<Replies, Halted>
-    ensures repeats { RepeatsBehind (M.meaning «module».now) (P.standing platform.old) (P.standing platform.new)
-        offer.now request.now result }
-    ensures never_twice { NeverTwice (M.meaning «module».now) (P.standing platform.old) (P.standing platform.new)
-        offer.now request.now result }
-    ensures counts { CountsRepeat (One request.now) (P.standing platform.old) (P.standing platform.new) result }
+    ensures repeats { RepeatsBehind (M.meaning «module».now) (P.standing platform.old)
+        (P.standing platform.new) offer.now request.now result }
+    ensures never_twice { NeverTwice (M.meaning «module».now) (P.standing platform.old)
+        (P.standing platform.new) offer.now request.now result }
+    ensures counts { CountsRepeat (One request.now) (P.standing platform.old)
+        (P.standing platform.new) result }
 {
     match ask(alloc, module, platform, offer, request) {
         Err(refusal) => Err(Halted::Asking(refusal)),

@@ -20,13 +20,14 @@ pub fn ask_once<M: Module, P: Platform>(
     offer: &[u8],
     request: &[u8],
 ) -> Result<Answer, Refusal>
-    ensures once { AsksOnce (M.meaning «module».now) (P.standing platform.old) (P.standing platform.new)
-        offer.now request.now result }
-    ensures welcome { AsksWelcome (M.meaning «module».now) (P.standing platform.old) (P.standing platform.new)
-        offer.now request.now result }
-    ensures complete { AsksByQuietPlan (M.meaning «module».now) (P.standing platform.old) (P.standing platform.new)
-        offer.now request.now result }
-    ensures counts { Counts Opt (One request.now) (P.standing platform.old) (P.standing platform.new) (whole_in result) }
+    ensures once { AsksOnce (M.meaning «module».now) (P.standing platform.old)
+        (P.standing platform.new) offer.now request.now result }
+    ensures welcome { AsksWelcome (M.meaning «module».now) (P.standing platform.old)
+        (P.standing platform.new) offer.now request.now result }
+    ensures complete { AsksByQuietPlan (M.meaning «module».now) (P.standing platform.old)
+        (P.standing platform.new) offer.now request.now result }
+    ensures counts { Counts Opt (One request.now) (P.standing platform.old)
+        (P.standing platform.new) (whole_in result) }
 {
     ask(alloc, module, platform, offer, request)
 }
@@ -40,7 +41,8 @@ pub fn ask_in_memory<M: Module>(
     offer: &[u8],
     request: &[u8],
 ) -> Result<Answer, Refusal>
-    ensures complete { AsksInMemory (M.meaning «module».now) platform.old platform.new offer.now request.now result }
+    ensures complete { AsksInMemory (M.meaning «module».now) platform.old platform.new offer.now
+        request.now result }
     ensures counts { Counts Opt (One request.now) platform.old platform.new (whole_in result) }
 {
     platform.end_plan();
@@ -57,12 +59,12 @@ pub fn ask_after_fault<M: Module, P: Platform>(
     offer: &[u8],
     request: &[u8],
 ) -> Result<Answer, Refusal>
-    ensures once { AsksOnce (M.meaning «module».now) (P.standing platform.old) (P.standing platform.new)
-        offer.now request.now result }
-    ensures complete { AsksByQuietPlan (M.meaning «module».now) (P.standing platform.old) (P.standing platform.new)
-        offer.now request.now result }
-    ensures counts { CountsAgain Opt (One request.now) (P.standing platform.old) (P.standing platform.new)
-        (whole_in result) }
+    ensures once { AsksOnce (M.meaning «module».now) (P.standing platform.old)
+        (P.standing platform.new) offer.now request.now result }
+    ensures complete { AsksByQuietPlan (M.meaning «module».now) (P.standing platform.old)
+        (P.standing platform.new) offer.now request.now result }
+    ensures counts { CountsAgain Opt (One request.now) (P.standing platform.old)
+        (P.standing platform.new) (whole_in result) }
 {
     match ask(alloc, module, platform, offer, request) {
         Ok(answer) => Ok(answer),
@@ -80,8 +82,8 @@ pub fn ask_twice<M: Module, P: Platform>(
     first: &[u8],
     second: &[u8],
 ) -> Result<Answer, Refusal>
-    ensures twice { AsksTwice (M.meaning «module».now) (P.standing platform.old) (P.standing platform.new)
-        offer.now first.now second.now result }
+    ensures twice { AsksTwice (M.meaning «module».now) (P.standing platform.old)
+        (P.standing platform.new) offer.now first.now second.now result }
     ensures counts { CountsNext Opt (One first.now) (One second.now) (P.standing platform.old)
         (P.standing platform.new) (whole_in result) }
 {

@@ -6,13 +6,14 @@ use Rattle.std.proofs.lemmas.Slice.Eq.{bytes_eq-Decides}
 use Rattle.mm_base.specs.Input.{lines_of, tail_of}
 use Rattle.mm_base.specs.declared.replay_fault.ReplayFault.{ReplayFault}
 use Rattle.mm_base.specs.declared.replay_fault.ReplayFault.TheVariants.{Memory, ReadFault, WriteFault, BadLine, LineLong, TooMuch}
+use Rattle.mm_base.specs.Limits.{longest_line}
 use Rattle.mm_schedule.specs.declared.header.Header.{Header}
 use Rattle.mm_schedule.specs.Events.{Event}
 use Rattle.mm_schedule.specs.Grammar.{event_at}
 use Rattle.mm_schedule.specs.Headers.{header_at}
 use Rattle.mm_run.specs.Held.{world_of}
 use Rattle.mm_play.specs.declared.player.Refused.TheVariants.{Bad, Much}
-use Rattle.mm_play.specs.Play.{Told, told, stopped, line_limit, refusal_at, answered, closed, ended, goes_on, run}
+use Rattle.mm_play.specs.Play.{Told, told, stopped, refusal_at, answered, closed, ended, goes_on, run}
 use Rattle.mm_play.proofs.Runs.{not_ok, ok_same}
 use Rattle.mm_replay.specs.Schedule.{is_too_much}
 use Rattle.mm_check.specs.Checking.{Read, first_read, after_read, Compared, first_compared, after_compared, Stage, AtHeader, InEvents, InReplies, headed, read_event, read_line, check_answer, check_closing, most_recorded, section_line}
@@ -38,7 +39,7 @@ replies_ran : (heading : List ℕ → Option Header) (lines : List (List ℕ)) (
 replies_ran heading [] n c p h = sym (ok_same (InReplies c) p h)
 replies_ran heading (line ∷ lines) n c p h =
     replies_ran heading lines (n + 1) (after_compared c line) p
-    (compare_ran (nat_lt line_limit (length line)) (nat_le most_recorded c.count) (λ next. run (check_answer heading) (n + 1) next lines) n c line p h)
+    (compare_ran (nat_lt longest_line (length line)) (nat_le most_recorded c.count) (λ next. run (check_answer heading) (n + 1) next lines) n c line p h)
 
 -- among the events
 
@@ -126,7 +127,7 @@ events_ran heading [] n p r h = record {
   grown = sym (append-nil r.events);
   ends = inl (refl, sym (ok_same (InEvents r) p h));
 }
-events_ran heading (line ∷ lines) n p r h = line_ran heading lines n r line (nat_lt line_limit (length line)) p (events_ran heading lines (n + 1) p) h
+events_ran heading (line ∷ lines) n p r h = line_ran heading lines n r line (nat_lt longest_line (length line)) p (events_ran heading lines (n + 1) p) h
 
 -- the verdicts, by where the run ends
 verdicts_by : (header : Header) (events : List Event) (last : Read) (section : List (List ℕ)) (p : Stage) (it : Verdicts) → last.header ≡ header → last.events ≡ events
@@ -175,7 +176,7 @@ first_ran first lines false p it h c = header_ran first lines (header_at first) 
 -- whole lines that were all answered, and the verdicts at their end
 pub lines_checked : (lines : List (List ℕ)) (p : Stage) (it : Verdicts) → (check_lines lines).outcome ≡ Ok p → Concludes p it → IsChecked lines it
 lines_checked [] p it h c = absurd (subst (λ (s : Stage). Concludes s it) (sym (ok_same AtHeader p h)) c)
-lines_checked (first ∷ lines) p it h c = first_ran first lines (nat_lt line_limit (length first)) p it h c
+lines_checked (first ∷ lines) p it h c = first_ran first lines (nat_lt longest_line (length first)) p it h c
 
 -- an input that was answered to its end
 
@@ -185,7 +186,7 @@ closed_ran n q p (Some l) is h = let same = ok_same q p h in (same, (l, subst (�
 
 tail_ran : (n : ℕ) (tail : List ℕ) (q p : Stage) → (ended check_closing n tail q).outcome ≡ Ok p → (q ≡ p) × ((l : List ℕ) × (check_closing p ≡ Some l))
 tail_ran n [] q p h = closed_ran n q p (check_closing q) refl h
-tail_ran n (b ∷ tail) q p h = absurd (by_length (nat_lt line_limit (length (b ∷ tail))) h)
+tail_ran n (b ∷ tail) q p h = absurd (by_length (nat_lt longest_line (length (b ∷ tail))) h)
   where
     by_length : (long : Bool) → (let t : Told Stage = cond long (stopped (LineLong n)) (stopped (BadLine n)) in t.outcome ≡ Ok p) → ⊥
     by_length true e = not_ok (LineLong n) p e

@@ -12,6 +12,7 @@ use Rattle.mm_digest.specs.declared.variant.Variant.TheVariants.{Basic, Opt}
 use Rattle.mm_digest.specs.Messages.{start_message, variant_byte}
 use Rattle.sha2.specs.Sha256.{sha256}
 use Rattle.std.proofs.lemmas.List.{length-map, length-take}
+use Rattle.mm_base.specs.Limits.{most_events}
 use Rattle.mm_schedule.specs.declared.event.Event.{Event as CodeEvent}
 use Rattle.mm_module.specs.Meaning.{Meaning}
 use Rattle.mm_modules.specs.Modules.{meaning_of}
@@ -238,10 +239,10 @@ lines_end header es it committed issued lines h n k is =
 
 -- there is room for an event's messages, and for its snapshot
 
-few_taken : (es : List CodeEvent) (index : ℕ) → length es ≤ 20000 → length (take index es) ≤ 20000
+few_taken : (es : List CodeEvent) (index : ℕ) → length es ≤ most_events → length (take index es) ≤ most_events
 few_taken es index few = omega (arith, few, length-take index es)
 
-pub room_for : (header : Header) (es : List CodeEvent) (index : ℕ) (event : CodeEvent) (it : Deciding) (heard : Heard) → length es ≤ 20000
+pub room_for : (header : Header) (es : List CodeEvent) (index : ℕ) (event : CodeEvent) (it : Deciding) (heard : Heard) → length es ≤ most_events
     → StandsBehind header (events_of (take index es)) it → IsHeard (world_of header) (expected (world_of header) (events_of (take index es))) (event_of event) heard
     → it.numbers.digests.count + length heard.messages.items < 4294967295
 room_for header es index event it heard few h hears =
@@ -257,7 +258,7 @@ room_for header es index event it heard few h hears =
       heard_few i f.state f.issued event,
     )
 
-pub issues_few : (header : Header) (es : List CodeEvent) (index : ℕ) (it : Deciding) → length es ≤ 20000 → StandsBehind header (events_of (take index es)) it
+pub issues_few : (header : Header) (es : List CodeEvent) (index : ℕ) (it : Deciding) → length es ≤ most_events → StandsBehind header (events_of (take index es)) it
     → length it.expecting.issued < 4294967295
 issues_few header es index it few h = omega (arith, h.few, few_taken es index few, length-map (take index es) event_of)
 

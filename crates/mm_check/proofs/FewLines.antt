@@ -2,6 +2,7 @@
 use Rattle.std.proofs.Common.{◌≡◌, ℕ, ◌+◌, ◌-◌, ◌*◌, ◌≤◌, Bool, true, false, List, [], ◌∷◌, length, Option, None, Some, Result, Ok, Err, refl, arith, length-append}
 use Rattle.std.specs.Prelude.{if◌then◌else◌}
 use Rattle.std.proofs.lemmas.List.{length-drop}
+use Rattle.mm_base.specs.Limits.{most_members}
 use Rattle.mm_module.specs.Batch.{Batch, size_of, normal}
 use Rattle.mm_module.specs.Meaning.{outputs_from}
 use Rattle.mm_module.proofs.RunLaws.{length-outputs_from}
@@ -38,20 +39,20 @@ last_few i y n =
     let outs = outputs_from i.meaning i.meaning.first (requests_of y.batches) in
     omega (arith, length-drop (total_of y.batches - n) outs, length-outputs_from i.meaning i.meaning.first (requests_of y.batches))
 
-broken_few : (how : Way) (kept : Option ℕ) → length (lines_of (broken_reply how kept)) ≤ 64
+broken_few : (how : Way) (kept : Option ℕ) → length (lines_of (broken_reply how kept)) ≤ most_members
 broken_few how None = omega arith
 broken_few how (Some position) = omega arith
 
-ended_few : (i : Instance) (seen y : History) (how : Way) (b : Batch) (found : Result Found Refusal) (moves : List Move) (broken : Option StepFault) → size_of b ≤ 64
-    → length (lines_of (reply_of how (ended_by (by_lists i) seen y b found moves broken))) ≤ 64
+ended_few : (i : Instance) (seen y : History) (how : Way) (b : Batch) (found : Result Found Refusal) (moves : List Move) (broken : Option StepFault) → size_of b ≤ most_members
+    → length (lines_of (reply_of how (ended_by (by_lists i) seen y b found moves broken))) ≤ most_members
 ended_few i seen y how b (Err why) moves (Some fault) h = broken_few how (kept_at (commits moves) (position_of (by_lists i) seen y b (Err why)))
 ended_few i seen y how b (Ok it) moves (Some fault) h = broken_few how (kept_at (commits moves) (position_of (by_lists i) seen y b (Ok it)))
 ended_few i seen y how b (Err why) moves None h = omega arith
 ended_few i seen y how b (Ok it) moves None h =
     omega (arith, h, last_few i y (size_of b), told_length it.again (total_of y.batches - length (last_outputs i.meaning y (size_of b))) (last_outputs i.meaning y (size_of b)))
 
-called_few : (i : Instance) (y : History) (how : Way) (c : Course) (bytes : List ℕ) (b : Batch) → size_of b ≤ 64
-    → length (lines_of (reply_of how (called i (by_lists i) y c bytes b).ending)) ≤ 64
+called_few : (i : Instance) (y : History) (how : Way) (c : Course) (bytes : List ℕ) (b : Batch) → size_of b ≤ most_members
+    → length (lines_of (reply_of how (called i (by_lists i) y c bytes b).ending)) ≤ most_members
 called_few i y how c bytes b h =
     let seen : History = seen_at i (by_lists i) y c in
     let found : Result Found Refusal = found_in (found_at i (by_lists i) seen b bytes) c.lacks in
@@ -59,16 +60,16 @@ called_few i y how c bytes b h =
     ended_few i seen (all_made (by_lists i) y w.moves) how b found w.moves w.broken h
 
 long_few : (i : Instance) (y : History) (issued : List (List ℕ)) (meddles : List Meddle) (stop : Stop) (bytes : List ℕ) (b : Batch) (long : Bool) → is_long b ≡ long
-    → length (lines_of (if long then uncalled y issued (reply.No cause.Long) else outcome_by (by_lists i) stop issued (called i (by_lists i) y (course_of stop meddles) bytes (normal b))).reply) ≤ 64
+    → length (lines_of (if long then uncalled y issued (reply.No cause.Long) else outcome_by (by_lists i) stop issued (called i (by_lists i) y (course_of stop meddles) bytes (normal b))).reply) ≤ most_members
 long_few i y issued meddles stop bytes b true e = omega arith
 long_few i y issued meddles stop bytes b false e = called_few i y (way_of stop) (course_of stop meddles) bytes (normal b) (short_size b e)
 
 asked_few : (i : Instance) (y : History) (issued : List (List ℕ)) (meddles : List Meddle) (stop : Stop) (bytes : Option (List ℕ)) (b : Batch)
-    → length (lines_of (asked i (by_lists i) y issued meddles stop bytes b).reply) ≤ 64
+    → length (lines_of (asked i (by_lists i) y issued meddles stop bytes b).reply) ≤ most_members
 asked_few i y issued meddles stop None b = omega arith
 asked_few i y issued meddles stop (Some bytes) b = long_few i y issued meddles stop bytes b (is_long b) refl
 
-closing_few : (how : Way) (closing : Closing) → length (lines_of (closing_reply how closing)) ≤ 64
+closing_few : (how : Way) (closing : Closing) → length (lines_of (closing_reply how closing)) ≤ most_members
 closing_few how Closes = omega arith
 closing_few how HasNone = omega arith
 closing_few how NoSegment = omega arith
@@ -76,13 +77,13 @@ closing_few how LostPower = omega arith
 closing_few how (Stops fault true) = omega arith
 closing_few how (Stops fault false) = omega arith
 
-event_lines_few : (i : Instance) (y : History) (issued : List (List ℕ)) (event : Event) → length (lines_of (outcome_of i (by_lists i) y issued event).reply) ≤ 64
+event_lines_few : (i : Instance) (y : History) (issued : List (List ℕ)) (event : Event) → length (lines_of (outcome_of i (by_lists i) y issued event).reply) ≤ most_members
 event_lines_few i y issued (Ask meddles stop offer b) = asked_few i y issued meddles stop (offered_bytes issued offer) b
 event_lines_few i y issued (Checkpoint meddles stop) = closing_few (way_of stop) (checkpointed i (by_lists i) y (course_of stop meddles)).ending
 event_lines_few i y issued Power = omega arith
 event_lines_few i y issued (Extend value) = omega arith
 
-replies_few : (i : Instance) (events : List Event) (y : History) (issued : List (List ℕ)) → length (lines_of_all (followed i (by_lists i) y issued events).replies) ≤ 64 * length events
+replies_few : (i : Instance) (events : List Event) (y : History) (issued : List (List ℕ)) → length (lines_of_all (followed i (by_lists i) y issued events).replies) ≤ most_members * length events
 replies_few i [] y issued = omega arith
 replies_few i (event ∷ events) y issued =
     let o = outcome_of i (by_lists i) y issued event in
@@ -93,6 +94,6 @@ replies_few i (event ∷ events) y issued =
       length-append (lines_of o.reply) (lines_of_all (followed i (by_lists i) o.state o.issued events).replies),
     )
 
-pub expected_few : (i : Instance) (events : List Event) → length (expected_lines i events) ≤ 64 * length events + 1
+pub expected_few : (i : Instance) (events : List Event) → length (expected_lines i events) ≤ most_members * length events + 1
 expected_few i events =
     omega (arith, replies_few i events first_history (first_issued i), length-append (lines_of_all (expected i events).replies) (end_line (total_of (expected i events).state.batches) (length (expected i events).issued) ∷ []))

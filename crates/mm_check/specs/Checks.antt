@@ -69,8 +69,10 @@ ChecksBy left taken sent (Err WriteFault) =
     (verdicts : Verdicts) × IsAtEnd left × IsChecked (lines_of taken) verdicts × IsFrontOf sent (verdicts_text verdicts)
 ChecksBy left taken sent (Err ReadFault) = (sent ≡ []) × ((after : Stage) × ((check_lines (lines_of taken)).outcome ≡ Ok after))
 ChecksBy left taken sent (Err Memory) = sent ≡ []
-ChecksBy left taken sent (Err (BadLine number)) = (sent ≡ []) × ForWhole left taken (λ input. (check_run input).outcome ≡ Err (BadLine number))
-ChecksBy left taken sent (Err (LineLong number)) = (sent ≡ []) × ForWhole left taken (λ input. (check_run input).outcome ≡ Err (LineLong number))
+ChecksBy left taken sent (Err (BadLine number)) = (sent ≡ [])
+    × ForWhole left taken (λ input. (check_run input).outcome ≡ Err (BadLine number))
+ChecksBy left taken sent (Err (LineLong number)) = (sent ≡ [])
+    × ForWhole left taken (λ input. (check_run input).outcome ≡ Err (LineLong number))
 ChecksBy left taken sent (Err TooMuch) = (sent ≡ []) × ForWhole left taken (λ input. (check_run input).outcome ≡ Err TooMuch)
 
 -- A check took these bytes of the input and wrote those.

@@ -55,7 +55,8 @@ pub record IsForgedAt (i : Instance) (events : List Event) (number : ℕ) : Type
 abbrev pub Decides : Instance → List Event → Premise → Type 0
 Decides i events Held = IsClearRun i events × IsGenuineRun i events
 Decides i events (Shared first second) = shared_in (message_digests (numbered i events)) ≡ Some (first, second)
-Decides i events (Zero message) = (shared_in (message_digests (numbered i events)) ≡ None) × (zero_in (message_digests (numbered i events)) ≡ Some message)
+Decides i events (Zero message) = (shared_in (message_digests (numbered i events)) ≡ None)
+    × (zero_in (message_digests (numbered i events)) ≡ Some message)
 Decides i events (Secured event) = IsClear (run_messages i events) × (i.variant ≡ Opt) × (secured_in i events ≡ Some event)
 Decides i events (Forged event) = IsClearRun i events × IsForgedAt i events event
 

@@ -2,6 +2,7 @@
 use Rattle.std.specs.Prelude.{◌≡◌, ℕ, ◌+◌, ◌≤◌, Bool, false, nat_le, List, [], ◌∷◌, ◌++◌, length, codes, Option, None, Some, if◌then◌else◌}
 use Rattle.std.specs.Fmt.{decimal}
 use Rattle.std.specs.Str.{bytes_eq}
+use Rattle.mm_base.specs.Limits.{most_events}
 use Rattle.mm_schedule.specs.declared.header.Header.{Header}
 use Rattle.mm_schedule.specs.Events.{Event}
 use Rattle.mm_model.specs.Instance.{Instance}
@@ -46,7 +47,7 @@ pub record RunsBehind (header : Header) (running : Running) (events : List Event
   pub issued : running.issued ≡ (replies_by_digests (world_of header) events).issued
   pub lines : told ≡ lines_of_all (replies_by_digests (world_of header) events).replies
   pub count : running.events ≡ length events
-  pub few : running.events ≤ 20000
+  pub few : running.events ≤ most_events
 
 -- the first difference at the end of the recorded lines: one may be missing
 abbrev pub end_difference : Compared → Option ℕ

@@ -22,7 +22,8 @@ fn judge<S: Source>(alloc: Global, input: &mut S) -> Result<Verdicts, ReplayFaul
 
     // A recorded run within the grammar and the limits is not refused.
     ensures complete { (bytes : List ℕ) → (next : Stage) → S.left input.old ≡ Some bytes
-        → (run_of (check_answer header_at) check_closing AtHeader bytes).outcome ≡ Ok next → IsUnrefused result }
+        → (run_of (check_answer header_at) check_closing AtHeader bytes).outcome ≡ Ok next
+        → IsUnrefused result }
 {
     let mut player = CheckPlayer::new();
     let mut nowhere = Nowhere {};
@@ -50,13 +51,15 @@ pub fn check<S: Source, K: Sink>(
     input: &mut S,
     out: &mut K,
 ) -> Result<Verdicts, ReplayFault>
-    ensures checks { Checks (S.left input.old) (S.left input.new) (K.received out.old) (K.received out.new) result }
+    ensures checks { Checks (S.left input.old) (S.left input.new) (K.received out.old)
+        (K.received out.new) result }
     ensures read { IsBlamed (is_read_fault result) (S.faults input.old) (S.faults input.new) }
     ensures wrote { IsBlamed (is_write_fault result) (K.faults out.old) (K.faults out.new) }
 
     // A recorded run within the grammar and the limits is not refused.
     ensures complete { (bytes : List ℕ) → (next : Stage) → S.left input.old ≡ Some bytes
-        → (run_of (check_answer header_at) check_closing AtHeader bytes).outcome ≡ Ok next → IsUnrefused result }
+        → (run_of (check_answer header_at) check_closing AtHeader bytes).outcome ≡ Ok next
+        → IsUnrefused result }
 {
     let verdicts = match judge(alloc, input) {
         Ok(verdicts) => verdicts,

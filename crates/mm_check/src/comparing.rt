@@ -37,9 +37,15 @@ impl Model for Comparing {
 
     ghost Value = { Compared };
 
-    ghost view = { λ it. record { header = it.header; events = events_of it.events.items; count = it.count; differs = it.differs } };
+    ghost view = { λ it. record {
+      header = it.header;
+      events = events_of it.events.items;
+      count = it.count;
+      differs = it.differs;
+    } };
 
-    ghost invariant = { λ it. IsComparing it.header (events_of it.events.items) it.premise it.expected.items it.count };
+    ghost invariant = { λ it. IsComparing it.header (events_of it.events.items) it.premise
+        it.expected.items it.count };
 }
 
 /// Whether a recorded line, which stands without its LF, is this one.

@@ -1,6 +1,7 @@
 //! The premises and the expected lines of a list of events.
 
 ghost use Rattle.std.specs.Prelude.{◌≡◌, ◌+◌, ◌<◌, ◌≤◌, [], length, take, IfOk, OnOk};
+ghost use Rattle.mm_base.specs.Limits.{most_events};
 ghost use Rattle.mm_check.specs.Guards.{events_of};
 ghost use Rattle.mm_check.specs.Lists.{pair_of};
 ghost use Rattle.mm_check.specs.Deciding.{StandsBehind, DecidesRun, premise_by, forged_then};
@@ -59,9 +60,10 @@ impl Deciding {
         index: usize,
     ) -> Result<(), Memory>
         requires within { index < length events.now }
-        requires few { length events.now ≤ 20000 }
+        requires few { length events.now ≤ most_events }
         requires stands { StandsBehind header.now (events_of (take index events.now)) self.old }
-        ensures { OnOk result (StandsBehind header.now (events_of (take (index + 1) events.now)) self.new) }
+        ensures { OnOk result
+            (StandsBehind header.now (events_of (take (index + 1) events.now)) self.new) }
     {
         let heard = self.expecting.event(&events[index])?;
         self.numbers.list_all(alloc, heard.messages.as_slice())?;
@@ -72,7 +74,8 @@ impl Deciding {
 
     // What is told of the premises, by the first event at which others bring a guard.
     fn premise(&self, secured: Option<u32>) -> Premise
-        ensures { result ≡ premise_by (pair_of self.now.numbers.digests.shared) self.now.numbers.digests.zero secured self.now.forged }
+        ensures { result ≡ premise_by (pair_of self.now.numbers.digests.shared)
+            self.now.numbers.digests.zero secured self.now.forged }
     {
         if let Some(pair) = self.numbers.digests.shared {
             return Premise::Shared {
@@ -94,7 +97,7 @@ impl Deciding {
 
     // What all events come to.
     fn finish(mut self, alloc: Global, header: &Header, events: &[Event]) -> Result<Decided, Memory>
-        requires few { length events.now ≤ 20000 }
+        requires few { length events.now ≤ most_events }
         requires stands { StandsBehind header.now (events_of events.now) self }
         ensures { IfOk result (DecidesRun header.now (events_of events.now)) }
     {
@@ -123,7 +126,7 @@ fn forged_then(forged: Option<u32>, is_genuine: bool, number: u32) -> Option<u32
 
 /// What these events come to: what is told of the premises, and the lines that are expected.
 pub(crate) fn decide(alloc: Global, header: &Header, events: &[Event]) -> Result<Decided, Memory>
-    requires { length events.now ≤ 20000 }
+    requires { length events.now ≤ most_events }
     ensures { IfOk result (DecidesRun header.now (events_of events.now)) }
 {
     let mut deciding = Deciding::begin(alloc, header)?;

@@ -60,7 +60,8 @@ fn zero_then(found: Option<u32>, digest: &Digest, number: u32) -> Option<u32>
 /// Notes this number at a digest.
 fn put(firsts: &mut BTreeMap<[u8; 32], u32>, digest: [u8; 32], number: u32) -> Result<(), Memory>
     ensures { OnOk result ((d : List ℕ) → get (slice_cmp nat_cmp) firsts.new d
-        ≡ (if is_eq (slice_cmp nat_cmp digest d) then Some number else get (slice_cmp nat_cmp) firsts.old d)) }
+        ≡ (if is_eq (slice_cmp nat_cmp digest d) then Some number
+        else get (slice_cmp nat_cmp) firsts.old d)) }
 {
     match firsts.insert(digest, number) {
         Ok(_) => Ok(()),
@@ -85,7 +86,8 @@ impl Digests {
     pub fn add(&mut self, digest: Digest) -> Result<(), Memory>
         requires { self.old.count < 2 ^ 32 - 1 }
         ensures rises { self.new.count ≤ self.old.count + 1 }
-        ensures counts { (digests : List (List ℕ)) → CountsDigests digests self.old → OnOk result (CountsDigests (digests ++ digest.bytes ∷ []) self.new) }
+        ensures counts { (digests : List (List ℕ)) → CountsDigests digests self.old
+            → OnOk result (CountsDigests (digests ++ digest.bytes ∷ []) self.new) }
     {
         let number = self.count + 1;
         match self.firsts.get(&digest.bytes) {

@@ -6,6 +6,7 @@ ghost use Rattle.std.specs.Cmp.Lexicographic.{slice_cmp};
 ghost use Rattle.std.specs.List.{list_any};
 ghost use Rattle.std.specs.Ordering.{nat_cmp};
 ghost use Rattle.std.specs.Str.{bytes_eq};
+ghost use Rattle.mm_base.specs.Limits.{most_events};
 ghost use Rattle.mm_module.specs.Batch.{Many, normal};
 ghost use Rattle.mm_module.specs.Batches.{batch_of};
 ghost use Rattle.mm_model.specs.Chains.{guard, own_values};
@@ -96,7 +97,8 @@ fn put(set: &mut BTreeSet<[u8; 32]>, digest: [u8; 32]) -> Result<(), Memory>
 /// Adds the guard of an event's batch.
 fn add_guard(set: &mut BTreeSet<[u8; 32]>, event: &Event) -> Result<(), Memory>
     ensures { (guards : List (List ℕ)) → HasAll guards set.old
-        → OnOk result (HasAll (guards ++ own_values world_barrier (batches_of (event_of event.now))) set.new) }
+        → OnOk result
+        (HasAll (guards ++ own_values world_barrier (batches_of (event_of event.now))) set.new) }
 {
     match guard_in(event) {
         Some(guard) => {
@@ -109,7 +111,8 @@ fn add_guard(set: &mut BTreeSet<[u8; 32]>, event: &Event) -> Result<(), Memory>
 
 /// The guards of the batches that these events ask.
 pub(crate) fn guards_of(alloc: Global, events: &[Event]) -> Result<BTreeSet<[u8; 32]>, Memory>
-    ensures { IfOk result (HasAll (own_values world_barrier (asked_batches (events_of events.now)))) }
+    ensures { IfOk result
+        (HasAll (own_values world_barrier (asked_batches (events_of events.now)))) }
 {
     let mut guards = BTreeSet::new(alloc);
     'events: for event in events {
@@ -126,7 +129,8 @@ fn brings(guards: &BTreeSet<[u8; 32]>, meddle: &Meddle) -> bool
 
 /// Whether others bring a value of the set before some step.
 fn some_meddle(guards: &BTreeSet<[u8; 32]>, meddles: &Meddles) -> bool
-    ensures { result ≡ list_any (λ m. contains (slice_cmp nat_cmp) guards.now m.value.bytes) (meddles_of meddles.now) }
+    ensures { result ≡ list_any (λ m. contains (slice_cmp nat_cmp) guards.now m.value.bytes)
+        (meddles_of meddles.now) }
 {
     let count = meddles.count as usize;
     meddles.items[..count]
@@ -137,7 +141,8 @@ fn some_meddle(guards: &BTreeSet<[u8; 32]>, meddles: &Meddles) -> bool
 /// Whether others extend the register by a value of the set.
 #[tactic(auto, using(crate::proofs::GuardLaws::any_value))]
 fn brings_some(guards: &BTreeSet<[u8; 32]>, event: &Event) -> bool
-    ensures { result ≡ list_any (contains (slice_cmp nat_cmp) guards.now) (foreign_of (event_of event.now)) }
+    ensures { result ≡ list_any (contains (slice_cmp nat_cmp) guards.now)
+        (foreign_of (event_of event.now)) }
 {
     match event {
         Event::Ask { meddles, .. } => some_meddle(guards, meddles),
@@ -150,8 +155,9 @@ fn brings_some(guards: &BTreeSet<[u8; 32]>, event: &Event) -> bool
 
 /// The first event, from 1, at which others extend the register by a value of the set.
 fn first_among(guards: &BTreeSet<[u8; 32]>, events: &[Event]) -> Option<u32>
-    requires { length events.now ≤ 20000 }
-    ensures { (known : List (List ℕ)) → HasAll known guards.now → result ≡ first_where (is_secured known) (events_of events.now) }
+    requires { length events.now ≤ most_events }
+    ensures { (known : List (List ℕ)) → HasAll known guards.now
+        → result ≡ first_where (is_secured known) (events_of events.now) }
 {
     'events: for index in 0..events.len() {
         if brings_some(guards, &events[index]) {
@@ -168,8 +174,9 @@ pub(crate) fn first_secured(
     variant: Variant,
     events: &[Event],
 ) -> Result<Option<u32>, Memory>
-    requires { length events.now ≤ 20000 }
-    ensures { IfOk result (λ found. found ≡ secured_by variant world_barrier (events_of events.now)) }
+    requires { length events.now ≤ most_events }
+    ensures { IfOk result
+        (λ found. found ≡ secured_by variant world_barrier (events_of events.now)) }
 {
     match variant {
         Variant::Basic => Ok(None),

@@ -32,7 +32,8 @@ fn digest_of(message: &[u8]) -> Digest
 /// Keeps a message, and answers whether it is a new one.
 fn keep(seen: &mut BTreeSet<Vec<u8>>, alloc: Global, message: &[u8]) -> Result<bool, Memory>
     ensures new { IfOk result (λ is_new. is_new ≡ not (has_message seen.old.keys message.now)) }
-    ensures has { OnOk result ((m : List ℕ) → has_message seen.new.keys m ≡ (bytes_eq m message.now || has_message seen.old.keys m)) }
+    ensures has { OnOk result ((m : List ℕ)
+        → has_message seen.new.keys m ≡ (bytes_eq m message.now || has_message seen.old.keys m)) }
 {
     let key = Vec::from_slice(alloc, message)?;
     let Ok(is_new) = seen.insert(key) else {
@@ -55,7 +56,8 @@ impl Numbers {
     /// Lists a message, if it hasn't come before.
     pub fn list(&mut self, alloc: Global, message: &[u8]) -> Result<(), Memory>
         requires { self.old.digests.count < 2 ^ 32 - 1 }
-        ensures lists { (seen : List (List ℕ)) → Lists seen self.old → OnOk result (Lists (listed seen message.now) self.new) }
+        ensures lists { (seen : List (List ℕ)) → Lists seen self.old
+            → OnOk result (Lists (listed seen message.now) self.new) }
         ensures rises { self.new.digests.count ≤ self.old.digests.count + 1 }
     {
         if keep(&mut self.seen, alloc, message)? {
@@ -67,7 +69,8 @@ impl Numbers {
     /// Lists these messages, one after another.
     pub fn list_all(&mut self, alloc: Global, messages: &[Bytes]) -> Result<(), Memory>
         requires { self.old.digests.count + length messages.now < 2 ^ 32 - 1 }
-        ensures { (seen : List (List ℕ)) → Lists seen self.old → OnOk result (Lists (fold listed seen messages.now) self.new) }
+        ensures { (seen : List (List ℕ)) → Lists seen self.old
+            → OnOk result (Lists (fold listed seen messages.now) self.new) }
     {
         'messages: for message in messages {
             self.list(alloc, message.as_slice())?;

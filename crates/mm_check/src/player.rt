@@ -1,6 +1,7 @@
 //! The lines of a recorded run, one after another.
 
 ghost use Rattle.std.specs.Prelude.{◌≡◌, ◌≢◌, ◌≤◌, length, IfOk};
+ghost use Rattle.mm_base.specs.Limits.{longest_line};
 ghost use Rattle.mm_schedule.specs.Headers.{header_at};
 ghost use Rattle.mm_check.specs.Checking.{Stage, AtHeader, check_answer, check_closing, check_left, headed, read_line};
 ghost use Rattle.mm_check.specs.Counting.{check_counts_down, check_is_short};
@@ -53,7 +54,7 @@ fn begin(alloc: Global, line: &[u8]) -> Result<Phase, TakeFault>
 
 /// Behind a line among the events.
 fn read(alloc: Global, reading: Reading, line: &[u8]) -> Result<Phase, TakeFault>
-    requires { length line.now ≤ 8400 }
+    requires { length line.now ≤ longest_line }
     ensures { Steps (read_line reading line.now) result }
 {
     if line == b"replies".as_slice() {
@@ -70,7 +71,7 @@ fn read(alloc: Global, reading: Reading, line: &[u8]) -> Result<Phase, TakeFault
 
 /// Behind the next line.
 fn step(alloc: Global, phase: Option<Phase>, line: &[u8]) -> Result<Phase, TakeFault>
-    requires { length line.now ≤ 8400 }
+    requires { length line.now ≤ longest_line }
     ensures { Steps (check_answer header_at (stage_of phase) line.now) result }
 {
     match phase {

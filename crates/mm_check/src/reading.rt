@@ -1,6 +1,7 @@
 //! The events of a recorded run, as they are read.
 
 ghost use Rattle.std.specs.Prelude.{◌≡◌, ◌≤◌, ◌++◌, ◌∷◌, [], length, IfOk, OnOk};
+ghost use Rattle.mm_base.specs.Limits.{longest_line};
 ghost use Rattle.mm_schedule.specs.Grammar.{event_at};
 ghost use Rattle.mm_schedule.specs.Replies.{IsPrintable, lines_of};
 ghost use Rattle.mm_run.specs.Held.{world_of};
@@ -38,9 +39,15 @@ impl Model for Reading {
 
     ghost Value = { Read };
 
-    ghost view = { λ it. record { header = it.header; running = running it.progress; events = events_of it.events.items; told = it.told.items } };
+    ghost view = { λ it. record {
+      header = it.header;
+      running = running it.progress;
+      events = events_of it.events.items;
+      told = it.told.items;
+    } };
 
-    ghost invariant = { λ it. RunsBehind it.header (running it.progress) (events_of it.events.items) it.told.items };
+    ghost invariant = { λ it. RunsBehind it.header (running it.progress) (events_of it.events.items)
+        it.told.items };
 }
 
 /// The event of a line.
@@ -87,7 +94,7 @@ impl Reading {
 
     /// Behind the event of a line.
     pub fn take(mut self, alloc: Global, line: &[u8]) -> Result<Reading, TakeFault>
-        requires { length line.now ≤ 8400 }
+        requires { length line.now ≤ longest_line }
         ensures { ReadsEvent (read_event self line.now (event_at line.now)) result }
     {
         let event = event_in(alloc, line)?;
@@ -100,7 +107,8 @@ impl Reading {
 
     /// What the events come to, for recorded lines to be compared.
     pub fn decide(self, alloc: Global) -> Result<(Header, Vec<Event>, Decided), Memory>
-        ensures { IfOk result (λ it. (it.0 ≡ self.header) × (events_of it.1.items ≡ self.events) × DecidesRun self.header self.events it.2) }
+        ensures { IfOk result (λ it. (it.0 ≡ self.header) × (events_of it.1.items ≡ self.events)
+            × DecidesRun self.header self.events it.2) }
     {
         let Reading {
             header,
@@ -114,7 +122,8 @@ impl Reading {
 
     /// The verdicts where no lines are recorded: the lines of the run itself are tested.
     pub fn finish(mut self, alloc: Global) -> Result<Verdicts, Memory>
-        ensures { IfOk result (AreVerdicts self.header self.events (run_lines (world_of self.header) self.events)) }
+        ensures { IfOk result
+            (AreVerdicts self.header self.events (run_lines (world_of self.header) self.events)) }
     {
         let decided = decide(alloc, &self.header, self.events.as_slice())?;
         let report = self.progress.report();

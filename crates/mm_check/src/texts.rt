@@ -16,7 +16,8 @@ fn put_numbered(into: &mut Bytes, word: &[u8], number: u32) -> Result<(), Memory
 }
 
 fn put_shared(into: &mut Bytes, first: u32, second: u32) -> Result<(), Memory>
-    ensures { OnOk result (into.new ≡ into.old ++ codes "shared " ++ decimal first ++ 32 ∷ [] ++ decimal second) }
+    ensures { OnOk result
+        (into.new ≡ into.old ++ codes "shared " ++ decimal first ++ 32 ∷ [] ++ decimal second) }
 {
     put_numbered(into, b"shared ", first)?;
     put_numbered(into, b" ", second)

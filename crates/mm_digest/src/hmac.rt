@@ -83,7 +83,8 @@ pub fn hmac_sha256(key: &[u8], text: &[u8]) -> Digest
 
 // SHA-256 of what was hashed and the text.
 fn digest_after(hashed: &Sha256, text: &[u8]) -> [u8; 32]
-    ensures { (before : List ℕ) → ∥ Holds256 hashed.now before ∥₁ → result ≡ sha256 (before ++ text.now) }
+    ensures { (before : List ℕ) → ∥ Holds256 hashed.now before ∥₁
+        → result ≡ sha256 (before ++ text.now) }
 {
     let mut hasher = hashed.clone().unwrap();
     hasher.update(text);
@@ -92,7 +93,8 @@ fn digest_after(hashed: &Sha256, text: &[u8]) -> [u8; 32]
 
 // SHA-256 of what was hashed and the three texts, one after another.
 fn digest_after_three(hashed: &Sha256, first: &[u8], second: &[u8], third: &[u8]) -> [u8; 32]
-    ensures { (before : List ℕ) → ∥ Holds256 hashed.now before ∥₁ → result ≡ sha256 (before ++ (first.now ++ (second.now ++ third.now))) }
+    ensures { (before : List ℕ) → ∥ Holds256 hashed.now before ∥₁
+        → result ≡ sha256 (before ++ (first.now ++ (second.now ++ third.now))) }
 {
     let mut hasher = hashed.clone().unwrap();
     hasher.update(first);

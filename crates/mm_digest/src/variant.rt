@@ -24,7 +24,8 @@ impl Variant {
 
     /// The variant of this byte. None exactly where the byte is neither 1 nor 2.
     pub fn of_byte(byte: u8) -> Option<Variant>
-        ensures { MatchOption result ((v : Variant) → variant_byte v ≢ byte) (λ v. variant_byte v ≡ byte) }
+        ensures { MatchOption result ((v : Variant) → variant_byte v ≢ byte)
+            (λ v. variant_byte v ≡ byte) }
     {
         match byte {
             1 => Some(Variant::Basic),

@@ -1,6 +1,7 @@
 -- Words that are drawn one after another.
 use Rattle.std.proofs.Common.{◌≡◌, ℕ, suc, ◌+◌, ◌-◌, ◌<◌, ◌%◌, ◌^◌, List, ◌++◌, refl, sym, ◌∙◌, ap, arith, append_assoc, append-nil}
 use Rattle.rand_chacha.specs.ChaCha.{ChaCha, key_of, next_word}
+use Rattle.mm_base.specs.Limits.{last_position}
 use Rattle.mm_dispenser.specs.Draws.{word_of, word_text, words_text}
 
 words_text-suc : (seed : List ℕ) (at next more n : ℕ) → more ≡ suc n → next ≡ at + 1 → words_text seed at more ≡ word_text (word_of seed at) ++ words_text seed next n
@@ -25,7 +26,7 @@ pub record IsNext (seed : List ℕ) (at word : ℕ) (after : ChaCha) : Type 0 wh
   pub is : word ≡ word_of seed at
   pub next : after ≡ record { key = key_of seed; stream = 0; word_pos = at + 1 }
 
-pub next-drawn : (before after : ChaCha) (word : ℕ) (seed : List ℕ) (at : ℕ) → at < 2 ^ 48 → (word, after) ≡ next_word 10 before
+pub next-drawn : (before after : ChaCha) (word : ℕ) (seed : List ℕ) (at : ℕ) → at < last_position → (word, after) ≡ next_word 10 before
     → before ≡ record { key = key_of seed; stream = 0; word_pos = at } → IsNext seed at word after
 unfolding word_of
 next-drawn before after word seed at small is stands =

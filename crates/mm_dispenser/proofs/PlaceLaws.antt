@@ -11,6 +11,7 @@ use Rattle.std.proofs.lemmas.List.Splits.{slice_split_none, slice_split_at}
 use Rattle.std.proofs.lemmas.Str.Parse.{numerals_by_value, tells_all_ascii_digits}
 use Rattle.mm_base.specs.Decimals.{number_of}
 use Rattle.mm_base.proofs.DecimalLemmas.{read_by_spelling}
+use Rattle.mm_base.specs.Limits.{last_position}
 use Rattle.mm_module.specs.LineLaws.{and-true, list_all-get_or}
 use Rattle.mm_module.specs.Meaning.{outputs_from}
 use Rattle.mm_module.specs.ValueLaws.{passes-encoded}
@@ -152,7 +153,7 @@ bad-none : places_told (codes "bad") ≡ None
 unfolding number_of
 bad-none = refl
 
-drawn-moves : (seed : List ℕ) (place count : ℕ) (flag : Bool) → place ≤ 2 ^ 48
+drawn-moves : (seed : List ℕ) (place count : ℕ) (flag : Bool) → place ≤ last_position
     → Moves place (if flag then (Seeded seed (place + count), says.Words seed place count) else (Seeded seed place, says.Full))
 drawn-moves seed place count true small = record {
   rises = omega arith;
@@ -165,7 +166,7 @@ moves : (state : State) (request : Option Request) → IsDispenserState state �
 moves Unset (Some (Seed seed)) good = record { rises = omega arith; tells = λ p is. absurd (tells_none p (sym seeded-none ∙ is)) }
 moves (Seeded seed place) (Some (Seed other)) good = record { rises = omega arith; tells = λ p is. absurd (tells_none p (sym taken-none ∙ is)) }
 moves Unset (Some (Draw count)) good = record { rises = omega arith; tells = λ p is. absurd (tells_none p (sym unset-none ∙ is)) }
-moves (Seeded seed place) (Some (Draw count)) good = drawn-moves seed place count (nat_le (place + count) (2 ^ 48)) good.within
+moves (Seeded seed place) (Some (Draw count)) good = drawn-moves seed place count (nat_le (place + count) last_position) good.within
 moves Unset None good = record { rises = omega arith; tells = λ p is. absurd (tells_none p (sym bad-none ∙ is)) }
 moves (Seeded seed place) None good = record { rises = omega arith; tells = λ p is. absurd (tells_none p (sym bad-none ∙ is)) }
 

@@ -11,6 +11,7 @@ use Rattle.hex.specs.Hex.{encode_lower, lower_digits}
 use Rattle.hex.proofs.HexLemmas.{length-encode_with}
 use Rattle.mm_base.specs.Decimals.{number_of}
 use Rattle.mm_base.specs.Fields.{eight_bytes}
+use Rattle.mm_base.specs.Limits.{last_position}
 use Rattle.mm_module.specs.Bytes.{is_byte, are_bytes}
 use Rattle.mm_module.specs.LineLaws.{is_unbroken, and-true, and-both, All-are_bytes, IsText, IsLine-text, is_unbroken-decimal, length-decimal}
 use Rattle.mm_module.specs.Meaning.{IsLawful}
@@ -32,7 +33,7 @@ use Rattle.mm_dispenser.specs.declared.dispenser.Says.TheVariants as says
 -- a seed with a place
 pub record IsSeeded (seed : List ℕ) (place : ℕ) : Type 0 where
   pub formed : IsValue seed
-  pub within : place ≤ 2 ^ 48
+  pub within : place ≤ last_position
 
 -- a state that can be spelled
 abbrev pub IsDispenserState : State → Type 0
@@ -45,7 +46,8 @@ IsDispenserRequest (Some (Seed seed)) = IsValue seed
 IsDispenserRequest (Some (Draw count)) = count ≤ 16
 IsDispenserRequest None = Unit {0}
 
-draw_asked : (number : ℕ) (flag : Bool) → (nat_le 1 number && nat_le number 16) ≡ flag → IsDispenserRequest (if flag then Some (Draw number) else None)
+draw_asked : (number : ℕ) (flag : Bool) → (nat_le 1 number && nat_le number 16) ≡ flag
+    → IsDispenserRequest (if flag then Some (Draw number) else None)
 draw_asked number true is = let w = and-true (nat_le 1 number) (nat_le number 16) is in grind (arith, nat_tests)
 draw_asked number false is = tt
 
@@ -57,7 +59,9 @@ seed_asked : (value : Option (List ℕ)) → MayBeValue value → IsDispenserReq
 seed_asked None is = tt
 seed_asked (Some value) is = is
 
-asked_by : (seeds draws : Bool) (argument : List ℕ) → IsDispenserRequest (if seeds then option_map (λ seed. Seed seed) (value_at argument) else (if draws then option_and_then drawing_of (number_of argument) else None))
+asked_by : (seeds draws : Bool) (argument : List ℕ)
+    → IsDispenserRequest (if seeds then option_map (λ seed. Seed seed) (value_at argument)
+    else (if draws then option_and_then drawing_of (number_of argument) else None))
 asked_by true draws argument = seed_asked (value_at argument) (value_at-value argument)
 asked_by false true argument = number_asked (number_of argument)
 asked_by false false argument = tt
@@ -75,23 +79,30 @@ SaysWords (says.Words seed place count) = (place < 2 ^ 64) × (count ≤ 16)
 SaysWords _ = Unit {0}
 
 -- a state that can be spelled and what can be said
-drawn-IsOutcome : (seed : List ℕ) (place count : ℕ) (flag : Bool) → nat_le (place + count) (2 ^ 48) ≡ flag → IsSeeded seed place → count ≤ 16
-    → IsOutcome IsDispenserState SaysWords (if flag then (Seeded seed (place + count), says.Words seed place count) else (Seeded seed place, says.Full))
+drawn-IsOutcome : (seed : List ℕ) (place count : ℕ) (flag : Bool) → nat_le (place + count) last_position ≡ flag → IsSeeded seed place
+    → count ≤ 16
+    → IsOutcome IsDispenserState SaysWords (if flag then (Seeded seed (place + count), says.Words seed place count)
+    else (Seeded seed place, says.Full))
 drawn-IsOutcome seed place count true is good few =
-    let room : place + count ≤ 2 ^ 48 = grind (arith, nat_tests) in
+    let room : place + count ≤ last_position = grind (arith, nat_tests) in
     record { state = record { formed = good.formed; within = room }; said = (omega (arith, good.within), few) }
 drawn-IsOutcome seed place count false is good few = record { state = good; said = tt }
 
-pub outcome_of-IsOutcome : (state : State) (request : Option Request) → IsDispenserState state → IsDispenserRequest request → IsOutcome IsDispenserState SaysWords (outcome_of state request)
+pub outcome_of-IsOutcome : (state : State) (request : Option Request) → IsDispenserState state → IsDispenserRequest request
+    → IsOutcome IsDispenserState SaysWords (outcome_of state request)
 outcome_of-IsOutcome Unset (Some (Seed seed)) good asked = record { state = record { formed = asked; within = omega arith }; said = tt }
 outcome_of-IsOutcome (Seeded seed place) (Some (Seed other)) good asked = record { state = good; said = tt }
 outcome_of-IsOutcome Unset (Some (Draw count)) good asked = record { state = tt; said = tt }
-outcome_of-IsOutcome (Seeded seed place) (Some (Draw count)) good asked = drawn-IsOutcome seed place count (nat_le (place + count) (2 ^ 48)) refl good asked
+outcome_of-IsOutcome (Seeded seed place) (Some (Draw count)) good asked =
+    drawn-IsOutcome seed place count (nat_le (place + count) last_position) refl good asked
 outcome_of-IsOutcome Unset None good asked = record { state = tt; said = tt }
 outcome_of-IsOutcome (Seeded seed place) None good asked = record { state = good; said = tt }
 
-drawn-drawn : (seed : List ℕ) (place count : ℕ) (flag : Bool) → nat_le (place + count) (2 ^ 48) ≡ flag
-    → IsDrawn (if◌then◌else◌ {A = State × Says} flag (Seeded seed (place + count), says.Words seed place count) (Seeded seed place, says.Full)).1
+drawn-drawn : (seed : List ℕ) (place count : ℕ) (flag : Bool) → nat_le (place + count) last_position ≡ flag
+    → IsDrawn (if◌then◌else◌ {A = State × Says} flag (Seeded seed (place + count), says.Words seed place count) (
+      Seeded seed place,
+      says.Full,
+    )).1
 drawn-drawn seed place count true is = grind (arith, nat_tests)
 drawn-drawn seed place count false is = tt
 
@@ -100,19 +111,20 @@ pub outcome_of-drawn : (state : State) (request : Option Request) → IsDrawn (o
 outcome_of-drawn Unset (Some (Seed seed)) = tt
 outcome_of-drawn (Seeded seed place) (Some (Seed other)) = tt
 outcome_of-drawn Unset (Some (Draw count)) = tt
-outcome_of-drawn (Seeded seed place) (Some (Draw count)) = drawn-drawn seed place count (nat_le (place + count) (2 ^ 48)) refl
+outcome_of-drawn (Seeded seed place) (Some (Draw count)) = drawn-drawn seed place count (nat_le (place + count) last_position) refl
 outcome_of-drawn Unset None = tt
 outcome_of-drawn (Seeded seed place) None = tt
 
 -- a seed and a place are read back
 seeded_of-joined : (seed : List ℕ) (place : ℕ) → IsSeeded seed place → seeded_of (seed ++ eight_bytes place) ≡ Some (Seeded seed place)
 seeded_of-joined seed place good =
-    let long : length (seed ++ eight_bytes place) ≡ 40 = omega (arith, length-append seed (eight_bytes place), length-eight place, good.formed.long) in
+    let long : length (seed ++ eight_bytes place) ≡ 40 =
+    omega (arith, length-append seed (eight_bytes place), length-eight place, good.formed.long) in
     let counted : (length (seed ++ eight_bytes place) == 40) ≡ true = grind (arith, nat_tests) in
     let front = take-front 32 seed (eight_bytes place) good.formed.long in
     let back = drop-front 32 seed (eight_bytes place) good.formed.long in
     let read : of_eight_bytes (eight_bytes place) ≡ place = of_eight_bytes-eight place (omega (arith, good.within)) in
-    let room : nat_le place (2 ^ 48) ≡ true = let most : place ≤ 2 ^ 48 = good.within in grind (arith, nat_tests) in
+    let room : nat_le place last_position ≡ true = let most : place ≤ last_position = good.within in grind (arith, nat_tests) in
     rw (counted, front, back, read, room) refl
 
 -- a spelling is read back
@@ -127,14 +139,16 @@ abbrev MayBeState : Option State → Type 0
 MayBeState None = Unit {0}
 MayBeState (Some state) = IsDispenserState state
 
-placed-reads : (seed : List ℕ) (place : ℕ) (flag : Bool) → nat_le place (2 ^ 48) ≡ flag → IsValue seed → MayBeState (if flag then Some (Seeded seed place) else None)
+placed-reads : (seed : List ℕ) (place : ℕ) (flag : Bool) → nat_le place last_position ≡ flag → IsValue seed
+    → MayBeState (if flag then Some (Seeded seed place) else None)
 placed-reads seed place true is formed = record { formed = formed; within = grind (arith, nat_tests) }
 placed-reads seed place false is formed = tt
 
-seeded-reads : (bytes : List ℕ) (flag : Bool) → (length bytes == 40) ≡ flag → are_bytes bytes ≡ true → MayBeState (if flag then placed (take 32 bytes) (of_eight_bytes (drop 32 bytes)) else None)
+seeded-reads : (bytes : List ℕ) (flag : Bool) → (length bytes == 40) ≡ flag → are_bytes bytes ≡ true
+    → MayBeState (if flag then placed (take 32 bytes) (of_eight_bytes (drop 32 bytes)) else None)
 seeded-reads bytes true is good =
     let long : length bytes ≡ 40 = grind (arith, nat_tests) in
-    placed-reads (take 32 bytes) (of_eight_bytes (drop 32 bytes)) (nat_le (of_eight_bytes (drop 32 bytes)) (2 ^ 48)) refl
+    placed-reads (take 32 bytes) (of_eight_bytes (drop 32 bytes)) (nat_le (of_eight_bytes (drop 32 bytes)) last_position) refl
     (record { long = length-take-le 32 bytes (omega arith); bytes = are_bytes-take 32 bytes good })
 seeded-reads bytes false is good = tt
 
@@ -150,7 +164,8 @@ state_of-reads : (bytes : List ℕ) → are_bytes bytes ≡ true → MayBeState 
 unfolding state_of
 state_of-reads [] good = tt
 state_of-reads (form ∷ []) good = unset-reads (form == 0)
-state_of-reads (form ∷ first ∷ rest) good = formed-reads (first ∷ rest) (form == 1) (and-true (is_byte form) (are_bytes (first ∷ rest)) good).1
+state_of-reads (form ∷ first ∷ rest) good =
+    formed-reads (first ∷ rest) (form == 1) (and-true (is_byte form) (are_bytes (first ∷ rest)) good).1
 
 read-good : (read : Option State) → MayBeState read → is_some read ≡ true → IsDispenserState (unwrap_or read Unset)
 read-good None reads is = tt
@@ -178,7 +193,11 @@ unfolding state_of
 short-state [] is = omega arith
 short-state (form ∷ []) is = omega arith
 short-state (form ∷ first ∷ rest) is =
-    omega (arith, short-by (first ∷ rest) (form == 1) (length (first ∷ rest) == 40) (placed (take 32 (first ∷ rest)) (of_eight_bytes (drop 32 (first ∷ rest)))) refl is)
+    omega (
+      arith,
+      short-by (first ∷ rest) (form == 1) (length (first ∷ rest) == 40)
+          (placed (take 32 (first ∷ rest)) (of_eight_bytes (drop 32 (first ∷ rest)))) refl is,
+    )
 
 are_bytes-spelling_of : (state : State) → IsDispenserState state → are_bytes (spelling_of state) ≡ true
 are_bytes-spelling_of Unset good = refl
@@ -203,7 +222,12 @@ unbroken-word_text word = is_unbroken-encoded (to_be_bytes w32 word)
 length-words_text : (seed : List ℕ) (place count : ℕ) → length (words_text seed place count) ≡ 9 * count
 length-words_text seed place zero = refl
 length-words_text seed place (suc count) =
-    omega (arith, length-append (word_text (word_of seed place)) (words_text seed (place + 1) count), length-word_text (word_of seed place), length-words_text seed (place + 1) count)
+    omega (
+      arith,
+      length-append (word_text (word_of seed place)) (words_text seed (place + 1) count),
+      length-word_text (word_of seed place),
+      length-words_text seed (place + 1) count,
+    )
 
 unbroken-words_text : (seed : List ℕ) (place count : ℕ) → is_unbroken (words_text seed place count) ≡ true
 unbroken-words_text seed place zero = refl
@@ -218,8 +242,15 @@ text_of-IsText says.Taken is = record { short = omega arith; unbroken = refl }
 text_of-IsText says.Unset is = record { short = omega arith; unbroken = refl }
 text_of-IsText says.Full is = record { short = omega arith; unbroken = refl }
 text_of-IsText (says.Words seed place count) is = record {
-  short = omega (arith, length-append (decimal place) (words_text seed place count), length-decimal place is.0, length-words_text seed place count, is.1);
-  unbroken = list_all-append (λ byte. not (byte == 10)) (decimal place) (words_text seed place count) ∙ and-both _ _ (is_unbroken-decimal place is.0) (unbroken-words_text seed place count);
+  short = omega (
+    arith,
+    length-append (decimal place) (words_text seed place count),
+    length-decimal place is.0,
+    length-words_text seed place count,
+    is.1,
+  );
+  unbroken = list_all-append (λ byte. not (byte == 10)) (decimal place) (words_text seed place count)
+      ∙ and-both _ _ (is_unbroken-decimal place is.0) (unbroken-words_text seed place count);
 }
 text_of-IsText says.Bad is = record { short = omega arith; unbroken = refl }
 
@@ -238,7 +269,10 @@ dispenser_says state request is = text_of-IsText _ (stepped-IsOutcome state requ
 pub dispenser_is_lawful : IsLawful dispenser
 dispenser_is_lawful = record {
   begins = search (rules, dispenser_begins);
-  goes_on = λ state request is. search (rules, is_state-spelling_of (stepped state request).0 (stepped-IsOutcome state request (search (rules, is))).state);
+  goes_on = λ state request is. search (
+    rules,
+    is_state-spelling_of (stepped state request).0 (stepped-IsOutcome state request (search (rules, is))).state,
+  );
   fits = λ state is. let w = state-parts state (search (rules, is)) in omega (arith, short-state state w.1);
   has_bytes = λ state is. All-are_bytes state (state-parts state (search (rules, is))).0;
   says_lines = λ state request is. IsLine-text 170 _ (omega arith) (dispenser_says state request (search (rules, is)));

@@ -26,7 +26,8 @@ places_at outputs i = option_and_then places_told (slice_get outputs i)
 
 -- Of two outputs that tell places, the later one's begin at or behind the end of the earlier one's.
 abbrev pub RisesByPlaces : List (List ℕ) → Type 0
-RisesByPlaces outputs = (i j : ℕ) (p q : Places) → i < j → places_at outputs i ≡ Some p → places_at outputs j ≡ Some q → p.from + p.size ≤ q.from
+RisesByPlaces outputs = (i j : ℕ) (p q : Places) → i < j → places_at outputs i ≡ Some p → places_at outputs j ≡ Some q
+    → p.from + p.size ≤ q.from
 
 -- so it is in every run
 abbrev pub PlacesAreToldOnce : Type 0

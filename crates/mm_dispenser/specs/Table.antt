@@ -1,8 +1,9 @@
 -- The dispenser: a seed that is set once, and the place of the next word.
-use Rattle.std.specs.Prelude.{ℕ, ◌+◌, ◌≤◌, ◌^◌, ◌==◌, ◌&&◌, Bool, nat_le, List, [], ◌∷◌, ◌++◌, length, take, drop, codes, Option, Some, None, is_some, unwrap_or, option_map, option_and_then, if◌then◌else◌}
+use Rattle.std.specs.Prelude.{ℕ, ◌+◌, ◌≤◌, ◌==◌, ◌&&◌, Bool, nat_le, List, [], ◌∷◌, ◌++◌, length, take, drop, codes, Option, Some, None, is_some, unwrap_or, option_map, option_and_then, if◌then◌else◌}
 use Rattle.std.specs.Str.{bytes_eq}
 use Rattle.mm_base.specs.Decimals.{number_of}
 use Rattle.mm_base.specs.Fields.{eight_bytes}
+use Rattle.mm_base.specs.Limits.{last_position}
 use Rattle.mm_module.specs.Bytes.{are_bytes}
 use Rattle.mm_module.specs.Meaning.{Meaning}
 use Rattle.mm_module.specs.Numbers.{of_eight_bytes}
@@ -30,7 +31,7 @@ request_of _ = None
 -- what a draw does to a seed and a place: there are 2^48 places
 abbrev pub drawn_at : List ℕ → ℕ → ℕ → State × Says
 drawn_at seed place count =
-    if nat_le (place + count) (2 ^ 48) then (Seeded seed (place + count), says.Words seed place count)
+    if nat_le (place + count) last_position then (Seeded seed (place + count), says.Words seed place count)
     else (Seeded seed place, says.Full)
 
 -- what a request does, and what is said
@@ -56,12 +57,12 @@ IsDrawn says.Seeded = Unit {0}
 IsDrawn says.Taken = Unit {0}
 IsDrawn says.Unset = Unit {0}
 IsDrawn says.Full = Unit {0}
-IsDrawn (says.Words seed place count) = place + count ≤ 2 ^ 48
+IsDrawn (says.Words seed place count) = place + count ≤ last_position
 IsDrawn says.Bad = Unit {0}
 
 -- a seed with a place, where there is such a place
 abbrev pub placed : List ℕ → ℕ → Option State
-placed seed place = if nat_le place (2 ^ 48) then Some (Seeded seed place) else None
+placed seed place = if nat_le place last_position then Some (Seeded seed place) else None
 
 -- a seed and the 8 bytes of a place
 abbrev pub seeded_of : List ℕ → Option State

@@ -1,12 +1,12 @@
 //! The dispenser as a module.
 
-ghost use Rattle.std.specs.Prelude.{◌≡◌, ◌+◌, ◌≤◌, ◌^◌, None, if◌then◌else◌, IfOk, IsTrue, length};
+ghost use Rattle.std.specs.Prelude.{◌≡◌, ◌+◌, ◌≤◌, None, if◌then◌else◌, IfOk, IsTrue, length};
 ghost use Rattle.mm_module.specs.Words.{words_of};
 ghost use Rattle.mm_dispenser.specs.Table.{IsDrawn, drawing_of, request_of, placed, seeded_of, state_of, outcome_of, drawn_at, text_of, spelling_of, dispenser};
 ghost use Rattle.mm_dispenser.specs.DispenserLaws.{dispenser_is_lawful};
 
 use crate::draws::draw;
-use mm_base::{Bytes, Memory, bytes_of_u64, read_decimal};
+use mm_base::{Bytes, LAST_POSITION, Memory, bytes_of_u64, read_decimal};
 use mm_module::{Module, Stepped, Words, u64_of_bytes, value_in};
 use std::alloc::Global;
 
@@ -19,9 +19,6 @@ use std::alloc::Global;
 /// in eight lower-case digits, and moves on by N.
 #[derive(Clone, Copy, Debug, PartialEq, Eq)]
 pub struct Dispenser;
-
-/// The most places.
-const MOST_PLACES: u64 = 281474976710656;
 
 /// What a dispenser keeps.
 #[derive(Clone, Copy, Debug)]
@@ -80,7 +77,7 @@ fn seeded(bytes: &[u8], place: u64) -> Option<State>
     requires { length bytes.now ≡ 32 }
     ensures { result ≡ placed bytes.now place }
 {
-    if place > MOST_PLACES {
+    if place > LAST_POSITION {
         return None;
     }
     let mut seed = [0; 32];
@@ -116,7 +113,7 @@ fn drawn(seed: [u8; 32], place: u64, count: u8) -> (State, Says)
     ensures { result ≡ drawn_at seed place count }
 {
     match place.checked_add(u64::from(count)) {
-        Some(next) if next <= MOST_PLACES => {
+        Some(next) if next <= LAST_POSITION => {
             let state = State::Seeded { seed, place: next };
             (state, Says::Words { seed, place, count })
         }

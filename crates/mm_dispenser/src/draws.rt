@@ -1,8 +1,9 @@
 //! The words of a seed.
 
-ghost use Rattle.std.specs.Prelude.{◌≡◌, ◌+◌, ◌≤◌, ◌^◌, ◌++◌, IfOk, OnOk};
+ghost use Rattle.std.specs.Prelude.{◌≡◌, ◌+◌, ◌≤◌, ◌++◌, IfOk, OnOk};
 ghost use Rattle.std.specs.Int.{w32, to_be_bytes};
 ghost use Rattle.hex.specs.Hex.{encode_lower};
+ghost use Rattle.mm_base.specs.Limits.{last_position};
 ghost use Rattle.mm_dispenser.specs.Draws.{word_text, drawn_text};
 
 use mm_base::{Bytes, Memory, put_decimal};
@@ -35,7 +36,7 @@ fn put_word(text: &mut Bytes, word: u32) -> Result<(), Memory>
 /// The place, and the words of the seed from there on, each after a space.
 #[tactic(auto, unfolding(crate::specs::Draws::word_of))]
 pub fn draw(alloc: Global, seed: &[u8; 32], place: u64, count: u8) -> Result<Bytes, Memory>
-    requires { place + count ≤ 2 ^ 48 }
+    requires { place + count ≤ last_position }
     ensures { IfOk result (λ text. text ≡ drawn_text seed.now place count) }
 {
     let mut words = ChaCha20Rng::from_seed(*seed);

@@ -1,8 +1,9 @@
 -- A call by lists, step by step.
-use Rattle.std.proofs.Common.{◌≡◌, ℕ, ◌+◌, ◌<◌, ◌≤◌, ◌^◌, Bool, true, false, List, [], ◌∷◌, ◌++◌, map, Option, None, Some, Result, Ok, Err, refl, sym, ap, ◌∙◌, subst, arith, append_assoc}
+use Rattle.std.proofs.Common.{◌≡◌, ℕ, ◌+◌, ◌<◌, ◌≤◌, Bool, true, false, List, [], ◌∷◌, ◌++◌, map, Option, None, Some, Result, Ok, Err, refl, sym, ap, ◌∙◌, subst, arith, append_assoc}
 use Rattle.std.specs.Prelude.{if◌then◌else◌, nat_eq, IfOk}
 use Rattle.std.proofs.lemmas.List.{append-nil}
 use Rattle.std.proofs.lemmas.Bool.Decides.{Decides-eqb}
+use Rattle.mm_base.specs.Limits.{last_position}
 use Rattle.mm_digest.specs.declared.variant.Variant.{Variant}
 use Rattle.mm_digest.specs.declared.variant.Variant.TheVariants.{Basic, Opt}
 use Rattle.mm_platform.specs.declared.fault.StepFault.{StepFault}
@@ -112,11 +113,11 @@ new_last old new stop meddles b w =
     ap (λ (bs : List Batch). is_last bs b) grown ∙ is_last_of old.history.batches b
 
 pub new_few : (old new : Recorded) (stop : Stop) (meddles : List Meddle) (b : Batch) → ChangesBy old new stop meddles b None
-    → Admits old.history b false → total_of new.history.batches ≤ 2 ^ 48
+    → Admits old.history b false → total_of new.history.batches ≤ last_position
 new_few old new stop meddles b w admits =
     let grown = whole_batches old new (changes_on old stop meddles b) b
     (changing_commits (planned (plan_of stop meddles)) old.variant old.history.is_open b) (sym w.broken) w.went in
-    subst (λ n. n ≤ 2 ^ 48) (sym (ap total_of grown ∙ total-push old.history.batches b)) admits.fits
+    subst (λ n. n ≤ last_position) (sym (ap total_of grown ∙ total-push old.history.batches b)) admits.fits
 
 -- whether the total rose tells whether the batch was committed
 kept_when : (same : Bool) (before total size : ℕ) (commit : Bool) → nat_eq total before ≡ same → (commit ≡ true → total ≡ before + size) → 0 < size

@@ -1,6 +1,7 @@
 -- A schedule commits at most 2^48 requests.
-use Rattle.std.proofs.Common.{◌≡◌, ℕ, ◌+◌, ◌≤◌, ◌^◌, Bool, true, false, List, [], ◌∷◌, ◌++◌, Option, None, Some, Result, Ok, Err, refl, sym, ap, ◌∙◌, subst, arith}
+use Rattle.std.proofs.Common.{◌≡◌, ℕ, ◌+◌, ◌≤◌, Bool, true, false, List, [], ◌∷◌, ◌++◌, Option, None, Some, Result, Ok, Err, refl, sym, ap, ◌∙◌, subst, arith}
 use Rattle.std.specs.Prelude.{if◌then◌else◌}
+use Rattle.mm_base.specs.Limits.{last_position}
 use Rattle.mm_digest.specs.declared.variant.Variant.{Variant}
 use Rattle.mm_digest.specs.declared.variant.Variant.TheVariants.{Basic, Opt}
 use Rattle.mm_platform.specs.declared.plan.Meddle.{Meddle}
@@ -33,10 +34,10 @@ use Rattle.mm_expect.proofs.PrintLaws.{commits_any}
 
 -- the history has at most so many requests
 abbrev pub IsFew : History → Type 0
-IsFew y = total_of y.batches ≤ 2 ^ 48
+IsFew y = total_of y.batches ≤ last_position
 
 still_few : (i : Instance) (moves : List Move) (y : History) → committed_in moves ≡ [] → IsFew y → IsFew (all_made (by_lists i) y moves)
-still_few i moves y none few = subst (λ n. n ≤ 2 ^ 48) (sym (ap total_of (same_batches i moves y none))) few
+still_few i moves y none few = subst (λ n. n ≤ last_position) (sym (ap total_of (same_batches i moves y none))) few
 
 not_again : (again : Bool) → (if again then false else true) ≡ true → again ≡ false
 not_again true e = cc
@@ -52,7 +53,7 @@ walked_few i y seen b found walked same admits (nothing none unless) few = still
 walked_few i y seen b found walked same admits (batch one is) few =
     let f = fresh_found found is in
     let a : Admits seen b false = subst (Admits seen b) f.2 (admits f.0 f.1) in
-    subst (λ n. n ≤ 2 ^ 48)
+    subst (λ n. n ≤ last_position)
     (sym (ap total_of (more_batches i walked.moves y b one) ∙ total-push y.batches b ∙ ap (λ (bs : List Batch). total_of bs + size_of b) (sym same))) a.fits
 
 called_few : (i : Instance) (y : History) (course : Course) (bytes : List ℕ) (b : Batch) → IsFew y → IsFew (called i (by_lists i) y course bytes b).state

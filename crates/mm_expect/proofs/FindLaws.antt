@@ -1,9 +1,10 @@
 -- What is found of an offer.
-use Rattle.std.proofs.Common.{◌≡◌, ℕ, ◌+◌, ◌≤◌, ◌^◌, Bool, true, false, ◌&&◌, List, Result, Ok, Err, refl, subst}
+use Rattle.std.proofs.Common.{◌≡◌, ℕ, ◌+◌, ◌≤◌, Bool, true, false, ◌&&◌, List, Result, Ok, Err, refl, subst}
 use Rattle.std.specs.Prelude.{nat_eq, nat_le}
 use Rattle.std.specs.Str.{bytes_eq}
 use Rattle.std.proofs.lemmas.Bool.{and_parts, leb-true}
 use Rattle.std.proofs.lemmas.Bool.Decides.{Decides-eqb}
+use Rattle.mm_base.specs.Limits.{last_position}
 use Rattle.mm_module.specs.Batch.{Batch, size_of}
 use Rattle.mm_seal.specs.declared.snapshot.PartsFault.{PartsFault}
 use Rattle.mm_seal.specs.declared.snapshot.PartsFault.TheVariants.{Form, Kind}
@@ -36,24 +37,24 @@ admitted_live Live here repeat fits again e = admitted_tells here repeat fits ag
 admitted_live Spoiled here repeat fits again e = cc
 admitted_live LostLife here repeat fits again e = cc
 
-fits_when : (again : Bool) (position total size : ℕ) (last : Bool) → position + size ≤ 2 ^ 48
+fits_when : (again : Bool) (position total size : ℕ) (last : Bool) → position + size ≤ last_position
     → (again ≡ false → nat_eq position total ≡ true) → (again ≡ true → (nat_eq (position + size) total && last) ≡ true)
-    → reached again total size ≤ 2 ^ 48
+    → reached again total size ≤ last_position
 fits_when true position total size last fits here repeat =
     let at : position + size ≡ total = (Decides-eqb (position + size) total).0 (and_parts (nat_eq (position + size) total) last (repeat refl)).0 in
-    subst (λ n. n ≤ 2 ^ 48) at fits
+    subst (λ n. n ≤ last_position) at fits
 fits_when false position total size last fits here repeat =
     let at : position ≡ total = (Decides-eqb position total).0 (here refl) in
-    subst (λ n. n + size ≤ 2 ^ 48) at fits
+    subst (λ n. n + size ≤ last_position) at fits
 
 pub admits_when : (i : Instance) (y : History) (b : Batch) (snapshot : Snapshot) (again : Bool)
     → examined i.meaning i.key snapshot b (judge i.variant y snapshot.content.position b) ≡ Ok again
-    → snapshot.content.position + size_of b ≤ 2 ^ 48 → Admits y b again
+    → snapshot.content.position + size_of b ≤ last_position → Admits y b again
 admits_when i y b snapshot again e fits =
     let w = weighed_tells (i.meaning.is_spelled snapshot.content.state) (bytes_eq snapshot.tag (tag_of i.key snapshot.content)) _ _ again e in
     let here = nat_eq snapshot.content.position (total_of y.batches) in
     let repeat = nat_eq (snapshot.content.position + size_of b) (total_of y.batches) && is_last y.batches b in
-    let a = admitted_live (life_of i.variant y) here repeat (nat_le (snapshot.content.position + size_of b) (2 ^ 48)) again w.2 in
+    let a = admitted_live (life_of i.variant y) here repeat (nat_le (snapshot.content.position + size_of b) last_position) again w.2 in
     record {
       fits = fits_when again snapshot.content.position (total_of y.batches) (size_of b) (is_last y.batches b) fits a.0 a.1;
       repeats = λ is. (and_parts (nat_eq (snapshot.content.position + size_of b) (total_of y.batches)) (is_last y.batches b) (a.1 is)).1;
@@ -67,8 +68,8 @@ admitted_yes Again false again e = cc
 admitted_yes Lost fits again e = cc
 admitted_yes Stale fits again e = cc
 
-admitted_fits : (v : Verdict) (n : ℕ) (again : Bool) → admitted v (nat_le n (2 ^ 48)) ≡ Ok again → n ≤ 2 ^ 48
-admitted_fits v n again e = leb-true n (2 ^ 48) (admitted_yes v (nat_le n (2 ^ 48)) again e)
+admitted_fits : (v : Verdict) (n : ℕ) (again : Bool) → admitted v (nat_le n last_position) ≡ Ok again → n ≤ last_position
+admitted_fits v n again e = leb-true n last_position (admitted_yes v (nat_le n last_position) again e)
 
 -- what is found admits the batch
 from_admits : (i : Instance) (y : History) (b : Batch) (parts : Result Snapshot PartsFault) (f : Found)

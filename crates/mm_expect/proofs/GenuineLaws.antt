@@ -1,5 +1,5 @@
 -- Whether an offer is genuine, by whether what it says names a position.
-use Rattle.std.proofs.Common.{◌≡◌, ℕ, zero, suc, ◌≤◌, ◌^◌, ◌&&◌, Bool, true, false, List, [], ◌∷◌, length, None, Some, Result, Ok, Err, refl, sym, ap, ◌∙◌, subst, arith, get_or}
+use Rattle.std.proofs.Common.{◌≡◌, ℕ, zero, suc, ◌≤◌, ◌&&◌, Bool, true, false, List, [], ◌∷◌, length, None, Some, Result, Ok, Err, refl, sym, ap, ◌∙◌, subst, arith, get_or}
 use Rattle.std.specs.Prelude.{if◌then◌else◌, slice_get}
 use Rattle.std.specs.Str.{bytes_eq}
 use Rattle.std.specs.List.{AllByRecursion}
@@ -16,7 +16,7 @@ use Rattle.mm_seal.specs.declared.snapshot.PartsFault.{PartsFault}
 use Rattle.mm_seal.specs.Parts.{parts_of}
 use Rattle.mm_seal.specs.Snapshot.{Content, Snapshot, IsContent, IsPlace, tag_of, offered_of, sealed_of, snapshot_front}
 use Rattle.mm_seal.proofs.SealLaws.{sealed_parts, sealed_once}
-use Rattle.mm_base.specs.Limits.{limit_of}
+use Rattle.mm_base.specs.Limits.{last_position, limit_of}
 use Rattle.mm_model.specs.Chains.{link_message, closing_message, summary_of, register_of, anchor_of}
 use Rattle.mm_model.specs.Instance.{Instance, basic, opt}
 use Rattle.mm_model.specs.History.{History, requests_of, total_of}
@@ -101,7 +101,7 @@ same_id : (key other : List ℕ) (x z : Content) → sealed_of key x ≡ sealed_
 unfolding sealed_of snapshot_front
 same_id key other x z e = ap (λ (xs : List ℕ). get_or xs 5 0) e
 
-formed_by : (i : Instance) (y : History) (content : Content) → IsLawful i.meaning → total_of y.batches ≤ 2 ^ 48 → content.id ≡ i.meaning.id → ((named : List Batch) → IsPlaceOf i.variant i y named content.place → IsPlace content.place) → Names i y content → IsContent content
+formed_by : (i : Instance) (y : History) (content : Content) → IsLawful i.meaning → total_of y.batches ≤ last_position → content.id ≡ i.meaning.id → ((named : List Batch) → IsPlaceOf i.variant i y named content.place → IsPlace content.place) → Names i y content → IsContent content
 formed_by i y content lawful few id sized n = record {
   place = sized n.named n.place;
   position = omega (arith, n.position, few, ap total_of n.first, total-append n.named n.rest);
@@ -110,7 +110,7 @@ formed_by i y content lawful few id sized n = record {
       (lawful.fits (state_after i.meaning (requests_of n.named)) (state_after-is_spelled i.meaning lawful (requests_of n.named))));
 }
 
-issued_by : (i : Instance) (y : History) (bytes : List ℕ) → IsLawful i.meaning → total_of y.batches ≤ 2 ^ 48 → ((named : List Batch) (place : Place) → IsPlaceOf i.variant i y named place → IsPlace place) → IsIssued i y bytes → IsGenuine i y bytes
+issued_by : (i : Instance) (y : History) (bytes : List ℕ) → IsLawful i.meaning → total_of y.batches ≤ last_position → ((named : List Batch) (place : Place) → IsPlaceOf i.variant i y named place → IsPlace place) → IsIssued i y bytes → IsGenuine i y bytes
 issued_by i y bytes lawful few sized s = λ content right.
     let id : s.content.id ≡ i.meaning.id = same_id i.key i.key s.content content (sym s.sealed ∙ right.sealed) ∙ right.id in
     let formed : IsContent s.content = formed_by i y s.content lawful few id (λ named p. sized named s.content.place p) s.names in

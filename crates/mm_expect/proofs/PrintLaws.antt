@@ -1,7 +1,8 @@
 -- Each expected reply can be printed, and an event issues at most one snapshot.
-use Rattle.std.proofs.Common.{◌≡◌, ℕ, ◌+◌, ◌-◌, ◌≤◌, ◌^◌, Bool, true, false, List, [], ◌∷◌, length, Option, None, Some, Result, Ok, Err, refl, sym, ap, ◌∙◌, subst, arith}
+use Rattle.std.proofs.Common.{◌≡◌, ℕ, ◌+◌, ◌-◌, ◌≤◌, Bool, true, false, List, [], ◌∷◌, length, Option, None, Some, Result, Ok, Err, refl, sym, ap, ◌∙◌, subst, arith}
 use Rattle.std.specs.Prelude.{if◌then◌else◌, All, IsTrue}
 use Rattle.std.proofs.lemmas.List.Elements.{All-nil, All-cons}
+use Rattle.mm_base.specs.Limits.{last_position, longest_request}
 use Rattle.mm_digest.specs.declared.variant.Variant.{Variant}
 use Rattle.mm_digest.specs.declared.variant.Variant.TheVariants.{Basic, Opt}
 use Rattle.mm_platform.specs.declared.fault.StepFault.{StepFault}
@@ -40,18 +41,18 @@ use Rattle.mm_expect.proofs.Asking.{foreign_batches, last_pushed}
 use Rattle.mm_expect.proofs.FindLaws.{admits_found}
 
 short_outputs : (meaning : Meaning) → IsLawful meaning → (state : List ℕ) (requests : List (List ℕ)) → IsTrue (meaning.is_spelled state)
-    → All (λ (o : List ℕ). length o ≤ 4096) (outputs_from meaning state requests)
-short_outputs meaning lawful state [] spelled = All-nil (λ (o : List ℕ). length o ≤ 4096)
+    → All (λ (o : List ℕ). length o ≤ longest_request) (outputs_from meaning state requests)
+short_outputs meaning lawful state [] spelled = All-nil (λ (o : List ℕ). length o ≤ longest_request)
 short_outputs meaning lawful state (request ∷ requests) spelled =
-    All-cons (λ (o : List ℕ). length o ≤ 4096) (meaning.says state request) (outputs_from meaning (meaning.next state request) requests)
+    All-cons (λ (o : List ℕ). length o ≤ longest_request) (meaning.says state request) (outputs_from meaning (meaning.next state request) requests)
     (lawful.says_lines state request spelled).short
     (short_outputs meaning lawful (meaning.next state request) requests (lawful.goes_on state request spelled))
 
-back_again : (total size n : ℕ) → size ≤ total → n ≡ size → total ≤ 2 ^ 48 → total - n + n ≤ 2 ^ 48
+back_again : (total size n : ℕ) → size ≤ total → n ≡ size → total ≤ last_position → total - n + n ≤ last_position
 back_again total size n l e few = omega (arith, l, e, few)
 
 -- the reply that tells an answer to the last batch
-told_printable : (i : Instance) → IsLawful i.meaning → (y : History) (b : Batch) (again : Bool) → is_last y.batches b ≡ true → total_of y.batches ≤ 2 ^ 48
+told_printable : (i : Instance) → IsLawful i.meaning → (y : History) (b : Batch) (again : Bool) → is_last y.batches b ≡ true → total_of y.batches ≤ last_position
     → IsPrintable (told_reply (answer_on i y b again))
 told_printable i lawful y b again last few =
     let h = is_last_tells y.batches b last in
@@ -61,7 +62,7 @@ told_printable i lawful y b again last few =
     let many : total_of y.batches ≡ total_of h.front + size_of b = ap total_of h.is ∙ total-push h.front b in
     let size : length (last_outputs i.meaning y (size_of b)) ≡ size_of b =
     ap (λ (v : List (List ℕ)). length v) same ∙ length-outputs_from i.meaning start (members_of b) in (
-      subst (λ (v : List (List ℕ)). All (λ (o : List ℕ). length o ≤ 4096) v) (sym same)
+      subst (λ (v : List (List ℕ)). All (λ (o : List ℕ). length o ≤ longest_request) v) (sym same)
           (short_outputs i.meaning lawful start (members_of b) (state_after-is_spelled i.meaning lawful (requests_of h.front))),
       back_again (total_of y.batches) (size_of b) (length (last_outputs i.meaning y (size_of b))) (omega (arith, many)) size few,
     )
@@ -73,16 +74,16 @@ broken_printable way false position = tt
 -- what a walk leaves of the batches, where it ends well
 ends_by : (i : Instance) (y seen : History) (b : Batch) (again : Bool) (walked : Walked) → seen.batches ≡ y.batches → Admits seen b again
     → Commits b (if again then false else true) walked → walked.broken ≡ None
-    → (is_last (all_made (by_lists i) y walked.moves).batches b ≡ true) × (total_of (all_made (by_lists i) y walked.moves).batches ≤ 2 ^ 48)
+    → (is_last (all_made (by_lists i) y walked.moves).batches b ≡ true) × (total_of (all_made (by_lists i) y walked.moves).batches ≤ last_position)
 ends_by i y seen b true walked same admits (nothing none unless) whole =
     let stays = same_batches i walked.moves y none ∙ sym same in
-    (ap (λ (bs : List Batch). is_last bs b) stays ∙ admits.repeats refl, subst (λ n. n ≤ 2 ^ 48) (sym (ap total_of stays)) admits.fits)
+    (ap (λ (bs : List Batch). is_last bs b) stays ∙ admits.repeats refl, subst (λ n. n ≤ last_position) (sym (ap total_of stays)) admits.fits)
 ends_by i y seen b true walked same admits (batch one is) whole = cc
 ends_by i y seen b false walked same admits (nothing none unless) whole = let no : true ≡ false = unless whole in cc
 ends_by i y seen b false walked same admits (batch one is) whole =
     let grown = more_batches i walked.moves y b one in (
       ap (λ (bs : List Batch). is_last bs b) grown ∙ last_pushed y.batches b,
-      subst (λ n. n ≤ 2 ^ 48) (sym (ap total_of grown ∙ total-push y.batches b ∙ ap (λ (bs : List Batch). total_of bs + size_of b) (sym same))) admits.fits,
+      subst (λ n. n ≤ last_position) (sym (ap total_of grown ∙ total-push y.batches b ∙ ap (λ (bs : List Batch). total_of bs + size_of b) (sym same))) admits.fits,
     )
 
 ended_printable : (i : Instance) → IsLawful i.meaning → (way : Way) (y seen : History) (b : Batch) (found : Result Found Refusal) (walked : Walked)

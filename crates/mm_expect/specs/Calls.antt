@@ -1,5 +1,6 @@
 -- What a call comes to, as a chronicle goes on by it.
-use Rattle.std.specs.Prelude.{◌≡◌, ℕ, ◌+◌, ◌≤◌, ◌^◌, Bool, true, false, List, [], ◌∷◌, Option, None, Some, Result, Ok, Err}
+use Rattle.std.specs.Prelude.{◌≡◌, ℕ, ◌+◌, ◌≤◌, Bool, true, false, List, [], ◌∷◌, Option, None, Some, Result, Ok, Err}
+use Rattle.mm_base.specs.Limits.{last_position}
 use Rattle.mm_digest.specs.declared.variant.Variant.{Variant}
 use Rattle.mm_digest.specs.declared.variant.Variant.TheVariants.{Basic, Opt}
 use Rattle.mm_platform.specs.declared.fault.StepFault.{StepFault}
@@ -32,7 +33,7 @@ reached false total size = total + size
 
 -- There are positions left for the batch; and one that is a repeat is the last.
 pub record Admits (y : History) (b : Batch) (again : Bool) : Type 0 where
-  pub fits : reached again (total_of y.batches) (size_of b) ≤ 2 ^ 48
+  pub fits : reached again (total_of y.batches) (size_of b) ≤ last_position
   pub repeats : again ≡ true → is_last y.batches b ≡ true
 
 -- the steps behind the reading ones, of a call whose batch is a new one

@@ -22,7 +22,8 @@ abbrev pub called_on : Recorded → Stop → List Meddle → List ℕ → Batch 
 called_on old stop meddles bytes b = called (instance_of old) (by_lists (instance_of old)) old.history (course_of stop meddles) bytes b
 
 -- The chronicle went on by a call in a schedule: what is said of it, and the messages behind those before.
-pub record WentByCall (old new : Recorded) (stop : Stop) (meddles : List Meddle) (bytes : List ℕ) (b : Batch) (front back : List (List ℕ)) (said : Said) : Type 0 where
+pub record WentByCall (old new : Recorded) (stop : Stop) (meddles : List Meddle) (bytes : List ℕ) (b : Batch) (front back : List (List ℕ))
+    (said : Said) : Type 0 where
   pub variant : new.variant ≡ old.variant
   pub «module» : new.«module» ≡ old.«module»
   pub state : new.history ≡ all_made (by_lists (instance_of old)) (called_on old stop meddles bytes b).state
@@ -37,7 +38,8 @@ abbrev pub outcome_on : Recorded → List (List ℕ) → Event → Outcome Histo
 outcome_on old issued event = outcome_of (instance_of old) (by_lists (instance_of old)) old.history issued event
 
 -- The chronicle went on by an event.
-pub record WentByEvent (old new : Recorded) (issued : List (List ℕ)) (event : Event) (front back : List (List ℕ)) (said : Said) : Type 0 where
+pub record WentByEvent (old new : Recorded) (issued : List (List ℕ)) (event : Event) (front back : List (List ℕ))
+    (said : Said) : Type 0 where
   pub variant : new.variant ≡ old.variant
   pub «module» : new.«module» ≡ old.«module»
   pub state : new.history ≡ (outcome_on old issued event).state

@@ -1,6 +1,7 @@
 -- Whether an offer is genuine, by whether what it says names a position.
-use Rattle.std.specs.Prelude.{◌≡◌, ℕ, ◌≤◌, ◌^◌, Bool, List, Some, None, slice_get}
+use Rattle.std.specs.Prelude.{◌≡◌, ℕ, ◌≤◌, Bool, List, Some, None, slice_get}
 use Rattle.std.specs.List.{AllByRecursion}
+use Rattle.mm_base.specs.Limits.{last_position}
 use Rattle.mm_module.specs.Meaning.{Meaning, IsLawful}
 use Rattle.mm_seal.specs.Snapshot.{Content}
 use Rattle.mm_model.specs.Instance.{Instance, basic, opt}
@@ -20,7 +21,7 @@ pub record OffersAreDecided (i : Instance) : Type 0 where
 -- An issued snapshot is genuine, where each issued one names a position.
 abbrev pub IssuedAreGenuine : Instance → Type 0
 IssuedAreGenuine i = (y : History) (issued : List (List ℕ)) (number : ℕ) (bytes : List ℕ) →
-    IsLawful i.meaning → total_of y.batches ≤ 2 ^ 48 → AllByRecursion (IsIssued i y) issued →
+    IsLawful i.meaning → total_of y.batches ≤ last_position → AllByRecursion (IsIssued i y) issued →
     slice_get issued number ≡ Some bytes → IsGenuine i y bytes
 
 abbrev pub EachOfferIsDecided : Type 0

@@ -1,6 +1,7 @@
 -- Whether an offer is genuine, as it is decided beside the fold by lists.
-use Rattle.std.specs.Prelude.{ℕ, ◌≤◌, ◌^◌, Bool, List}
+use Rattle.std.specs.Prelude.{ℕ, ◌≤◌, Bool, List}
 use Rattle.std.specs.List.{AllByRecursion}
+use Rattle.mm_base.specs.Limits.{last_position}
 use Rattle.mm_model.specs.Instance.{Instance}
 use Rattle.mm_model.specs.History.{History, total_of}
 use Rattle.mm_schedule.specs.declared.event.Offer.{Offer}
@@ -15,7 +16,7 @@ use Rattle.mm_expect.specs.Traced.{Traced, IsAfter}
 
 -- what holds of each history that a schedule leads to: few requests are committed, and each issued snapshot names a position
 pub record AreIssued (i : Instance) (y : History) (issued : List (List ℕ)) : Type 0 where
-  pub few : total_of y.batches ≤ 2 ^ 48
+  pub few : total_of y.batches ≤ last_position
   pub names : AllByRecursion (IsIssued i y) issued
 
 -- It is decided whether what is offered is genuine.
@@ -28,4 +29,5 @@ DecidesEvent i y issued event is_genuine = AreIssued i y issued → IsDecided is
 -- It is decided whether the event is genuine, from where the expected run of some events stands.
 abbrev pub DecidesLater : Traced → Event → Bool → Type 0
 DecidesLater it event is_genuine =
-    (header : Header) (events : List Event) → IsAfter header events it → IsDecided is_genuine (IsGenuineEvent (world_of header) it.history it.issued event)
+    (header : Header) (events : List Event) → IsAfter header events it
+    → IsDecided is_genuine (IsGenuineEvent (world_of header) it.history it.issued event)

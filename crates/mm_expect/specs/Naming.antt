@@ -56,7 +56,8 @@ abbrev pub is_within : (start : ℕ) → List Batch → (size : ℕ) (ends : Boo
 is_within start named size ends = nat_le (length named - start) size || ends
 
 -- at the segment that comes next
-abbrev pub is_here : (is_clean : Bool) (barrier here : List ℕ) (start : ℕ) → List Batch → (size : ℕ) (ends : Bool) → (anchor extension : List ℕ) → Bool
+abbrev pub is_here : (is_clean : Bool) (barrier here : List ℕ) (start : ℕ) → List Batch → (size : ℕ) (ends : Bool)
+    → (anchor extension : List ℕ) → Bool
 is_here is_clean barrier here start named size ends anchor extension =
     is_at is_clean here start named anchor extension
     || (is_behind barrier here start named anchor extension && is_within start named size ends)
@@ -68,7 +69,8 @@ is_inside_at barrier last y named anchor extension =
     same_batches (drop start y.batches) y.current && is_behind barrier last start named anchor extension
 
 -- some place, from these segments on
-abbrev pub some_place : ℕ → (barrier : List ℕ) → History → List Batch → (anchor extension : List ℕ) → (before rest : List (List Entry)) → Bool
+abbrev pub some_place : ℕ → (barrier : List ℕ) → History → List Batch → (anchor extension : List ℕ) → (before rest : List (List Entry))
+    → Bool
 some_place id barrier y named anchor extension before [] =
     is_at (not (has_value (joined before))) (anchor_at id barrier before) (length (joined before)) named anchor extension
     || is_inside_at barrier (anchor_at id barrier y.closed) y named anchor extension

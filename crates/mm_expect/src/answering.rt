@@ -1,6 +1,7 @@
 //! What a call answers.
 
 ghost use Rattle.std.specs.Prelude.{◌≡◌};
+ghost use Rattle.mm_base.specs.Limits.{last_position};
 
 use crate::chronicle::Chronicle;
 use mm_base::{Bytes, Memory};
@@ -11,7 +12,7 @@ use mm_module::{Batch, Module};
 use mm_seal::{Body, Place, seal_under};
 
 impl Chronicle {
-    ghost use Rattle.std.specs.Prelude.{◌≡◌, ◌≤◌, ◌^◌, true, false, IfOk};
+    ghost use Rattle.std.specs.Prelude.{◌≡◌, ◌≤◌, true, false, IfOk};
     ghost use Rattle.mm_module.specs.Batches.{batch_of};
     ghost use Rattle.mm_model.specs.History.{total_of};
     ghost use Rattle.mm_model.specs.Judge.{is_last};
@@ -25,7 +26,8 @@ impl Chronicle {
 
     // Where the snapshot of an answer stands.
     fn place_now(&self) -> Place
-        ensures { result ≡ issued_place self.now.variant self.now.history.is_open (instance_of self.now) self.now.history }
+        ensures { result ≡ issued_place self.now.variant self.now.history.is_open
+            (instance_of self.now) self.now.history }
     {
         match self.variant {
             Variant::Basic => Place::Basic(self.marks.cell),
@@ -44,8 +46,9 @@ impl Chronicle {
     /// The snapshot of an answer.
     pub(crate) fn snapshot(&self, key: &HmacKey) -> Result<Bytes, Memory>
         requires key { key.now ≡ world_key }
-        requires few { total_of self.now.history.batches ≤ 2 ^ 48 }
-        ensures { IfOk result (λ bytes. bytes ≡ issued_bytes (instance_of self.now) self.now.history) }
+        requires few { total_of self.now.history.batches ≤ last_position }
+        ensures { IfOk result
+            (λ bytes. bytes ≡ issued_bytes (instance_of self.now) self.now.history) }
     {
         let body = Body {
             module: self.module.id(),
@@ -64,10 +67,12 @@ impl Chronicle {
         again: bool,
     ) -> Result<Ended, Memory>
         requires key { key.now ≡ world_key }
-        requires few { total_of self.now.history.batches ≤ 2 ^ 48 }
+        requires few { total_of self.now.history.batches ≤ last_position }
         requires short { is_long (batch_of batch) ≡ false }
         requires last { is_last self.now.history.batches (batch_of batch) ≡ true }
-        ensures { IfOk result (λ ended. ended ≡ Answered (answer_on (instance_of self.now) self.now.history (batch_of batch.entry) again)) }
+        ensures { IfOk result
+            (λ ended. ended ≡ Answered
+            (answer_on (instance_of self.now) self.now.history (batch_of batch.entry) again)) }
     {
         let Ran { outputs, .. } = run_batch(
             self.alloc,

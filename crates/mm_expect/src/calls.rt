@@ -30,7 +30,8 @@ impl Chronicle {
     // The steps of a call up to its last reading step.
     fn read(&mut self, course: &Course<'_>) -> Result<Option<StepFault>, Memory>
         ensures { IfOk result (Walks self.old self.new
-            (walk (planned (plan_of course.now.stop course.now.meddles.now)) 1 (reading_steps self.old.variant))) }
+            (walk (planned (plan_of course.now.stop course.now.meddles.now)) 1
+            (reading_steps self.old.variant))) }
     {
         match self.variant {
             Variant::Basic => self.walk(course, 1, &[Step::Reads]),
@@ -41,7 +42,8 @@ impl Chronicle {
     // The steps behind the reading ones, of a call whose batch is a new one.
     fn change(&mut self, course: &Course<'_>, batch: Batch<'_>) -> Result<Option<StepFault>, Memory>
         requires { is_long (batch_of batch) ≡ false }
-        ensures { IfOk result (ChangesBy self.old self.new course.now.stop course.now.meddles.now (batch_of batch.entry)) }
+        ensures { IfOk result (ChangesBy self.old self.new course.now.stop course.now.meddles.now
+            (batch_of batch.entry)) }
     {
         match self.variant {
             Variant::Basic => self.walk(course, 2, &[Step::Writes(Move::Commit(batch))]),
@@ -73,7 +75,9 @@ impl Chronicle {
     ) -> Result<Ended, Memory>
         requires key { key.now ≡ world_key }
         requires short { is_long (batch_of batch) ≡ false }
-        ensures { IfOk result (CallsBy self.old self.new (called (instance_of self.old) (by_lists (instance_of self.old)) self.old.history
+        ensures { IfOk result
+            (CallsBy self.old self.new
+            (called (instance_of self.old) (by_lists (instance_of self.old)) self.old.history
             (course_of course.now.stop course.now.meddles.now) bytes.now (batch_of batch.entry))) }
     {
         if let Some(fault) = self.read(course)? {
@@ -99,7 +103,8 @@ impl Chronicle {
         requires key { key.now ≡ world_key }
         requires short { is_long (batch_of batch) ≡ false }
         requires admits { Admits self.old.history (batch_of batch) false }
-        ensures { IfOk result (GoesOnNew self.old self.new course.now.stop course.now.meddles.now (batch_of batch.entry)) }
+        ensures { IfOk result (GoesOnNew self.old self.new course.now.stop course.now.meddles.now
+            (batch_of batch.entry)) }
     {
         let before = self.total();
         match self.change(course, batch)? {
@@ -114,7 +119,10 @@ impl Chronicle {
 
     /// A checkpoint.
     pub(crate) fn checkpoint(&mut self, course: &Course<'_>) -> Result<Closing, Memory>
-        ensures { IfOk result (WentByCheckpoint self.old self.new (checkpointed (instance_of self.old) (by_lists (instance_of self.old)) self.old.history
+        ensures { IfOk result
+            (WentByCheckpoint self.old self.new
+            (checkpointed (instance_of self.old) (by_lists (instance_of self.old))
+            self.old.history
             (course_of course.now.stop course.now.meddles.now))) }
     {
         match self.variant {
@@ -131,7 +139,10 @@ impl Chronicle {
 
     // A checkpoint that reads the cell alone, and ends so unless it is broken off.
     fn check_shut(&mut self, course: &Course<'_>, closing: Closing) -> Result<Closing, Memory>
-        ensures { IfOk result (ShutBy self.old self.new (walk (planned (plan_of course.now.stop course.now.meddles.now)) 1 (Reads ∷ [])) closing) }
+        ensures { IfOk result
+            (ShutBy self.old self.new
+            (walk (planned (plan_of course.now.stop course.now.meddles.now)) 1 (Reads ∷ []))
+            closing) }
     {
         match self.walk(course, 1, &[Step::Reads])? {
             None => Ok(closing),
@@ -146,7 +157,10 @@ impl Chronicle {
     fn check_open(&mut self, course: &Course<'_>) -> Result<Closing, Memory>
         requires variant { self.old.variant ≡ Opt }
         requires inside { self.old.history.is_open ≡ true }
-        ensures { IfOk result (WentByCheckpoint self.old self.new (checkpointed (instance_of self.old) (by_lists (instance_of self.old)) self.old.history
+        ensures { IfOk result
+            (WentByCheckpoint self.old self.new
+            (checkpointed (instance_of self.old) (by_lists (instance_of self.old))
+            self.old.history
             (course_of course.now.stop course.now.meddles.now))) }
     {
         if let Some(fault) = self.walk(course, 1, &[Step::Reads, Step::Reads])? {

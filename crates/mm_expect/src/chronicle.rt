@@ -47,7 +47,8 @@ impl Model for Chronicle {
       closing = s.closing.items;
     } };
 
-    ghost invariant = { λ s. IsSettled s.variant s.«module» s.barrier s.lists s.marks s.state s.before };
+    ghost invariant = { λ s. IsSettled s.variant s.«module» s.barrier s.lists s.marks s.state
+        s.before };
 }
 
 impl Chronicle {
@@ -101,7 +102,8 @@ impl Chronicle {
         ensures history { self.new.history ≡ self.old.history }
         ensures variant { self.new.variant ≡ self.old.variant }
         ensures module { self.new.«module» ≡ self.old.«module» }
-        ensures messages { OnOk result (messages.new.items ≡ messages.old.items ++ (self.old.extending ++ self.old.closing)) }
+        ensures messages { OnOk result
+            (messages.new.items ≡ messages.old.items ++ (self.old.extending ++ self.old.closing)) }
     {
         messages.append(&mut self.extending)?;
         messages.append(&mut self.closing)?;
@@ -112,7 +114,8 @@ impl Chronicle {
     fn tell_extension(&mut self, value: &Digest) -> Result<(), Memory>
         ensures { OnOk result (self.new ≡ record self.old {
           extending = self.old.extending
-              ++ extension_messages self.old.variant (register_value_of (instance_of self.old) self.old.history) value.now.bytes;
+              ++ extension_messages self.old.variant
+              (register_value_of (instance_of self.old) self.old.history) value.now.bytes;
         }) }
     {
         if let Variant::Opt = self.variant {
@@ -153,7 +156,8 @@ impl Chronicle {
     fn tell_closing(&mut self) -> Result<(), Memory>
         ensures { OnOk result (self.new ≡ record self.old {
           closing = self.old.closing
-              ++ closing_listed self.old.variant (cell_digest_of (instance_of self.old) self.old.variant self.old.history)
+              ++ closing_listed self.old.variant
+              (cell_digest_of (instance_of self.old) self.old.variant self.old.history)
               (register_value_of (instance_of self.old) self.old.history);
         }) }
     {
@@ -242,7 +246,10 @@ impl Chronicle {
         requires fits { total_of self.old.history.batches + size < 2 ^ 64 }
         requires state { state ≡ state_after_batch self.old (batch_of batch) }
         requires guards { value.now.bytes ≡ guard (instance_of self.old).barrier (batch_of batch) }
-        ensures { OnOk result (self.new ≡ record self.old { history = committed Opt true self.old.history (batch_of batch.entry) }) }
+        ensures { OnOk result
+            (self.new ≡ record self.old {
+              history = committed Opt true self.old.history (batch_of batch.entry);
+            }) }
     {
         self.lists.add_inside(batch)?;
         self.marks = self.marks.grown(size, value);

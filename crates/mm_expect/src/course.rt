@@ -88,7 +88,8 @@ impl Chronicle {
 
     // What others put into the register just before the step of this number.
     fn bring_due(&mut self, course: &Course<'_>, step: u8) -> Result<(), Memory>
-        ensures { OnOk result (Went self.old self.new (map Foreign (due step course.now.meddles.now))) }
+        ensures { OnOk result
+            (Went self.old self.new (map Foreign (due step course.now.meddles.now))) }
     {
         'meddles: for meddle in course.meddles {
             if meddle.step == step {
@@ -107,7 +108,9 @@ impl Chronicle {
         is_made: bool,
     ) -> Result<(), Memory>
         requires { IsShortStep step.now }
-        ensures { OnOk result (Went self.old self.new (step_moves (step_as step.now) is_made (due number course.now.meddles.now))) }
+        ensures { OnOk result
+            (Went self.old self.new
+            (step_moves (step_as step.now) is_made (due number course.now.meddles.now))) }
     {
         match step {
             Step::Reads => self.bring_due(course, number),
@@ -131,7 +134,10 @@ impl Chronicle {
     ) -> Result<Option<StepFault>, Memory>
         requires short { AreShort steps.now }
         requires few { number + length steps.now < 256 }
-        ensures { IfOk result (Walks self.old self.new (walk (planned (plan_of course.now.stop course.now.meddles.now)) number (steps_of steps.now))) }
+        ensures { IfOk result
+            (Walks self.old self.new
+            (walk (planned (plan_of course.now.stop course.now.meddles.now)) number
+            (steps_of steps.now))) }
     {
         let Some((step, later)) = steps.split_first() else {
             return Ok(None);

@@ -82,7 +82,8 @@ fn list_asked(
     messages: &mut Vec<Bytes>,
 ) -> Result<(), Memory>
     requires { key.now ≡ world_key }
-    ensures { OnOk result (messages.new.items ≡ messages.old.items ++ right_messages (instance_of chronicle.now) (batch_of batch.entry)
+    ensures { OnOk result (messages.new.items
+        ≡ messages.old.items ++ right_messages (instance_of chronicle.now) (batch_of batch.entry)
         (right_content (instance_of chronicle.now) bytes.now)) }
 {
     match right_body(chronicle, key, bytes) {
@@ -119,8 +120,9 @@ fn call(
 ) -> Result<Said, Memory>
     requires key { key.now ≡ world_key }
     requires short { is_long (batch_of batch) ≡ false }
-    ensures { IfOk result (WentByCall chronicle.old chronicle.new course.now.stop course.now.meddles.now bytes.now (batch_of batch.entry)
-        messages.old.items messages.new.items) }
+    ensures { IfOk result (WentByCall chronicle.old chronicle.new course.now.stop
+        course.now.meddles.now bytes.now (batch_of batch.entry) messages.old.items
+        messages.new.items) }
 {
     list_asked(chronicle, key, bytes, batch, messages)?;
     chronicle.forget_messages();
@@ -153,7 +155,8 @@ fn ask(
 ) -> Result<Said, Memory>
     requires key { key.now ≡ world_key }
     ensures { IfOk result (WentByEvent chronicle.old chronicle.new issued.now
-        (Ask course.now.meddles.now course.now.stop offer.now (batch_of batch.entry)) messages.old.items messages.new.items) }
+        (Ask course.now.meddles.now course.now.stop offer.now (batch_of batch.entry))
+        messages.old.items messages.new.items) }
 {
     match offered(chronicle.alloc, issued, offer)? {
         None => Ok(quiet(Reply::No(Cause::Snapshot))),
@@ -193,7 +196,8 @@ fn checkpoint(
 
 // Power is lost and comes back.
 fn power(chronicle: &mut Chronicle, issued: &[Bytes], messages: &mut Vec<Bytes>) -> Said
-    ensures { WentByEvent chronicle.old chronicle.new issued.now Power messages.old.items messages.new.items result }
+    ensures { WentByEvent chronicle.old chronicle.new issued.now Power messages.old.items
+        messages.new.items result }
 {
     chronicle.empty();
     quiet(Reply::Power)
@@ -206,7 +210,8 @@ fn extend(
     value: &Digest,
     messages: &mut Vec<Bytes>,
 ) -> Result<Said, Memory>
-    ensures { IfOk result (WentByEvent chronicle.old chronicle.new issued.now (Extend value.now.bytes) messages.old.items messages.new.items) }
+    ensures { IfOk result (WentByEvent chronicle.old chronicle.new issued.now
+        (Extend value.now.bytes) messages.old.items messages.new.items) }
 {
     chronicle.forget_messages();
     chronicle.bring(value)?;
@@ -223,7 +228,8 @@ fn follow(
     messages: &mut Vec<Bytes>,
 ) -> Result<Said, Memory>
     requires { key.now ≡ world_key }
-    ensures { IfOk result (WentByEvent chronicle.old chronicle.new issued.now (event_of event.now) messages.old.items messages.new.items) }
+    ensures { IfOk result (WentByEvent chronicle.old chronicle.new issued.now (event_of event.now)
+        messages.old.items messages.new.items) }
 {
     match event {
         Event::Ask {
@@ -305,9 +311,11 @@ impl Expecting {
     /// Follows one event. After want of memory nothing is said of what stands.
     pub fn event(&mut self, event: &Event) -> Result<Heard, Memory>
         ensures state { OnOk result (self.new ≡ after_traced self.old (event_of event.now)) }
-        ensures hears { IfOk result (Hears (world_of self.old.header) self.old.history self.old.issued (event_of event.now)) }
+        ensures hears { IfOk result (Hears (world_of self.old.header) self.old.history
+            self.old.issued (event_of event.now)) }
         ensures after { OnOk result (StandsLater self.old (event_of event.now) self.new) }
-        ensures genuine { IfOk result (λ heard. DecidesLater self.old (event_of event.now) heard.is_genuine) }
+        ensures genuine { IfOk result
+            (λ heard. DecidesLater self.old (event_of event.now) heard.is_genuine) }
 
         // The reply can be printed, and at most one snapshot is issued.
         ensures printable { IfOk result (λ heard. IsPrintable heard.reply) }

@@ -113,7 +113,8 @@ impl Chronicle {
     ) -> Result<bool, Refusal>
         requires key { key.now ≡ world_key }
         requires short { is_long (batch_of batch) ≡ false }
-        ensures found { result ≡ again_in (found_at (instance_of self.now) (by_lists (instance_of self.now)) self.now.history
+        ensures found { result ≡ again_in
+            (found_at (instance_of self.now) (by_lists (instance_of self.now)) self.now.history
             (batch_of batch.entry) bytes.now) }
         ensures admits { IfOk result (Admits self.now.history (batch_of batch.entry)) }
     {

@@ -41,7 +41,8 @@ impl Model for Lists {
 // The batch's own entry comes in place of the last one.
 fn rename_last(items: &mut Vec<KeptEntry>, batch: KeptBatch)
     requires { vec_len items.old < vec_capacity items.old }
-    ensures { kept_entries items.new.items ≡ renamed (kept_entries items.old.items) (kept_batch batch) }
+    ensures { kept_entries items.new.items
+        ≡ renamed (kept_entries items.old.items) (kept_batch batch) }
 {
     let _ = items.pop();
     items.push_reserved(KeptEntry::Own(batch));
@@ -73,7 +74,8 @@ impl Lists {
 
     /// Basic: one more batch.
     pub(crate) fn add(&mut self, batch: Batch<'_>) -> Result<(), Memory>
-        ensures ok { OnOk result (self.new ≡ committed Basic self.old.is_open self.old (batch_of batch.entry)) }
+        ensures ok { OnOk result
+            (self.new ≡ committed Basic self.old.is_open self.old (batch_of batch.entry)) }
         ensures err { OnErr result (self.new ≡ self.old) }
     {
         let kept = KeptBatch::copy_of(self.alloc, &batch)?;
@@ -119,7 +121,8 @@ impl Lists {
 
     /// The register takes in a value that stands for no batch.
     pub(crate) fn take_in(&mut self, value: &Digest) -> Result<(), Memory>
-        ensures ok { OnOk result (self.new ≡ record self.old { items = self.old.items ++ Value value.now.bytes ∷ [] }) }
+        ensures ok { OnOk result
+            (self.new ≡ record self.old { items = self.old.items ++ Value value.now.bytes ∷ [] }) }
         ensures err { OnErr result (self.new ≡ self.old) }
     {
         self.items.push(KeptEntry::Value(*value))?;

@@ -44,7 +44,8 @@ pub fn offers_are_decided()
 
 // How many first batches have so many requests, if there are such.
 fn first_with(batches: &[KeptBatch], position: u64) -> Option<usize>
-    ensures front { option_map (λ (count : _). take count (kept_batches batches.now)) result ≡ first_with position (kept_batches batches.now) }
+    ensures front { option_map (λ (count : _). take count (kept_batches batches.now)) result
+        ≡ first_with position (kept_batches batches.now) }
     ensures within { IfSome result (λ count. count ≤ length batches.now) }
 {
     let mut left = position;
@@ -66,7 +67,8 @@ fn first_with(batches: &[KeptBatch], position: u64) -> Option<usize>
 // The module's state after these batches, run from its first state.
 fn state_after(alloc: Global, module: &AnyModule, batches: &[KeptBatch]) -> Result<Bytes, Memory>
     requires { list_any is_long (kept_batches batches.now) ≡ false }
-    ensures { IfOk result (λ state. state ≡ state_after (meaning_of «module».now) (requests_of (kept_batches batches.now))) }
+    ensures { IfOk result (λ state. state
+        ≡ state_after (meaning_of «module».now) (requests_of (kept_batches batches.now))) }
 {
     let mut state = module.first_state(alloc)?;
     'batches: for batch in batches {
@@ -132,7 +134,8 @@ fn is_at(
     anchor: &Digest,
     extension: &Digest,
 ) -> bool
-    ensures { result ≡ is_at is_clean here.now.bytes start (kept_batches named.now) anchor.now.bytes extension.now.bytes }
+    ensures { result ≡ is_at is_clean here.now.bytes start (kept_batches named.now) anchor.now.bytes
+        extension.now.bytes }
 {
     if !is_clean {
         return false;
@@ -155,7 +158,8 @@ fn is_behind(
     anchor: &Digest,
     extension: &Digest,
 ) -> bool
-    ensures { result ≡ is_behind barrier.now here.now.bytes start (kept_batches named.now) anchor.now.bytes extension.now.bytes }
+    ensures { result ≡ is_behind barrier.now here.now.bytes start (kept_batches named.now)
+        anchor.now.bytes extension.now.bytes }
 {
     if start >= named.len() {
         return false;
@@ -175,7 +179,8 @@ fn is_inside(
     anchor: &Digest,
     extension: &Digest,
 ) -> bool
-    ensures { result ≡ is_inside_at barrier.now last.now.bytes lists.now (kept_batches named.now) anchor.now.bytes extension.now.bytes }
+    ensures { result ≡ is_inside_at barrier.now last.now.bytes lists.now (kept_batches named.now)
+        anchor.now.bytes extension.now.bytes }
 {
     let batches = lists.batches();
     let current = lists.current();
@@ -209,7 +214,8 @@ fn is_here(
     anchor: &Digest,
     extension: &Digest,
 ) -> bool
-    ensures { result ≡ is_here is_clean barrier.now here.now.bytes start (kept_batches named.now) size ends anchor.now.bytes extension.now.bytes }
+    ensures { result ≡ is_here is_clean barrier.now here.now.bytes start (kept_batches named.now)
+        size ends anchor.now.bytes extension.now.bytes }
 {
     if is_at(is_clean, here, start, named, anchor, extension) {
         return true;
@@ -238,7 +244,8 @@ fn some_place(
     anchor: &Digest,
     extension: &Digest,
 ) -> bool
-    ensures { result ≡ some_place id barrier.now lists.now (kept_batches named.now) anchor.now.bytes extension.now.bytes [] lists.now.closed }
+    ensures { result ≡ some_place id barrier.now lists.now (kept_batches named.now) anchor.now.bytes
+        extension.now.bytes [] lists.now.closed }
 {
     let closed = lists.closed();
     let is_shut = lists.is_clear();
@@ -279,7 +286,8 @@ fn is_place(
     named: &[KeptBatch],
     place: &Place,
 ) -> bool
-    ensures { result ≡ is_place_in variant id barrier.now lists.now (kept_batches named.now) place.now }
+    ensures { result ≡ is_place_in variant id barrier.now lists.now (kept_batches named.now)
+        place.now }
 {
     match variant {
         Variant::Basic => match place {
@@ -306,7 +314,9 @@ pub(crate) fn is_named(
 ) -> Result<bool, Memory>
     requires barrier { barrier.now ≡ barrier_of variant }
     requires short { list_any is_long lists.now.batches ≡ false }
-    ensures { IfOk result (λ yes. IsDecided yes (Names (instance_with variant «module».now) lists.now (content_of body.now))) }
+    ensures { IfOk result
+        (λ yes. IsDecided yes
+        (Names (instance_with variant «module».now) lists.now (content_of body.now))) }
 {
     let batches = lists.batches();
     let count = match first_with(batches, body.position) {

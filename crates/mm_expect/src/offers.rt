@@ -42,7 +42,9 @@ pub(crate) fn right_body<'a>(
 // Whether these bytes are genuine.
 fn are_genuine(chronicle: &Chronicle, key: &HmacKey, bytes: &[u8]) -> Result<bool, Memory>
     requires { key.now ≡ world_key }
-    ensures { IfOk result (λ yes. IsDecided yes (IsGenuine (instance_of chronicle.now) chronicle.now.history bytes.now)) }
+    ensures { IfOk result
+        (λ yes. IsDecided yes
+        (IsGenuine (instance_of chronicle.now) chronicle.now.history bytes.now)) }
 {
     match right_body(chronicle, key, bytes) {
         None => Ok(true),
@@ -65,7 +67,8 @@ fn is_genuine_offer(
     offer: &Offer,
 ) -> Result<bool, Memory>
     requires { key.now ≡ world_key }
-    ensures { IfOk result (DecidesOffer (instance_of chronicle.now) chronicle.now.history issued.now offer.now) }
+    ensures { IfOk result
+        (DecidesOffer (instance_of chronicle.now) chronicle.now.history issued.now offer.now) }
 {
     match offer {
         Offer::Number(_) => Ok(true),
@@ -85,7 +88,8 @@ pub(crate) fn is_genuine(
     event: &Event,
 ) -> Result<bool, Memory>
     requires { key.now ≡ world_key }
-    ensures { IfOk result (DecidesEvent (instance_of chronicle.now) chronicle.now.history issued.now (event_of event.now)) }
+    ensures { IfOk result (DecidesEvent (instance_of chronicle.now) chronicle.now.history issued.now
+        (event_of event.now)) }
 {
     match event {
         Event::Ask { offer, .. } => is_genuine_offer(chronicle, key, issued, offer),

@@ -7,6 +7,7 @@ use Rattle.std.proofs.lemmas.List.Elements.{All-append, All-from_recursion, All-
 use Rattle.rand_chacha.specs.ChaCha.{key_of}
 use Rattle.mm_base.specs.Input.{IsUnbroken, joined, lines_of, tail_of}
 use Rattle.mm_base.proofs.Input.{lines_of-joined, tail_of-joined}
+use Rattle.mm_base.specs.Limits.{most_events}
 use Rattle.mm_digest.specs.declared.variant.Variant.{Variant}
 use Rattle.mm_digest.specs.declared.variant.Variant.TheVariants.{Basic, Opt}
 use Rattle.mm_modules.specs.declared.any.AnyModule.{AnyModule}
@@ -54,7 +55,7 @@ events_from header key place first (suc turns) some low =
     let now = All-from_recursion IsEventLine lines (turn_events header first (words_at key place) some (omega arith)) in
     (omega (arith, length-append lines rest, more.0), All-append IsEventLine lines rest now more.1)
 
-pub is_schedule : (number count : ℕ) (header : Header) → count ≤ 20000 → IsSchedule number count header
+pub is_schedule : (number count : ℕ) (header : Header) → count ≤ most_events → IsSchedule number count header
 is_schedule number count header few =
     let all : List (List ℕ) = lines_from header (key_of (seed_from number)) 0 1 count in
     let from = events_from header (key_of (seed_from number)) 0 1 count (omega arith) (omega arith) in

@@ -1,6 +1,7 @@
 -- What generated schedules are to those who read them.
 use Rattle.std.specs.Prelude.{◌≡◌, ◌≤◌, ℕ, List, [], ◌∷◌, All, length}
 use Rattle.mm_base.specs.Input.{IsUnbroken, lines_of, tail_of}
+use Rattle.mm_base.specs.Limits.{longest_line, most_events}
 use Rattle.mm_schedule.specs.declared.header.Header.{Header}
 use Rattle.mm_schedule.specs.Events.{Event}
 use Rattle.mm_schedule.specs.Headers.{header_text}
@@ -11,7 +12,7 @@ use Rattle.mm_gen.specs.Schedules.{schedule_lines, schedule_text}
 pub record IsEventLine (line : List ℕ) : Type 0 where
   pub event : Event
   pub spelled : SpellsEvent event line
-  pub short : length line ≤ 8400
+  pub short : length line ≤ longest_line
   pub unbroken : IsUnbroken line
 
 -- the text is read as its header's line and so many lines of events, and nothing behind them
@@ -22,4 +23,4 @@ pub record IsSchedule (number count : ℕ) (header : Header) : Type 0 where
   pub events : All IsEventLine (schedule_lines number count header)
 
 abbrev pub SchedulesAreRead : Type 0
-SchedulesAreRead = (number count : ℕ) (header : Header) → count ≤ 20000 → IsSchedule number count header
+SchedulesAreRead = (number count : ℕ) (header : Header) → count ≤ most_events → IsSchedule number count header

@@ -34,7 +34,8 @@ pub enum Line {
 
 /// Puts the line with its LF at the end, its request chosen by a number.
 pub fn put_line(into: &mut Bytes, line: &Line, module: AnyModule, choice: u32) -> Result<(), Memory>
-    ensures { OnOk result (into.new ≡ into.old ++ line_text (request_chosen «module» choice) line.now ++ 10 ∷ []) }
+    ensures { OnOk result
+        (into.new ≡ into.old ++ line_text (request_chosen «module» choice) line.now ++ 10 ∷ []) }
 {
     match line {
         Line::Ask { stop, snapshot } => {

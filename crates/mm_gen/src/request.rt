@@ -67,7 +67,8 @@ fn put_dispenser_request(into: &mut Bytes, choice: u32) -> Result<(), Memory>
 
 /// Puts the request that opens an account.
 fn put_opening(into: &mut Bytes, choice: u32) -> Result<(), Memory>
-    ensures { OnOk result (into.new ≡ into.old ++ codes "open " ++ account_name choice ++ codes " 100000") }
+    ensures { OnOk result
+        (into.new ≡ into.old ++ codes "open " ++ account_name choice ++ codes " 100000") }
 {
     put_numbered(into, b"open a", choice / 8 % 16)?;
     into.append(b" 100000")
@@ -75,7 +76,8 @@ fn put_opening(into: &mut Bytes, choice: u32) -> Result<(), Memory>
 
 /// Puts a word, an account's number and an amount.
 fn put_moving(into: &mut Bytes, word: &[u8], choice: u32) -> Result<(), Memory>
-    ensures { OnOk result (into.new ≡ into.old ++ word.now ++ decimal (choice / 8 % 16) ++ 32 ∷ amount_text choice) }
+    ensures { OnOk result
+        (into.new ≡ into.old ++ word.now ++ decimal (choice / 8 % 16) ++ 32 ∷ amount_text choice) }
 {
     put_numbered(into, word, choice / 8 % 16)?;
     put_numbered(into, b" ", choice / 128 % 500)

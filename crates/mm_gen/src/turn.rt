@@ -29,7 +29,8 @@ pub enum Turn {
 #[tactic(auto, unfolding(crate::specs::Turns::turn_lines))]
 fn turn_of(header: &Header, first: u32, words: &Words) -> Turn
     requires { 0 < first }
-    ensures { lines_of_turn (request_chosen header.now.module words.now.request) result ≡ turn_lines header.now first words.now }
+    ensures { lines_of_turn (request_chosen header.now.module words.now.request) result
+        ≡ turn_lines header.now first words.now }
 {
     let step = 1 + (words.number % 5) as u8;
     let number = words.number % first;
@@ -112,8 +113,10 @@ pub fn put_turn(
 ) -> Result<u32, Memory>
     requires first { 0 < first }
     requires left { 0 < left }
-    ensures lines { OnOk result (into.new ≡ into.old ++ joined (take left (turn_lines header.now first words.now))) }
-    ensures count { IfOk result (λ count. count ≡ length (take left (turn_lines header.now first words.now))) }
+    ensures lines { OnOk result
+        (into.new ≡ into.old ++ joined (take left (turn_lines header.now first words.now))) }
+    ensures count { IfOk result
+        (λ count. count ≡ length (take left (turn_lines header.now first words.now))) }
     ensures some { IfOk result (λ count. 0 < count) }
 {
     match turn_of(header, first, words) {

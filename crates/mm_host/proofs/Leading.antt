@@ -1,8 +1,9 @@
 -- What the calls of a session lead to, in one form for both variants.
-use Rattle.std.proofs.Common.{◌≡◌, ◌≢◌, ℕ, ◌+◌, ◌≤◌, ◌^◌, Bool, true, false, ◌||◌, List, [], ◌∷◌, ◌++◌, length, Option, Some, Result, Ok, Err, refl, sym, ap, ◌∙◌, subst, inl, inr, append_assoc, arith}
+use Rattle.std.proofs.Common.{◌≡◌, ◌≢◌, ℕ, ◌+◌, ◌≤◌, Bool, true, false, ◌||◌, List, [], ◌∷◌, ◌++◌, length, Option, Some, Result, Ok, Err, refl, sym, ap, ◌∙◌, subst, inl, inr, append_assoc, arith}
 use Rattle.std.specs.List.{AllByRecursion}
 use Rattle.std.specs.Option.{option_map}
 use Rattle.std.proofs.lemmas.List.{append-nil, append_cancel_right}
+use Rattle.mm_base.specs.Limits.{last_position}
 use Rattle.mm_digest.specs.Messages.{extended_message, zero_bytes}
 use Rattle.mm_digest.specs.declared.variant.Variant.{Variant}
 use Rattle.mm_digest.specs.declared.variant.Variant.TheVariants.{Basic, Opt}
@@ -140,7 +141,7 @@ pub record Laws (all others : List (List ℕ)) (asked : List Batch) (i : Instanc
       → Called all others asked i y final offer p gives
   pub reach : (old new : Standing) (offer request : List ℕ) (gives : Result BatchAnswer Refusal) → CallsOn i.variant i.meaning old new offer (One request) gives → Reaches i.variant i old new
   -- what histories issue that are the same, and how they grow
-  pub formed : (y : History) → total_of y.batches ≤ 2 ^ 48 → IsContent (issued i y)
+  pub formed : (y : History) → total_of y.batches ≤ last_position → IsContent (issued i y)
   pub issue : (y z : History) → IsSame i.variant y z → issued i y ≡ issued i z
   pub batches : (y z : History) → IsSame i.variant y z → y.batches ≡ z.batches
   pub like : (y z : History) → IsSame i.variant y z → IsLike i.variant y z

@@ -1,10 +1,11 @@
 -- What a line comes to by lists, from where a session stands.
-use Rattle.std.proofs.Common.{◌≡◌, ◌≢◌, ◌∙◌, ◌+◌, ◌-◌, ◌%◌, ◌<◌, ◌≤◌, ◌^◌, ℕ, Bool, true, false, List, [], ◌∷◌, ◌++◌, length, take, Option, None, Some, Result, Ok, Err, IfOk, refl, sym, ap, subst, inl, inr, arith}
+use Rattle.std.proofs.Common.{◌≡◌, ◌≢◌, ◌∙◌, ◌+◌, ◌-◌, ◌%◌, ◌<◌, ◌≤◌, ℕ, Bool, true, false, List, [], ◌∷◌, ◌++◌, length, take, Option, None, Some, Result, Ok, Err, IfOk, refl, sym, ap, subst, inl, inr, arith}
 use Rattle.std.specs.Prelude.{◌⊎◌, nat_eq}
 use Rattle.std.specs.List.{Contains}
 use Rattle.std.proofs.lemmas.List.{take_all}
 use Rattle.std.proofs.lemmas.Bool.Decides.{nat_tests}
 use Rattle.mm_base.specs.Lines.{IsWithin}
+use Rattle.mm_base.specs.Limits.{last_position, longest_request}
 use Rattle.mm_platform.specs.Standing.{Standing}
 use Rattle.mm_module.specs.Meaning.{IsLawful}
 use Rattle.mm_module.specs.Batch.{Batch, One}
@@ -119,10 +120,10 @@ offer_listed i y offer place b all placed listed =
 
 -- once the record is written, the line waits
 
-record_seen : (p : Pending) (n : ℕ) → length p.request ≤ 4096 → n ≡ 1100000 → take n (pending_spelling p) ≡ pending_spelling p
+record_seen : (p : Pending) (n : ℕ) → length p.request ≤ longest_request → n ≡ 1100000 → take n (pending_spelling p) ≡ pending_spelling p
 record_seen p n h e = take_all n (pending_spelling p) (omega (arith, h, e, length-pending_spelling p))
 
-next_of : (last : Resumed) (line : List ℕ) → position_at last < 2 ^ 48 → IsWithin 4096 line → IsNext (position_at last) (record_for last line) (pending_spelling (record_for last line))
+next_of : (last : Resumed) (line : List ℕ) → position_at last < last_position → IsWithin longest_request line → IsNext (position_at last) (record_for last line) (pending_spelling (record_for last line))
 next_of last line room within = record {
   follows = refl;
   most = omega (arith, room);
@@ -206,8 +207,8 @@ by_recovery all others asked i y slots next standing kept came e r = record {
 pub record MayFollow (all : List (List ℕ)) (asked : List Batch) (i : Instance) (y z : History) (line : List ℕ) : Type 0 where
   pub is_asked : Contains asked (One line)
   pub listed : Within (offer_messages i (issued i z).place (One line)) all
-  pub room : total_of y.batches < 2 ^ 48
-  pub within : IsWithin 4096 line
+  pub room : total_of y.batches < last_position
+  pub within : IsWithin longest_request line
 
 -- What a line came to, with more that is known of the history where it is gone on with.
 abbrev pub LineCame : (More : History → Type 0) (all others : List (List ℕ)) (asked : List Batch) (i : Instance) (y : History) (line : List ℕ) (standing : Standing) (kept : Kept) (came : Result Resumed HostFault) → Type 0

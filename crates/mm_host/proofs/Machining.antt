@@ -1,5 +1,6 @@
 -- An answer by lists is a step of the machine, and its snapshot names the end of the history.
-use Rattle.std.proofs.Common.{◌≡◌, ◌∙◌, ◌+◌, ◌-◌, ◌≤◌, ◌^◌, ℕ, Bool, true, false, List, [], ◌∷◌, ◌++◌, length, refl, sym, ap, subst, arith}
+use Rattle.std.proofs.Common.{◌≡◌, ◌∙◌, ◌+◌, ◌-◌, ◌≤◌, ℕ, Bool, true, false, List, [], ◌∷◌, ◌++◌, length, refl, sym, ap, subst, arith}
+use Rattle.mm_base.specs.Limits.{last_position}
 use Rattle.mm_digest.specs.declared.variant.Variant.{Variant}
 use Rattle.mm_digest.specs.declared.variant.Variant.TheVariants.{Basic, Opt}
 use Rattle.mm_digest.specs.Messages.{start_of}
@@ -36,7 +37,7 @@ length-summary_of : (id : ℕ) (batches : List Batch) → length (summary_of id 
 unfolding summary_of
 length-summary_of id batches = length-after link_message (start_of Basic id) batches (length-start_of Basic id)
 
-pub basic_content : (meaning : Meaning) → IsLawful meaning → (key : List ℕ) (y : History) → total_of y.batches ≤ 2 ^ 48 → IsContent (issued (basic meaning key) y)
+pub basic_content : (meaning : Meaning) → IsLawful meaning → (key : List ℕ) (y : History) → total_of y.batches ≤ last_position → IsContent (issued (basic meaning key) y)
 basic_content meaning lawful key y fits = record {
   place = length-summary_of meaning.id y.batches;
   position = fits;
@@ -45,7 +46,7 @@ basic_content meaning lawful key y fits = record {
 
 -- What the history issues has its sizes, and names its end.
 pub record IsIssued (i : Instance) (y : History) : Type 0 where
-  pub formed : total_of y.batches ≤ 2 ^ 48 → IsContent (issued i y)
+  pub formed : total_of y.batches ≤ last_position → IsContent (issued i y)
   pub names : Names i y (issued i y)
 
 pub issued_in_basic : (meaning : Meaning) → IsLawful meaning → (key : List ℕ) (y : History) → IsIssued (basic meaning key) y
@@ -62,7 +63,7 @@ placed_as Basic flag i y = refl
 placed_as Opt true i y = refl
 placed_as Opt false i y = refl
 
-pub holds_issued : (i : Instance) → IsLawful i.meaning → (y : History) (bytes : List ℕ) (position : ℕ) → IsIssued i y → total_of y.batches ≤ 2 ^ 48 → bytes ≡ issued_bytes i y → position ≡ total_of y.batches → Holds i y bytes position
+pub holds_issued : (i : Instance) → IsLawful i.meaning → (y : History) (bytes : List ℕ) (position : ℕ) → IsIssued i y → total_of y.batches ≤ last_position → bytes ≡ issued_bytes i y → position ≡ total_of y.batches → Holds i y bytes position
 holds_issued i lawful y bytes position issues fits is at = record {
   content = issued i y;
   right = record {

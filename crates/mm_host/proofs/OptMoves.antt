@@ -1,9 +1,10 @@
 -- The moves of a call of Opt may be made, so what a snapshot names is named after them too.
-use Rattle.std.proofs.Common.{ℕ, ◌≡◌, ◌≢◌, ◌+◌, ◌^◌, Bool, true, false, ◌&&◌, List, [], ◌∷◌, ◌++◌, map, Result, Ok, Err, refl, sym, ap, ◌∙◌, subst, append_assoc, arith}
+use Rattle.std.proofs.Common.{ℕ, ◌≡◌, ◌≢◌, ◌+◌, Bool, true, false, ◌&&◌, List, [], ◌∷◌, ◌++◌, map, Result, Ok, Err, refl, sym, ap, ◌∙◌, subst, append_assoc, arith}
 use Rattle.std.specs.Prelude.{if◌then◌else◌, nat_eq, nat_le}
 use Rattle.std.specs.List.{AllByRecursion, Contains}
 use Rattle.std.specs.Str.{bytes_eq}
 use Rattle.std.proofs.lemmas.List.Elements.{Contains-append_right}
+use Rattle.mm_base.specs.Limits.{last_position}
 use Rattle.mm_digest.specs.declared.variant.Variant.{Variant}
 use Rattle.mm_digest.specs.declared.variant.Variant.TheVariants.{Basic, Opt}
 use Rattle.mm_digest.specs.Messages.{extended_message}
@@ -83,7 +84,7 @@ live_from meaning key barrier y b (Ok snapshot) found is =
     let w = weighed_tells (meaning.is_spelled snapshot.content.state) (bytes_eq snapshot.tag (tag_of key snapshot.content)) _ _ found.again t.1 in
     let here = nat_eq snapshot.content.position (total_of y.batches) in
     let again = nat_eq (snapshot.content.position + size_of b) (total_of y.batches) && is_last y.batches b in
-    let fits = nat_le (snapshot.content.position + size_of b) (2 ^ 48) in
+    let fits = nat_le (snapshot.content.position + size_of b) last_position in
     admitted_lives (life_of Opt y) here again fits found.again w.2
 
 live_found : (meaning : Meaning) (key barrier : List ℕ) (y : History) (b : Batch) (bytes : List ℕ) (found : Found)

@@ -1,9 +1,10 @@
 -- What waits, and what fits, once the record of a next request was written, whole or torn.
-use Rattle.std.proofs.Common.{◌≡◌, ◌∙◌, ◌+◌, ◌-◌, ◌%◌, ◌<◌, ◌≤◌, ◌^◌, ℕ, Bool, true, false, List, take, Option, None, Some, refl, sym, ap, subst, inl, inr, arith}
+use Rattle.std.proofs.Common.{◌≡◌, ◌∙◌, ◌+◌, ◌-◌, ◌%◌, ◌<◌, ◌≤◌, ℕ, Bool, true, false, List, take, Option, None, Some, refl, sym, ap, subst, inl, inr, arith}
 use Rattle.std.specs.Prelude.{◌⊎◌, nat_le, if◌then◌else◌}
 use Rattle.std.proofs.lemmas.Bool.{cases_lt}
 use Rattle.std.proofs.lemmas.Bool.Decides.{nat_tests}
 use Rattle.mm_base.specs.Lines.{IsWithin}
+use Rattle.mm_base.specs.Limits.{last_position, longest_request}
 use Rattle.mm_model.specs.Instance.{Instance}
 use Rattle.mm_model.specs.History.{History, total_of}
 use Rattle.mm_store.specs.Pending.{Pending, IsPending, ReadsPending, pending_spelling}
@@ -91,8 +92,8 @@ most_three (Some p) (Some q) = three_by_test (nat_le q.position p.position) p q 
 
 pub record IsNext (position : ℕ) (next : Pending) (bytes : List ℕ) : Type 0 where
   pub follows : next.position ≡ position + 1
-  pub most : next.position ≤ 2 ^ 48
-  pub line : IsWithin 4096 next.request
+  pub most : next.position ≤ last_position
+  pub line : IsWithin longest_request next.request
   pub spelled : take longest_slot bytes ≡ pending_spelling next
 
 pending_at : (slot position : ℕ) (next : Pending) (bytes : List ℕ) → IsNext position next bytes → slot ≡ 2 + (position + 1) % 2 → IsPending slot next

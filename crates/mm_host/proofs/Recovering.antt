@@ -1,5 +1,5 @@
 -- Every exit of a recovery leaves slots that fit the history.
-use Rattle.std.proofs.Common.{◌≡◌, ◌≢◌, ℕ, ◌-◌, ◌%◌, true, List, Option, None, Some, Result, Ok, Err, refl, sym, ap, ◌∙◌, subst, inl, inr, ◌≤◌, ◌^◌, length, take, IfOk, arith}
+use Rattle.std.proofs.Common.{◌≡◌, ◌≢◌, ℕ, ◌-◌, ◌%◌, true, List, Option, None, Some, Result, Ok, Err, refl, sym, ap, ◌∙◌, subst, inl, inr, ◌≤◌, length, take, IfOk, arith}
 use Rattle.std.specs.Prelude.{◌⊎◌}
 use Rattle.mm_digest.specs.declared.variant.Variant.{Variant}
 use Rattle.mm_platform.specs.Standing.{Standing}
@@ -29,6 +29,7 @@ use Rattle.mm_store.specs.Pending.{Pending}
 use Rattle.mm_store.specs.Slots.{Slots, longest_slot, seen_in, with_slot}
 use Rattle.mm_store.proofs.SlotLaws.{longest_slot-is, slot_in-with_slot}
 use Rattle.std.proofs.lemmas.List.{take_all}
+use Rattle.mm_base.specs.Limits.{last_position}
 use Rattle.mm_model.specs.Fit.{IsFit}
 use Rattle.mm_host.specs.Saying.{position_at, snapshot_at}
 use Rattle.mm_store.proofs.PendingLaws.{one_reading}
@@ -261,7 +262,7 @@ ask_exit More all others asked i lawful y slots waiting p standing (Ok answer) o
     let at : answer.position ≡ total_of l.after.batches = ap (λ (b : BatchAnswer). b.position) a.0.answer_is in
     subst (λ (r : Result Resumed HostFault). Recovered More all others asked i y slots waiting standing new r) (sym g.gives)
     (keep_exit More all others asked i y slots waiting p standing answer g.written old new l m h t a.1 fit.snapshot
-    (holds_issued i lawful l.after answer.snapshot answer.position (l.issues (whole answer) refl) (subst (λ (n : ℕ). n ≤ 2 ^ 48) at fit.most) (ap (λ (b : BatchAnswer). b.snapshot) a.0.answer_is) at)
+    (holds_issued i lawful l.after answer.snapshot answer.position (l.issues (whole answer) refl) (subst (λ (n : ℕ). n ≤ last_position) at fit.most) (ap (λ (b : BatchAnswer). b.snapshot) a.0.answer_is) at)
     (subst (λ (n : ℕ). WritesSlot (n % 2) answer.snapshot old new g.written) a.1 g.writes) a.0)
 
 -- what an honest store's slots ask of the call for what waits

@@ -1,10 +1,11 @@
 -- Why a call for the request that waits is refused.
-use Rattle.std.proofs.Common.{◌≡◌, ℕ, ◌+◌, ◌-◌, ◌≤◌, ◌^◌, Bool, true, false, ◌&&◌, List, [], ◌∷◌, ◌++◌, map, Option, None, Some, Result, Ok, Err, refl, sym, ap, ◌∙◌, subst, inl, inr, arith}
+use Rattle.std.proofs.Common.{◌≡◌, ℕ, ◌+◌, ◌-◌, ◌≤◌, Bool, true, false, ◌&&◌, List, [], ◌∷◌, ◌++◌, map, Option, None, Some, Result, Ok, Err, refl, sym, ap, ◌∙◌, subst, inl, inr, arith}
 use Rattle.std.specs.Prelude.{◌⊎◌, nat_eq, nat_le, if◌then◌else◌}
 use Rattle.std.specs.Str.{bytes_eq}
 use Rattle.std.proofs.lemmas.Bool.{le-leb}
 use Rattle.std.proofs.lemmas.Bool.Decides.{nat_tests}
 use Rattle.std.proofs.lemmas.Slice.Eq.{bytes_eq-Decides}
+use Rattle.mm_base.specs.Limits.{last_position}
 use Rattle.mm_digest.specs.declared.variant.Variant.TheVariants.{Basic, Opt}
 use Rattle.mm_module.specs.Batch.{Batch, One}
 use Rattle.mm_module.specs.Meaning.{Meaning}
@@ -50,7 +51,7 @@ pub record IsOffered (i : Instance) (s : History) (p : Pending) (offer : List �
   pub right : IsRight i offer content
   pub at : content.position ≡ p.position - 1
   pub awaited : IsAwaited s p
-  pub most : p.position ≤ 2 ^ 48
+  pub most : p.position ≤ last_position
 
 pub offered_then : (i : Instance) (y s : History) (p : Pending) (offer : List ℕ) → s.batches ≡ y.batches → IsOffered i y p offer → IsOffered i s p offer
 offered_then i y s p offer same o = record {
@@ -64,7 +65,7 @@ offered_then i y s p offer same o = record {
 -- a record that waits has a position of at most 2^48
 AtMost : Option Pending → Type 0
 AtMost None = Unit {0}
-AtMost (Some p) = p.position ≤ 2 ^ 48
+AtMost (Some p) = p.position ≤ last_position
 
 read_most : (slot : ℕ) (bytes : List ℕ) (read : Option Pending) → ReadsPending slot bytes read → AtMost read
 unfolding AtMost
@@ -80,7 +81,7 @@ later_most None b x y = y
 later_most (Some a) None x y = x
 later_most (Some a) (Some b) x y = either_most (nat_le b.position a.position) (Some a) (Some b) x y
 
-pub waiting_most : (two three : List ℕ) (waiting : Option Pending) (p : Pending) → IsWaiting two three waiting → waiting ≡ Some p → p.position ≤ 2 ^ 48
+pub waiting_most : (two three : List ℕ) (waiting : Option Pending) (p : Pending) → IsWaiting two three waiting → waiting ≡ Some p → p.position ≤ last_position
 unfolding AtMost
 waiting_most two three waiting p w e =
     subst AtMost (sym w.is ∙ e) (later_most w.in_two w.in_three (read_most 2 two w.in_two w.reads_two) (read_most 3 three w.in_three w.reads_three))
@@ -133,9 +134,9 @@ examined_here : (i : Instance) (s : History) (p : Pending) (offer : List ℕ) (o
     → IsBy (refused_by (life_of i.variant s)) (examined i.meaning i.key (offered_of i.key o.content) (One p.request) (judge i.variant s o.content.position (One p.request)))
 examined_here i s p offer o =
     let least : 1 ≤ p.position = awaited_least s p o.awaited in
-    let fits : o.content.position + 1 ≤ 2 ^ 48 = omega (arith, o.at, o.most, least) in
-    weighed_here (i.meaning.is_spelled o.content.state) (bytes_eq (tag_of i.key o.content) (tag_of i.key o.content)) (nat_le (o.content.position + 1) (2 ^ 48)) _
-    (refused_by (life_of i.variant s)) o.right.state ((bytes_eq-Decides (tag_of i.key o.content) (tag_of i.key o.content)).1 refl) (le-leb (o.content.position + 1) (2 ^ 48) fits)
+    let fits : o.content.position + 1 ≤ last_position = omega (arith, o.at, o.most, least) in
+    weighed_here (i.meaning.is_spelled o.content.state) (bytes_eq (tag_of i.key o.content) (tag_of i.key o.content)) (nat_le (o.content.position + 1) last_position) _
+    (refused_by (life_of i.variant s)) o.right.state ((bytes_eq-Decides (tag_of i.key o.content) (tag_of i.key o.content)).1 refl) (le-leb (o.content.position + 1) last_position fits)
     (admitted_here (life_of i.variant s) (nat_eq o.content.position (total_of s.batches))
     (nat_eq (o.content.position + 1) (total_of s.batches) && is_last s.batches (One p.request)) (placed_by s p o.content.position o.at o.awaited least).placed)
 

@@ -1,5 +1,5 @@
 -- A session by lists, in either variant: from what waited, over the lines, to each of its ends.
-use Rattle.std.proofs.Common.{◌≡◌, ◌≢◌, ◌∙◌, ◌+◌, ◌<◌, ◌≤◌, ◌^◌, ℕ, Bool, true, false, List, [], ◌∷◌, ◌++◌, length, Option, None, Some, Result, Ok, Err, refl, sym, ap, subst, inl, inr, arith, append_assoc}
+use Rattle.std.proofs.Common.{◌≡◌, ◌≢◌, ◌∙◌, ◌+◌, ◌<◌, ◌≤◌, ℕ, Bool, true, false, List, [], ◌∷◌, ◌++◌, length, Option, None, Some, Result, Ok, Err, refl, sym, ap, subst, inl, inr, arith, append_assoc}
 use Rattle.std.specs.Prelude.{◌⊎◌, if◌then◌else◌, nat_eq}
 use Rattle.std.specs.Io.KnownBytes.{Consumes}
 use Rattle.std.specs.List.{AllByRecursion}
@@ -7,6 +7,7 @@ use Rattle.std.proofs.lemmas.Bool.Decides.{nat_tests}
 use Rattle.mm_base.specs.Input.{IsUnbroken, joined, lines_of}
 use Rattle.mm_base.proofs.Input.{lines_of-joined, lines_of-line}
 use Rattle.mm_base.specs.Lines.{IsWithin}
+use Rattle.mm_base.specs.Limits.{last_position, longest_request}
 use Rattle.mm_digest.specs.declared.variant.Variant.{Variant}
 use Rattle.mm_digest.specs.declared.variant.Variant.TheVariants.{Basic, Opt}
 use Rattle.mm_platform.specs.Standing.{Standing}
@@ -179,13 +180,13 @@ unbroken_served variant meaning from to (c ∷ calls) s = (s.within.unbroken, un
 -- from where it began
 module _ (all others : List (List ℕ)) (asked : List Batch) (i : Instance) (final : Standing) (laws : Laws all others asked i final) where
   -- the snapshot of an answer says what the history issues
-  placed_issued : (y z : History) (bytes : List ℕ) → total_of y.batches ≤ 2 ^ 48 → bytes ≡ issued_bytes i y → IsSame i.variant y z → (content : Content) → IsRight i bytes content → content.place ≡ (issued i z).place
+  placed_issued : (y z : History) (bytes : List ℕ) → total_of y.batches ≤ last_position → bytes ≡ issued_bytes i y → IsSame i.variant y z → (content : Content) → IsRight i bytes content → content.place ≡ (issued i z).place
   placed_issued y z bytes most is same content right =
       let says : issued i y ≡ content = sealed_once i.key i.key (issued i y) content (laws.formed y most) right.formed (sym is ∙ right.sealed) in
       ap (λ (c : Content). c.place) (sym says ∙ laws.issue y z same)
 
-  most_of : (y : History) (bytes : List ℕ) (position : ℕ) → Holds i y bytes position → position ≡ total_of y.batches → total_of y.batches ≤ 2 ^ 48
-  most_of y bytes position h e = subst (λ (n : ℕ). n ≤ 2 ^ 48) (h.at ∙ e) h.right.formed.position
+  most_of : (y : History) (bytes : List ℕ) (position : ℕ) → Holds i y bytes position → position ≡ total_of y.batches → total_of y.batches ≤ last_position
+  most_of y bytes position h e = subst (λ (n : ℕ). n ≤ last_position) (h.at ∙ e) h.right.formed.position
 
   -- what is shown goes on to the end
   recorded_reach : (recorded : Result Unit StoreFault) (before after : Standing) (old new : Kept) (last : Resumed) (line : List ℕ) (came : Result Resumed HostFault) → AfterRecord i.variant i.meaning before after recorded old new last line came → Reaches i.variant i before after
@@ -234,11 +235,11 @@ module _ (all others : List (List ℕ)) (asked : List Batch) (i : Instance) (fin
       let same : g.0.request ≡ line = ap (λ (p : Pending). p.request) (same_pending next g.0 g.1) ∙ is in
       laws.grow y z after (One line) sound like (subst (λ (r : List ℕ). IsSame i.variant after (moved i y (Commit (One r)))) same g.2)
 
-  follows_on : (y z : History) (line : List ℕ) (lines : List (List ℕ)) → y.batches ≡ z.batches → IsWithin 4096 line → AreToFollow all asked i z (line ∷ lines) → MayFollow all asked i y z line
+  follows_on : (y z : History) (line : List ℕ) (lines : List (List ℕ)) → y.batches ≡ z.batches → IsWithin longest_request line → AreToFollow all asked i z (line ∷ lines) → MayFollow all asked i y z line
   follows_on y z line lines same within f = record {
     is_asked = f.0;
     listed = f.1;
-    room = subst (λ (bs : List Batch). total_of bs < 2 ^ 48) (sym same) f.2;
+    room = subst (λ (bs : List Batch). total_of bs < last_position) (sym same) f.2;
     within = within;
   }
 

@@ -5,6 +5,7 @@ use Rattle.std.specs.List.{AllByRecursion}
 use Rattle.mm_base.specs.Input.{IsUnbroken, joined, lines_of, tail_of, onto_first, onto_tail}
 use Rattle.mm_base.specs.Lines.{IsLong, IsWithin}
 use Rattle.mm_base.proofs.Input.{lines_of-append, lines_of-joined, lines_of-line, tail_of-append, tail_of-joined, tail_of-unbroken}
+use Rattle.mm_base.specs.Limits.{longest_request}
 use Rattle.mm_digest.specs.declared.variant.Variant.{Variant}
 use Rattle.mm_platform.specs.Standing.{Standing}
 use Rattle.mm_module.specs.Meaning.{Meaning}
@@ -17,7 +18,7 @@ use Rattle.mm_host.specs.declared.resuming.Resumed.{Resumed}
 use Rattle.mm_host.specs.declared.resuming.Resumed.TheVariants.{Answered}
 use Rattle.mm_host.specs.Faults.{told_as}
 use Rattle.mm_host.specs.Saying.{Says, comes_as}
-use Rattle.mm_host.specs.Serving.{Place, Served, Serves, line_limit, lines_served}
+use Rattle.mm_host.specs.Serving.{Place, Served, Serves, lines_served}
 use Rattle.mm_host.specs.SessionLines.{AreWithin, IsNoLines, SparesLines}
 use Rattle.mm_host.specs.Sessions.{AfterResume, BeginsWith, Ends, Sessions, Stops, most_lines}
 
@@ -43,7 +44,7 @@ length-lines_served [] = refl
 length-lines_served (c ∷ calls) = ap (λ (n : ℕ). suc n) (length-lines_served calls)
 
 abbrev AreShort : List (List ℕ) → Type 0
-AreShort lines = AllByRecursion (λ line. length line ≤ line_limit) lines
+AreShort lines = AllByRecursion (λ line. length line ≤ longest_request) lines
 
 short_later : (lines more : List (List ℕ)) → AreShort (lines ++ more) → AreShort more
 short_later [] more s = s
@@ -71,25 +72,25 @@ rest_of variant meaning from to calls input taken more rest s is took w =
     counted a b n m e f h = omega (arith, e, f, h, length-append a b)
 
 -- no line is too long
-long_front : (lines : List (List ℕ)) (front tail : List ℕ) → line_limit < length front → onto_tail front lines tail ≡ [] → AreShort (onto_first front lines) → ⊥
+long_front : (lines : List (List ℕ)) (front tail : List ℕ) → longest_request < length front → onto_tail front lines tail ≡ [] → AreShort (onto_first front lines) → ⊥
 long_front [] front tail h e s = absurd (omega (arith, h, ap (λ (x : List ℕ). length x) e, length-append front tail))
 long_front (line ∷ lines) front tail h e s = absurd (omega (arith, h, s.0, length-append front line))
 
-not_long : (count : ℕ) (more rest : List ℕ) → IsRest count (more ++ rest) → IsLong line_limit more → ⊥
+not_long : (count : ℕ) (more rest : List ℕ) → IsRest count (more ++ rest) → IsLong longest_request more → ⊥
 not_long count more rest r l =
-    let front : List ℕ = take (line_limit + 1) more in
-    let back : List ℕ = drop (line_limit + 1) more ++ rest in
+    let front : List ℕ = take (longest_request + 1) more in
+    let back : List ℕ = drop (longest_request + 1) more ++ rest in
     let cut : more ++ rest ≡ front ++ back =
-    ap (λ (x : List ℕ). x ++ rest) (sym (take-append-drop (line_limit + 1) more)) ∙ append_assoc front (drop (line_limit + 1) more) rest in
+    ap (λ (x : List ℕ). x ++ rest) (sym (take-append-drop (longest_request + 1) more)) ∙ append_assoc front (drop (longest_request + 1) more) rest in
     long_front (lines_of back) front (tail_of back) (long more l.long)
     (sym (ap tail_of cut ∙ tail_of-append front back l.unbroken) ∙ r.whole)
     (subst (λ (ls : List (List ℕ)). AreShort ls) (ap lines_of cut ∙ lines_of-append front back l.unbroken) r.short)
   where
-    long : (bytes : List ℕ) → line_limit < length bytes → line_limit < length (take (line_limit + 1) bytes)
-    long bytes h = omega (arith, length-take (line_limit + 1) bytes)
+    long : (bytes : List ℕ) → longest_request < length bytes → longest_request < length (take (longest_request + 1) bytes)
+    long bytes h = omega (arith, length-take (longest_request + 1) bytes)
 
 -- none is without its LF
-not_cut : (count : ℕ) (more rest : List ℕ) → IsRest count (more ++ rest) → rest ≡ [] → IsWithin line_limit more → 0 < length more → ⊥
+not_cut : (count : ℕ) (more rest : List ℕ) → IsRest count (more ++ rest) → rest ≡ [] → IsWithin longest_request more → 0 < length more → ⊥
 not_cut count more rest r e w h =
     let all : more ++ rest ≡ more = ap (λ (x : List ℕ). more ++ x) e ∙ append-nil more in
     let none : more ≡ [] = sym (ap tail_of all ∙ tail_of-unbroken more w.unbroken) ∙ r.whole in

@@ -7,6 +7,7 @@ use Rattle.mm_base.specs.Next.{NextLine}
 use Rattle.mm_base.specs.declared.lines.LineFault.{LineFault}
 use Rattle.mm_base.specs.declared.lines.Read.{Read}
 use Rattle.mm_base.specs.declared.lines.Read.TheVariants.{Line}
+use Rattle.mm_base.specs.Limits.{longest_request}
 use Rattle.mm_digest.specs.declared.variant.Variant.{Variant}
 use Rattle.mm_platform.specs.Standing.{Standing}
 use Rattle.mm_module.specs.Meaning.{Meaning}
@@ -23,7 +24,7 @@ use Rattle.mm_host.specs.declared.resuming.Resumed.TheVariants.{Answered}
 use Rattle.mm_host.specs.Faults.{told_as}
 use Rattle.mm_host.specs.Resumes.{AfterAsk, kept_as}
 use Rattle.mm_host.specs.Saying.{Says, comes_as, text_of}
-use Rattle.mm_host.specs.Serving.{AfterRecord, AsksLine, Place, line_limit}
+use Rattle.mm_host.specs.Serving.{AfterRecord, AsksLine, Place}
 use Rattle.mm_host.specs.Sessions.{BeginsWith, Stops, StopsInLine, most_lines}
 use Rattle.mm_host.specs.Turns.{TakesLine, Turns, Went, handed_on}
 
@@ -89,11 +90,11 @@ went_says variant meaning number at after new left bytes line held sent came tol
     (in_line variant meaning number at after new bytes line held sent came (Err WriteFault) WriteFault b few a (inr (refl, s.1, s.2)) refl)
 
 -- what was taken behind the lines before it begins with the line
-begins : (held taken line held' : List ℕ) → held ++ taken ≡ (line ++ 10 ∷ []) ++ held' → IsWithin line_limit line → BeginsWith (held ++ taken) line held'
+begins : (held taken line held' : List ℕ) → held ++ taken ≡ (line ++ 10 ∷ []) ++ held' → IsWithin longest_request line → BeginsWith (held ++ taken) line held'
 begins held taken line held' h w = record { cut = h ∙ append_assoc line (10 ∷ []) held'; within = w }
 
 by_line : (variant : Variant) (meaning : Meaning) (number : ℕ) (at : Place) (after : Standing) (new : Kept) (left left' : Option (List ℕ)) (held held' : List ℕ) (received received' : Option (List ℕ)) (result : Result (Option Resumed) SessionFault) (line : _)
-    → number ≤ 1000001 → NextLine line_limit left left' held (Ok (Line line)) held' → TakesLine variant meaning number at after new received received' line.now result
+    → number ≤ most_lines + 1 → NextLine longest_request left left' held (Ok (Line line)) held' → TakesLine variant meaning number at after new received received' line.now result
     → Turns variant meaning number at after new left left' held held' received received' result
 by_line variant meaning number at after new left left' held held' received received' result line few n (inl t) = record {
   taken = n.takes.taken;
@@ -109,7 +110,7 @@ by_line variant meaning number at after new left left' held held' received recei
   );
 }
   where
-    one_too_many : (n : ℕ) → n ≤ 1000001 → most_lines < n → n ≡ most_lines + 1
+    one_too_many : (n : ℕ) → n ≤ most_lines + 1 → most_lines < n → n ≡ most_lines + 1
     one_too_many n h k = omega arith
 by_line variant meaning number at after new left left' held held' received received' result line few n (inr t) = record {
   taken = n.takes.taken;
@@ -124,8 +125,8 @@ by_line variant meaning number at after new left left' held held' received recei
 -- A line was read, and served or not.
 pub turned_by_line : (variant : Variant) (meaning : Meaning) (number : ℕ) (at : Place) (after : Standing) (new : Kept) (left left' : Option (List ℕ)) (held held' : List ℕ) (received received' : Option (List ℕ)) (result : Result (Option Resumed) SessionFault)
     (read : Result Read LineFault) (what : Read) (line : _)
-    → number ≤ 1000001 → NextLine line_limit left left' held read held' → read ≡ Ok what → what ≡ Line line → TakesLine variant meaning number at after new received received' line.now result
+    → number ≤ most_lines + 1 → NextLine longest_request left left' held read held' → read ≡ Ok what → what ≡ Line line → TakesLine variant meaning number at after new received received' line.now result
     → Turns variant meaning number at after new left left' held held' received received' result
 turned_by_line variant meaning number at after new left left' held held' received received' result read what line few n is what_is t =
     by_line variant meaning number at after new left left' held held' received received' result line few
-    (subst (λ (r : Result Read LineFault). NextLine line_limit left left' held r held') (is ∙ ap Ok what_is) n) t
+    (subst (λ (r : Result Read LineFault). NextLine longest_request left left' held r held') (is ∙ ap Ok what_is) n) t

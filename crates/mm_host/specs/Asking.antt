@@ -14,7 +14,8 @@ use Rattle.mm_call.specs.Refusals.{fault_in}
 
 -- One call, for a request that isn't too long: it goes as a call of the variant does, from any history; its count of
 -- faults rose exactly where it tells of a device; and its answer has its sizes.
-pub record IsCall (variant : Variant) (meaning : Meaning) (old new : Standing) (offer request : List ℕ) (result : Result Answer Refusal) : Type 0 where
+pub record IsCall (variant : Variant) (meaning : Meaning) (old new : Standing) (offer request : List ℕ)
+    (result : Result Answer Refusal) : Type 0 where
   pub goes : CallsOn variant meaning old new offer (One request) (whole_in result)
   pub untouched : LeavesUntouched (whole_in result) old new
   pub faults : Blames (fault_in result) old.faults new.faults

@@ -1,9 +1,10 @@
 -- What a session comes to by lists alone, in either variant: its replies are those of one run of the module, and the
 -- slots that it leaves fit the history that the platform stands for.
-use Rattle.std.specs.Prelude.{◌≡◌, ◌≢◌, ◌+◌, ◌-◌, ◌<◌, ◌≤◌, ◌^◌, ℕ, List, [], ◌∷◌, ◌++◌, Option, None, Some, Result, Ok, Err, IsSome, true, nat_eq, if◌then◌else◌, ◌⊎◌}
+use Rattle.std.specs.Prelude.{◌≡◌, ◌≢◌, ◌+◌, ◌-◌, ◌<◌, ◌≤◌, ℕ, List, [], ◌∷◌, ◌++◌, Option, None, Some, Result, Ok, Err, IsSome, true, nat_eq, if◌then◌else◌, ◌⊎◌}
 use Rattle.std.proofs.Common.{inl, inr}
 use Rattle.std.specs.List.{Contains}
 use Rattle.mm_base.specs.Input.{lines_of}
+use Rattle.mm_base.specs.Limits.{last_position}
 use Rattle.mm_digest.specs.declared.variant.Variant.{Variant}
 use Rattle.mm_digest.specs.declared.variant.Variant.TheVariants.{Basic, Opt}
 use Rattle.mm_platform.specs.Standing.{Item, Standing}
@@ -42,7 +43,7 @@ use Rattle.mm_host.specs.Waiting.{IsWaiting}
 abbrev pub AreToFollow : List (List ℕ) → List Batch → Instance → History → List (List ℕ) → Type 0
 AreToFollow all asked i y [] = Unit {0}
 AreToFollow all asked i y (line ∷ lines) =
-    Contains asked (One line) × Within (offer_messages i (issued i y).place (One line)) all × (total_of y.batches < 2 ^ 48)
+    Contains asked (One line) × Within (offer_messages i (issued i y).place (One line)) all × (total_of y.batches < last_position)
     × AreToFollow all asked i (moved i y (Commit (One line))) lines
 
 -- the history once what waits is answered, but for others' values; where nothing waits, nothing is committed
@@ -51,7 +52,8 @@ history_then i y None = first_history
 history_then i y (Some p) = if nat_eq p.position (total_of y.batches) then y else moved i y (Commit (One p.request))
 
 -- What is asked of a session on these lines: what is asked of a recovery, and that the lines are to follow it.
-pub record CanServe (all others : List (List ℕ)) (asked : List Batch) (i : Instance) (y : History) (slots : Slots) (standing : Standing) (kept : Kept) (lines : List (List ℕ)) : Type 0 where
+pub record CanServe (all others : List (List ℕ)) (asked : List Batch) (i : Instance) (y : History) (slots : Slots) (standing : Standing)
+    (kept : Kept) (lines : List (List ℕ)) : Type 0 where
   pub can : CanRecover all others asked i y slots standing kept
   pub follow : AreToFollow all asked i (history_then i y can.fits.waiting) lines
 
@@ -85,12 +87,16 @@ told_first (Some p) (Start first) = []
 told_first (Some p) (Answered answer) = record { line = p.request; answer = answer } ∷ []
 
 -- the requests that a session told, each with its answer
-abbrev pub told_in : {variant : Variant} {meaning : Meaning} {begun : Result Resumed HostFault} {platform after : Standing} {store new : Kept} {left : Option (List ℕ)} {taken sent : List ℕ} {result : Result Unit SessionFault} → Option Pending → AfterResume variant meaning begun platform after store new left taken sent result → List Served
+abbrev pub told_in : {variant : Variant} {meaning : Meaning} {begun : Result Resumed HostFault} {platform after : Standing}
+    {store new : Kept} {left : Option (List ℕ)} {taken sent : List ℕ} {result : Result Unit SessionFault} → Option Pending
+    → AfterResume variant meaning begun platform after store new left taken sent result → List Served
 told_in waiting (inl stops) = []
 told_in waiting (inr goes) = told_first waiting goes.first ++ goes.lines.calls
 
 -- the request in hand where a session stopped: what waited, or the line after those that were told
-abbrev pub IsInHand : {variant : Variant} {meaning : Meaning} {begun : Result Resumed HostFault} {platform after : Standing} {store new : Kept} {left : Option (List ℕ)} {taken sent : List ℕ} {result : Result Unit SessionFault} → Option Pending → AfterResume variant meaning begun platform after store new left taken sent result → List ℕ → Type 0
+abbrev pub IsInHand : {variant : Variant} {meaning : Meaning} {begun : Result Resumed HostFault} {platform after : Standing}
+    {store new : Kept} {left : Option (List ℕ)} {taken sent : List ℕ} {result : Result Unit SessionFault} → Option Pending
+    → AfterResume variant meaning begun platform after store new left taken sent result → List ℕ → Type 0
 IsInHand waiting (inl stops) request = (p : Pending) × (waiting ≡ Some p) × (p.request ≡ request)
 IsInHand waiting (inr goes) request = (held : List ℕ) × BeginsWith goes.lines.more request held
 
@@ -129,7 +135,8 @@ pub record HasUntold (hand : List ℕ → Type 0) (result : Result Unit SessionF
 -- of that run's requests, or of those and the one in hand. The slots fit it, so that the session may be gone on with.
 -- A refusal is a device's fault, or tells how that history has ended; it isn't spoiled where no value of others counts,
 -- nor lost where it wasn't before.
-pub record ContinuesTo (all others : List (List ℕ)) (asked : List Batch) (i : Instance) (y : History) (standing : Standing) (kept : Kept) (told : List Served) (hand : List ℕ → Type 0) (result : Result Unit SessionFault) : Type 0 where
+pub record ContinuesTo (all others : List (List ℕ)) (asked : List Batch) (i : Instance) (y : History) (standing : Standing) (kept : Kept)
+    (told : List Served) (hand : List ℕ → Type 0) (result : Result Unit SessionFault) : Type 0 where
   pub after : History
   pub stands : StandsFor i standing after
   pub within : IsWithin all others asked i after
@@ -148,7 +155,8 @@ pub record ContinuesTo (all others : List (List ℕ)) (asked : List Batch) (i : 
 -- Over an honest store and an input that tell what they hold: by whatever steps the session went, from every history.
 -- Over a platform of Basic under every key; over one of Opt under every key and barrier, where what others did is known
 -- by the items that the register shows at the session's end behind those that counted at its start.
-abbrev pub Continues : Variant → Meaning → Standing → Standing → Kept → Kept → Option (List ℕ) → Option (List ℕ) → Option (List ℕ) → Option (List ℕ) → Result Unit SessionFault → Type 0
+abbrev pub Continues : Variant → Meaning → Standing → Standing → Kept → Kept → Option (List ℕ) → Option (List ℕ) → Option (List ℕ)
+    → Option (List ℕ) → Result Unit SessionFault → Type 0
 Continues Basic meaning before after old new left left' received received' result =
     (s : Sessions Basic meaning before after old new left left' received received' result)
     (key : List ℕ) (y : History) (slots : Slots) (all others : List (List ℕ)) (asked : List Batch) (input : List ℕ) →
@@ -157,7 +165,8 @@ Continues Basic meaning before after old new left left' received received' resul
     (IsInHand can.can.fits.waiting s.goes) result
 Continues Opt meaning before after old new left left' received received' result =
     (s : Sessions Opt meaning before after old new left left' received received' result)
-    (key barrier : List ℕ) (y : History) (slots : Slots) (all others : List (List ℕ)) (asked : List Batch) (input : List ℕ) (items more : List Item) →
+    (key barrier : List ℕ) (y : History) (slots : Slots) (all others : List (List ℕ)) (asked : List Batch) (input : List ℕ)
+    (items more : List Item) →
     left ≡ Some input → (can : CanServe all others asked (opt meaning key barrier) y slots before old (lines_of input)) →
     before.items ≡ Some items → after.items ≡ Some (standing_items y.is_open items ++ more) →
     AreShown all others (opt meaning key barrier) y more →

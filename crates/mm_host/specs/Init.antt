@@ -29,6 +29,10 @@ pub record Devices : Type 0 where
   pub left : Option (List ℕ)
   pub source_faults : ℕ
 
+abbrev pub devices : Standing → Kept → (left : Option (List ℕ)) (source_faults : ℕ) → Devices
+devices platform store left source_faults =
+    record { platform = platform; store = store; left = left; source_faults = source_faults }
+
 -- the cell is read, and told to be blank exactly where it is
 pub record LooksAtCell (old new : Standing) (is_blank : Result Bool StepFault) : Type 0 where
   pub goes : Goes ReadCell old new (result_err is_blank)

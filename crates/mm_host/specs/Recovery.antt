@@ -40,7 +40,8 @@ IsAskedFor all asked i slots (Some p) =
 
 -- What is asked for a recovery: the store is honest, and tells its slots; the platform stands for the history, and the
 -- slots fit it; and no two messages share a digest, of the history and of the request that waits.
-pub record CanRecover (all others : List (List ℕ)) (asked : List Batch) (i : Instance) (y : History) (slots : Slots) (standing : Standing) (kept : Kept) : Type 0 where
+pub record CanRecover (all others : List (List ℕ)) (asked : List Batch) (i : Instance) (y : History) (slots : Slots) (standing : Standing)
+    (kept : Kept) : Type 0 where
   pub honest : kept.is_honest ≡ true
   pub told : kept.slots ≡ Some slots
   pub stands : StandsFor i standing y
@@ -88,7 +89,8 @@ MayCommit (Err (Refused why)) = IsSome (fault_of why)
 -- Whatever it gives, the platform stands for a history that grew by the request that waits or by nothing, and the slots
 -- fit that one; so it may be called again. What was asked of the history holds of it too. The newest snapshot is in the
 -- slot of its position's parity, and names that position of the history. No power is lost by it.
-pub record RecoversTo (all others : List (List ℕ)) (asked : List Batch) (i : Instance) (y : History) (slots : Slots) (waiting : Option Pending) (standing : Standing) (kept : Kept) (result : Result Resumed HostFault) : Type 0 where
+pub record RecoversTo (all others : List (List ℕ)) (asked : List Batch) (i : Instance) (y : History) (slots : Slots)
+    (waiting : Option Pending) (standing : Standing) (kept : Kept) (result : Result Resumed HostFault) : Type 0 where
   pub after : History
   pub stands : StandsFor i standing after
   pub within : IsWithin all others asked i after

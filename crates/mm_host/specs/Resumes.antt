@@ -61,33 +61,38 @@ abbrev pub AfterAsk : Result Answer Refusal → Kept → Kept → Result Resumed
 AfterAsk (Err why) old new result = (new ≡ old) × (result ≡ Err (refused_as why))
 AfterAsk (Ok answer) old new result = Keeps answer old new result
 
-pub record AsksAndKeeps (variant : Variant) (meaning : Meaning) (before after : Standing) (old new : Kept) (offer request : List ℕ) (result : Result Resumed HostFault) : Type 0 where
+pub record AsksAndKeeps (variant : Variant) (meaning : Meaning) (before after : Standing) (old new : Kept) (offer request : List ℕ)
+    (result : Result Resumed HostFault) : Type 0 where
   pub asked : Result Answer Refusal
   pub asks : IsCall variant meaning before after offer request asked
   pub goes : AfterAsk asked old new result
 
 -- The request that waits is asked with the snapshot before its position.
-abbrev pub AfterOffer : Variant → Meaning → Standing → Standing → Result (List ℕ) StoreFault → Kept → Kept → Pending → Result Resumed HostFault → Type 0
+abbrev pub AfterOffer : Variant → Meaning → Standing → Standing → Result (List ℕ) StoreFault → Kept → Kept → Pending
+    → Result Resumed HostFault → Type 0
 AfterOffer variant meaning before after (Err why) old new p result =
     (after ≡ before) × (new ≡ old) × (result ≡ Err (store_fault_as why))
 AfterOffer variant meaning before after (Ok offer) old new p result =
     AsksAndKeeps variant meaning before after old new offer p.request result
 
-pub record Repeats (variant : Variant) (meaning : Meaning) (before after : Standing) (old new : Kept) (p : Pending) (result : Result Resumed HostFault) : Type 0 where
+pub record Repeats (variant : Variant) (meaning : Meaning) (before after : Standing) (old new : Kept) (p : Pending)
+    (result : Result Resumed HostFault) : Type 0 where
   pub middle : Kept
   pub offer : Result (List ℕ) StoreFault
   pub reads : ReadsSlot ((p.position - 1) % 2) old middle offer
   pub goes : AfterOffer variant meaning before after offer middle new p result
 
 -- The call: it finds what waits, and begins with the first snapshot or repeats the request.
-abbrev pub AfterFinding : Variant → Meaning → Standing → Standing → Result (Option Pending) StoreFault → Kept → Kept → Result Resumed HostFault → Type 0
+abbrev pub AfterFinding : Variant → Meaning → Standing → Standing → Result (Option Pending) StoreFault → Kept → Kept
+    → Result Resumed HostFault → Type 0
 AfterFinding variant meaning before after (Err why) old new result =
     (after ≡ before) × (new ≡ old) × (result ≡ Err (store_fault_as why))
 AfterFinding variant meaning before after (Ok None) old new result = (after ≡ before) × Starts old new result
 AfterFinding variant meaning before after (Ok (Some p)) old new result =
     Repeats variant meaning before after old new p result
 
-pub record Resumes (variant : Variant) (meaning : Meaning) (before after : Standing) (old new : Kept) (result : Result Resumed HostFault) : Type 0 where
+pub record Resumes (variant : Variant) (meaning : Meaning) (before after : Standing) (old new : Kept)
+    (result : Result Resumed HostFault) : Type 0 where
   pub middle : Kept
   pub waiting : Result (Option Pending) StoreFault
   pub finds : FindsWaiting old middle waiting

@@ -1,6 +1,7 @@
 -- What a session writes.
-use Rattle.std.specs.Prelude.{◌≡◌, ◌≢◌, ◌≤◌, ◌^◌, ℕ, List, [], ◌∷◌, ◌++◌, codes, length, Option, None, Some, Result, Ok, Err, ◌⊎◌}
+use Rattle.std.specs.Prelude.{◌≡◌, ◌≢◌, ◌≤◌, ℕ, List, [], ◌∷◌, ◌++◌, codes, length, Option, None, Some, Result, Ok, Err, ◌⊎◌}
 use Rattle.std.specs.Io.KnownBytes.{Appends}
+use Rattle.mm_base.specs.Limits.{last_position, longest_request}
 use Rattle.mm_play.specs.Takes.{IsFrontOf}
 use Rattle.mm_model.specs.declared.refusal.Refusal.{Refusal}
 use Rattle.mm_model.specs.declared.refusal.Refusal.TheVariants as refusal
@@ -30,8 +31,8 @@ output_at (Answered answer) = answer.output
 
 -- its sizes
 pub record IsSized (last : Resumed) : Type 0 where
-  pub most : position_at last ≤ 2 ^ 48
-  pub output : length (output_at last) ≤ 4096
+  pub most : position_at last ≤ last_position
+  pub output : length (output_at last) ≤ longest_request
 
 -- the word of a refusal that is told
 abbrev pub cause_of : Refusal → Option Cause
@@ -71,7 +72,8 @@ Says came sent result =
     ((sent ≡ text_of came) × (result ≡ comes_as came))
     ⊎ ((result ≡ Err WriteFault) × (text_of came ≢ []) × IsFrontOf sent (text_of came))
 
-pub record Tells (came : Result Resumed HostFault) (received received' : Option (List ℕ)) (result : Result Resumed SessionFault) : Type 0 where
+pub record Tells (came : Result Resumed HostFault) (received received' : Option (List ℕ))
+    (result : Result Resumed SessionFault) : Type 0 where
   pub sent : List ℕ
   pub appended : Appends received received' sent
   pub says : Says came sent result

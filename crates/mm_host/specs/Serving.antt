@@ -1,6 +1,7 @@
 -- A line that is asked: its record is written before, and the answer's snapshot after. Nothing is asked for these steps.
 use Rattle.std.specs.Prelude.{◌≡◌, ◌+◌, ◌%◌, ℕ, List, [], ◌∷◌, ◌++◌, Result, Ok, Err}
 use Rattle.mm_base.specs.Lines.{IsWithin}
+use Rattle.mm_base.specs.Limits.{longest_request}
 use Rattle.mm_digest.specs.declared.variant.Variant.{Variant}
 use Rattle.mm_platform.specs.Standing.{Standing}
 use Rattle.mm_module.specs.Meaning.{Meaning}
@@ -22,13 +23,15 @@ abbrev pub record_for : Resumed → List ℕ → Pending
 record_for last line = record { position = position_at last + 1; request = line }
 
 -- The request is asked with the last snapshot, and the answer's snapshot is kept.
-abbrev pub AfterRecord : Variant → Meaning → Standing → Standing → Result Unit StoreFault → Kept → Kept → Resumed → List ℕ → Result Resumed HostFault → Type 0
+abbrev pub AfterRecord : Variant → Meaning → Standing → Standing → Result Unit StoreFault → Kept → Kept → Resumed → List ℕ
+    → Result Resumed HostFault → Type 0
 AfterRecord variant meaning before after (Err why) old new last line result =
     (after ≡ before) × (new ≡ old) × (result ≡ Err (store_fault_as why))
 AfterRecord variant meaning before after (Ok _) old new last line result =
     AsksAndKeeps variant meaning before after old new (snapshot_at last) line result
 
-pub record AsksLine (variant : Variant) (meaning : Meaning) (before after : Standing) (old new : Kept) (last : Resumed) (line : List ℕ) (result : Result Resumed HostFault) : Type 0 where
+pub record AsksLine (variant : Variant) (meaning : Meaning) (before after : Standing) (old new : Kept) (last : Resumed) (line : List ℕ)
+    (result : Result Resumed HostFault) : Type 0 where
   pub middle : Kept
   pub recorded : Result Unit StoreFault
   pub records : WritesSlot (2 + (position_at last + 1) % 2) (pending_spelling (record_for last line)) old middle recorded
@@ -45,13 +48,9 @@ pub record Served : Type 0 where
   pub line : List ℕ
   pub answer : Answer
 
--- the most bytes of a line, its LF apart
-abbrev pub line_limit : ℕ
-line_limit = 4096
-
 -- The line is asked and answered, and the session goes on.
 pub record ServesFirst (variant : Variant) (meaning : Meaning) (from : Place) (c : Served) (goes : Place → Type 0) : Type 0 where
-  pub within : IsWithin line_limit c.line
+  pub within : IsWithin longest_request c.line
   pub platform : Standing
   pub store : Kept
   pub asks : AsksLine variant meaning from.platform platform from.store store from.last c.line (Ok (Answered c.answer))

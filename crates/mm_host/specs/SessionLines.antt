@@ -2,15 +2,15 @@
 use Rattle.std.specs.Prelude.{◌≡◌, ◌≤◌, ℕ, List, [], length, Option, Some, Result, Ok, Err}
 use Rattle.std.specs.List.{AllByRecursion}
 use Rattle.mm_base.specs.Input.{lines_of, tail_of}
+use Rattle.mm_base.specs.Limits.{longest_request}
 use Rattle.mm_host.specs.declared.fault.SessionFault.{SessionFault}
 use Rattle.mm_host.specs.declared.fault.SessionFault.TheVariants.{Memory, Store, Refused, ReadFault, WriteFault, LineLong, BadLine, TooMuch}
-use Rattle.mm_host.specs.Serving.{line_limit}
 use Rattle.mm_host.specs.Sessions.{most_lines}
 
 -- Each line has its LF and no more bytes than a line may have, and there are no more lines than there may be.
 pub record AreWithin (input : List ℕ) : Type 0 where
   pub whole : tail_of input ≡ []
-  pub short : AllByRecursion (λ line. length line ≤ line_limit) (lines_of input)
+  pub short : AllByRecursion (λ line. length line ≤ longest_request) (lines_of input)
   pub few : length (lines_of input) ≤ most_lines
 
 -- no line is to blame

@@ -3,6 +3,7 @@ use Rattle.std.specs.Prelude.{◌≡◌, ◌+◌, ◌<◌, ◌≤◌, ℕ, List,
 use Rattle.std.specs.Io.KnownBytes.{Appends, Consumes, IsAtEnd}
 use Rattle.mm_base.specs.Input.{joined}
 use Rattle.mm_base.specs.Lines.{IsLong, IsWithin}
+use Rattle.mm_base.specs.Limits.{longest_request}
 use Rattle.mm_digest.specs.declared.variant.Variant.{Variant}
 use Rattle.mm_platform.specs.Standing.{Standing}
 use Rattle.mm_module.specs.Meaning.{Meaning}
@@ -13,7 +14,7 @@ use Rattle.mm_host.specs.declared.fault.SessionFault.TheVariants.{Memory, Store,
 use Rattle.mm_host.specs.declared.resuming.Resumed.{Resumed}
 use Rattle.mm_host.specs.Resumes.{Resumes}
 use Rattle.mm_host.specs.Saying.{text_of, Says}
-use Rattle.mm_host.specs.Serving.{AsksLine, Place, Served, Serves, line_limit, lines_served, replies_to}
+use Rattle.mm_host.specs.Serving.{AsksLine, Place, Served, Serves, lines_served, replies_to}
 
 -- the most lines
 abbrev pub most_lines : ℕ
@@ -28,10 +29,11 @@ pub record IsAtRest (at : Place) (after : Standing) (new : Kept) (sent : List �
 -- The bytes begin with a line, its LF and what is held behind.
 pub record BeginsWith (bytes line held : List ℕ) : Type 0 where
   pub cut : bytes ≡ line ++ 10 ∷ held
-  pub within : IsWithin line_limit line
+  pub within : IsWithin longest_request line
 
 -- The line in hand is asked, and comes to a fault; or its reply isn't written whole.
-pub record StopsInLine (variant : Variant) (meaning : Meaning) (number : ℕ) (at : Place) (after : Standing) (new : Kept) (more sent : List ℕ) (fault : SessionFault) : Type 0 where
+pub record StopsInLine (variant : Variant) (meaning : Meaning) (number : ℕ) (at : Place) (after : Standing) (new : Kept)
+    (more sent : List ℕ) (fault : SessionFault) : Type 0 where
   pub line : List ℕ
   pub held : List ℕ
   pub begins : BeginsWith more line held
@@ -44,20 +46,21 @@ pub record StopsInLine (variant : Variant) (meaning : Meaning) (number : ℕ) (a
 -- before it.
 abbrev pub Stops : Variant → Meaning → ℕ → Place → Standing → Kept → Option (List ℕ) → List ℕ → List ℕ → SessionFault → Type 0
 -- the source failed before the line's LF
-Stops variant meaning number at after new left more sent ReadFault = IsAtRest at after new sent × IsWithin line_limit more
+Stops variant meaning number at after new left more sent ReadFault = IsAtRest at after new sent × IsWithin longest_request more
 -- the input ended within the line
 Stops variant meaning number at after new left more sent (BadLine line) =
-    IsAtRest at after new sent × (line ≡ number) × IsWithin line_limit more × (0 < length more) × IsAtEnd left
+    IsAtRest at after new sent × (line ≡ number) × IsWithin longest_request more × (0 < length more) × IsAtEnd left
 -- more bytes came than a line may have
 Stops variant meaning number at after new left more sent (LineLong line) =
-    IsAtRest at after new sent × (line ≡ number) × IsLong line_limit more
+    IsAtRest at after new sent × (line ≡ number) × IsLong longest_request more
 -- the line is one too many
 Stops variant meaning number at after new left more sent TooMuch =
     IsAtRest at after new sent × (number ≡ most_lines + 1) × (line : List ℕ) × (held : List ℕ) × BeginsWith more line held
 -- the line was asked
 Stops variant meaning number at after new left more sent Memory = StopsInLine variant meaning number at after new more sent Memory
 Stops variant meaning number at after new left more sent Store = StopsInLine variant meaning number at after new more sent Store
-Stops variant meaning number at after new left more sent (Refused why) = StopsInLine variant meaning number at after new more sent (Refused why)
+Stops variant meaning number at after new left more sent (Refused why) =
+    StopsInLine variant meaning number at after new more sent (Refused why)
 Stops variant meaning number at after new left more sent WriteFault = StopsInLine variant meaning number at after new more sent WriteFault
 
 -- Ok: the input ended behind a whole line.
@@ -66,7 +69,8 @@ Ends variant meaning number at after new left more sent (Ok _) = IsAtRest at aft
 Ends variant meaning number at after new left more sent (Err fault) = Stops variant meaning number at after new left more sent fault
 
 -- Some lines are served from where the session began, and there it ends.
-pub record ServesLines (variant : Variant) (meaning : Meaning) (from : Place) (after : Standing) (new : Kept) (left : Option (List ℕ)) (taken sent : List ℕ) (result : Result Unit SessionFault) : Type 0 where
+pub record ServesLines (variant : Variant) (meaning : Meaning) (from : Place) (after : Standing) (new : Kept) (left : Option (List ℕ))
+    (taken sent : List ℕ) (result : Result Unit SessionFault) : Type 0 where
   pub calls : List Served
   pub few : length calls ≤ most_lines
   pub at : Place
@@ -85,7 +89,8 @@ pub record StopsAtOnce (begun : Result Resumed HostFault) (taken sent : List ℕ
   pub nothing : taken ≡ []
 
 -- What waited is told, and the lines are served.
-pub record GoesOn (variant : Variant) (meaning : Meaning) (begun : Result Resumed HostFault) (platform after : Standing) (store new : Kept) (left : Option (List ℕ)) (taken sent : List ℕ) (result : Result Unit SessionFault) : Type 0 where
+pub record GoesOn (variant : Variant) (meaning : Meaning) (begun : Result Resumed HostFault) (platform after : Standing) (store new : Kept)
+    (left : Option (List ℕ)) (taken sent : List ℕ) (result : Result Unit SessionFault) : Type 0 where
   pub first : Resumed
   pub begins : begun ≡ Ok first
   pub replies : List ℕ
@@ -93,13 +98,15 @@ pub record GoesOn (variant : Variant) (meaning : Meaning) (begun : Result Resume
   pub lines : ServesLines variant meaning (record { platform = platform; store = store; last = first }) after new left taken replies result
 
 -- It stops at once, or it goes on, as what waited came to.
-abbrev pub AfterResume : Variant → Meaning → Result Resumed HostFault → Standing → Standing → Kept → Kept → Option (List ℕ) → List ℕ → List ℕ → Result Unit SessionFault → Type 0
+abbrev pub AfterResume : Variant → Meaning → Result Resumed HostFault → Standing → Standing → Kept → Kept → Option (List ℕ) → List ℕ
+    → List ℕ → Result Unit SessionFault → Type 0
 AfterResume variant meaning begun platform after store new left taken sent result =
     ((after ≡ platform) × (new ≡ store) × StopsAtOnce begun taken sent result)
     ⊎ GoesOn variant meaning begun platform after store new left taken sent result
 
 -- The call: these bytes were taken of the input, and those written.
-pub record Sessions (variant : Variant) (meaning : Meaning) (before after : Standing) (old new : Kept) (left left' received received' : Option (List ℕ)) (result : Result Unit SessionFault) : Type 0 where
+pub record Sessions (variant : Variant) (meaning : Meaning) (before after : Standing) (old new : Kept)
+    (left left' received received' : Option (List ℕ)) (result : Result Unit SessionFault) : Type 0 where
   pub taken : List ℕ
   pub sent : List ℕ
   pub consumed : Consumes left left' taken

@@ -16,7 +16,8 @@ use Rattle.mm_host.specs.Serving.{AsksLine, Place}
 use Rattle.mm_host.specs.Sessions.{BeginsWith, IsAtRest, ServesLines, Stops, most_lines}
 
 -- The line of this number is asked, and what comes is told.
-pub record AsksAndTells (variant : Variant) (meaning : Meaning) (at : Place) (after : Standing) (new : Kept) (received received' : Option (List ℕ)) (line : List ℕ) (result : Result Resumed SessionFault) : Type 0 where
+pub record AsksAndTells (variant : Variant) (meaning : Meaning) (at : Place) (after : Standing) (new : Kept)
+    (received received' : Option (List ℕ)) (line : List ℕ) (result : Result Resumed SessionFault) : Type 0 where
   pub came : Result Resumed HostFault
   pub asks : AsksLine variant meaning at.platform after at.store new at.last line came
   pub tells : Tells came received received' result
@@ -26,27 +27,31 @@ abbrev pub handed_on : Result Resumed SessionFault → Result (Option Resumed) S
 handed_on (Ok next) = Ok (Some next)
 handed_on (Err fault) = Err fault
 
-pub record IsOneTooMany (number : ℕ) (at : Place) (after : Standing) (new : Kept) (received received' : Option (List ℕ)) (result : Result (Option Resumed) SessionFault) : Type 0 where
+pub record IsOneTooMany (number : ℕ) (at : Place) (after : Standing) (new : Kept) (received received' : Option (List ℕ))
+    (result : Result (Option Resumed) SessionFault) : Type 0 where
   pub many : most_lines < number
   pub platform : after ≡ at.platform
   pub store : new ≡ at.store
   pub received_same : received' ≡ received
   pub gives : result ≡ Err TooMuch
 
-pub record IsServed (variant : Variant) (meaning : Meaning) (number : ℕ) (at : Place) (after : Standing) (new : Kept) (received received' : Option (List ℕ)) (line : List ℕ) (result : Result (Option Resumed) SessionFault) : Type 0 where
+pub record IsServed (variant : Variant) (meaning : Meaning) (number : ℕ) (at : Place) (after : Standing) (new : Kept)
+    (received received' : Option (List ℕ)) (line : List ℕ) (result : Result (Option Resumed) SessionFault) : Type 0 where
   pub few : number ≤ most_lines
   pub told : Result Resumed SessionFault
   pub asks : AsksAndTells variant meaning at after new received received' line told
   pub gives : result ≡ handed_on told
 
 -- The line of this number is one too many, or it is asked and told.
-abbrev pub TakesLine : Variant → Meaning → ℕ → Place → Standing → Kept → Option (List ℕ) → Option (List ℕ) → List ℕ → Result (Option Resumed) SessionFault → Type 0
+abbrev pub TakesLine : Variant → Meaning → ℕ → Place → Standing → Kept → Option (List ℕ) → Option (List ℕ) → List ℕ
+    → Result (Option Resumed) SessionFault → Type 0
 TakesLine variant meaning number at after new received received' line result =
     IsOneTooMany number at after new received received' result
     ⊎ IsServed variant meaning number at after new received received' line result
 
 -- The line was answered, and the answer told.
-pub record ServesLine (variant : Variant) (meaning : Meaning) (number : ℕ) (at : Place) (after : Standing) (new : Kept) (bytes held sent : List ℕ) (next : Resumed) : Type 0 where
+pub record ServesLine (variant : Variant) (meaning : Meaning) (number : ℕ) (at : Place) (after : Standing) (new : Kept)
+    (bytes held sent : List ℕ) (next : Resumed) : Type 0 where
   pub line : List ℕ
   pub begins : BeginsWith bytes line held
   pub few : number ≤ most_lines
@@ -56,12 +61,16 @@ pub record ServesLine (variant : Variant) (meaning : Meaning) (number : ℕ) (at
   pub told : sent ≡ text_of (Ok (Answered answer))
 
 -- By the answer: `bytes` are those held before and those taken, and `held` those held after.
-abbrev pub Went : Variant → Meaning → ℕ → Place → Standing → Kept → Option (List ℕ) → List ℕ → List ℕ → List ℕ → Result (Option Resumed) SessionFault → Type 0
-Went variant meaning number at after new left bytes held sent (Ok (Some next)) = ServesLine variant meaning number at after new bytes held sent next
+abbrev pub Went : Variant → Meaning → ℕ → Place → Standing → Kept → Option (List ℕ) → List ℕ → List ℕ → List ℕ
+    → Result (Option Resumed) SessionFault → Type 0
+Went variant meaning number at after new left bytes held sent (Ok (Some next)) =
+    ServesLine variant meaning number at after new bytes held sent next
 Went variant meaning number at after new left bytes held sent (Ok None) = IsAtRest at after new sent × (bytes ≡ []) × IsAtEnd left
 Went variant meaning number at after new left bytes held sent (Err fault) = Stops variant meaning number at after new left bytes sent fault
 
-pub record Turns (variant : Variant) (meaning : Meaning) (number : ℕ) (at : Place) (after : Standing) (new : Kept) (left left' : Option (List ℕ)) (held held' : List ℕ) (received received' : Option (List ℕ)) (result : Result (Option Resumed) SessionFault) : Type 0 where
+pub record Turns (variant : Variant) (meaning : Meaning) (number : ℕ) (at : Place) (after : Standing) (new : Kept)
+    (left left' : Option (List ℕ)) (held held' : List ℕ) (received received' : Option (List ℕ))
+    (result : Result (Option Resumed) SessionFault) : Type 0 where
   pub taken : List ℕ
   pub sent : List ℕ
   pub consumed : Consumes left left' taken
@@ -69,7 +78,8 @@ pub record Turns (variant : Variant) (meaning : Meaning) (number : ℕ) (at : Pl
   pub went : Went variant meaning number at after new left' (held ++ taken) held' sent result
 
 -- The lines of an input are served, with what was taken and written for them.
-pub record ServesInput (variant : Variant) (meaning : Meaning) (from : Place) (after : Standing) (new : Kept) (left left' received received' : Option (List ℕ)) (result : Result Unit SessionFault) : Type 0 where
+pub record ServesInput (variant : Variant) (meaning : Meaning) (from : Place) (after : Standing) (new : Kept)
+    (left left' received received' : Option (List ℕ)) (result : Result Unit SessionFault) : Type 0 where
   pub taken : List ℕ
   pub sent : List ℕ
   pub consumed : Consumes left left' taken

@@ -1,6 +1,7 @@
 -- The request that waits in a store.
 use Rattle.std.specs.Prelude.{◌≡◌, ◌≤◌, ℕ, List, Option, None, Some, Result, Ok, Err, ◌⊎◌, nat_le, if◌then◌else◌}
 use Rattle.mm_base.specs.Lines.{IsWithin}
+use Rattle.mm_base.specs.Limits.{longest_request}
 use Rattle.mm_store.specs.declared.fault.StoreFault.{StoreFault}
 use Rattle.mm_store.specs.declared.fault.StoreFault.TheVariants.{Memory}
 use Rattle.mm_store.specs.Pending.{Pending, ReadsPending}
@@ -28,4 +29,4 @@ pub record Takes (two three : List ℕ) (result : Result (Option Pending) StoreF
 -- a request that may be asked, and has a position before it
 pub record IsAskable (p : Pending) : Type 0 where
   pub least : 1 ≤ p.position
-  pub line : IsWithin 4096 p.request
+  pub line : IsWithin longest_request p.request

@@ -21,8 +21,8 @@ pub fn ask<M: Module, P: Platform>(
     request: &[u8],
 ) -> Result<Answer, Refusal>
     requires { is_long (One request.now) ≡ false }
-    ensures { IsCall variant (M.meaning «module».now) (P.standing platform.old) (P.standing platform.new)
-        offer.now request.now result }
+    ensures { IsCall variant (M.meaning «module».now) (P.standing platform.old)
+        (P.standing platform.new) offer.now request.now result }
 {
     match variant {
         Variant::Basic => mm_basic::ask(alloc, module, platform, offer, request),

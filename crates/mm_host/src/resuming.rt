@@ -64,13 +64,14 @@ pub fn resume<M: Module, P: Platform, T: Store>(
     platform: &mut P,
     store: &mut T,
 ) -> Result<Resumed, HostFault>
-    ensures resumes { Resumes variant (M.meaning «module».now) (P.standing platform.old) (P.standing platform.new)
-        (T.kept store.old) (T.kept store.new) result }
-    ensures faults { Blamed result (P.standing platform.old) (P.standing platform.new) (T.kept store.old) (T.kept store.new) }
+    ensures resumes { Resumes variant (M.meaning «module».now) (P.standing platform.old)
+        (P.standing platform.new) (T.kept store.old) (T.kept store.new) result }
+    ensures faults { Blamed result (P.standing platform.old) (P.standing platform.new)
+        (T.kept store.old) (T.kept store.new) }
     ensures named { IsNamed result }
     ensures sized { IfOk result IsSized }
-    ensures recovers { Recovers variant (M.meaning «module».now) (P.standing platform.old) (P.standing platform.new)
-        (T.kept store.old) (T.kept store.new) result }
+    ensures recovers { Recovers variant (M.meaning «module».now) (P.standing platform.old)
+        (P.standing platform.new) (T.kept store.old) (T.kept store.new) result }
 {
     resume_by_steps(alloc, variant, module, platform, store)
 }
@@ -83,8 +84,8 @@ fn resume_by_steps<M: Module, P: Platform, T: Store>(
     platform: &mut P,
     store: &mut T,
 ) -> Result<Resumed, HostFault>
-    ensures { Resumes variant (M.meaning «module».now) (P.standing platform.old) (P.standing platform.new)
-        (T.kept store.old) (T.kept store.new) result }
+    ensures { Resumes variant (M.meaning «module».now) (P.standing platform.old)
+        (P.standing platform.new) (T.kept store.old) (T.kept store.new) result }
 {
     match find_waiting(alloc, store) {
         Err(fault) => Err(HostFault::from(fault)),
@@ -113,8 +114,8 @@ fn repeat<M: Module, P: Platform, T: Store>(
     waiting: &Waiting,
 ) -> Result<Resumed, HostFault>
     requires { IsAskable waiting.now }
-    ensures { Repeats variant (M.meaning «module».now) (P.standing platform.old) (P.standing platform.new)
-        (T.kept store.old) (T.kept store.new) waiting.now result }
+    ensures { Repeats variant (M.meaning «module».now) (P.standing platform.old)
+        (P.standing platform.new) (T.kept store.old) (T.kept store.new) waiting.now result }
 {
     let slot = ((waiting.position - 1) % 2) as u8;
     match store.read(alloc, slot) {
@@ -142,8 +143,9 @@ pub fn ask_and_keep<M: Module, P: Platform, T: Store>(
     request: &[u8],
 ) -> Result<Resumed, HostFault>
     requires { is_long (One request.now) ≡ false }
-    ensures asks { AsksAndKeeps variant (M.meaning «module».now) (P.standing platform.old) (P.standing platform.new)
-        (T.kept store.old) (T.kept store.new) offer.now request.now result }
+    ensures asks { AsksAndKeeps variant (M.meaning «module».now) (P.standing platform.old)
+        (P.standing platform.new) (T.kept store.old) (T.kept store.new) offer.now request.now
+        result }
 {
     match ask(alloc, variant, module, platform, offer, request) {
         Err(refusal) => Err(HostFault::from(refusal)),

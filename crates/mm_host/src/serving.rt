@@ -1,7 +1,8 @@
 //! A session: the lines of an input, each asked and told before the next is read.
 
-ghost use Rattle.std.specs.Prelude.{◌≡◌, ◌+◌, ◌≤◌, ◌%◌, ◌^◌, [], IfOk, IfSome, Ok, length};
+ghost use Rattle.std.specs.Prelude.{◌≡◌, ◌+◌, ◌≤◌, ◌%◌, [], IfOk, IfSome, Ok, length};
 ghost use Rattle.mm_base.specs.Lines.{IsWithin};
+ghost use Rattle.mm_base.specs.Limits.{last_position, longest_request};
 ghost use Rattle.mm_play.specs.Plays.{IsBlamed};
 ghost use Rattle.mm_store.specs.Calls.{WritesSlot};
 ghost use Rattle.mm_store.specs.Pending.{pending_spelling};
@@ -10,21 +11,18 @@ ghost use Rattle.mm_host.specs.Saying.{IsSized, Tells, position_at, snapshot_at}
 ghost use Rattle.mm_host.specs.Serving.{AsksLine};
 ghost use Rattle.mm_host.specs.SessionBlame.{IsRefusalNamed, is_platform_fault, is_read_fault, is_store_fault, is_write_fault};
 ghost use Rattle.mm_host.specs.SessionLines.{SparesLines};
-ghost use Rattle.mm_host.specs.Sessions.{ServesLines, Sessions};
+ghost use Rattle.mm_host.specs.Sessions.{ServesLines, Sessions, most_lines};
 ghost use Rattle.mm_host.specs.Turns.{AsksAndTells, ServesInput, TakesLine, Turns};
 
 use crate::fault::{HostFault, SessionFault};
 use crate::resuming::{Resumed, ask_and_keep, resume};
 use crate::telling::tell;
-use mm_base::{LineFault, LineReader, Read, Sink, Source};
+use mm_base::{LONGEST_REQUEST, LineFault, LineReader, Read, Sink, Source};
 use mm_digest::Variant;
 use mm_module::Module;
 use mm_platform::Platform;
 use mm_store::{Store, StoreFault, pending_bytes};
 use std::alloc::Global;
-
-/// The most bytes of a line, its LF apart.
-const LINE_LIMIT: usize = 4096;
 
 /// The most lines of a session.
 const MOST_LINES: u32 = 1_000_000;
@@ -44,18 +42,20 @@ pub fn session<M: Module, P: Platform, T: Store, S: Source, K: Sink>(
     input: &mut S,
     out: &mut K,
 ) -> Result<(), SessionFault>
-    ensures sessions { Sessions variant (M.meaning «module».now) (P.standing platform.old) (P.standing platform.new)
-        (T.kept store.old) (T.kept store.new) (S.left input.old) (S.left input.new)
-        (K.received out.old) (K.received out.new) result }
-    ensures platform { IsBlamed (is_platform_fault result) (P.standing platform.old).faults (P.standing platform.new).faults }
-    ensures store { IsBlamed (is_store_fault result) (T.kept store.old).faults (T.kept store.new).faults }
+    ensures sessions { Sessions variant (M.meaning «module».now) (P.standing platform.old)
+        (P.standing platform.new) (T.kept store.old) (T.kept store.new) (S.left input.old)
+        (S.left input.new) (K.received out.old) (K.received out.new) result }
+    ensures platform { IsBlamed (is_platform_fault result) (P.standing platform.old).faults
+        (P.standing platform.new).faults }
+    ensures store { IsBlamed (is_store_fault result) (T.kept store.old).faults
+        (T.kept store.new).faults }
     ensures read { IsBlamed (is_read_fault result) (S.faults input.old) (S.faults input.new) }
     ensures wrote { IsBlamed (is_write_fault result) (K.faults out.old) (K.faults out.new) }
     ensures named { IsRefusalNamed result }
     ensures lines { SparesLines (S.left input.old) result }
-    ensures continues { Continues variant (M.meaning «module».now) (P.standing platform.old) (P.standing platform.new)
-        (T.kept store.old) (T.kept store.new) (S.left input.old) (S.left input.new)
-        (K.received out.old) (K.received out.new) result }
+    ensures continues { Continues variant (M.meaning «module».now) (P.standing platform.old)
+        (P.standing platform.new) (T.kept store.old) (T.kept store.new) (S.left input.old)
+        (S.left input.new) (K.received out.old) (K.received out.new) result }
 {
     session_by_steps(alloc, variant, module, platform, store, input, out)
 }
@@ -70,9 +70,9 @@ fn session_by_steps<M: Module, P: Platform, T: Store, S: Source, K: Sink>(
     input: &mut S,
     out: &mut K,
 ) -> Result<(), SessionFault>
-    ensures sessions { Sessions variant (M.meaning «module».now) (P.standing platform.old) (P.standing platform.new)
-        (T.kept store.old) (T.kept store.new) (S.left input.old) (S.left input.new)
-        (K.received out.old) (K.received out.new) result }
+    ensures sessions { Sessions variant (M.meaning «module».now) (P.standing platform.old)
+        (P.standing platform.new) (T.kept store.old) (T.kept store.new) (S.left input.old)
+        (S.left input.new) (K.received out.old) (K.received out.new) result }
     ensures read { IsBlamed (is_read_fault result) (S.faults input.old) (S.faults input.new) }
     ensures wrote { IsBlamed (is_write_fault result) (K.faults out.old) (K.faults out.new) }
 {
@@ -140,17 +140,17 @@ fn turn<M: Module, P: Platform, T: Store, S: Source, K: Sink>(
     number: u32,
     last: &Resumed,
 ) -> Result<Option<Resumed>, SessionFault>
-    requires number { number ≤ 1000001 }
+    requires number { number ≤ most_lines + 1 }
     requires sized { IsSized last.now }
     ensures turns { Turns variant (M.meaning «module».now) number
         (record { platform = P.standing platform.old; store = T.kept store.old; last = last.now })
-        (P.standing platform.new) (T.kept store.new) (S.left input.old) (S.left input.new) reader.old reader.new
-        (K.received out.old) (K.received out.new) result }
+        (P.standing platform.new) (T.kept store.new) (S.left input.old) (S.left input.new)
+        reader.old reader.new (K.received out.old) (K.received out.new) result }
     ensures sized { IfOk result (λ next. IfSome next IsSized) }
     ensures read { IsBlamed (is_read_fault result) (S.faults input.old) (S.faults input.new) }
     ensures wrote { IsBlamed (is_write_fault result) (K.faults out.old) (K.faults out.new) }
 {
-    match reader.next(input, LINE_LIMIT) {
+    match reader.next(input, LONGEST_REQUEST) {
         Ok(Read::Line(line)) => take_line(
             alloc, variant, module, platform, store, out, number, last, line,
         ),
@@ -174,10 +174,11 @@ fn take_line<M: Module, P: Platform, T: Store, K: Sink>(
     line: &[u8],
 ) -> Result<Option<Resumed>, SessionFault>
     requires sized { IsSized last.now }
-    requires line { IsWithin 4096 line.now }
+    requires line { IsWithin longest_request line.now }
     ensures takes { TakesLine variant (M.meaning «module».now) number
         (record { platform = P.standing platform.old; store = T.kept store.old; last = last.now })
-        (P.standing platform.new) (T.kept store.new) (K.received out.old) (K.received out.new) line.now result }
+        (P.standing platform.new) (T.kept store.new) (K.received out.old) (K.received out.new)
+        line.now result }
     ensures sized { IfOk result (λ next. IfSome next IsSized) }
     ensures wrote { IsBlamed (is_write_fault result) (K.faults out.old) (K.faults out.new) }
 {
@@ -202,10 +203,11 @@ fn serve<M: Module, P: Platform, T: Store, K: Sink>(
     line: &[u8],
 ) -> Result<Resumed, SessionFault>
     requires sized { IsSized last.now }
-    requires line { IsWithin 4096 line.now }
+    requires line { IsWithin longest_request line.now }
     ensures asks { AsksAndTells variant (M.meaning «module».now)
         (record { platform = P.standing platform.old; store = T.kept store.old; last = last.now })
-        (P.standing platform.new) (T.kept store.new) (K.received out.old) (K.received out.new) line.now result }
+        (P.standing platform.new) (T.kept store.new) (K.received out.old) (K.received out.new)
+        line.now result }
     ensures sized { IfOk result IsSized }
     ensures wrote { IsBlamed (is_write_fault result) (K.faults out.old) (K.faults out.new) }
 {
@@ -225,9 +227,9 @@ fn ask_line<M: Module, P: Platform, T: Store>(
     line: &[u8],
 ) -> Result<Resumed, HostFault>
     requires sized { IsSized last.now }
-    requires line { IsWithin 4096 line.now }
-    ensures asks { AsksLine variant (M.meaning «module».now) (P.standing platform.old) (P.standing platform.new)
-        (T.kept store.old) (T.kept store.new) last.now line.now result }
+    requires line { IsWithin longest_request line.now }
+    ensures asks { AsksLine variant (M.meaning «module».now) (P.standing platform.old)
+        (P.standing platform.new) (T.kept store.old) (T.kept store.new) last.now line.now result }
     ensures sized { IfOk result IsSized }
 {
     match write_record(alloc, store, last.position() + 1, line) {
@@ -252,9 +254,10 @@ fn write_record<T: Store>(
     request: &[u8],
 ) -> Result<(), StoreFault>
     requires least { 1 ≤ position }
-    requires most { position ≤ 2 ^ 48 + 1 }
-    requires line { IsWithin 4096 request.now }
-    ensures { WritesSlot (2 + position % 2) (pending_spelling (record { position = position; request = request.now }))
+    requires most { position ≤ last_position + 1 }
+    requires line { IsWithin longest_request request.now }
+    ensures { WritesSlot (2 + position % 2)
+        (pending_spelling (record { position = position; request = request.now }))
         (T.kept store.old) (T.kept store.new) result }
 {
     let bytes = pending_bytes(alloc, position, request)?;

@@ -8,7 +8,7 @@ ghost use Rattle.mm_model.specs.History.{first_history};
 ghost use Rattle.mm_model.specs.Standing.{cell_of, issued_bytes};
 ghost use Rattle.mm_store.specs.declared.store.TheConstants.{LONGEST_SLOT};
 ghost use Rattle.mm_host.specs.Begins.{Leaves, TellsUse, BlamesDevice};
-ghost use Rattle.mm_host.specs.Init.{Devices, LooksAtCell, TakesBytes, taken_into, instance_from, PutsAll, first_puts, SetsUp, SetsUpBoth, TakesAndSetsUp, Inits};
+ghost use Rattle.mm_host.specs.Init.{devices, LooksAtCell, TakesBytes, taken_into, instance_from, PutsAll, first_puts, SetsUp, SetsUpBoth, TakesAndSetsUp, Inits};
 
 use crate::init_fault::InitFault;
 use mm_base::{Failed, Memory, Source};
@@ -33,14 +33,21 @@ pub fn init<M: Module, P: Platform, T: Store, E: Source>(
     entropy: &mut E,
 ) -> Result<(), InitFault>
     ensures steps { Inits variant (M.meaning «module».now)
-        (record { platform = P.standing platform.old; store = T.kept store.old; left = E.left entropy.old; source_faults = E.faults entropy.old })
-        (record { platform = P.standing platform.new; store = T.kept store.new; left = E.left entropy.new; source_faults = E.faults entropy.new }) result }
+        (devices (P.standing platform.old) (T.kept store.old) (E.left entropy.old)
+        (E.faults entropy.old))
+        (devices (P.standing platform.new) (T.kept store.new) (E.left entropy.new)
+        (E.faults entropy.new)) result }
     ensures leaves { Leaves variant (M.meaning «module».now)
-        (record { platform = P.standing platform.old; store = T.kept store.old; left = E.left entropy.old; source_faults = E.faults entropy.old })
-        (record { platform = P.standing platform.new; store = T.kept store.new; left = E.left entropy.new; source_faults = E.faults entropy.new }) result }
-    ensures tells { TellsUse (record { platform = P.standing platform.old; store = T.kept store.old; left = E.left entropy.old; source_faults = E.faults entropy.old }) result }
-    ensures faults { BlamesDevice (record { platform = P.standing platform.old; store = T.kept store.old; left = E.left entropy.old; source_faults = E.faults entropy.old })
-        (record { platform = P.standing platform.new; store = T.kept store.new; left = E.left entropy.new; source_faults = E.faults entropy.new }) result }
+        (devices (P.standing platform.old) (T.kept store.old) (E.left entropy.old)
+        (E.faults entropy.old))
+        (devices (P.standing platform.new) (T.kept store.new) (E.left entropy.new)
+        (E.faults entropy.new)) result }
+    ensures tells { TellsUse (devices (P.standing platform.old) (T.kept store.old)
+        (E.left entropy.old) (E.faults entropy.old)) result }
+    ensures faults { BlamesDevice (devices (P.standing platform.old) (T.kept store.old)
+        (E.left entropy.old) (E.faults entropy.old))
+        (devices (P.standing platform.new) (T.kept store.new) (E.left entropy.new)
+        (E.faults entropy.new)) result }
 {
     init_by_steps(alloc, variant, module, platform, store, entropy)
 }
@@ -55,8 +62,10 @@ fn init_by_steps<M: Module, P: Platform, T: Store, E: Source>(
     entropy: &mut E,
 ) -> Result<(), InitFault>
     ensures { Inits variant (M.meaning «module».now)
-        (record { platform = P.standing platform.old; store = T.kept store.old; left = E.left entropy.old; source_faults = E.faults entropy.old })
-        (record { platform = P.standing platform.new; store = T.kept store.new; left = E.left entropy.new; source_faults = E.faults entropy.new }) result }
+        (devices (P.standing platform.old) (T.kept store.old) (E.left entropy.old)
+        (E.faults entropy.old))
+        (devices (P.standing platform.new) (T.kept store.new) (E.left entropy.new)
+        (E.faults entropy.new)) result }
 {
     match is_blank(platform) {
         Err(fault) => Err(InitFault::from(fault)),
@@ -85,8 +94,10 @@ fn take_and_set_up<M: Module, P: Platform, T: Store, E: Source>(
     entropy: &mut E,
 ) -> Result<(), InitFault>
     ensures { TakesAndSetsUp variant (M.meaning «module».now)
-        (record { platform = P.standing platform.old; store = T.kept store.old; left = E.left entropy.old; source_faults = E.faults entropy.old })
-        (record { platform = P.standing platform.new; store = T.kept store.new; left = E.left entropy.new; source_faults = E.faults entropy.new })
+        (devices (P.standing platform.old) (T.kept store.old) (E.left entropy.old)
+        (E.faults entropy.old))
+        (devices (P.standing platform.new) (T.kept store.new) (E.left entropy.new)
+        (E.faults entropy.new))
         result }
 {
     let mut secrets = [0; 64];
@@ -99,8 +110,8 @@ fn take_and_set_up<M: Module, P: Platform, T: Store, E: Source>(
 
 // Takes bytes until there are 64 or the input ends, and answers how many.
 fn take_bytes<E: Source>(entropy: &mut E, into: &mut [u8; 64]) -> Result<usize, Failed>
-    ensures takes { TakesBytes (E.left entropy.old) (E.left entropy.new) (E.faults entropy.old) (E.faults entropy.new)
-        (taken_into into.new result) }
+    ensures takes { TakesBytes (E.left entropy.old) (E.left entropy.new) (E.faults entropy.old)
+        (E.faults entropy.new) (taken_into into.new result) }
     ensures most { IfOk result (λ got. got ≤ 64) }
 {
     let mut got = 0;
@@ -119,7 +130,8 @@ fn take_behind<E: Source>(entropy: &mut E, into: &mut [u8; 64], at: usize) -> Re
     requires { at < 64 }
     ensures front { take at into.new ≡ take at into.old }
     ensures within { IfOk result (λ count. at + count ≤ 64) }
-    ensures taken { ReadConsumes (E.left entropy.old) (E.left entropy.new) result (drop at into.new) }
+    ensures taken { ReadConsumes (E.left entropy.old) (E.left entropy.new) result
+        (drop at into.new) }
     ensures counted { CountsFaults (E.faults entropy.old) (E.faults entropy.new) result }
 {
     let (_, free) = into.split_at_mut(at);
@@ -135,8 +147,9 @@ fn set_up<M: Module, P: Platform, T: Store>(
     store: &mut T,
     secrets: &[u8; 64],
 ) -> Result<(), InitFault>
-    ensures { SetsUp (instance_from variant (M.meaning «module».now) secrets.now) (P.standing platform.old) (P.standing platform.new)
-        (T.kept store.old) (T.kept store.new) result }
+    ensures { SetsUp (instance_from variant (M.meaning «module».now) secrets.now)
+        (P.standing platform.old) (P.standing platform.new) (T.kept store.old) (T.kept store.new)
+        result }
 {
     match provision(alloc, variant, module, secrets) {
         Err(fault) => Err(InitFault::from(fault)),
@@ -152,7 +165,8 @@ fn provision<M: Module>(
     secrets: &[u8; 64],
 ) -> Result<Provisioned, Memory>
     ensures cell { IfOk result (λ made. made.cell
-        ≡ cell_spelling (cell_of (instance_from variant (M.meaning «module».now) secrets.now) first_history)) }
+        ≡ cell_spelling
+        (cell_of (instance_from variant (M.meaning «module».now) secrets.now) first_history)) }
     ensures snapshot { IfOk result (λ made. made.snapshot
         ≡ issued_bytes (instance_from variant (M.meaning «module».now) secrets.now) first_history) }
 {
@@ -173,8 +187,8 @@ fn set_up_both<P: Platform, T: Store>(
     made: &Provisioned,
 ) -> Result<(), InitFault>
     requires { length made.now.snapshot ≤ LONGEST_SLOT }
-    ensures { SetsUpBoth made.now.cell made.now.snapshot (P.standing platform.old) (P.standing platform.new)
-        (T.kept store.old) (T.kept store.new) result }
+    ensures { SetsUpBoth made.now.cell made.now.snapshot (P.standing platform.old)
+        (P.standing platform.new) (T.kept store.old) (T.kept store.new) result }
 {
     match set_up_store(store, made.snapshot.as_slice()) {
         Err(fault) => Err(InitFault::from(fault)),

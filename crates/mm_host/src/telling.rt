@@ -3,6 +3,7 @@
 ghost use Rattle.std.specs.Prelude.{◌≡◌, ◌≢◌, ◌≤◌, None, Ok, Err, IfOk, OnErr, length};
 ghost use Rattle.mm_base.specs.Faults.{CountsFaults};
 ghost use Rattle.mm_base.specs.Streams.{Sends};
+ghost use Rattle.mm_base.specs.Limits.{longest_request};
 ghost use Rattle.mm_play.specs.Plays.{IsBlamed};
 ghost use Rattle.mm_schedule.specs.Replies.{told_line};
 ghost use Rattle.mm_host.specs.declared.fault.HostFault.TheVariants.{Refused};
@@ -37,7 +38,7 @@ pub fn tell<K: Sink>(came: Result<Resumed, HostFault>, out: &mut K) -> Result<Re
 
 // Writes the line of an answer, and hands the answer on.
 fn tell_answer<K: Sink>(answer: Answer, out: &mut K) -> Result<Resumed, SessionFault>
-    requires { length answer.output ≤ 4096 }
+    requires { length answer.output ≤ longest_request }
     ensures tells { Tells (Ok (Answered answer)) (K.received out.old) (K.received out.new) result }
     ensures wrote { IsBlamed (is_write_fault result) (K.faults out.old) (K.faults out.new) }
 {
@@ -59,7 +60,7 @@ fn tell_refusal<K: Sink>(refusal: Refusal, out: &mut K) -> Result<Resumed, Sessi
 }
 
 fn write_answer<K: Sink>(answer: &Answer, out: &mut K) -> Result<(), WriteFault>
-    requires { length answer.now.output ≤ 4096 }
+    requires { length answer.now.output ≤ longest_request }
     ensures sent { Sends (K.received out.old) (K.received out.new)
         (told_line answer.now.again answer.now.position answer.now.output) result }
     ensures counted { CountsFaults (K.faults out.old) (K.faults out.new) result }
@@ -76,7 +77,8 @@ fn write_answer<K: Sink>(answer: &Answer, out: &mut K) -> Result<(), WriteFault>
 }
 
 fn write_refusal<K: Sink>(refusal: Refusal, out: &mut K) -> Result<(), WriteFault>
-    ensures sent { Sends (K.received out.old) (K.received out.new) (refusal_text (cause_of refusal)) result }
+    ensures sent { Sends (K.received out.old) (K.received out.new) (refusal_text (cause_of refusal))
+        result }
     ensures told { OnErr result (cause_of refusal ≢ None) }
     ensures counted { CountsFaults (K.faults out.old) (K.faults out.new) result }
 {

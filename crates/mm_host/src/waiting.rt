@@ -58,7 +58,8 @@ fn later<'a>(
     two: Option<PendingRequest<'a>>,
     three: Option<PendingRequest<'a>>,
 ) -> Option<PendingRequest<'a>>
-    ensures { option_map pending_of result ≡ later (option_map pending_of two.entry) (option_map pending_of three.entry) }
+    ensures { option_map pending_of result
+        ≡ later (option_map pending_of two.entry) (option_map pending_of three.entry) }
 {
     match (two, three) {
         (None, three) => three,

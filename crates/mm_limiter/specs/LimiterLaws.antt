@@ -62,7 +62,10 @@ GuardRead-from tries left count secret is =
     let v = and-true (is_tries tries && nat_le left tries) (count == length secret) w.0 in
     let u = and-true (is_tries tries) (nat_le left tries) v.0 in
     let t = IsTries-from tries u.0 in
-    record { guard = record { some = t.some; few = t.few; rest = grind (arith, nat_tests); formed = IsSecret-from secret w.1 }; counted = grind (arith, nat_tests) }
+    record {
+      guard = record { some = t.some; few = t.few; rest = grind (arith, nat_tests); formed = IsSecret-from secret w.1 };
+      counted = grind (arith, nat_tests);
+    }
 
 is_guard-IsGuard : (tries left : ℕ) (secret : List ℕ) → IsGuard tries left secret → is_guard tries left (length secret) secret ≡ true
 unfolding is_guard
@@ -93,7 +96,8 @@ guess_asked : (flag : Bool) (secret : List ℕ) → IsLimiterRequest (if flag th
 guess_asked true secret = tt
 guess_asked false secret = tt
 
-tries_asked : (secret : List ℕ) (tries : ℕ) (flag : Bool) → is_tries tries ≡ flag → IsSecret secret → IsLimiterRequest (if flag then Some (Guard secret tries) else None)
+tries_asked : (secret : List ℕ) (tries : ℕ) (flag : Bool) → is_tries tries ≡ flag → IsSecret secret
+    → IsLimiterRequest (if flag then Some (Guard secret tries) else None)
 tries_asked secret tries true is formed = (formed, IsTries-from tries is)
 tries_asked secret tries false is formed = tt
 
@@ -101,7 +105,8 @@ allowed_asked : (secret : List ℕ) (number : Option ℕ) → IsSecret secret �
 allowed_asked secret None formed = tt
 allowed_asked secret (Some tries) formed = tries_asked secret tries (is_tries tries) refl formed
 
-guard_asked : (secret : List ℕ) (number : Option ℕ) (named flag : Bool) → (named && is_secret secret) ≡ flag → IsLimiterRequest (if flag then option_and_then (guard_of secret) number else None)
+guard_asked : (secret : List ℕ) (number : Option ℕ) (named flag : Bool) → (named && is_secret secret) ≡ flag
+    → IsLimiterRequest (if flag then option_and_then (guard_of secret) number else None)
 guard_asked secret number named true is = allowed_asked secret number (IsSecret-from secret (and-true named (is_secret secret) is).1)
 guard_asked secret number named false is = tt
 
@@ -120,16 +125,26 @@ SaysGuesses (HasLeft left) = left ≤ 100
 SaysGuesses _ = Unit {0}
 
 -- a state that can be spelled and what can be said
-guessed : (tries left : ℕ) (secret : List ℕ) (locked right : Bool) → IsGuard tries left secret → IsOutcome IsLimiterState SaysGuesses (if locked then (Guarded tries left secret, IsLocked) else (if right then (Guarded tries tries secret, IsOpen) else (Guarded tries (left - 1) secret, IsWrong (left - 1))))
+guessed : (tries left : ℕ) (secret : List ℕ) (locked right : Bool) → IsGuard tries left secret
+    → IsOutcome IsLimiterState SaysGuesses (if locked then (Guarded tries left secret, IsLocked)
+    else (if right then (Guarded tries tries secret, IsOpen) else (Guarded tries (left - 1) secret, IsWrong (left - 1))))
 guessed tries left secret true right is = record { state = is; said = tt }
-guessed tries left secret false true is = record { state = record { some = is.some; few = is.few; rest = omega arith; formed = is.formed }; said = tt }
-guessed tries left secret false false is = record { state = record { some = is.some; few = is.few; rest = omega (arith, is.rest); formed = is.formed }; said = omega (arith, is.rest, is.few) }
+guessed tries left secret false true is =
+    record { state = record { some = is.some; few = is.few; rest = omega arith; formed = is.formed }; said = tt }
+guessed tries left secret false false is =
+    record {
+      state = record { some = is.some; few = is.few; rest = omega (arith, is.rest); formed = is.formed };
+      said = omega (arith, is.rest, is.few);
+    }
 
-pub outcome_of-IsOutcome : (state : State) (request : Option Request) → IsLimiterState state → IsLimiterRequest request → IsOutcome IsLimiterState SaysGuesses (outcome_of state request)
-outcome_of-IsOutcome Unset (Some (Guard secret tries)) is asked = record { state = record { some = asked.1.some; few = asked.1.few; rest = omega arith; formed = asked.0 }; said = tt }
+pub outcome_of-IsOutcome : (state : State) (request : Option Request) → IsLimiterState state → IsLimiterRequest request
+    → IsOutcome IsLimiterState SaysGuesses (outcome_of state request)
+outcome_of-IsOutcome Unset (Some (Guard secret tries)) is asked =
+    record { state = record { some = asked.1.some; few = asked.1.few; rest = omega arith; formed = asked.0 }; said = tt }
 outcome_of-IsOutcome (Guarded tries left secret) (Some (Guard other number)) is asked = record { state = is; said = tt }
 outcome_of-IsOutcome Unset (Some (Guess guess)) is asked = record { state = tt; said = tt }
-outcome_of-IsOutcome (Guarded tries left secret) (Some (Guess guess)) is asked = guessed tries left secret (left == 0) (bytes_eq guess secret) is
+outcome_of-IsOutcome (Guarded tries left secret) (Some (Guess guess)) is asked =
+    guessed tries left secret (left == 0) (bytes_eq guess secret) is
 outcome_of-IsOutcome Unset (Some Left) is asked = record { state = tt; said = tt }
 outcome_of-IsOutcome (Guarded tries left secret) (Some Left) is asked = record { state = is; said = omega (arith, is.rest, is.few) }
 outcome_of-IsOutcome Unset None is asked = record { state = tt; said = tt }
@@ -149,7 +164,8 @@ unset_read : (form : ℕ) (flag : Bool) → (form == 0) ≡ flag → ReadsWell (
 unset_read form true is = let zero_form : form ≡ 0 = grind (arith, nat_tests) in record { good = tt; spelled = ap (λ x. x ∷ []) zero_form }
 unset_read form false is = tt
 
-guarded_read : (form tries left count : ℕ) (secret : List ℕ) (flag : Bool) → (form == 1 && is_guard tries left count secret) ≡ flag → ReadsWell (form ∷ tries ∷ left ∷ count ∷ secret) (if flag then Some (Guarded tries left secret) else None)
+guarded_read : (form tries left count : ℕ) (secret : List ℕ) (flag : Bool) → (form == 1 && is_guard tries left count secret) ≡ flag
+    → ReadsWell (form ∷ tries ∷ left ∷ count ∷ secret) (if flag then Some (Guarded tries left secret) else None)
 guarded_read form tries left count secret true is =
     let w = and-true (form == 1) (is_guard tries left count secret) is in
     let r = GuardRead-from tries left count secret w.1 in
@@ -206,8 +222,10 @@ text_of-IsText IsTaken is = record { short = omega arith; unbroken = refl }
 text_of-IsText IsUnset is = record { short = omega arith; unbroken = refl }
 text_of-IsText IsLocked is = record { short = omega arith; unbroken = refl }
 text_of-IsText IsOpen is = record { short = omega arith; unbroken = refl }
-text_of-IsText (IsWrong left) is = record { short = omega (arith, length-decimal left (omega arith)); unbroken = is_unbroken-decimal left (omega arith) }
-text_of-IsText (HasLeft left) is = record { short = omega (arith, length-decimal left (omega arith)); unbroken = is_unbroken-decimal left (omega arith) }
+text_of-IsText (IsWrong left) is =
+    record { short = omega (arith, length-decimal left (omega arith)); unbroken = is_unbroken-decimal left (omega arith) }
+text_of-IsText (HasLeft left) is =
+    record { short = omega (arith, length-decimal left (omega arith)); unbroken = is_unbroken-decimal left (omega arith) }
 text_of-IsText IsBad is = record { short = omega arith; unbroken = refl }
 
 -- the outcome at a spelled state
@@ -231,7 +249,10 @@ limiter_says state request is = text_of-IsText _ (stepped-IsOutcome state reques
 pub limiter_is_lawful : IsLawful limiter
 limiter_is_lawful = record {
   begins = search (rules, limiter_begins);
-  goes_on = λ state request is. search (rules, is_state-spelling_of (stepped state request).0 (stepped-IsOutcome state request (search (rules, is))).state);
+  goes_on = λ state request is. search (
+    rules,
+    is_state-spelling_of (stepped state request).0 (stepped-IsOutcome state request (search (rules, is))).state,
+  );
   fits = λ state is. omega (arith, limiter_fits state (search (rules, is)));
   has_bytes = λ state is. All-are_bytes state (limiter_bytes state (search (rules, is)));
   says_lines = λ state request is. IsLine-text 26 _ (omega arith) (limiter_says state request (search (rules, is)));
@@ -249,8 +270,11 @@ short_secret Unset is = tt
 short_secret (Guarded tries left secret) is = is.formed.short
 
 -- the secret after a request at a spelled state is short
-pub short_after : (state request : List ℕ) → is_state state ≡ true → (was : State) → was ≡ unwrap_or (state_of state) Unset → (asked : Option Request) → asked ≡ request_of (words_of request) → (after : State × Says) → after ≡ outcome_of was asked → IsShortSecret after.0
+pub short_after : (state request : List ℕ) → is_state state ≡ true → (was : State) → was ≡ unwrap_or (state_of state) Unset
+    → (asked : Option Request) → asked ≡ request_of (words_of request) → (after : State × Says) → after ≡ outcome_of was asked
+    → IsShortSecret after.0
 unfolding stepped
 short_after state request is was was_is asked asked_is after after_is =
-    let e : after ≡ stepped state request = after_is ∙ ap (λ w. outcome_of w asked) was_is ∙ ap (λ a. outcome_of (unwrap_or (state_of state) Unset) a) asked_is in
+    let e : after ≡ stepped state request = after_is ∙ ap (λ w. outcome_of w asked) was_is
+    ∙ ap (λ a. outcome_of (unwrap_or (state_of state) Unset) a) asked_is in
     subst (λ (o : State × Says). IsShortSecret o.0) (sym e) (short_secret _ (stepped-IsOutcome state request is).state)

@@ -69,7 +69,8 @@ guard_of secret tries = if is_tries tries then Some (Guard secret tries) else No
 unfoldable pub request_of : List (List ℕ) → Option Request
 request_of (word ∷ []) = if bytes_eq word (codes "left") then Some Left else None
 request_of (word ∷ secret ∷ []) = if bytes_eq word (codes "guess") && is_secret secret then Some (Guess secret) else None
-request_of (word ∷ secret ∷ number ∷ []) = if bytes_eq word (codes "set") && is_secret secret then option_and_then (guard_of secret) (number_of number) else None
+request_of (word ∷ secret ∷ number ∷ []) = if bytes_eq word (codes "set") && is_secret secret
+    then option_and_then (guard_of secret) (number_of number) else None
 request_of _ = None
 
 -- a guarded state: the guesses left are at most those allowed, and the length is that of a secret
@@ -79,7 +80,8 @@ is_guard tries left count secret = is_tries tries && nat_le left tries && count 
 -- the state that these bytes spell
 unfoldable pub state_of : List ℕ → Option State
 state_of (form ∷ []) = if form == 0 then Some Unset else None
-state_of (form ∷ tries ∷ left ∷ count ∷ secret) = if form == 1 && is_guard tries left count secret then Some (Guarded tries left secret) else None
+state_of (form ∷ tries ∷ left ∷ count ∷ secret) = if form == 1 && is_guard tries left count secret then Some (Guarded tries left secret)
+    else None
 state_of _ = None
 
 -- the bytes of a state

@@ -120,7 +120,8 @@ fn read_state(bytes: &[u8]) -> Option<State<'_>>
 
 /// What a request does, and what is said.
 fn outcome<'a>(state: State<'a>, request: Option<Request<'a>>) -> (State<'a>, Says)
-    ensures { (as_state result.0, as_says result.1) ≡ outcome_of (as_state state.entry) (option_map as_request request.entry) }
+    ensures { (as_state result.0, as_says result.1)
+        ≡ outcome_of (as_state state.entry) (option_map as_request request.entry) }
 {
     let Some(request) = request else {
         return (state, Says::Bad);

@@ -1,8 +1,8 @@
 -- An answer that was run from a spelled state, with positions left for it, is fit.
-use Rattle.std.proofs.Common.{◌≡◌, ℕ, ◌+◌, ◌≤◌, ◌<◌, ◌^◌, Bool, true, false, List, [], ◌∷◌, length, IsTrue, arith, length-append}
+use Rattle.std.proofs.Common.{◌≡◌, ℕ, ◌+◌, ◌≤◌, ◌<◌, Bool, true, false, List, [], ◌∷◌, length, IsTrue, arith, length-append}
 use Rattle.std.specs.Prelude.{All, nat_lt, if◌then◌else◌}
 use Rattle.std.proofs.lemmas.List.Elements.{All-nil, All-cons}
-use Rattle.mm_base.specs.Limits.{limit_of}
+use Rattle.mm_base.specs.Limits.{last_position, limit_of}
 use Rattle.mm_digest.specs.declared.variant.Variant.{Variant}
 use Rattle.mm_digest.specs.declared.variant.Variant.TheVariants.{Basic, Opt}
 use Rattle.mm_digest.proofs.Lengths.{length-hmac_of}
@@ -51,7 +51,7 @@ positive : (position size : ℕ) → 0 < size → 1 ≤ position + size
 positive position size h = omega arith
 
 -- the answer to a batch that was run from this state
-pub is_fit : (meaning : Meaning) → IsLawful meaning → (key state : List ℕ) (position : ℕ) (place : Place) (b : Batch) (again : Bool) → IsPlace place → IsTrue (meaning.is_spelled state) → position + size_of b ≤ 2 ^ 48 → IsFit b (record {
+pub is_fit : (meaning : Meaning) → IsLawful meaning → (key state : List ℕ) (position : ℕ) (place : Place) (b : Batch) (again : Bool) → IsPlace place → IsTrue (meaning.is_spelled state) → position + size_of b ≤ last_position → IsFit b (record {
   again = again;
   position = position + size_of b;
   outputs = outputs_from meaning state (members_of b);

@@ -5,6 +5,7 @@ use Rattle.std.specs.List.{list_any, slice_get, join_with_byte, AllByRecursion}
 use Rattle.std.proofs.lemmas.List.Elements.{All-from_recursion}
 use Rattle.std.proofs.lemmas.List.Folds.{list_any-append}
 use Rattle.std.proofs.lemmas.Bool.Decides.{nat_tests}
+use Rattle.mm_base.specs.Limits.{longest_request, most_members}
 use Rattle.mm_module.specs.Meaning.{IsLine}
 use Rattle.mm_module.specs.Batch.{Batch, members_of, text_of, size_of}
 use Rattle.mm_module.proofs.BatchLaws.{text_of-members_of}
@@ -26,10 +27,10 @@ unbroken [] e = tt
 unbroken (x ∷ xs) e =
     (not_lf x (neither_left (is_lf x) (list_any is_lf xs) e), unbroken xs (neither_right (is_lf x) (list_any is_lf xs) e))
 
-short : (n : ℕ) → nat_lt 4096 n ≡ false → n ≤ 4096
+short : (n : ℕ) → nat_lt longest_request n ≡ false → n ≤ longest_request
 short n e = grind (arith, nat_tests)
 
-few : (n : ℕ) → nat_lt 64 n ≡ false → n ≤ 64
+few : (n : ℕ) → nat_lt most_members n ≡ false → n ≤ most_members
 few n e = grind (arith, nat_tests)
 
 -- a piece of a text is no longer, and has no LF where the text has none
@@ -65,20 +66,20 @@ piece (x ∷ []) (suc i) m e = cc
 piece (x ∷ y ∷ xs) zero m e = let s : x ≡ m = cc in first_piece x m (9 ∷ join_with_byte 9 (y ∷ xs)) s
 piece (x ∷ y ∷ xs) (suc i) m e = later_piece x m (join_with_byte 9 (y ∷ xs)) (piece (y ∷ xs) i m e)
 
-pub few_members : (b : Batch) → is_long b ≡ false → size_of b ≤ 64
+pub few_members : (b : Batch) → is_long b ≡ false → size_of b ≤ most_members
 few_members b e =
     few (size_of b)
-    (neither_right (nat_lt 4096 (length (text_of b)) || list_any is_lf (text_of b)) (nat_lt 64 (size_of b)) e)
+    (neither_right (nat_lt longest_request (length (text_of b)) || list_any is_lf (text_of b)) (nat_lt most_members (size_of b)) e)
 
 pub members_are_lines : (b : Batch) → is_long b ≡ false → (i : ℕ) (m : List ℕ) → slice_get (members_of b) i ≡ Some m → IsLine m
 members_are_lines b e i m at =
     let p : IsPiece m (text_of b) =
     subst (λ (v : List ℕ). IsPiece m v) (text_of-members_of b) (piece (members_of b) i m at) in
-    let f = neither_left (nat_lt 4096 (length (text_of b)) || list_any is_lf (text_of b)) (nat_lt 64 (size_of b)) e in
-    let s : length (text_of b) ≤ 4096 =
-    short (length (text_of b)) (neither_left (nat_lt 4096 (length (text_of b))) (list_any is_lf (text_of b)) f) in
+    let f = neither_left (nat_lt longest_request (length (text_of b)) || list_any is_lf (text_of b)) (nat_lt most_members (size_of b)) e in
+    let s : length (text_of b) ≤ longest_request =
+    short (length (text_of b)) (neither_left (nat_lt longest_request (length (text_of b))) (list_any is_lf (text_of b)) f) in
     record {
       short = omega (arith, p.size, s);
       unbroken = All-from_recursion (λ byte. byte ≢ 10) m
-          (unbroken m (p.clean (neither_right (nat_lt 4096 (length (text_of b))) (list_any is_lf (text_of b)) f)));
+          (unbroken m (p.clean (neither_right (nat_lt longest_request (length (text_of b))) (list_any is_lf (text_of b)) f)));
     }

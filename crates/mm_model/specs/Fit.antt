@@ -1,5 +1,6 @@
 -- The sizes of an answer.
-use Rattle.std.specs.Prelude.{◌≡◌, ◌≤◌, ◌^◌, length, All}
+use Rattle.std.specs.Prelude.{◌≡◌, ◌≤◌, length, All}
+use Rattle.mm_base.specs.Limits.{last_position}
 use Rattle.mm_module.specs.Meaning.{IsLine}
 use Rattle.mm_module.specs.Batch.{Batch, size_of}
 use Rattle.mm_model.specs.declared.answer.BatchAnswer.{BatchAnswer}
@@ -8,7 +9,7 @@ use Rattle.mm_model.specs.declared.answer.BatchAnswer.{BatchAnswer}
 -- the longest: 82 bytes before a state of 1,048,576 bytes, and a tag of 32.
 pub record IsFit (b : Batch) (answer : BatchAnswer) : Type 0 where
   pub least : 1 ≤ answer.position
-  pub most : answer.position ≤ 2 ^ 48
+  pub most : answer.position ≤ last_position
   pub counted : length answer.outputs ≡ size_of b
   pub lines : All IsLine answer.outputs
   pub snapshot : length answer.snapshot ≤ 1048690

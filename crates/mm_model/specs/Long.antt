@@ -1,6 +1,7 @@
 -- Which batches are too long to be asked.
 use Rattle.std.specs.Prelude.{ℕ, Bool, ◌==◌, ◌||◌, length, nat_lt}
 use Rattle.std.specs.List.{list_any}
+use Rattle.mm_base.specs.Limits.{longest_request, most_members}
 use Rattle.mm_module.specs.Batch.{Batch, text_of, size_of}
 
 abbrev pub is_lf : ℕ → Bool
@@ -8,4 +9,4 @@ is_lf byte = byte == 10
 
 -- its text has more than 4,096 bytes or an LF, or it has more than 64 requests
 abbrev pub is_long : Batch → Bool
-is_long b = nat_lt 4096 (length (text_of b)) || list_any is_lf (text_of b) || nat_lt 64 (size_of b)
+is_long b = nat_lt longest_request (length (text_of b)) || list_any is_lf (text_of b) || nat_lt most_members (size_of b)

@@ -12,7 +12,10 @@ pub fn after_one_request()
 
 /// Basic, after two requests of one text: the second alone is repeated.
 pub fn after_two_requests()
-    ensures the_last { basic_verdicts (codes "add 1" ∷ codes "add 1" ∷ []) (codes "add 1") ≡ Stale ∷ Again ∷ Fresh ∷ [] }
-    ensures another { basic_verdicts (codes "add 1" ∷ codes "add 1" ∷ []) (codes "read") ≡ Stale ∷ Stale ∷ Fresh ∷ [] }
-    ensures the_last_of_fives { basic_verdicts (codes "add 5" ∷ codes "add 5" ∷ []) (codes "add 5") ≡ Stale ∷ Again ∷ Fresh ∷ [] }
+    ensures the_last { basic_verdicts (codes "add 1" ∷ codes "add 1" ∷ []) (codes "add 1")
+        ≡ Stale ∷ Again ∷ Fresh ∷ [] }
+    ensures another { basic_verdicts (codes "add 1" ∷ codes "add 1" ∷ []) (codes "read")
+        ≡ Stale ∷ Stale ∷ Fresh ∷ [] }
+    ensures the_last_of_fives { basic_verdicts (codes "add 5" ∷ codes "add 5" ∷ []) (codes "add 5")
+        ≡ Stale ∷ Again ∷ Fresh ∷ [] }
 {}

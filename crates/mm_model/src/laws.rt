@@ -26,9 +26,11 @@ ghost use Rattle.mm_model.specs.Sound.{IsSound};
 /// its text.
 pub fn batches_are_hashed()
     ensures link { (s request : List ℕ) → link s (One request) ≡ successor_of s request }
-    ensures guard { (barrier request : List ℕ) → guard barrier (One request) ≡ secured_of barrier request }
+    ensures guard { (barrier request : List ℕ)
+        → guard barrier (One request) ≡ secured_of barrier request }
     ensures link_many { (s text : List ℕ) → link s (Many text) ≡ successor_batch_of s text }
-    ensures guard_many { (barrier text : List ℕ) → guard barrier (Many text) ≡ secured_batch_of barrier text }
+    ensures guard_many { (barrier text : List ℕ)
+        → guard barrier (Many text) ≡ secured_batch_of barrier text }
 {}
 
 /// The summary, the register's value and the anchor go on by one digest, and a register reads its value.
@@ -38,7 +40,8 @@ pub fn chains_go_on()
     ensures register { (values : List (List ℕ)) (value : List ℕ) →
         register_of (values ++ value ∷ []) ≡ extended_of (register_of values) value }
     ensures anchor { (id : ℕ) (segments : List (List (List ℕ))) (values : List (List ℕ)) →
-        anchor_of id (segments ++ values ∷ []) ≡ anchored_of (anchor_of id segments) (register_of values) }
+        anchor_of id (segments ++ values ∷ [])
+        ≡ anchored_of (anchor_of id segments) (register_of values) }
     ensures reads { (values : List (List ℕ)) → folded_of values ≡ register_of values }
     ensures no_batches { (id : ℕ) → summary_of id [] ≡ start_of Basic id }
     ensures no_values { register_of [] ≡ zero_bytes }
@@ -47,8 +50,9 @@ pub fn chains_go_on()
 
 /// Equal links or guards of two listed batches are those of one batch.
 pub fn batches_are_told_apart()
-    ensures link { (all : List (List ℕ)) → IsClear all → (s t : List ℕ) (b c : Batch) → length s ≡ 32 → length t ≡ 32 →
-        Contains all (link_message s b) → Contains all (link_message t c) → link s b ≡ link t c → b ≡ c }
+    ensures link { (all : List (List ℕ)) → IsClear all → (s t : List ℕ) (b c : Batch) →
+        length s ≡ 32 → length t ≡ 32 → Contains all (link_message s b) →
+        Contains all (link_message t c) → link s b ≡ link t c → b ≡ c }
     ensures guard { (all : List (List ℕ)) → IsClear all → (barrier : List ℕ) (b c : Batch) →
         Contains all (guard_message barrier b) → Contains all (guard_message barrier c) →
         guard barrier b ≡ guard barrier c → b ≡ c }
@@ -83,10 +87,11 @@ pub fn summaries_are_told_apart()
 
 /// Basic: on an offer that names a position, the verdict by digests is the verdict on the history.
 pub fn basic_verdict_is_judged()
-    ensures { (meaning : Meaning) (key register : List ℕ) (y : History) (offered : Content) (b : Batch)
-        (all : List (List ℕ)) → IsClearFor all (basic meaning key) y offered.place b →
+    ensures { (meaning : Meaning) (key register : List ℕ) (y : History) (offered : Content)
+        (b : Batch) (all : List (List ℕ)) → IsClearFor all (basic meaning key) y offered.place b →
         Names (basic meaning key) y offered →
-        verdict_by_digests zero_bytes false (cell_digest_of (basic meaning key) Basic y) register offered.place b
+        verdict_by_digests zero_bytes false (cell_digest_of (basic meaning key) Basic y) register
+        offered.place b
         ≡ judge Basic y offered.position b }
 {}
 
@@ -94,8 +99,9 @@ pub fn basic_verdict_is_judged()
 /// on the history. The flag is whether a segment is open, and the digests are the anchor and the
 /// register's value that the platform has.
 pub fn opt_verdict_is_judged()
-    ensures { (meaning : Meaning) (key barrier : List ℕ) (y : History) (offered : Content) (b : Batch)
-        (all : List (List ℕ)) → IsSound y → IsClearFor all (opt meaning key barrier) y offered.place b →
+    ensures { (meaning : Meaning) (key barrier : List ℕ) (y : History) (offered : Content)
+        (b : Batch) (all : List (List ℕ)) → IsSound y →
+        IsClearFor all (opt meaning key barrier) y offered.place b →
         Names (opt meaning key barrier) y offered →
         verdict_by_digests barrier y.is_open (cell_digest_of (opt meaning key barrier) Opt y)
         (register_value_of (opt meaning key barrier) y) offered.place b
@@ -104,21 +110,23 @@ pub fn opt_verdict_is_judged()
 
 /// Opt: under a set flag the register reads zero exactly where power was lost inside an open segment.
 pub fn zero_is_lost()
-    ensures { (meaning : Meaning) (key barrier : List ℕ) (y : History) (all : List (List ℕ)) → IsClear all →
-        Within (history_messages (opt meaning key barrier) y) all →
+    ensures { (meaning : Meaning) (key barrier : List ℕ) (y : History) (all : List (List ℕ)) →
+        IsClear all → Within (history_messages (opt meaning key barrier) y) all →
         (y.is_open && bytes_eq (register_value_of (opt meaning key barrier) y) zero_bytes)
         ≡ is_lost (life_of Opt y) }
 {}
 
 /// Opt: an offer that names a position isn't accepted once the history is Spoiled or Lost.
 pub fn ended_histories_accept_nothing()
-    ensures spoiled { (meaning : Meaning) (key barrier : List ℕ) (y : History) (offered : Content) (b : Batch)
-        (all : List (List ℕ)) → IsSound y → IsClearFor all (opt meaning key barrier) y offered.place b →
+    ensures spoiled { (meaning : Meaning) (key barrier : List ℕ) (y : History) (offered : Content)
+        (b : Batch) (all : List (List ℕ)) → IsSound y →
+        IsClearFor all (opt meaning key barrier) y offered.place b →
         Names (opt meaning key barrier) y offered → life_of Opt y ≡ Spoiled →
         verdict_by_digests barrier y.is_open (cell_digest_of (opt meaning key barrier) Opt y)
         (register_value_of (opt meaning key barrier) y) offered.place b ≡ Stale }
-    ensures lost { (meaning : Meaning) (key barrier : List ℕ) (y : History) (offered : Content) (b : Batch)
-        (all : List (List ℕ)) → IsSound y → IsClearFor all (opt meaning key barrier) y offered.place b →
+    ensures lost { (meaning : Meaning) (key barrier : List ℕ) (y : History) (offered : Content)
+        (b : Batch) (all : List (List ℕ)) → IsSound y →
+        IsClearFor all (opt meaning key barrier) y offered.place b →
         Names (opt meaning key barrier) y offered → life_of Opt y ≡ LostLife →
         verdict_by_digests barrier y.is_open (cell_digest_of (opt meaning key barrier) Opt y)
         (register_value_of (opt meaning key barrier) y) offered.place b ≡ Lost }

@@ -5,7 +5,8 @@ ghost use Rattle.std.specs.List.{list_any};
 ghost use Rattle.mm_module.specs.Batches.{batch_of};
 ghost use Rattle.mm_model.specs.Long.{is_lf, is_long};
 
-use mm_module::{Batch, LONGEST_REQUEST};
+use mm_base::{LONGEST_REQUEST, MOST_MEMBERS};
+use mm_module::Batch;
 
 /// Whether the batch is refused as Long: its text, the requests joined by TAB, has more than 4,096 bytes
 /// or an LF, or there are more than 64 requests.
@@ -16,7 +17,7 @@ pub fn is_long(batch: &Batch<'_>) -> bool
     if text.len() > LONGEST_REQUEST || has_lf(text) {
         return true;
     }
-    batch.len() > 64
+    batch.len() > MOST_MEMBERS
 }
 
 // Whether some byte is an LF.

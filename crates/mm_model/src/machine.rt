@@ -48,8 +48,10 @@ impl<M: Module + Drop> Machine<M> {
     pub fn accept(&mut self, request: &[u8]) -> Result<Bytes, Memory>
         requires { IsLine request.now }
         ensures same { self.new.runner ≡ self.old.runner }
-        ensures requests { IfOk result (λ _. self.new.requests ≡ self.old.requests ++ request.now ∷ []) }
-        ensures output { IfOk result (λ said. said ≡ said_after (M.meaning self.new.runner) self.new.requests) }
+        ensures requests { IfOk result
+            (λ _. self.new.requests ≡ self.old.requests ++ request.now ∷ []) }
+        ensures output { IfOk result
+            (λ said. said ≡ said_after (M.meaning self.new.runner) self.new.requests) }
         ensures err { OnErr result (self.new.requests ≡ self.old.requests) }
     {
         let stepped = self

@@ -28,34 +28,40 @@ pub fn moves_keep_histories_sound()
 
 /// A snapshot that names a position of a history names it after each move.
 pub fn moves_keep_names()
-    ensures basic { (meaning : Meaning) (key : List ℕ) (y : History) (m : Move) (offered : Content) →
-        Names (basic meaning key) y offered → Names (basic meaning key) (moved (basic meaning key) y m) offered }
-    ensures opt { (meaning : Meaning) (key barrier : List ℕ) (y : History) (m : Move) (offered : Content) → IsSound y →
-        MayMove (opt meaning key barrier) y m → Names (opt meaning key barrier) y offered →
+    ensures basic { (meaning : Meaning) (key : List ℕ) (y : History) (m : Move)
+        (offered : Content) → Names (basic meaning key) y offered →
+        Names (basic meaning key) (moved (basic meaning key) y m) offered }
+    ensures opt { (meaning : Meaning) (key barrier : List ℕ) (y : History) (m : Move)
+        (offered : Content) → IsSound y → MayMove (opt meaning key barrier) y m →
+        Names (opt meaning key barrier) y offered →
         Names (opt meaning key barrier) (moved (opt meaning key barrier) y m) offered }
 {}
 
 /// The snapshot of an answer names the last position, in Opt where no closed segment is spoiled.
 pub fn answers_name_the_last_position()
-    ensures basic { (meaning : Meaning) (key : List ℕ) (y : History) → Names (basic meaning key) y (issued (basic meaning key) y) }
-    ensures opt { (meaning : Meaning) (key barrier : List ℕ) (y : History) → IsSound y → has_value (joined y.closed) ≡ false →
+    ensures basic { (meaning : Meaning) (key : List ℕ) (y : History)
+        → Names (basic meaning key) y (issued (basic meaning key) y) }
+    ensures opt { (meaning : Meaning) (key barrier : List ℕ) (y : History) → IsSound y →
+        has_value (joined y.closed) ≡ false →
         Names (opt meaning key barrier) y (issued (opt meaning key barrier) y) }
 {}
 
 /// Opt: where others put in each value that stands for no batch and counts, they did after each move too.
 pub fn moves_keep_values_outside()
     ensures first { (others : List (List ℕ)) → IsOutside others first_history }
-    ensures next { (meaning : Meaning) (key barrier : List ℕ) (others : List (List ℕ)) (y : History) (m : Move) →
-        IsOutside others y → MayMove (opt meaning key barrier) y m → Brings Opt y.is_open others y m →
-        IsOutside others (moved (opt meaning key barrier) y m) }
+    ensures next { (meaning : Meaning) (key barrier : List ℕ) (others : List (List ℕ)) (y : History)
+        (m : Move) → IsOutside others y → MayMove (opt meaning key barrier) y m →
+        Brings Opt y.is_open others y m → IsOutside others (moved (opt meaning key barrier) y m) }
 {}
 
 /// A move does to the digests what the device step that makes it does.
 pub fn moves_are_device_steps()
-    ensures basic { (meaning : Meaning) (key : List ℕ) (y : History) (m : Move) → MayMove (basic meaning key) y m →
+    ensures basic { (meaning : Meaning) (key : List ℕ) (y : History) (m : Move) →
+        MayMove (basic meaning key) y m →
         digests_of (basic meaning key) (moved (basic meaning key) y m)
         ≡ made (basic meaning key) (digests_of (basic meaning key) y) m }
-    ensures opt { (meaning : Meaning) (key barrier : List ℕ) (y : History) (m : Move) → MayMove (opt meaning key barrier) y m →
+    ensures opt { (meaning : Meaning) (key barrier : List ℕ) (y : History) (m : Move) →
+        MayMove (opt meaning key barrier) y m →
         digests_of (opt meaning key barrier) (moved (opt meaning key barrier) y m)
         ≡ made (opt meaning key barrier) (digests_of (opt meaning key barrier) y) m }
 {}
@@ -81,19 +87,21 @@ pub fn whole_commits_are_moves()
 /// Opt: where the messages of a sound history are listed, and those of a move and of its batch are, those of the
 /// history after it are.
 pub fn opt_messages_go_on()
-    ensures { (meaning : Meaning) (key barrier : List ℕ) (y : History) (m : Move) (all : List (List ℕ)) → IsSound y →
-        MayMove (opt meaning key barrier) y m →
+    ensures { (meaning : Meaning) (key barrier : List ℕ) (y : History) (m : Move)
+        (all : List (List ℕ)) → IsSound y → MayMove (opt meaning key barrier) y m →
         Within (history_messages (opt meaning key barrier) y) all →
         Within (move_messages (opt meaning key barrier) y m) all →
         Within (batch_messages (opt meaning key barrier) y m) all →
-        Within (history_messages (opt meaning key barrier) (moved (opt meaning key barrier) y m)) all }
+        Within (history_messages (opt meaning key barrier) (moved (opt meaning key barrier) y m))
+        all }
 {}
 
 /// Opt: an offer on which the verdict is Fresh lists, by its call's messages, what its batch adds to the messages of
 /// the history.
 pub fn fresh_offers_list_their_batch()
-    ensures { (meaning : Meaning) (key barrier : List ℕ) (y : History) (offered : Content) (b : Batch)
-        (all : List (List ℕ)) → IsSound y → IsClearFor all (opt meaning key barrier) y offered.place b →
+    ensures { (meaning : Meaning) (key barrier : List ℕ) (y : History) (offered : Content)
+        (b : Batch) (all : List (List ℕ)) → IsSound y →
+        IsClearFor all (opt meaning key barrier) y offered.place b →
         Names (opt meaning key barrier) y offered → judge Opt y offered.position b ≡ Fresh →
         Within (batch_messages (opt meaning key barrier) y (Commit b)) all }
 {}

@@ -73,7 +73,8 @@ impl Symbolic {
     /// commit together. After want of memory nothing has changed.
     pub fn commit(&mut self, batch: Batch<'_>) -> Result<(), Memory>
         ensures variant { self.new.variant ≡ self.old.variant }
-        ensures ok { OnOk result (self.new.history ≡ with_batch self.old.variant self.old.history (normal (batch_of batch.entry))) }
+        ensures ok { OnOk result (self.new.history
+            ≡ with_batch self.old.variant self.old.history (normal (batch_of batch.entry))) }
         ensures err { OnErr result (self.new.history ≡ self.old.history) }
     {
         let batch = kept::normal(batch);
@@ -90,7 +91,8 @@ impl Symbolic {
     fn add_batch(&mut self, batch: &Batch<'_>, requests: u64) -> Result<(), Memory>
         requires { requests ≡ total_of self.old.history.batches + size_of (batch_of batch.now) }
         ensures variant { self.new.variant ≡ self.old.variant }
-        ensures ok { OnOk result (self.new.history ≡ with_batch Basic self.old.history (batch_of batch.now)) }
+        ensures ok { OnOk result (self.new.history
+            ≡ with_batch Basic self.old.history (batch_of batch.now)) }
         ensures err { OnErr result (self.new.history ≡ self.old.history) }
     {
         let kept = KeptBatch::copy_of(self.alloc, batch)?;
@@ -103,7 +105,8 @@ impl Symbolic {
     fn add_to_segment(&mut self, batch: &Batch<'_>, requests: u64) -> Result<(), Memory>
         requires { requests ≡ total_of self.old.history.batches + size_of (batch_of batch.now) }
         ensures variant { self.new.variant ≡ self.old.variant }
-        ensures ok { OnOk result (self.new.history ≡ with_batch Opt self.old.history (batch_of batch.now)) }
+        ensures ok { OnOk result (self.new.history
+            ≡ with_batch Opt self.old.history (batch_of batch.now)) }
         ensures err { OnErr result (self.new.history ≡ self.old.history) }
     {
         let kept = KeptBatch::copy_of(self.alloc, batch)?;
@@ -127,7 +130,8 @@ impl Symbolic {
     /// doesn't follow. After want of memory nothing has changed.
     pub fn extend(&mut self, value: &Digest) -> Result<(), Memory>
         ensures variant { self.new.variant ≡ self.old.variant }
-        ensures ok { (i : Instance) → OnOk result (self.new.history ≡ moved i self.old.history (Foreign value.now.bytes)) }
+        ensures ok { (i : Instance)
+            → OnOk result (self.new.history ≡ moved i self.old.history (Foreign value.now.bytes)) }
         ensures err { OnErr result (self.new.history ≡ self.old.history) }
     {
         self.items.push(KeptEntry::Value(*value))?;
@@ -155,7 +159,8 @@ impl Symbolic {
     pub fn close(&mut self) -> Result<(), Memory>
         requires { self.old.history.is_open ≡ true }
         ensures variant { self.new.variant ≡ self.old.variant }
-        ensures ok { (i : Instance) → OnOk result (self.new.history ≡ moved i self.old.history Close) }
+        ensures ok { (i : Instance)
+            → OnOk result (self.new.history ≡ moved i self.old.history Close) }
         ensures err { OnErr result (self.new.history ≡ self.old.history) }
     {
         let segment = kept::copy_entries(self.alloc, self.items.as_slice())?;
@@ -182,7 +187,8 @@ impl Symbolic {
 
     /// The verdict on a position and a batch. Takes no memory.
     pub fn judge(&self, position: u64, batch: Batch<'_>) -> Verdict
-        ensures { result ≡ judge self.now.variant self.now.history position (normal (batch_of batch.entry)) }
+        ensures { result ≡ judge self.now.variant self.now.history position
+            (normal (batch_of batch.entry)) }
     {
         let batch = kept::normal(batch);
         match self.variant {

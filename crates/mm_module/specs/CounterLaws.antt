@@ -28,7 +28,17 @@ unfolding of_eight_bytes
 value-lt state is =
     let eight = length-state state is in
     let small = bytes-state state is in
-    omega (arith, small 0 0 (omega arith), small 1 0 (omega arith), small 2 0 (omega arith), small 3 0 (omega arith), small 4 0 (omega arith), small 5 0 (omega arith), small 6 0 (omega arith), small 7 0 (omega arith))
+    omega (
+      arith,
+      small 0 0 (omega arith),
+      small 1 0 (omega arith),
+      small 2 0 (omega arith),
+      small 3 0 (omega arith),
+      small 4 0 (omega arith),
+      small 5 0 (omega arith),
+      small 6 0 (omega arith),
+      small 7 0 (omega arith),
+    )
 
 -- the state of a value is one
 is_state-eight : (value : ℕ) → is_state (eight_bytes value) ≡ true
@@ -47,7 +57,8 @@ text_of-IsText (Value value) small = record { short = length-decimal value small
 text_of-IsText Full _ = record { short = omega arith; unbroken = refl }
 text_of-IsText Bad _ = record { short = omega arith; unbroken = refl }
 
-added-64 : (value number : ℕ) (flag : Bool) → nat_lt (value + number) (2 ^ 64) ≡ flag → Says64 (if◌then◌else◌ {A = ℕ × Says} flag (value + number, Value (value + number)) (value, Full)).1
+added-64 : (value number : ℕ) (flag : Bool) → nat_lt (value + number) (2 ^ 64) ≡ flag
+    → Says64 (if◌then◌else◌ {A = ℕ × Says} flag (value + number, Value (value + number)) (value, Full)).1
 added-64 value number true is = grind (arith, nat_tests)
 added-64 value number false is = tt
 

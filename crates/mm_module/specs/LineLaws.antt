@@ -9,6 +9,7 @@ use Rattle.std.proofs.lemmas.Bool.Decides.{nat_tests}
 use Rattle.std.proofs.lemmas.Fmt.{digits_decimal, length-decimal-le}
 use Rattle.std.proofs.lemmas.List.Folds.{list_all_at}
 use Rattle.std.proofs.lemmas.Str.Parse.{numerals_by_value, tells_all_ascii_digits}
+use Rattle.mm_base.specs.Limits.{longest_request}
 use Rattle.mm_module.specs.Bytes.{is_byte, are_bytes}
 use Rattle.mm_module.specs.Meaning.{IsLine}
 
@@ -37,7 +38,8 @@ pub All-are_bytes : (bytes : List ℕ) → are_bytes bytes ≡ true → All (λ 
 All-are_bytes bytes is = λ k d inside. let passed = list_all-get_or is_byte bytes is k d inside in grind (arith, nat_tests)
 
 pub All-is_unbroken : (text : List ℕ) → is_unbroken text ≡ true → All (λ byte. byte ≢ 10) text
-All-is_unbroken text is = λ k d inside. let passed = list_all-get_or (λ byte. not (byte == 10)) text is k d inside in λ e. let broken : not (10 == 10) ≡ true = rw e at passed in cc
+All-is_unbroken text is = λ k d inside. let passed = list_all-get_or (λ byte. not (byte == 10)) text is k d inside in
+    λ e. let broken : not (10 == 10) ≡ true = rw e at passed in cc
 
 byte-Fits : (x : ℕ) → Fits w8 x → is_byte x ≡ true
 byte-Fits x fits = let small : x < 256 = omega (arith, fits) in grind (arith, nat_tests)
@@ -56,11 +58,13 @@ digit_unbroken d is = grind (arith, nat_tests)
 
 digits_unbroken : (digits : List ℕ) → all_ascii_digits digits ≡ true → is_unbroken digits ≡ true
 digits_unbroken [] is = refl
-digits_unbroken (d ∷ ds) is = let w = and-true (is_ascii_digit d) (all_ascii_digits ds) is in and-both (not (d == 10)) (is_unbroken ds) (digit_unbroken d w.0) (digits_unbroken ds w.1)
+digits_unbroken (d ∷ ds) is = let w = and-true (is_ascii_digit d) (all_ascii_digits ds) is in
+    and-both (not (d == 10)) (is_unbroken ds) (digit_unbroken d w.0) (digits_unbroken ds w.1)
 
 -- a decimal has no LF
 pub is_unbroken-decimal : (n : ℕ) → n < 2 ^ 64 → is_unbroken (decimal n) ≡ true
-is_unbroken-decimal n small = digits_unbroken (decimal n) (digits_decimal (numerals_by_value (λ ds. all_ascii_digits ds ≡ true) tells_all_ascii_digits) n small)
+is_unbroken-decimal n small =
+    digits_unbroken (decimal n) (digits_decimal (numerals_by_value (λ ds. all_ascii_digits ds ≡ true) tells_all_ascii_digits) n small)
 
 -- a decimal of 64 bits has at most 20 digits
 pub length-decimal : (n : ℕ) → n < 2 ^ 64 → length (decimal n) ≤ 20
@@ -72,7 +76,7 @@ pub record IsText (most : ℕ) (text : List ℕ) : Type 0 where
   pub unbroken : is_unbroken text ≡ true
 
 -- such a text is a line
-pub IsLine-text : (most : ℕ) (text : List ℕ) → most ≤ 4096 → IsText most text → IsLine text
+pub IsLine-text : (most : ℕ) (text : List ℕ) → most ≤ longest_request → IsText most text → IsLine text
 IsLine-text most text few is = record { short = omega (arith, is.short, few); unbroken = All-is_unbroken text is.unbroken }
 
 -- a text with no LF, from each byte

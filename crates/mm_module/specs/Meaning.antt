@@ -1,6 +1,6 @@
--- What a module is: a small state machine whose states, requests and outputs are byte lists.
+-- What a module is: a small program whose states, requests and outputs are byte lists.
 use Rattle.std.specs.Prelude.{◌≢◌, ℕ, ◌≤◌, ◌<◌, List, [], ◌∷◌, length, Bool, IsTrue, All}
-use Rattle.mm_base.specs.Limits.{limit_of}
+use Rattle.mm_base.specs.Limits.{limit_of, longest_request}
 
 -- an id, a first state, and the state and the output that follow a state and a request
 pub record Meaning : Type 0 where
@@ -12,7 +12,7 @@ pub record Meaning : Type 0 where
 
 -- what a request and an output are: at most 4,096 bytes and no LF
 pub record IsLine (text : List ℕ) : Type 0 where
-  pub short : length text ≤ 4096
+  pub short : length text ≤ longest_request
   pub unbroken : All (λ byte. byte ≢ 10) text
 
 -- The laws of a module, at every request. The first state is spelled, and from a spelled state every request leads

@@ -23,7 +23,8 @@ drop-front n front back is = rw (← is) (drop-append_seam front back)
 pub are_bytes-take : (n : ℕ) (bytes : List ℕ) → are_bytes bytes ≡ true → are_bytes (take n bytes) ≡ true
 are_bytes-take zero bytes is = refl
 are_bytes-take (suc n) [] is = refl
-are_bytes-take (suc n) (x ∷ xs) is = let w = and-true (is_byte x) (are_bytes xs) is in and-both (is_byte x) (are_bytes (take n xs)) w.0 (are_bytes-take n xs w.1)
+are_bytes-take (suc n) (x ∷ xs) is = let w = and-true (is_byte x) (are_bytes xs) is in
+    and-both (is_byte x) (are_bytes (take n xs)) w.0 (are_bytes-take n xs w.1)
 
 pub are_bytes-drop : (n : ℕ) (bytes : List ℕ) → are_bytes bytes ≡ true → are_bytes (drop n bytes) ≡ true
 are_bytes-drop zero bytes is = is

@@ -48,7 +48,8 @@ passes_at p (x ∷ xs) all none zero = (and-true (p x) (list_all p xs) all).0
 passes_at p (x ∷ xs) all none (suc i) = passes_at p xs (and-true (p x) (list_all p xs) all).1 none i
 
 -- what hexadecimal digits pass, a text of them passes
-pub passes-encoded : (p : ℕ → Bool) → list_all p lower_digits ≡ true → p 0 ≡ true → (bytes : List ℕ) → list_all p (encode_lower bytes) ≡ true
+pub passes-encoded : (p : ℕ → Bool) → list_all p lower_digits ≡ true → p 0 ≡ true → (bytes : List ℕ)
+    → list_all p (encode_lower bytes) ≡ true
 unfolding encode_with
 passes-encoded p all none [] = refl
 passes-encoded p all none (b ∷ rest) =

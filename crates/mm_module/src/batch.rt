@@ -42,7 +42,8 @@ impl<'a> Batch<'a> {
 
     /// The request at this index, None from `len` on.
     pub fn member(&self, i: usize) -> Option<&'a [u8]>
-        ensures { option_map (λ (m : _). m.now) result ≡ slice_get (members_of (batch_of self.now)) i }
+        ensures { option_map (λ (m : _). m.now) result
+            ≡ slice_get (members_of (batch_of self.now)) i }
     {
         match *self {
             Batch::One(request) => (i == 0).then_some(request),

@@ -5,7 +5,7 @@ ghost use Rattle.mm_module.specs.Words.{words_of};
 ghost use Rattle.mm_module.specs.CounterTable.{request_of, outcome_of, text_of, counter};
 ghost use Rattle.mm_module.specs.CounterLaws.{counter_is_lawful, counter_is_short};
 
-use crate::machine::{Module, Short, Stepped};
+use crate::modules::{Module, Short, Stepped};
 use crate::texts::u64_of_bytes;
 use crate::words::Words;
 use mm_base::{Bytes, Memory, bytes_of_u64, put_decimal, read_decimal};

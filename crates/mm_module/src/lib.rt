@@ -1,10 +1,9 @@
-//! Modules: the small state machines whose one state Memoir keeps, and the batches of requests that they take.
+//! Modules: the small programs whose one state Memoir keeps, and the batches of requests that they take.
 #![tactic(auto)]
 
 mod batch;
 mod counter;
-mod limits;
-mod machine;
+mod modules;
 mod outputs;
 mod texts;
 mod value;
@@ -12,8 +11,7 @@ mod words;
 
 pub use batch::Batch;
 pub use counter::Counter;
-pub use limits::{LAST_POSITION, LONGEST_REQUEST};
-pub use machine::{Module, Short, Stepped, is_line};
+pub use modules::{Module, Short, Stepped, is_line};
 pub use outputs::Outputs;
 pub use texts::{are_visible, text_and_number, u64_of_bytes};
 pub use value::value_in;

@@ -1,7 +1,8 @@
 -- What is found on a platform that stands at some digests is what the call by digests finds.
-use Rattle.std.proofs.Common.{◌≡◌, ℕ, ◌+◌, ◌^◌, Bool, true, false, List, length, Option, None, Some, Result, Ok, Err, refl, sym, ap, ◌∙◌, subst, inl, inr}
+use Rattle.std.proofs.Common.{◌≡◌, ℕ, ◌+◌, Bool, true, false, List, length, Option, None, Some, Result, Ok, Err, refl, sym, ap, ◌∙◌, subst, inl, inr}
 use Rattle.std.specs.Prelude.{if◌then◌else◌, nat_le}
 use Rattle.std.specs.Str.{bytes_eq}
+use Rattle.mm_base.specs.Limits.{last_position}
 use Rattle.mm_digest.specs.declared.variant.Variant.TheVariants.{Opt}
 use Rattle.mm_digest.specs.Messages.{zero_bytes, extended_of}
 use Rattle.mm_module.specs.Meaning.{Meaning}
@@ -57,7 +58,7 @@ size_alike b = ap (λ (m : List (List ℕ)). length m) (members_of-normal b)
 examined_alike : (meaning : Meaning) (key : List ℕ) (offered : Snapshot) (b : Batch) (v w : Verdict) → v ≡ w → examined meaning key offered (normal b) w ≡ examined meaning key offered b v
 examined_alike meaning key offered b v w e =
     ap (λ (x : Verdict). examined meaning key offered (normal b) x) (sym e)
-    ∙ ap (λ (n : ℕ). weighed (meaning.is_spelled offered.content.state) (bytes_eq offered.tag (tag_of key offered.content)) v (nat_le (offered.content.position + n) (2 ^ 48))) (size_alike b)
+    ∙ ap (λ (n : ℕ). weighed (meaning.is_spelled offered.content.state) (bytes_eq offered.tag (tag_of key offered.content)) v (nat_le (offered.content.position + n) last_position)) (size_alike b)
 
 -- the place of the answer
 place_by : (flag again : Bool) (meaning : Meaning) (key barrier : List ℕ) (seen : Digests) (b : Batch) → flag ≡ seen.flag → place_after (cell_at (opt meaning key barrier) seen) seen.register (guard barrier b) again ≡ place_then Opt seen.flag again (opt meaning key barrier) seen b

@@ -58,8 +58,10 @@ ClosingGives (stage.Closing next) d (Refused why) = ⊥
 pub record ClosingStepsOn (i : Instance) (d : Digests) (stage : CheckpointStage) (old new : Standing) (turn : CheckpointTurn) : Type 0 where
   pub fate : Fate
   pub leads : Leads i d (one_step fate (closing_step_of stage)) old new (closing_fault_turned turn)
-  pub holds : closing_fault_turned turn ≡ None → ClosingHoldsOn i (all_made (by_digests i) d (one_step fate (closing_step_of stage)).moves) turn
-  pub gives : closing_fault_turned turn ≡ None → (seen : Digests) → seen ≡ all_made (by_digests i) d (one_step fate Reads).moves → ClosingGives stage seen turn
+  pub holds : closing_fault_turned turn ≡ None
+      → ClosingHoldsOn i (all_made (by_digests i) d (one_step fate (closing_step_of stage)).moves) turn
+  pub gives : closing_fault_turned turn ≡ None → (seen : Digests) → seen ≡ all_made (by_digests i) d (one_step fate Reads).moves
+      → ClosingGives stage seen turn
 
 -- One turn, from any digests that the platform stands at and that gave what the checkpoint holds.
 abbrev pub ClosingTurnsOn : CheckpointStage → Standing → Standing → CheckpointTurn → Type 0

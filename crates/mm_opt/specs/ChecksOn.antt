@@ -31,7 +31,8 @@ closing_told (Stops fault closed) = Err (refusal.Device fault)
 
 -- The checkpoint over a platform that stood at these digests was this one: its result; the cell and the register; what
 -- the register shows of its moves; and its steps, and those of them that write the cell.
-pub record ChecksBy (i : Instance) (d : Digests) (o : Checkpointed Digests) (old new : Standing) (result : Result Said CheckpointRefusal) : Type 0 where
+pub record ChecksBy (i : Instance) (d : Digests) (o : Checkpointed Digests) (old new : Standing)
+    (result : Result Said CheckpointRefusal) : Type 0 where
   pub gives : result ≡ closing_told o.ending
   pub stands : StandsAt i new o.state
   pub items : new.items ≡ option_map (shown i d o.moves) old.items
@@ -39,7 +40,8 @@ pub record ChecksBy (i : Instance) (d : Digests) (o : Checkpointed Digests) (old
   pub writes : new.writes ≡ counted_by o.writes old.writes
 
 -- The checkpoint over a platform that stood for a history was this one, and what was asked of the history holds after it.
-pub record ChecksFor (all others : List (List ℕ)) (asked : List Batch) (i : Instance) (o : Checkpointed History) (new : Standing) (result : Result Said CheckpointRefusal) : Type 0 where
+pub record ChecksFor (all others : List (List ℕ)) (asked : List Batch) (i : Instance) (o : Checkpointed History) (new : Standing)
+    (result : Result Said CheckpointRefusal) : Type 0 where
   pub gives : result ≡ closing_told o.ending
   pub stands : StandsFor i new o.state
   pub within : IsWithin all others asked i o.state
@@ -55,7 +57,8 @@ pub record ChecksOn (old new : Standing) (result : Result Said CheckpointRefusal
       ChecksBy (instance_by variant meaning key barrier) d
       (checkpointed (instance_by variant meaning key barrier) (by_digests (instance_by variant meaning key barrier)) d course)
       old new result
-  pub continues : (variant : Variant) (meaning : Meaning) (key barrier : List ℕ) (y : History) (all others : List (List ℕ)) (asked : List Batch) →
+  pub continues : (variant : Variant) (meaning : Meaning) (key barrier : List ℕ) (y : History) (all others : List (List ℕ))
+      (asked : List Batch) →
       StandsFor (instance_by variant meaning key barrier) old y →
       IsClosedWithin all others asked (instance_by variant meaning key barrier) y
       (checkpointed (instance_by variant meaning key barrier) (by_digests (instance_by variant meaning key barrier))

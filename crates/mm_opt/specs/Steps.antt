@@ -84,7 +84,8 @@ pub record FindsIn (meaning : Meaning) (cell : Cell) (register offer : List ℕ)
   pub found_is : OrMemory (found_in meaning cell register taken b) found
 
 -- The same, on a platform whose register is read, 32 bytes; they are the platform's, where that tells its items.
-pub record Finds (meaning : Meaning) (cell : Cell) (middle : Standing) (offer : List ℕ) (b : Batch) (found : Result Found Refusal) : Type 0 where
+pub record Finds (meaning : Meaning) (cell : Cell) (middle : Standing) (offer : List ℕ) (b : Batch)
+    (found : Result Found Refusal) : Type 0 where
   pub register : List ℕ
   pub told : (items : List Item) → middle.items ≡ Some items → register ≡ register_of (values_of items)
   pub size : length register ≡ 32
@@ -98,7 +99,8 @@ MakesRoom (Ok (Inside ready)) old new = Readies old new
 MakesRoom (Ok (Opens opening)) old new = Readies old new
 
 -- The second step, and what is found where it doesn't fail; then room is made. Nothing after it takes memory.
-pub record ReadsRegister (meaning : Meaning) (cell : Cell) (old new : Standing) (offer : List ℕ) (b : Batch) (found : Result Found Refusal) : Type 0 where
+pub record ReadsRegister (meaning : Meaning) (cell : Cell) (old new : Standing) (offer : List ℕ) (b : Batch)
+    (found : Result Found Refusal) : Type 0 where
   pub middle : Standing
   pub goes : Goes ReadRegister old middle (fault_in found)
   pub finds : fault_in found ≡ None → Finds meaning cell middle offer b found

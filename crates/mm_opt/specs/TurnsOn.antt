@@ -66,7 +66,8 @@ HoldsOn i d b (Done answer) = Unit {0}
 HoldsOn i d b (Refused why) = Unit {0}
 
 -- an accepted offer, and the answer to it
-pub record Accepts (i : Instance) (seen : Digests) (b : Batch) (x : Result Accepted Refusal) (again : Bool) (answer : BatchAnswer) : Type 0 where
+pub record Accepts (i : Instance) (seen : Digests) (b : Batch) (x : Result Accepted Refusal) (again : Bool)
+    (answer : BatchAnswer) : Type 0 where
   pub offered : Content
   pub found_is : x ≡ Ok (record { offered = offered; again = again })
   pub answer_is : answer ≡ answer_at i.meaning i.key offered (place_then i.variant seen.flag again i seen b) b again
@@ -98,7 +99,8 @@ one_step fate step = walk (λ _. fate) 1 (step ∷ [])
 
 -- A turn was the next step of the walk: the platform goes on by its moves; and where the step didn't fail, the call holds
 -- again what the digests then gave, and the turn that read the register gives what the call by digests finds.
-pub record StepsOn (i : Instance) (d : Digests) (stage : Stage) (old new : Standing) (offer : List ℕ) (b : Batch) (turn : Turn) : Type 0 where
+pub record StepsOn (i : Instance) (d : Digests) (stage : Stage) (old new : Standing) (offer : List ℕ) (b : Batch)
+    (turn : Turn) : Type 0 where
   pub fate : Fate
   pub leads : Leads i d (one_step fate (step_of stage b)) old new (fault_turned turn)
   pub holds : fault_turned turn ≡ None → HoldsOn i (all_made (by_digests i) d (one_step fate (step_of stage b)).moves) b turn

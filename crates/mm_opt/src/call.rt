@@ -45,7 +45,8 @@ pub enum Turn {
 /// Begins a call. Long exactly where the batch is too long to be asked. Takes no memory.
 pub fn begin(batch: Batch<'_>) -> Result<Call, Refusal>
     ensures ok { IfOk result (λ call. (call ≡ Begun) × (is_long (batch_of batch.entry) ≡ false)) }
-    ensures long { IfErr result (λ refusal. (refusal ≡ Refusal.Long) × (is_long (batch_of batch.entry) ≡ true)) }
+    ensures long { IfErr result (λ refusal. (refusal ≡ Refusal.Long)
+        × (is_long (batch_of batch.entry) ≡ true)) }
 {
     if mm_model::is_long(&batch) {
         return Err(Refusal::Long);
@@ -104,13 +105,14 @@ impl Call {
     ) -> Turn
         requires short { is_long (batch_of batch) ≡ false }
         requires room { MayGoOn self (P.standing platform.old) }
-        ensures turns { Turns (M.meaning «module».now) self (P.standing platform.old) (P.standing platform.new) offer.now
-            (batch_of batch.entry) result }
+        ensures turns { Turns (M.meaning «module».now) self (P.standing platform.old)
+            (P.standing platform.new) offer.now (batch_of batch.entry) result }
         ensures acts { ActsAt self (P.standing platform.old) (P.standing platform.new) result }
         ensures room { TurnMayGoOn result (P.standing platform.new) }
-        ensures faults { Blames (fault_turned result) (P.standing platform.old).faults (P.standing platform.new).faults }
-        ensures goes { TurnsOn (M.meaning «module».now) self (P.standing platform.old) (P.standing platform.new) offer.now
-            (batch_of batch.entry) result }
+        ensures faults { Blames (fault_turned result) (P.standing platform.old).faults
+            (P.standing platform.new).faults }
+        ensures goes { TurnsOn (M.meaning «module».now) self (P.standing platform.old)
+            (P.standing platform.new) offer.now (batch_of batch.entry) result }
     {
         self.advance_keeping(alloc, module, platform, offer, batch, &mut KeptKey::new())
     }
@@ -150,11 +152,12 @@ impl Call {
     ) -> Ended
         requires short { is_long (batch_of batch) ≡ false }
         requires room { MayGoOn self (P.standing platform.old) }
-        ensures finishes { Finishes (M.meaning «module».now) self (P.standing platform.old) (P.standing platform.new) offer.now
-            (batch_of batch.entry) result }
-        ensures ends { self ≡ Begun → CallsTo Opt (M.meaning «module».now) (P.standing platform.old) (P.standing platform.new)
-            offer.now (batch_of batch.entry) result }
-        ensures faults { Blames (fault_in (result_of result)) (P.standing platform.old).faults (P.standing platform.new).faults }
+        ensures finishes { Finishes (M.meaning «module».now) self (P.standing platform.old)
+            (P.standing platform.new) offer.now (batch_of batch.entry) result }
+        ensures ends { self ≡ Begun → CallsTo Opt (M.meaning «module».now) (P.standing platform.old)
+            (P.standing platform.new) offer.now (batch_of batch.entry) result }
+        ensures faults { Blames (fault_in (result_of result)) (P.standing platform.old).faults
+            (P.standing platform.new).faults }
     {
         self.finish_keeping(alloc, module, platform, offer, batch, &mut KeptKey::new())
     }
@@ -192,8 +195,8 @@ impl Call {
     ) -> Ended
         requires short { is_long (batch_of batch) ≡ false }
         requires room { MayGoOn self (P.standing platform.old) }
-        ensures { Finishes (M.meaning «module».now) self (P.standing platform.old) (P.standing platform.new) offer.now
-            (batch_of batch.entry) result }
+        ensures { Finishes (M.meaning «module».now) self (P.standing platform.old)
+            (P.standing platform.new) offer.now (batch_of batch.entry) result }
     {
         match self.stage {
             Stage::Begun => ask(alloc, module, platform, offer, batch, keys),
@@ -213,8 +216,8 @@ impl Call {
     ) -> Turn
         requires short { is_long (batch_of batch) ≡ false }
         requires room { MayGoOn self (P.standing platform.old) }
-        ensures { Turns (M.meaning «module».now) self (P.standing platform.old) (P.standing platform.new) offer.now
-            (batch_of batch.entry) result }
+        ensures { Turns (M.meaning «module».now) self (P.standing platform.old)
+            (P.standing platform.new) offer.now (batch_of batch.entry) result }
     {
         match self.stage {
             Stage::Begun => Turn::seen(read_cell(module.id(), platform)),

@@ -68,9 +68,12 @@ impl CheckpointCall {
     /// Makes the next device step: the first reads the cell, the second the register, and the last writes the cell,
     /// which closes the segment. Takes no memory.
     pub fn advance<P: Platform>(self, platform: &mut P) -> CheckpointTurn
-        ensures turns { ClosingTurns self (P.standing platform.old) (P.standing platform.new) result }
-        ensures acts { ClosingActsAt self (P.standing platform.old) (P.standing platform.new) result }
-        ensures goes { ClosingTurnsOn self (P.standing platform.old) (P.standing platform.new) result }
+        ensures turns { ClosingTurns self (P.standing platform.old) (P.standing platform.new)
+            result }
+        ensures acts { ClosingActsAt self (P.standing platform.old) (P.standing platform.new)
+            result }
+        ensures goes { ClosingTurnsOn self (P.standing platform.old) (P.standing platform.new)
+            result }
     {
         self.turn(platform)
     }
@@ -133,7 +136,8 @@ impl CheckpointTurn {
 pub fn checkpoint<P: Platform>(platform: &mut P) -> Result<Checkpointed, CheckpointRefusal>
     ensures closes { ClosesSegment (P.standing platform.old) (P.standing platform.new) result }
     ensures untouched { LeavesStill result (P.standing platform.old) (P.standing platform.new) }
-    ensures faults { Blames (closing_fault_in result) (P.standing platform.old).faults (P.standing platform.new).faults }
+    ensures faults { Blames (closing_fault_in result) (P.standing platform.old).faults
+        (P.standing platform.new).faults }
     ensures steps { ClosingStepsBy result (P.standing platform.old) (P.standing platform.new) }
     ensures goes { ChecksOn (P.standing platform.old) (P.standing platform.new) result }
 {

@@ -1,6 +1,7 @@
 //! What a call finds in the cell, the register and the offer.
 
-ghost use Rattle.std.specs.Prelude.{◌≡◌, ◌+◌, ◌≤◌, ◌^◌, false, IfOk, IsTrue, None, Ok, length};
+ghost use Rattle.std.specs.Prelude.{◌≡◌, ◌+◌, ◌≤◌, false, IfOk, IsTrue, None, Ok, length};
+ghost use Rattle.mm_base.specs.Limits.{last_position};
 ghost use Rattle.mm_digest.specs.declared.variant.Variant.TheVariants.{Opt};
 ghost use Rattle.mm_module.specs.Batch.{Many, normal};
 ghost use Rattle.mm_module.specs.Batches.{batch_of};
@@ -66,7 +67,8 @@ pub fn find<M: Module>(
     keys: &mut KeptKey,
 ) -> Result<Found, Refusal>
     requires { is_long (batch_of batch) ≡ false }
-    ensures finds { FindsIn (M.meaning «module».now) cell.now register.now.bytes offer.now (batch_of batch.entry) result }
+    ensures finds { FindsIn (M.meaning «module».now) cell.now register.now.bytes offer.now
+        (batch_of batch.entry) result }
     ensures no_fault { fault_in result ≡ None }
     ensures sized { length register.now.bytes ≡ 32 }
 {
@@ -94,9 +96,10 @@ fn weigh<M: Module>(
     keys: &mut KeptKey,
 ) -> Result<Found, Refusal>
     requires variant { variant_of offered.now.content.place ≡ Opt }
-    requires position { offered.now.content.position ≤ 2 ^ 48 }
+    requires position { offered.now.content.position ≤ last_position }
     requires short { is_long (batch_of batch) ≡ false }
-    ensures { OrMemory (found_at (M.meaning «module».now) cell.now register.now.bytes (Ok offered.now)
+    ensures { OrMemory
+        (found_at (M.meaning «module».now) cell.now register.now.bytes (Ok offered.now)
         (batch_of batch.entry)) result }
 {
     let body = offered.body();

@@ -46,8 +46,8 @@ pub fn see<M: Module, P: Platform>(
     keys: &mut KeptKey,
 ) -> Ended
     requires { is_long (batch_of batch) ≡ false }
-    ensures { SeesTo (M.meaning «module».now) cell.now (P.standing platform.old) (P.standing platform.new)
-        offer.now (batch_of batch.entry) result }
+    ensures { SeesTo (M.meaning «module».now) cell.now (P.standing platform.old)
+        (P.standing platform.new) offer.now (batch_of batch.entry) result }
 {
     let found = found_in(alloc, module, cell, platform, offer, batch, keys);
     end(found, platform)
@@ -63,8 +63,8 @@ fn found_in<M: Module, P: Platform>(
     keys: &mut KeptKey,
 ) -> Result<Found, Refusal>
     requires { is_long (batch_of batch) ≡ false }
-    ensures reads { ReadsRegister (M.meaning «module».now) cell.now (P.standing platform.old) (P.standing platform.new)
-        offer.now (batch_of batch.entry) result }
+    ensures reads { ReadsRegister (M.meaning «module».now) cell.now (P.standing platform.old)
+        (P.standing platform.new) offer.now (batch_of batch.entry) result }
     ensures room { LeavesRoom result (P.standing platform.new) }
 {
     read_register(alloc, module, cell, platform, offer, batch, keys)

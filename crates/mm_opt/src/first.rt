@@ -21,9 +21,11 @@ pub fn provision<M: Module>(
     barrier: &[u8; 32],
 ) -> Result<Provisioned, Memory>
     ensures cell { IfOk result (λ made.
-        made.cell ≡ cell_spelling (cell_of (opt (M.meaning «module».now) key.now barrier.now) first_history)) }
+        made.cell ≡ cell_spelling
+        (cell_of (opt (M.meaning «module».now) key.now barrier.now) first_history)) }
     ensures snapshot { IfOk result (λ made.
-        made.snapshot ≡ issued_bytes (opt (M.meaning «module».now) key.now barrier.now) first_history) }
+        made.snapshot ≡ issued_bytes (opt (M.meaning «module».now) key.now barrier.now)
+        first_history) }
 {
     let id = module.id();
     let anchor = start(Variant::Opt, id);

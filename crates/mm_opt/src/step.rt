@@ -37,8 +37,8 @@ pub fn read_register<M: Module, P: Platform>(
     keys: &mut KeptKey,
 ) -> Result<Found, Refusal>
     requires { is_long (batch_of batch) ≡ false }
-    ensures { ReadsRegister (M.meaning «module».now) cell.now (P.standing platform.old) (P.standing platform.new)
-        offer.now (batch_of batch.entry) result }
+    ensures { ReadsRegister (M.meaning «module».now) cell.now (P.standing platform.old)
+        (P.standing platform.new) offer.now (batch_of batch.entry) result }
 {
     let register = match platform.reg_read() {
         Err(fault) => return Err(Refusal::Device(fault)),

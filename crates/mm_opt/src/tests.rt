@@ -1,6 +1,7 @@
 //! The counter over a platform in memory.
 
-ghost use Rattle.std.specs.Prelude.{◌≤◌, ◌^◌, length};
+ghost use Rattle.std.specs.Prelude.{◌≤◌, length};
+ghost use Rattle.mm_base.specs.Limits.{last_position};
 
 use super::*;
 use mm_base::{Bytes, read_decimal};
@@ -546,7 +547,7 @@ fn sealed(
     position: u64,
     state: &[u8],
 ) -> Result<Bytes, Fail>
-    requires position { position ≤ 2 ^ 48 }
+    requires position { position ≤ last_position }
     requires state { length state.now ≤ 8 }
 {
     let body = Body {

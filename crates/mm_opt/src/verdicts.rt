@@ -74,7 +74,8 @@ fn is_again(
     extension: &Digest,
     value: &Digest,
 ) -> bool
-    ensures { result ≡ list_any (fits_again cell.now.flag cell.now.summary.bytes register.now.bytes value.now.bytes)
+    ensures { result ≡ list_any
+        (fits_again cell.now.flag cell.now.summary.bytes register.now.bytes value.now.bytes)
         (forms_of anchor.now.bytes extension.now.bytes) }
 {
     if fits_again(cell, register, anchor, extension, value) {
@@ -108,8 +109,8 @@ fn fits_again(
     extension: &Digest,
     value: &Digest,
 ) -> bool
-    ensures { result ≡ fits_again cell.now.flag cell.now.summary.bytes register.now.bytes value.now.bytes
-        (point anchor.now.bytes extension.now.bytes) }
+    ensures { result ≡ fits_again cell.now.flag cell.now.summary.bytes register.now.bytes
+        value.now.bytes (point anchor.now.bytes extension.now.bytes) }
 {
     let end = extended(extension, value);
     if !cell.flag {

@@ -5,6 +5,7 @@ use Rattle.mm_base.specs.Faults.{CountsFaults}
 use Rattle.mm_store.specs.declared.fault.StoreFault.{StoreFault}
 use Rattle.mm_store.specs.Slots.{Slots, slot_in, seen_in}
 use Rattle.mm_store.specs.Calls.{CountsFailures}
+use Rattle.mm_store.specs.declared.store.TheConstants.{LONGEST_SLOT}
 use Rattle.mm_pages.specs.Paged.{Paged}
 
 -- a read of a slot
@@ -12,13 +13,13 @@ pub record GivesBytes (slot : ℕ) (old new : Paged) (result : Result (List ℕ)
   pub same : new ≡ record old { faults = new.faults; page_reads = new.page_reads }
   pub counted_faults : CountsFailures old.faults new.faults result
   pub gives : IfOk result (λ bytes. (slots : Slots) → old.slots ≡ Some slots → bytes ≡ seen_in slots slot)
-  pub short : IfOk result (λ bytes. length bytes ≤ 1100000)
+  pub short : IfOk result (λ bytes. length bytes ≤ LONGEST_SLOT)
 
 -- how many bytes a read of the slot gives
 pub record GivesSize (slot : ℕ) (old new : Paged) (result : Result ℕ Failed) : Type 0 where
   pub same : new ≡ record old { faults = new.faults }
   pub counted_faults : CountsFaults old.faults new.faults result
-  pub most : IfOk result (λ size. size ≤ 1100000)
+  pub most : IfOk result (λ size. size ≤ LONGEST_SLOT)
   pub gives : IfOk result (λ size. (slots : Slots) → old.slots ≡ Some slots → size ≡ length (seen_in slots slot))
 
 -- the pages of a slot's first bytes

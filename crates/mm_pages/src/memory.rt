@@ -172,7 +172,8 @@ impl FourSheets {
     fn put_page(&mut self, slot: u8, page: u16, part: &[u8; 256])
         requires slot { slot < 4 }
         requires page { page < 4297 }
-        ensures { self.new ≡ with_slot self.old slot (with_page page part.now (slot_in self.old slot)) }
+        ensures { self.new ≡ with_slot self.old slot
+            (with_page page part.now (slot_in self.old slot)) }
     {
         match slot {
             0 => self.zero.put_page(page, part),
@@ -238,7 +239,8 @@ impl MemPages {
     /// has changed.
     pub fn stop_at(&mut self, call: u64, leaves: &[u8]) -> Result<(), Memory>
         requires { length leaves.now ≤ 1100032 }
-        ensures ok { OnOk result (self.new ≡ record self.old { ahead = call; leaves = leaves.now }) }
+        ensures ok { OnOk result
+            (self.new ≡ record self.old { ahead = call; leaves = leaves.now }) }
         ensures err { OnErr result (self.new ≡ self.old) }
     {
         self.leaves = Vec::from_slice(self.alloc, leaves)?;
@@ -314,9 +316,12 @@ impl PageDevice for MemPages {
     fn read_page(&mut self, slot: u8, page: u16, into: &mut [u8; 256]) -> Result<(), Failed>
         requires slot { slot < 4 }
         requires page { page < 4297 }
-        ensures reads { ReadsPage slot page (paged_by self.old) (paged_by self.new) into.new result }
+        ensures reads { ReadsPage slot page (paged_by self.old) (paged_by self.new) into.new
+            result }
         ensures failing { IsErr result ↔ (self.old.ahead ≡ 1) }
-        ensures after { self.new ≡ record (after_reading self.old result) { page_reads = counted self.old.page_reads } }
+        ensures after { self.new ≡ record (after_reading self.old result) {
+          page_reads = counted self.old.page_reads;
+        } }
     {
         self.page_reads = self.page_reads.saturating_add(1);
         if self.is_to_fail() {
@@ -329,11 +334,13 @@ impl PageDevice for MemPages {
     fn write_page(&mut self, slot: u8, page: u16, bytes: &[u8; 256]) -> Result<(), Failed>
         requires slot { slot < 4 }
         requires page { page < 4297 }
-        ensures writes { WritesPage slot page bytes.now (paged_by self.old) (paged_by self.new) result }
+        ensures writes { WritesPage slot page bytes.now (paged_by self.old) (paged_by self.new)
+            result }
         ensures failing { IsErr result ↔ (self.old.ahead ≡ 1) }
-        ensures after { self.new ≡ record (after_changing slot (with_page page bytes.now) self.old result) {
-          page_writes = counted self.old.page_writes;
-        } }
+        ensures after { self.new
+            ≡ record (after_changing slot (with_page page bytes.now) self.old result) {
+              page_writes = counted self.old.page_writes;
+            } }
     {
         self.page_writes = self.page_writes.saturating_add(1);
         if self.is_to_fail_in(slot) {

@@ -1,6 +1,7 @@
 //! Reading a slot by pages.
 
 ghost use Rattle.std.specs.Prelude.{◌≡◌, ◌<◌, ◌≤◌, []};
+ghost use Rattle.mm_store.specs.declared.store.TheConstants.{LONGEST_SLOT};
 ghost use Rattle.mm_pages.specs.Gives.{GivesBytes, GivesPages, GivesSize};
 
 use crate::device::PageDevice;
@@ -45,7 +46,7 @@ fn put_pages<D: PageDevice>(
     bytes: &mut Bytes,
 ) -> Result<(), StoreFault>
     requires slot { slot < 4 }
-    requires most { size ≤ 1100000 }
+    requires most { size ≤ LONGEST_SLOT }
     requires empty { bytes.old ≡ [] }
     ensures { GivesPages slot size (D.pages device.old) (D.pages device.new) bytes.new result }
 {

@@ -4,6 +4,7 @@ ghost use Rattle.std.specs.Prelude.{◌≡◌, ◌≢◌, ◌<◌, ◌≤◌, le
 ghost use Rattle.std.specs.Borrow.{Lends, sem};
 ghost use Rattle.mm_store.specs.Slots.{Slots, slot_in};
 ghost use Rattle.mm_store.specs.Calls.{ReadsSlot, WritesSlot};
+ghost use Rattle.mm_store.specs.declared.store.TheConstants.{LONGEST_SLOT};
 ghost use Rattle.mm_pages.specs.Bytes.{page_count};
 ghost use Rattle.mm_pages.specs.Paged.{kept_on};
 ghost use Rattle.mm_pages.specs.Rows.{no_rows, row_in};
@@ -51,7 +52,8 @@ impl<D: PageDevice + Drop> PageStore<D> {
     /// The device. The digests stay as they are, whatever is done to it: from then on they may not be those of
     /// what it has.
     pub fn device(&mut self) -> &mut D
-        ensures* writes_back { sem 𝓛 (Lends (the_row D.row D.PageDevice) D.row self.entry result (λ device. record self.old { device = device })) }
+        ensures* writes_back { sem 𝓛 (Lends (the_row D.row D.PageDevice) D.row self.entry result
+            (λ device. record self.old { device = device })) }
         ensures value { result.now ≡ self.old.device }
     {
         &mut self.device
@@ -63,9 +65,11 @@ impl<D: PageDevice + Drop> Store for PageStore<D> {
 
     fn read(&mut self, alloc: Global, slot: u8) -> Result<Bytes, StoreFault>
         requires { slot < 4 }
-        ensures reads { ReadsSlot slot (kept_on (D.pages self.old.device)) (kept_on (D.pages self.new.device)) result }
+        ensures reads { ReadsSlot slot (kept_on (D.pages self.old.device))
+            (kept_on (D.pages self.new.device)) result }
         ensures rows { self.new.rows ≡ rows_after_read slot self.old.rows result }
-        ensures step { KeepsStep (D.pages self.old.device) (D.pages self.new.device) self.old.rows self.new.rows }
+        ensures step { KeepsStep (D.pages self.old.device) (D.pages self.new.device) self.old.rows
+            self.new.rows }
     {
         let result = read_bytes(&mut self.device, alloc, slot);
         if let Err(StoreFault::Failed) = result {
@@ -76,14 +80,17 @@ impl<D: PageDevice + Drop> Store for PageStore<D> {
 
     fn write(&mut self, slot: u8, bytes: &[u8]) -> Result<(), StoreFault>
         requires slot { slot < 4 }
-        requires short { length bytes.now ≤ 1100000 }
-        ensures writes { WritesSlot slot bytes.now (kept_on (D.pages self.old.device)) (kept_on (D.pages self.new.device)) result }
+        requires short { length bytes.now ≤ LONGEST_SLOT }
+        ensures writes { WritesSlot slot bytes.now (kept_on (D.pages self.old.device))
+            (kept_on (D.pages self.new.device)) result }
         ensures no_want { result ≢ Err StoreFault.Memory }
         ensures rows { self.new.rows ≡ rows_after_write slot bytes.now self.old.rows result }
 
         // Of the pages of the new bytes those are read back of which no digest is kept, or that of the new page.
         ensures looks { OnOk result ((D.pages self.new.device).page_reads
-            ≡ counted_by (looks_at (row_in self.old.rows slot) bytes.now (page_count (length bytes.now))) (D.pages self.old.device).page_reads) }
+            ≡ counted_by
+            (looks_at (row_in self.old.rows slot) bytes.now (page_count (length bytes.now)))
+            (D.pages self.old.device).page_reads) }
 
         // Where the digests kept are those of what an honest device has there, as they are while this store
         // alone writes to it, the pages that differ are written.
@@ -91,15 +98,18 @@ impl<D: PageDevice + Drop> Store for PageStore<D> {
             → (told : Slots) → (D.pages self.old.device).slots ≡ Some told
             → AreOf (row_in self.old.rows slot) (slot_in told slot)
             → (D.pages self.new.device).page_writes
-            ≡ counted_by (changes_of (slot_in told slot) bytes.now (page_count (length bytes.now))) (D.pages self.old.device).page_writes) }
-        ensures step { KeepsStep (D.pages self.old.device) (D.pages self.new.device) self.old.rows self.new.rows }
+            ≡ counted_by (changes_of (slot_in told slot) bytes.now (page_count (length bytes.now)))
+            (D.pages self.old.device).page_writes) }
+        ensures step { KeepsStep (D.pages self.old.device) (D.pages self.new.device) self.old.rows
+            self.new.rows }
 
         // A length is set once at most, and not at all where the bytes are there already.
         ensures settled { OnOk result ((D.pages self.old.device).is_honest ≡ true
             → (told : Slots) → (D.pages self.old.device).slots ≡ Some told
             → AreOf (row_in self.old.rows slot) (slot_in told slot) → slot_in told slot ≡ bytes.now
             → (D.pages self.new.device).length_writes ≡ (D.pages self.old.device).length_writes) }
-        ensures lengths { OnOk result (IsOneMoreAtMost (D.pages self.old.device).length_writes (D.pages self.new.device).length_writes) }
+        ensures lengths { OnOk result (IsOneMoreAtMost (D.pages self.old.device).length_writes
+            (D.pages self.new.device).length_writes) }
     {
         if put_bytes(&mut self.device, &mut self.digests, slot, bytes).is_err() {
             self.digests.cut(slot, 0);

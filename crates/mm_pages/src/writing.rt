@@ -1,6 +1,7 @@
 //! Writing a slot by pages.
 
 ghost use Rattle.std.specs.Prelude.{◌≡◌, ◌<◌, ◌≤◌, length};
+ghost use Rattle.mm_store.specs.declared.store.TheConstants.{LONGEST_SLOT};
 ghost use Rattle.mm_pages.specs.Counts.{may_be};
 ghost use Rattle.mm_pages.specs.Rows.{row_in};
 ghost use Rattle.mm_pages.specs.Puts.{HoldsPage, PutsPage, PutsPages, FitsLength, PutsBytes};
@@ -20,8 +21,9 @@ pub fn put_bytes<D: PageDevice>(
     bytes: &[u8],
 ) -> Result<(), Failed>
     requires slot { slot < 4 }
-    requires short { length bytes.now ≤ 1100000 }
-    ensures { PutsBytes slot bytes.now (D.pages device.old) (D.pages device.new) digests.old digests.new result }
+    requires short { length bytes.now ≤ LONGEST_SLOT }
+    ensures { PutsBytes slot bytes.now (D.pages device.old) (D.pages device.new) digests.old
+        digests.new result }
 {
     put_pages(device, digests, slot, bytes)?;
     digests.cut(slot, page_count(bytes.len()));
@@ -36,8 +38,9 @@ fn put_pages<D: PageDevice>(
     bytes: &[u8],
 ) -> Result<(), Failed>
     requires slot { slot < 4 }
-    requires short { length bytes.now ≤ 1100000 }
-    ensures { PutsPages slot bytes.now (D.pages device.old) (D.pages device.new) digests.old digests.new result }
+    requires short { length bytes.now ≤ LONGEST_SLOT }
+    ensures { PutsPages slot bytes.now (D.pages device.old) (D.pages device.new) digests.old
+        digests.new result }
 {
     for page in 0..page_count(bytes.len()) {
         put_page(device, digests, slot, page, &page_of(bytes, page))?;
@@ -56,7 +59,8 @@ fn put_page<D: PageDevice>(
     requires slot { slot < 4 }
     requires page { page < 4297 }
     requires reached { page ≤ length (row_in digests.old slot) }
-    ensures { PutsPage slot page bytes.now (D.pages device.old) (D.pages device.new) digests.old digests.new result }
+    ensures { PutsPage slot page bytes.now (D.pages device.old) (D.pages device.new) digests.old
+        digests.new result }
 {
     let digest = Digest {
         bytes: Sha256::digest(bytes),
@@ -83,7 +87,8 @@ fn holds_page<D: PageDevice>(
 ) -> Result<bool, Failed>
     requires slot { slot < 4 }
     requires page { page < 4297 }
-    ensures { HoldsPage slot page kept digest.now bytes.now (D.pages device.old) (D.pages device.new) result }
+    ensures { HoldsPage slot page kept digest.now bytes.now (D.pages device.old)
+        (D.pages device.new) result }
 {
     if !may_be(kept, digest) {
         return Ok(false);
@@ -106,7 +111,7 @@ fn may_be(kept: Option<Digest>, digest: &Digest) -> bool
 // Gives the slot this length, and lets what was written to it be on the disk.
 fn fit_and_sync<D: PageDevice>(device: &mut D, slot: u8, length: u32) -> Result<(), Failed>
     requires slot { slot < 4 }
-    requires most { length ≤ 1100000 }
+    requires most { length ≤ LONGEST_SLOT }
     ensures { FitsLength slot length (D.pages device.old) (D.pages device.new) result }
 {
     fit_length(device, slot, length)?;
@@ -116,7 +121,7 @@ fn fit_and_sync<D: PageDevice>(device: &mut D, slot: u8, length: u32) -> Result<
 // Gives the slot this length, where it has another.
 fn fit_length<D: PageDevice>(device: &mut D, slot: u8, length: u32) -> Result<(), Failed>
     requires slot { slot < 4 }
-    requires most { length ≤ 1100000 }
+    requires most { length ≤ LONGEST_SLOT }
     ensures { FitsLength slot length (D.pages device.old) (D.pages device.new) result }
 {
     if device.length(slot)? == length {

@@ -21,13 +21,16 @@ pub trait Device {
 pub trait Nv: Device {
     /// Reads the cell. After a fault `into` is as before.
     fn nv_read(&mut self, into: &mut [u8; 104]) -> Result<(), StepFault>
-        ensures goes { Goes ReadCell (Self.standing self.old) (Self.standing self.new) (result_err result) }
-        ensures read { OnOk result ((cell : List ℕ) → (Self.standing self.old).cell ≡ Some cell → into.new ≡ cell) }
+        ensures goes { Goes ReadCell (Self.standing self.old) (Self.standing self.new)
+            (result_err result) }
+        ensures read { OnOk result ((cell : List ℕ) → (Self.standing self.old).cell ≡ Some cell
+            → into.new ≡ cell) }
         ensures unread { OnErr result (into.new ≡ into.old) };
 
     /// Writes the cell.
     fn nv_write(&mut self, bytes: &[u8; 104]) -> Result<(), StepFault>
-        ensures { Goes (WriteCell bytes.now) (Self.standing self.old) (Self.standing self.new) (result_err result) };
+        ensures { Goes (WriteCell bytes.now) (Self.standing self.old) (Self.standing self.new)
+            (result_err result) };
 }
 
 /// A register of 32 bytes, which can be read, set to zero, and extended by a value of 32 bytes. Each
@@ -40,18 +43,22 @@ pub trait Register: Device {
 
     /// Reads the register's value.
     fn reg_read(&mut self) -> Result<Digest, StepFault>
-        ensures goes { Goes ReadRegister (Self.standing self.old) (Self.standing self.new) (result_err result) }
-        ensures read { IfOk result (λ value. (items : List Item) → (Self.standing self.new).items ≡ Some items
+        ensures goes { Goes ReadRegister (Self.standing self.old) (Self.standing self.new)
+            (result_err result) }
+        ensures read { IfOk result (λ value. (items : List Item)
+            → (Self.standing self.new).items ≡ Some items
             → value.bytes ≡ register_of (values_of items)) };
 
     /// Sets the register to zero.
     fn reg_reset(&mut self) -> Result<(), StepFault>
-        ensures { Goes ResetRegister (Self.standing self.old) (Self.standing self.new) (result_err result) };
+        ensures { Goes ResetRegister (Self.standing self.old) (Self.standing self.new)
+            (result_err result) };
 
     /// Extends the register by a value.
     fn reg_extend(&mut self, value: &Digest) -> Result<(), StepFault>
         requires { 1 ≤ (Self.standing self.old).spare }
-        ensures { Goes (ExtendRegister value.now.bytes) (Self.standing self.old) (Self.standing self.new) (result_err result) };
+        ensures { Goes (ExtendRegister value.now.bytes) (Self.standing self.old)
+            (Self.standing self.new) (result_err result) };
 }
 
 /// A cell, a register and their power.

@@ -37,7 +37,8 @@ impl Extensions {
     pub fn reserve(&mut self, additional: usize) -> Result<(), Memory>
         ensures entries { self.new.entries.items ≡ self.old.entries.items }
         ensures len { vec_len self.new.entries ≡ vec_len self.old.entries }
-        ensures room { OnOk result (vec_len self.new.entries + additional ≤ vec_capacity self.new.entries) }
+        ensures room { OnOk result (vec_len self.new.entries + additional
+            ≤ vec_capacity self.new.entries) }
         ensures kept { vec_capacity self.old.entries ≤ vec_capacity self.new.entries }
     {
         self.entries.reserve(additional)?;

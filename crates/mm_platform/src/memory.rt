@@ -98,7 +98,8 @@ impl MemPlatform {
 
     /// Others extend the register by this value, now. After want of memory nothing has changed.
     pub fn foreign(&mut self, value: &Digest) -> Result<(), Memory>
-        ensures ok { OnOk result (self.new ≡ record self.old { items = beside (value.now.bytes ∷ []) self.old.items }) }
+        ensures ok { OnOk result
+            (self.new ≡ record self.old { items = beside (value.now.bytes ∷ []) self.old.items }) }
         ensures err { OnErr result (self.new ≡ self.old) }
     {
         self.register.reserve(self.spare + self.meddles.len() + 1)?;
@@ -171,9 +172,12 @@ impl MemPlatform {
 // Lets in those of the meddles that are due at this step, where `before` steps are over.
 fn let_in_due(register: &mut Extensions, meddles: &[Meddle], before: u64, step: u64)
     requires next { step ≡ counted before }
-    requires room { vec_len register.old.entries + ahead before meddles.now ≤ vec_capacity register.old.entries }
-    ensures items { items_of register.new.entries.items ≡ items_of register.old.entries.items ++ map foreign_item (due step meddles.now) }
-    ensures room { vec_len register.new.entries + ahead step meddles.now ≤ vec_len register.old.entries + ahead before meddles.now }
+    requires room { vec_len register.old.entries + ahead before meddles.now
+        ≤ vec_capacity register.old.entries }
+    ensures items { items_of register.new.entries.items
+        ≡ items_of register.old.entries.items ++ map foreign_item (due step meddles.now) }
+    ensures room { vec_len register.new.entries + ahead step meddles.now
+        ≤ vec_len register.old.entries + ahead before meddles.now }
     ensures kept { vec_capacity register.new.entries ≡ vec_capacity register.old.entries }
 {
     for meddle in meddles {

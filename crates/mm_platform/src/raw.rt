@@ -14,7 +14,8 @@ pub trait RawNv: Device {
     /// Reads the bytes from `at` on. After a fault `into` is as before.
     fn raw_read(&mut self, at: u16, into: &mut [u8]) -> Result<(), StepFault>
         requires { at + length into.old ≤ 209 }
-        ensures goes { ReadsRaw (Self.standing self.old) (Self.standing self.new) (result_err result) }
+        ensures goes { ReadsRaw (Self.standing self.old) (Self.standing self.new)
+            (result_err result) }
         ensures read { OnOk result ((bytes : List ℕ) → (Self.standing self.old).cell ≡ Some bytes
             → into.new ≡ range_of at (length into.old) bytes) }
         ensures unread { OnErr result (into.new ≡ into.old) };
@@ -22,12 +23,14 @@ pub trait RawNv: Device {
     /// Writes these bytes from `at` on.
     fn raw_write(&mut self, at: u16, bytes: &[u8]) -> Result<(), StepFault>
         requires { at + length bytes.now ≤ 209 }
-        ensures { WritesRaw at bytes.now (Self.standing self.old) (Self.standing self.new) (result_err result) };
+        ensures { WritesRaw at bytes.now (Self.standing self.old) (Self.standing self.new)
+            (result_err result) };
 
     /// Loses power and gets it back: the register is zero afterwards, and the bytes stay.
     fn raw_cycle(&mut self) -> Result<(), StepFault>
         ensures { Cycles (Self.standing self.old) (Self.standing self.new) (result_err result) };
 
     /// A platform that tells its bytes has 209.
-    ghost is_whole: { (it : Self) (bytes : List ℕ) → (Self.standing it).cell ≡ Some bytes → length bytes ≡ 209 };
+    ghost is_whole: { (it : Self) (bytes : List ℕ) → (Self.standing it).cell ≡ Some bytes
+        → length bytes ≡ 209 };
 }

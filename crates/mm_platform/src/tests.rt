@@ -17,8 +17,10 @@ fn read_extend_write<P: Platform>(
 ) -> Result<(), StepFault>
     requires { 1 ≤ (P.standing platform.old).spare }
     ensures told { (plan : Plan) → (P.standing platform.old).plan ≡ Some plan
-        → ActsAsTold (read_extend_write value.now.bytes bytes.now) (P.standing platform.old) (P.standing platform.new) (result_err result) }
-    ensures untold { ActsUntold value.now.bytes bytes.now (P.standing platform.old) (P.standing platform.new) (result_err result) }
+        → ActsAsTold (read_extend_write value.now.bytes bytes.now) (P.standing platform.old)
+        (P.standing platform.new) (result_err result) }
+    ensures untold { ActsUntold value.now.bytes bytes.now (P.standing platform.old)
+        (P.standing platform.new) (result_err result) }
 {
     let mut cell = [0; 104];
     if let Err(fault) = platform.nv_read(&mut cell) {

@@ -6,13 +6,14 @@ use Rattle.mm_base.specs.Input.{IsUnbroken, lines_of, tail_of, joined, onto_firs
 use Rattle.mm_base.proofs.Input.{lines_of-append, tail_of-append, lines_of-line, tail_of-line, lines_of-joined, tail_of-joined, lines_of-unbroken, tail_of-unbroken}
 use Rattle.mm_base.specs.declared.replay_fault.ReplayFault.{ReplayFault}
 use Rattle.mm_base.specs.declared.replay_fault.ReplayFault.TheVariants.{BadLine, LineLong}
+use Rattle.mm_base.specs.Limits.{longest_line}
 use Rattle.mm_play.specs.declared.player.Refused.{Refused}
-use Rattle.mm_play.specs.Play.{line_limit, Told, told, stopped, after_writing, refusal_at, answered, run, closed, ended, goes_on, and_then, run_from, run_of}
+use Rattle.mm_play.specs.Play.{Told, told, stopped, after_writing, refusal_at, answered, run, closed, ended, goes_on, and_then, run_from, run_of}
 
-is_long : {n : ℕ} → line_limit < n → nat_lt line_limit n ≡ true
+is_long : {n : ℕ} → longest_line < n → nat_lt longest_line n ≡ true
 is_long h = grind (arith, nat_tests)
 
-is_short : {n : ℕ} → n ≤ line_limit → nat_lt line_limit n ≡ false
+is_short : {n : ℕ} → n ≤ longest_line → nat_lt longest_line n ≡ false
 is_short h = grind (arith, nat_tests)
 
 pub not_ok : {P : Type 0} (fault : ReplayFault) (player : P) → (let r : Result P ReplayFault = Err fault in r ≡ Ok player) → ⊥
@@ -53,7 +54,7 @@ run-append {P} answer number player [] more sent last h =
     ∙ ap (λ n. run answer n last more) (omega arith)
     ∙ ap (λ bytes. after_writing bytes (run answer (number + 0) last more)) none
 run-append {P} answer number player (line ∷ lines) more sent last h =
-    turned-append (nat_lt line_limit (length line)) (answer player line) number
+    turned-append (nat_lt longest_line (length line)) (answer player line) number
     (λ next. run answer (number + 1) next lines) (λ next. run answer (number + 1) next (lines ++ more)) sent last
     (run answer (number + length (line ∷ lines)) last more)
     (λ next bytes went. run-append answer (number + 1) next lines more bytes last went
@@ -83,7 +84,7 @@ run_from-joined {P} answer closing player lines rest sent last each went =
 
 -- The first line is refused, whatever follows it.
 pub run_from-refused : {P : Type 0} (answer : P → List ℕ → Result (List ℕ × P) Refused) (closing : P → Option (List ℕ)) (number : ℕ) (player : P) (line rest : List ℕ) (refused : Refused)
-    → IsUnbroken line → length line ≤ line_limit → answer player line ≡ Err refused
+    → IsUnbroken line → length line ≤ longest_line → answer player line ≡ Err refused
     → run_from answer closing number player (line ++ 10 ∷ rest) ≡ stopped (refusal_at number refused)
 run_from-refused {P} answer closing number player line rest refused unbroken short h =
     ap (λ (ls : List (List ℕ)). and_then (run answer number player ls) (ended closing (number + length ls) (tail_of (line ++ 10 ∷ rest)))) (lines_of-line line rest unbroken)
@@ -93,7 +94,7 @@ run_from-refused {P} answer closing number player line rest refused unbroken sho
 
 -- Too many bytes with no LF, whatever follows them.
 pub run_from-long : {P : Type 0} (answer : P → List ℕ → Result (List ℕ × P) Refused) (closing : P → Option (List ℕ)) (number : ℕ) (player : P) (bytes rest : List ℕ)
-    → IsUnbroken bytes → line_limit < length bytes
+    → IsUnbroken bytes → longest_line < length bytes
     → run_from answer closing number player (bytes ++ rest) ≡ stopped (LineLong number)
 run_from-long {P} answer closing number player bytes rest unbroken long =
     ap (λ (ls : List (List ℕ)). and_then (run answer number player ls) (ended closing (number + length ls) (tail_of (bytes ++ rest)))) (lines_of-append bytes rest unbroken)
@@ -104,7 +105,7 @@ run_from-long {P} answer closing number player bytes rest unbroken long =
         → and_then (run answer number player (onto_first bytes lines)) (ended closing (number + length (onto_first bytes lines)) (onto_tail bytes lines tail)) ≡ stopped (LineLong number)
     by_lines [] tail = long_tail bytes tail long
       where
-        long_tail : (front tail : List ℕ) → line_limit < length front → after_writing [] (ended closing (number + 0) (front ++ tail) player) ≡ stopped (LineLong number)
+        long_tail : (front tail : List ℕ) → longest_line < length front → after_writing [] (ended closing (number + 0) (front ++ tail) player) ≡ stopped (LineLong number)
         long_tail [] tail h = absurd (omega arith)
         long_tail (byte ∷ front) tail h =
             ap (λ b. after_writing [] (cond b (stopped (LineLong (number + 0))) (stopped (BadLine (number + 0))))) (is_long (omega (arith, length-append (byte ∷ front) tail)))
@@ -121,14 +122,14 @@ run_from-end answer closing number player =
 
 -- The input ends within a line.
 pub run_from-tail : {P : Type 0} (answer : P → List ℕ → Result (List ℕ × P) Refused) (closing : P → Option (List ℕ)) (number : ℕ) (player : P) (tail : List ℕ)
-    → IsUnbroken tail → 0 < length tail → length tail ≤ line_limit
+    → IsUnbroken tail → 0 < length tail → length tail ≤ longest_line
     → run_from answer closing number player tail ≡ stopped (BadLine number)
 run_from-tail {P} answer closing number player tail unbroken some short =
     ap (λ (ls : List (List ℕ)). and_then (run answer number player ls) (ended closing (number + length ls) (tail_of tail))) (lines_of-unbroken tail unbroken)
     ∙ ap (λ (t : List ℕ). after_writing [] (ended closing (number + 0) t player)) (tail_of-unbroken tail unbroken)
     ∙ short_tail tail some short
   where
-    short_tail : (bytes : List ℕ) → 0 < length bytes → length bytes ≤ line_limit → after_writing [] (ended closing (number + 0) bytes player) ≡ stopped (BadLine number)
+    short_tail : (bytes : List ℕ) → 0 < length bytes → length bytes ≤ longest_line → after_writing [] (ended closing (number + 0) bytes player) ≡ stopped (BadLine number)
     short_tail [] h s = absurd (omega arith)
     short_tail (byte ∷ bytes) h s =
         ap (λ b. after_writing [] (cond b (stopped (LineLong (number + 0))) (stopped (BadLine (number + 0))))) (is_short s)
@@ -136,7 +137,7 @@ run_from-tail {P} answer closing number player tail unbroken some short =
 
 -- One more line was answered.
 pub run-more : {P : Type 0} (answer : P → List ℕ → Result (List ℕ × P) Refused) (player : P) (lines : List (List ℕ)) (line sent reply : List ℕ) (last next : P)
-    → run answer 1 player lines ≡ told sent (Ok last) → length line ≤ line_limit → answer last line ≡ Ok (reply, next)
+    → run answer 1 player lines ≡ told sent (Ok last) → length line ≤ longest_line → answer last line ≡ Ok (reply, next)
     → run answer 1 player (lines ++ line ∷ []) ≡ told (sent ++ reply) (Ok next)
 run-more {P} answer player lines line sent reply last next went short h =
     run-append answer 1 player lines (line ∷ []) sent last went
@@ -147,7 +148,7 @@ run-more {P} answer player lines line sent reply last next went short h =
 
 -- The first line is answered, and the run goes on.
 pub run_from-answered : {P : Type 0} (answer : P → List ℕ → Result (List ℕ × P) Refused) (closing : P → Option (List ℕ)) (number : ℕ) (player : P) (line rest reply : List ℕ) (next : P)
-    → IsUnbroken line → length line ≤ line_limit → answer player line ≡ Ok (reply, next)
+    → IsUnbroken line → length line ≤ longest_line → answer player line ≡ Ok (reply, next)
     → run_from answer closing number player (line ++ 10 ∷ rest) ≡ after_writing reply (run_from answer closing (number + 1) next rest)
 run_from-answered {P} answer closing number player line rest reply next unbroken short h =
     ap (λ (ls : List (List ℕ)). and_then (run answer number player ls) (ended closing (number + length ls) (tail_of (line ++ 10 ∷ rest)))) (lines_of-line line rest unbroken)

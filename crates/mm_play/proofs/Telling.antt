@@ -3,9 +3,10 @@ use Rattle.std.proofs.Common.{◌≡◌, ◌∙◌, ◌+◌, ℕ, Bool, true, fa
 use Rattle.mm_base.specs.Input.{lines_of, tail_of}
 use Rattle.mm_base.specs.declared.replay_fault.ReplayFault.{ReplayFault}
 use Rattle.mm_base.specs.declared.replay_fault.ReplayFault.TheVariants.{Memory, ReadFault, WriteFault, BadLine, LineLong, TooMuch}
+use Rattle.mm_base.specs.Limits.{longest_line}
 use Rattle.mm_play.specs.declared.player.Refused.{Refused}
 use Rattle.mm_play.specs.declared.player.Refused.TheVariants.{Bad, Much}
-use Rattle.mm_play.specs.Play.{Told, told, stopped, after_writing, line_limit, refusal_at, answered, run, ended, closed, goes_on, run_of}
+use Rattle.mm_play.specs.Play.{Told, told, stopped, after_writing, refusal_at, answered, run, ended, closed, goes_on, run_of}
 use Rattle.mm_play.specs.Plays.{ForWhole, Settles}
 use Rattle.mm_play.specs.Takes.{IsFrontOf}
 use Rattle.mm_play.specs.Tells.{AnswersFirst, Answered, Finished, RefusesMuch, TellsBy, anywhere, before_line}
@@ -56,7 +57,7 @@ halts_at {P} answer number player lines written why fault h s = record {
 
 -- one line was answered in front
 halts_more : {P : Type 0} (answer : P → List ℕ → Result (List ℕ × P) Refused) (number : ℕ) (player : P) (line : List ℕ) (lines : List (List ℕ)) (reply : List ℕ × P) (written : List ℕ) (fault : ReplayFault)
-    → nat_lt line_limit (length line) ≡ false → answer player line ≡ Ok reply
+    → nat_lt longest_line (length line) ≡ false → answer player line ≡ Ok reply
     → Halts answer (number + 1) reply.1 lines written fault → Halts answer number player (line ∷ lines) (reply.0 ++ written) fault
 halts_more {P} answer number player line lines reply written fault short is h = record {
   done = line ∷ h.done;
@@ -82,7 +83,7 @@ halts_refused answer number player line lines written fault Much is h =
 
 -- by the answer to the line
 halts_answered : {P : Type 0} (answer : P → List ℕ → Result (List ℕ × P) Refused) (number : ℕ) (player : P) (line : List ℕ) (lines : List (List ℕ)) (written : List ℕ) (fault : ReplayFault)
-    (said : Result (List ℕ × P) Refused) → nat_lt line_limit (length line) ≡ false → answer player line ≡ said → Onward answer number lines
+    (said : Result (List ℕ × P) Refused) → nat_lt longest_line (length line) ≡ false → answer player line ≡ said → Onward answer number lines
     → answered (λ next. run answer (number + 1) next lines) number said ≡ told written (Err fault)
     → Halts answer number player (line ∷ lines) written fault
 halts_answered answer number player line lines written fault (Err why) short is on h = halts_refused answer number player line lines written fault why is h
@@ -94,7 +95,7 @@ halts_answered {P} answer number player line lines written fault (Ok reply) shor
 
 -- by whether the line is too long
 halts_line : {P : Type 0} (answer : P → List ℕ → Result (List ℕ × P) Refused) (number : ℕ) (player : P) (line : List ℕ) (lines : List (List ℕ)) (written : List ℕ) (fault : ReplayFault)
-    (long : Bool) → nat_lt line_limit (length line) ≡ long → Onward answer number lines
+    (long : Bool) → nat_lt longest_line (length line) ≡ long → Onward answer number lines
     → cond long (stopped (LineLong number)) (answered (λ next. run answer (number + 1) next lines) number (answer player line)) ≡ told written (Err fault)
     → Halts answer number player (line ∷ lines) written fault
 halts_line answer number player line lines written fault true is on h = halts_at answer number player (line ∷ lines) written (LineLong number) fault h refl
@@ -105,7 +106,7 @@ halts : {P : Type 0} (answer : P → List ℕ → Result (List ℕ × P) Refused
     → run answer number player lines ≡ told written (Err fault) → Halts answer number player lines written fault
 halts answer [] number player written fault h = absurd (not_ok fault player (sym (outcome_of (told [] (Ok player)) (told written (Err fault)) h)))
 halts answer (line ∷ lines) number player written fault h =
-    halts_line answer number player line lines written fault (nat_lt line_limit (length line)) refl (λ next w f. halts answer lines (number + 1) next w f) h
+    halts_line answer number player line lines written fault (nat_lt longest_line (length line)) refl (λ next w f. halts answer lines (number + 1) next w f) h
 
 -- a whole input: the lines were all answered, and the end of the input stopped it
 halts_after : {P : Type 0} (answer : P → List ℕ → Result (List ℕ × P) Refused) (player next : P) (lines : List (List ℕ)) (said written : List ℕ) (why fault : ReplayFault)
@@ -129,7 +130,7 @@ ended_halts {P} answer closing player next lines [] said written fault ran h = b
     by_closing None h = halts_after answer player next lines said written (BadLine (1 + length lines)) fault ran h refl
     by_closing (Some last) h =
         absurd (not_ok fault next (sym (outcome_of (after_writing said (told last (Ok next))) (told written (Err fault)) h)))
-ended_halts {P} answer closing player next lines (byte ∷ bytes) said written fault ran h = by_size (nat_lt line_limit (length (byte ∷ bytes))) h
+ended_halts {P} answer closing player next lines (byte ∷ bytes) said written fault ran h = by_size (nat_lt longest_line (length (byte ∷ bytes))) h
   where
     by_size : (long : Bool) → after_writing said (cond long (stopped (LineLong (1 + length lines))) (stopped (BadLine (1 + length lines)))) ≡ told {P = P} written (Err fault)
         → Halts answer 1 player lines written fault
@@ -165,7 +166,7 @@ ended_finishes {P} answer closing player next end lines [] said written ran h = 
       closed = is;
       whole = sym (written_of (after_writing said (told last (Ok next))) (told written (Ok end)) h);
     }
-ended_finishes {P} answer closing player next end lines (byte ∷ bytes) said written ran h = absurd (by_size (nat_lt line_limit (length (byte ∷ bytes))) h)
+ended_finishes {P} answer closing player next end lines (byte ∷ bytes) said written ran h = absurd (by_size (nat_lt longest_line (length (byte ∷ bytes))) h)
   where
     by_size : (long : Bool) → after_writing said (cond long (stopped (LineLong (1 + length lines))) (stopped (BadLine (1 + length lines)))) ≡ told {P = P} written (Ok end) → ⊥
     by_size true h = not_ok (LineLong (1 + length lines)) end (outcome_of (after_writing said (stopped (LineLong (1 + length lines)))) (told written (Ok end)) h)

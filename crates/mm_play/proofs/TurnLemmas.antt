@@ -9,8 +9,9 @@ use Rattle.mm_base.specs.declared.lines.Read.{Read}
 use Rattle.mm_base.specs.declared.lines.Read.TheVariants.{Line, Tail, End}
 use Rattle.mm_base.specs.declared.replay_fault.ReplayFault.{ReplayFault}
 use Rattle.mm_base.specs.declared.replay_fault.ReplayFault.TheVariants.{Memory, ReadFault, WriteFault, BadLine, LineLong, TooMuch}
+use Rattle.mm_base.specs.Limits.{longest_line}
 use Rattle.mm_play.specs.declared.player.Refused.{Refused}
-use Rattle.mm_play.specs.Play.{stopped, line_limit, closed, run_from}
+use Rattle.mm_play.specs.Play.{stopped, closed, run_from}
 use Rattle.mm_play.specs.Turns.{Answers, Ends, Went, Advances}
 use Rattle.mm_play.proofs.Runs.{run_from-refused, run_from-long, run_from-end, run_from-tail}
 
@@ -23,7 +24,7 @@ and_rest bytes line held rest h = ap (λ b. b ++ rest) h ∙ append_assoc line (
 
 went_by_line : {P : Type 0} (answer : P → List ℕ → Result (List ℕ × P) Refused) (closing : P → Option (List ℕ)) (number : ℕ) (player next : P)
     (left : Option (List ℕ)) (bytes held line pending said : List ℕ) (result : Result Bool ReplayFault)
-    → bytes ≡ line ++ 10 ∷ held → IsWithin line_limit line → Answers number (answer player line) next pending said result
+    → bytes ≡ line ++ 10 ∷ held → IsWithin longest_line line → Answers number (answer player line) next pending said result
     → Went answer (run_from answer closing number player) number player next left bytes held pending said result
 went_by_line answer closing number player next left bytes held line pending said (Ok true) cut within a =
     record { line = line; reply = a.1; unbroken = within.unbroken; short = within.short; cut = cut; answered = a.2; said_behind = a.3 }
@@ -53,11 +54,11 @@ went_by_line {P} answer closing number player next left bytes held line pending 
 pub advanced_by_line : {P : Type 0} (answer : P → List ℕ → Result (List ℕ × P) Refused) (closing : P → Option (List ℕ)) (number : ℕ) (player next : P)
     (left left' : Option (List ℕ)) (held held' pending pending' : List ℕ) (result : Result Bool ReplayFault)
     (read : Result Read LineFault) (what : Read) (line : _)
-    → NextLine line_limit left left' held read held' → read ≡ Ok what → what ≡ Line line
+    → NextLine longest_line left left' held read held' → read ≡ Ok what → what ≡ Line line
     → Answers number (answer player line.now) next pending pending' result
     → Advances answer closing number player next left left' held held' pending pending' result
 advanced_by_line answer closing number player next left left' held held' pending pending' result read what line n is what_is a =
-    let m = subst (λ r. NextLine line_limit left left' held r held') (is ∙ ap Ok what_is) n in
+    let m = subst (λ r. NextLine longest_line left left' held r held') (is ∙ ap Ok what_is) n in
     record {
       taken = m.takes.taken;
       consumed = m.takes.consumed;
@@ -69,10 +70,10 @@ advanced_by_line answer closing number player next left left' held held' pending
 pub advanced_by_tail : {P : Type 0} (answer : P → List ℕ → Result (List ℕ × P) Refused) (closing : P → Option (List ℕ)) (number : ℕ) (player : P)
     (left left' : Option (List ℕ)) (held held' pending : List ℕ)
     (read : Result Read LineFault) (what : Read)
-    → NextLine line_limit left left' held read held' → read ≡ Ok what → what ≡ Tail
+    → NextLine longest_line left left' held read held' → read ≡ Ok what → what ≡ Tail
     → Advances answer closing number player player left left' held held' pending pending (Err (BadLine number))
 advanced_by_tail answer closing number player left left' held held' pending read what n is what_is =
-    let m = subst (λ r. NextLine line_limit left left' held r held') (is ∙ ap Ok what_is) n in
+    let m = subst (λ r. NextLine longest_line left left' held r held') (is ∙ ap Ok what_is) n in
     record {
       taken = m.takes.taken;
       consumed = m.takes.consumed;
@@ -119,11 +120,11 @@ went_by_end answer closing number player left bytes held pending said (Err TooMu
 pub advanced_by_end : {P : Type 0} (answer : P → List ℕ → Result (List ℕ × P) Refused) (closing : P → Option (List ℕ)) (number : ℕ) (player : P)
     (left left' : Option (List ℕ)) (held held' pending pending' : List ℕ) (result : Result Bool ReplayFault)
     (read : Result Read LineFault) (what : Read)
-    → NextLine line_limit left left' held read held' → read ≡ Ok what → what ≡ End
+    → NextLine longest_line left left' held read held' → read ≡ Ok what → what ≡ End
     → Ends number (closing player) pending pending' result
     → Advances answer closing number player player left left' held held' pending pending' result
 advanced_by_end answer closing number player left left' held held' pending pending' result read what n is what_is e =
-    let m = subst (λ r. NextLine line_limit left left' held r held') (is ∙ ap Ok what_is) n in
+    let m = subst (λ r. NextLine longest_line left left' held r held') (is ∙ ap Ok what_is) n in
     record {
       taken = m.takes.taken;
       consumed = m.takes.consumed;
@@ -134,20 +135,20 @@ advanced_by_end answer closing number player left left' held held' pending pendi
 pub advanced_by_long : {P : Type 0} (answer : P → List ℕ → Result (List ℕ × P) Refused) (closing : P → Option (List ℕ)) (number : ℕ) (player : P)
     (left left' : Option (List ℕ)) (held held' pending : List ℕ)
     (read : Result Read LineFault) (why : LineFault)
-    → NextLine line_limit left left' held read held' → read ≡ Err why → why ≡ fault.LineLong
+    → NextLine longest_line left left' held read held' → read ≡ Err why → why ≡ fault.LineLong
     → Advances answer closing number player player left left' held held' pending pending (Err (LineLong number))
 advanced_by_long answer closing number player left left' held held' pending read why n is why_is =
-    let m = subst (λ r. NextLine line_limit left left' held r held') (is ∙ ap Err why_is) n in
+    let m = subst (λ r. NextLine longest_line left left' held r held') (is ∙ ap Err why_is) n in
     record {
       taken = m.takes.taken;
       consumed = m.takes.consumed;
       went = (
         refl,
-        inl (λ rest. ap (λ b. run_from answer closing number player (b ++ rest)) (m.takes.goes ∙ sym (take-append-drop (line_limit + 1) held'))
-            ∙ ap (run_from answer closing number player) (append_assoc (take (line_limit + 1) held') (drop (line_limit + 1) held') rest)
-            ∙ run_from-long answer closing number player (take (line_limit + 1) held') (drop (line_limit + 1) held' ++ rest) m.reads.unbroken (long_front held' m.reads.long)),
+        inl (λ rest. ap (λ b. run_from answer closing number player (b ++ rest)) (m.takes.goes ∙ sym (take-append-drop (longest_line + 1) held'))
+            ∙ ap (run_from answer closing number player) (append_assoc (take (longest_line + 1) held') (drop (longest_line + 1) held') rest)
+            ∙ run_from-long answer closing number player (take (longest_line + 1) held') (drop (longest_line + 1) held' ++ rest) m.reads.unbroken (long_front held' m.reads.long)),
       );
     }
   where
-    long_front : (bytes : List ℕ) → line_limit < length bytes → line_limit < length (take (line_limit + 1) bytes)
-    long_front bytes h = omega (arith, length-take (line_limit + 1) bytes)
+    long_front : (bytes : List ℕ) → longest_line < length bytes → longest_line < length (take (longest_line + 1) bytes)
+    long_front bytes h = omega (arith, length-take (longest_line + 1) bytes)

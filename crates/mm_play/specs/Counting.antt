@@ -4,11 +4,13 @@ use Rattle.std.proofs.Common.{refl, ap}
 use Rattle.mm_play.specs.declared.player.Refused.{Refused}
 
 -- no answer and an answer are two
-pub no_answer : {Stage : Type 0} (why : Refused) (reply : List ℕ) (next : Stage) → (let r : Result (List ℕ × Stage) Refused = Err why in r ≡ Ok (reply, next)) → ⊥
+pub no_answer : {Stage : Type 0} (why : Refused) (reply : List ℕ) (next : Stage)
+    → (let r : Result (List ℕ × Stage) Refused = Err why in r ≡ Ok (reply, next)) → ⊥
 no_answer why reply next h = cc
 
 -- where an answer leads
-pub same_next : {Stage : Type 0} (reply said : List ℕ) (next stage : Stage) → (let r : Result (List ℕ × Stage) Refused = Ok (said, stage) in r ≡ Ok (reply, next)) → stage ≡ next
+pub same_next : {Stage : Type 0} (reply said : List ℕ) (next stage : Stage)
+    → (let r : Result (List ℕ × Stage) Refused = Ok (said, stage) in r ≡ Ok (reply, next)) → stage ≡ next
 same_next {Stage} reply said next stage h = let p : (said, stage) ≡ (reply, next) = cc in ap (λ (q : List ℕ × Stage). q.1) p
 
 -- of two tests of which none holds the first one doesn't

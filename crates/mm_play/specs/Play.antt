@@ -4,12 +4,9 @@ use Rattle.std.specs.Prelude.{ℕ, ◌+◌, List, [], ◌∷◌, ◌++◌, lengt
 use Rattle.mm_base.specs.Input.{lines_of, tail_of}
 use Rattle.mm_base.specs.declared.replay_fault.ReplayFault.{ReplayFault}
 use Rattle.mm_base.specs.declared.replay_fault.ReplayFault.TheVariants.{BadLine, LineLong, TooMuch}
+use Rattle.mm_base.specs.Limits.{longest_line}
 use Rattle.mm_play.specs.declared.player.Refused.{Refused}
 use Rattle.mm_play.specs.declared.player.Refused.TheVariants.{Bad, Much}
-
--- the most bytes of a line, its LF apart
-abbrev pub line_limit : ℕ
-line_limit = 8400
 
 -- what was written, and how the run stands: the player after it, or why it stopped
 pub record Told (P : Type 0) : Type 0 where
@@ -40,7 +37,7 @@ answered on number (Err refused) = stopped (refusal_at number refused)
 -- one line: too long, or refused, or answered
 abbrev pub turn : {P : Type 0} → (P → List ℕ → Result (List ℕ × P) Refused) → (P → Told P) → ℕ → P → List ℕ → Told P
 turn answer on number player line =
-    if nat_lt line_limit (length line) then stopped (LineLong number) else answered on number (answer player line)
+    if nat_lt longest_line (length line) then stopped (LineLong number) else answered on number (answer player line)
 
 -- the run over whole lines, of which the first has this number
 abbrev pub run : {P : Type 0} → (P → List ℕ → Result (List ℕ × P) Refused) → ℕ → P → List (List ℕ) → Told P
@@ -56,7 +53,7 @@ closed number player (Some last) = told last (Ok player)
 abbrev pub ended : {P : Type 0} → (P → Option (List ℕ)) → ℕ → List ℕ → P → Told P
 ended closing number [] player = closed number player (closing player)
 ended closing number (byte ∷ bytes) player =
-    if nat_lt line_limit (length (byte ∷ bytes)) then stopped (LineLong number) else stopped (BadLine number)
+    if nat_lt longest_line (length (byte ∷ bytes)) then stopped (LineLong number) else stopped (BadLine number)
 
 -- what comes once these bytes were written, where the lines were all answered
 abbrev pub goes_on : {P : Type 0} → (P → Told P) → List ℕ → Result P ReplayFault → Told P

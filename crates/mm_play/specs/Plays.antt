@@ -16,7 +16,8 @@ ForWhole left taken holds = ((rest : List ℕ) → holds (taken ++ rest)) ⊎ (I
 
 -- How the answer fits what was taken of the input and written. `lines` is the run over whole lines, `whole` that
 -- over a whole input.
-abbrev pub Settles : {P T : Type 0} → (List (List ℕ) → Told P) → (List ℕ → Told P) → P → Option (List ℕ) → List ℕ → List ℕ → Result T ReplayFault → Type 0
+abbrev pub Settles : {P T : Type 0} → (List (List ℕ) → Told P) → (List ℕ → Told P) → P → Option (List ℕ) → List ℕ → List ℕ
+    → Result T ReplayFault → Type 0
 -- Ok: the input was taken to its end, and the run over it was written whole.
 Settles lines whole next left taken sent (Ok _) = IsAtEnd left × (whole taken ≡ told sent (Ok next))
 -- The source failed: each whole line that was taken is answered, and nothing else.
@@ -27,8 +28,10 @@ Settles lines whole next left taken sent (Err WriteFault) = ForWhole left taken 
 Settles {P} lines whole next left taken sent (Err Memory) =
     (front : List ℕ) × IsFrontOf front taken × (after : P) × (lines (lines_of front) ≡ told sent (Ok after))
 -- Else the run stops so.
-Settles lines whole next left taken sent (Err (BadLine number)) = ForWhole left taken (λ input. whole input ≡ told sent (Err (BadLine number)))
-Settles lines whole next left taken sent (Err (LineLong number)) = ForWhole left taken (λ input. whole input ≡ told sent (Err (LineLong number)))
+Settles lines whole next left taken sent (Err (BadLine number)) =
+    ForWhole left taken (λ input. whole input ≡ told sent (Err (BadLine number)))
+Settles lines whole next left taken sent (Err (LineLong number)) =
+    ForWhole left taken (λ input. whole input ≡ told sent (Err (LineLong number)))
 Settles lines whole next left taken sent (Err TooMuch) = ForWhole left taken (λ input. whole input ≡ told sent (Err TooMuch))
 
 -- A count of faults rose exactly where it is to blame for the answer.

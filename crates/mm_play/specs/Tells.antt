@@ -10,7 +10,8 @@ use Rattle.mm_play.specs.Plays.{ForWhole}
 use Rattle.mm_play.specs.Takes.{IsFrontOf}
 
 -- Some first lines were answered, and there it stopped.
-pub record AnswersFirst (answers : List (List ℕ) → List ℕ → Type 0) (stops : List (List ℕ) → List (List ℕ) → Type 0) (lines : List (List ℕ)) (written : List ℕ) : Type 0 where
+pub record AnswersFirst (answers : List (List ℕ) → List ℕ → Type 0) (stops : List (List ℕ) → List (List ℕ) → Type 0) (lines : List (List ℕ))
+    (written : List ℕ) : Type 0 where
   pub done : List (List ℕ)
   pub rest : List (List ℕ)
   pub split : lines ≡ done ++ rest
@@ -39,8 +40,10 @@ TellsBy some all much left taken sent (Err WriteFault) = ForWhole left taken (λ
 -- the replies to some first lines
 TellsBy some all much left taken sent (Err Memory) = (front : List ℕ) × IsFrontOf front taken × some (lines_of front) sent
 -- the replies to all lines before the one that stopped it
-TellsBy some all much left taken sent (Err (BadLine line)) = ForWhole left taken (λ input. AnswersFirst some (before_line line) (lines_of input) sent)
-TellsBy some all much left taken sent (Err (LineLong line)) = ForWhole left taken (λ input. AnswersFirst some (before_line line) (lines_of input) sent)
+TellsBy some all much left taken sent (Err (BadLine line)) =
+    ForWhole left taken (λ input. AnswersFirst some (before_line line) (lines_of input) sent)
+TellsBy some all much left taken sent (Err (LineLong line)) =
+    ForWhole left taken (λ input. AnswersFirst some (before_line line) (lines_of input) sent)
 TellsBy some all much left taken sent (Err TooMuch) = ForWhole left taken (λ input. AnswersFirst some much (lines_of input) sent)
 
 -- By a player: these lines are answered so.
@@ -48,7 +51,8 @@ abbrev pub Answered : {P : Type 0} → (P → List ℕ → Result (List ℕ × P
 Answered {P} answer player lines written = (next : P) × (run answer 1 player lines ≡ told written (Ok next))
 
 -- They are answered, and the last lines are written behind.
-pub record Finished {P : Type 0} (answer : P → List ℕ → Result (List ℕ × P) Refused) (closing : P → Option (List ℕ)) (player : P) (lines : List (List ℕ)) (written : List ℕ) : Type 0 where
+pub record Finished {P : Type 0} (answer : P → List ℕ → Result (List ℕ × P) Refused) (closing : P → Option (List ℕ)) (player : P)
+    (lines : List (List ℕ)) (written : List ℕ) : Type 0 where
   pub next : P
   pub said : List ℕ
   pub last : List ℕ
@@ -57,7 +61,8 @@ pub record Finished {P : Type 0} (answer : P → List ℕ → Result (List ℕ �
   pub whole : written ≡ said ++ last
 
 -- The lines are answered, and the next is refused as one too many.
-pub record RefusesMuch {P : Type 0} (answer : P → List ℕ → Result (List ℕ × P) Refused) (player : P) (done rest : List (List ℕ)) : Type 0 where
+pub record RefusesMuch {P : Type 0} (answer : P → List ℕ → Result (List ℕ × P) Refused) (player : P)
+    (done rest : List (List ℕ)) : Type 0 where
   pub next : P
   pub said : List ℕ
   pub line : List ℕ

@@ -6,8 +6,9 @@ use Rattle.mm_base.specs.Input.{IsUnbroken}
 use Rattle.mm_base.specs.declared.fault.WriteFault as write
 use Rattle.mm_base.specs.declared.replay_fault.ReplayFault.{ReplayFault}
 use Rattle.mm_base.specs.declared.replay_fault.ReplayFault.TheVariants.{Memory, ReadFault, WriteFault, BadLine, LineLong, TooMuch}
+use Rattle.mm_base.specs.Limits.{longest_line}
 use Rattle.mm_play.specs.declared.player.Refused.{Refused}
-use Rattle.mm_play.specs.Play.{Told, told, stopped, line_limit, refusal_at, run_from}
+use Rattle.mm_play.specs.Play.{Told, told, stopped, refusal_at, run_from}
 use Rattle.mm_play.specs.Takes.{IsFrontOf}
 use Rattle.mm_play.specs.Plays.{ForWhole}
 
@@ -18,7 +19,8 @@ Answers number answer next old new (Err Memory) = new ≡ old
 Answers number answer next old new (Err ReadFault) = ⊥
 Answers number answer next old new (Err WriteFault) = ⊥
 Answers number answer next old new (Err (LineLong line)) = ⊥
-Answers number answer next old new (Err (BadLine line)) = (new ≡ old) × (why : Refused) × (answer ≡ Err why) × (refusal_at number why ≡ BadLine line)
+Answers number answer next old new (Err (BadLine line)) = (new ≡ old) × (why : Refused) × (answer ≡ Err why)
+    × (refusal_at number why ≡ BadLine line)
 Answers number answer next old new (Err TooMuch) = (new ≡ old) × (why : Refused) × (answer ≡ Err why) × (refusal_at number why ≡ TooMuch)
 
 -- A player met the end of the input, with these last lines, if it may end here.
@@ -32,11 +34,12 @@ Ends number closing old new (Err (LineLong line)) = ⊥
 Ends number closing old new (Err TooMuch) = ⊥
 
 -- A line of this number was read and answered, and its reply stands behind what was pending.
-pub record AnswersLine {P : Type 0} (answer : P → List ℕ → Result (List ℕ × P) Refused) (number : ℕ) (player next : P) (bytes held pending said : List ℕ) : Type 0 where
+pub record AnswersLine {P : Type 0} (answer : P → List ℕ → Result (List ℕ × P) Refused) (number : ℕ) (player next : P)
+    (bytes held pending said : List ℕ) : Type 0 where
   pub line : List ℕ
   pub reply : List ℕ
   pub unbroken : IsUnbroken line
-  pub short : length line ≤ line_limit
+  pub short : length line ≤ longest_line
   pub cut : bytes ≡ line ++ 10 ∷ held
   pub answered : answer player line ≡ Ok (reply, next)
   pub said_behind : said ≡ pending ++ reply
@@ -44,7 +47,8 @@ pub record AnswersLine {P : Type 0} (answer : P → List ℕ → Result (List �
 -- By the answer: `bytes` are those held before and those taken, `held` those held after, and `rest` is the run over the
 -- input that begins with `bytes`; `pending` is what was pending, and `said` what was sent of it and of the turn's
 -- replies, and what is pending still.
-abbrev pub Went : {P : Type 0} → (P → List ℕ → Result (List ℕ × P) Refused) → (List ℕ → Told P) → ℕ → P → P → Option (List ℕ) → List ℕ → List ℕ → List ℕ → List ℕ → Result Bool ReplayFault → Type 0
+abbrev pub Went : {P : Type 0} → (P → List ℕ → Result (List ℕ × P) Refused) → (List ℕ → Told P) → ℕ → P → P → Option (List ℕ) → List ℕ
+    → List ℕ → List ℕ → List ℕ → Result Bool ReplayFault → Type 0
 Went answer rest number player next left bytes held pending said (Ok true) = AnswersLine answer number player next bytes held pending said
 Went answer rest number player next left bytes held pending said (Ok false) =
     IsAtEnd left × (last : List ℕ) × (rest bytes ≡ told last (Ok next)) × (said ≡ pending ++ last)
@@ -52,19 +56,24 @@ Went answer rest number player next left bytes held pending said (Err ReadFault)
 Went answer rest number player next left bytes held pending said (Err WriteFault) =
     ForWhole left bytes (λ input. IsFrontOf said (pending ++ (rest input).written))
 Went answer rest number player next left bytes held pending said (Err Memory) = said ≡ pending
-Went answer rest number player next left bytes held pending said (Err (BadLine line)) = (said ≡ pending) × ForWhole left bytes (λ input. rest input ≡ stopped (BadLine line))
-Went answer rest number player next left bytes held pending said (Err (LineLong line)) = (said ≡ pending) × ForWhole left bytes (λ input. rest input ≡ stopped (LineLong line))
-Went answer rest number player next left bytes held pending said (Err TooMuch) = (said ≡ pending) × ForWhole left bytes (λ input. rest input ≡ stopped TooMuch)
+Went answer rest number player next left bytes held pending said (Err (BadLine line)) = (said ≡ pending)
+    × ForWhole left bytes (λ input. rest input ≡ stopped (BadLine line))
+Went answer rest number player next left bytes held pending said (Err (LineLong line)) = (said ≡ pending)
+    × ForWhole left bytes (λ input. rest input ≡ stopped (LineLong line))
+Went answer rest number player next left bytes held pending said (Err TooMuch) = (said ≡ pending)
+    × ForWhole left bytes (λ input. rest input ≡ stopped TooMuch)
 
 -- A line was read and answered, or not, and nothing was sent.
-pub record Advances {P : Type 0} (answer : P → List ℕ → Result (List ℕ × P) Refused) (closing : P → Option (List ℕ)) (number : ℕ) (player next : P)
+pub record Advances {P : Type 0} (answer : P → List ℕ → Result (List ℕ × P) Refused) (closing : P → Option (List ℕ)) (number : ℕ)
+    (player next : P)
     (left left' : Option (List ℕ)) (held held' pending pending' : List ℕ) (result : Result Bool ReplayFault) : Type 0 where
   pub taken : List ℕ
   pub consumed : Consumes left left' taken
   pub went : Went answer (run_from answer closing number player) number player next left' (held ++ taken) held' pending pending' result
 
 -- What was pending was sent, or is pending still; where the sink failed, a front of it was sent.
-pub record SendsDue (received received' : Option (List ℕ)) (pending pending' : List ℕ) (result : Result Unit write.WriteFault) : Type 0 where
+pub record SendsDue (received received' : Option (List ℕ)) (pending pending' : List ℕ)
+    (result : Result Unit write.WriteFault) : Type 0 where
   pub sent : List ℕ
   pub unsent : List ℕ
   pub parts : pending ≡ sent ++ unsent
@@ -73,7 +82,8 @@ pub record SendsDue (received received' : Option (List ℕ)) (pending pending' :
   pub lost : OnErr result (pending' ≡ [])
 
 -- What was pending was sent, and the answer is what came before; or a front of it was sent, and the sink failed.
-pub record SendsThen (came : Result Bool ReplayFault) (received received' : Option (List ℕ)) (pending : List ℕ) (result : Result Bool ReplayFault) : Type 0 where
+pub record SendsThen (came : Result Bool ReplayFault) (received received' : Option (List ℕ)) (pending : List ℕ)
+    (result : Result Bool ReplayFault) : Type 0 where
   pub sent : List ℕ
   pub unsent : List ℕ
   pub parts : pending ≡ sent ++ unsent
@@ -86,11 +96,14 @@ IsSent pending (Ok true) = Unit {0}
 IsSent pending (Ok false) = pending ≡ []
 IsSent pending (Err fault) = pending ≡ []
 
-pub record Turns {P : Type 0} (answer : P → List ℕ → Result (List ℕ × P) Refused) (closing : P → Option (List ℕ)) (number : ℕ) (player next : P)
-    (left left' : Option (List ℕ)) (held held' : List ℕ) (received received' : Option (List ℕ)) (pending pending' : List ℕ) (result : Result Bool ReplayFault) : Type 0 where
+pub record Turns {P : Type 0} (answer : P → List ℕ → Result (List ℕ × P) Refused) (closing : P → Option (List ℕ)) (number : ℕ)
+    (player next : P)
+    (left left' : Option (List ℕ)) (held held' : List ℕ) (received received' : Option (List ℕ)) (pending pending' : List ℕ)
+    (result : Result Bool ReplayFault) : Type 0 where
   pub taken : List ℕ
   pub sent : List ℕ
   pub consumed : Consumes left left' taken
   pub appended : Appends received received' sent
-  pub went : Went answer (run_from answer closing number player) number player next left' (held ++ taken) held' pending (sent ++ pending') result
+  pub went : Went answer (run_from answer closing number player) number player next left' (held ++ taken) held' pending (sent ++ pending')
+      result
   pub is_sent : IsSent pending' result

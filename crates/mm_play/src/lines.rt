@@ -1,21 +1,20 @@
 //! The loop over the lines of an input.
 
-ghost use Rattle.std.specs.Prelude.{◌≡◌, ◌+◌, ◌≤◌, ◌<◌, ◌^◌, ℕ, List, false, [], length, OnOk};
+ghost use Rattle.std.specs.Prelude.{◌≡◌, ◌+◌, ◌≤◌, ◌<◌, ℕ, List, false, [], length, OnOk};
 ghost use Rattle.std.specs.Io.KnownBytes.{Appends, IsAtEnd};
 ghost use Rattle.mm_base.specs.Faults.{CountsFaults};
 ghost use Rattle.mm_base.specs.Input.{IsUnbroken};
 ghost use Rattle.mm_base.specs.Streams.{Sends};
+ghost use Rattle.mm_base.specs.Limits.{longest_line};
 ghost use Rattle.mm_play.specs.Turns.{Advances, Answers, Ends, SendsDue, SendsThen, Turns};
 ghost use Rattle.mm_play.specs.Plays.{Plays, IsBlamed, is_read_fault, is_write_fault};
 
 use crate::player::{Player, Refused, TakeFault};
 use mm_base::{
-    Bytes, LineFault, LineReader, Read, ReplayFault, Sink, Source, WriteFault, write_all,
+    Bytes, LONGEST_LINE, LineFault, LineReader, Read, ReplayFault, Sink, Source, WriteFault,
+    write_all,
 };
 use std::alloc::Global;
-
-/// The most bytes of a line, its LF apart.
-const LINE_LIMIT: usize = 8400;
 
 /// Where so many bytes are pending they are sent, though more lines are at hand.
 const MANY_PENDING: usize = 65536;
@@ -28,8 +27,9 @@ fn answer_line<P: Player>(
     player: &mut P,
     pending: &mut Bytes,
 ) -> Result<bool, ReplayFault>
-    requires { length line.now ≤ 8400 }
-    ensures { Answers number (P.answer player.old line.now) player.new pending.old pending.new result }
+    requires { length line.now ≤ longest_line }
+    ensures { Answers number (P.answer player.old line.now) player.new pending.old pending.new
+        result }
 {
     match player.take(alloc, line) {
         Ok(reply) => match pending.append(reply.as_slice()) {
@@ -72,12 +72,12 @@ fn answer_next<P: Player, S: Source>(
     pending: &mut Bytes,
 ) -> Result<bool, ReplayFault>
     requires { IsUnbroken reader.old → pending.old ≡ [] }
-    ensures advances { Advances P.answer P.closing number player.old player.new (S.left input.old) (S.left input.new)
-        reader.old reader.new pending.old pending.new result }
+    ensures advances { Advances P.answer P.closing number player.old player.new (S.left input.old)
+        (S.left input.new) reader.old reader.new pending.old pending.new result }
     ensures read { IsBlamed (is_read_fault result) (S.faults input.old) (S.faults input.new) }
     ensures unwritten { is_write_fault result ≡ false }
 {
-    match reader.next(input, LINE_LIMIT) {
+    match reader.next(input, LONGEST_LINE) {
         Ok(Read::Line(line)) => answer_line(alloc, number, line, player, pending),
         Ok(Read::Tail) => Err(ReplayFault::BadLine { line: number }),
         Ok(Read::End) => end_input(alloc, number, player, pending),
@@ -105,7 +105,8 @@ fn send_due<K: Sink>(
     out: &mut K,
 ) -> Result<(), WriteFault>
     ensures same { reader.new ≡ reader.old }
-    ensures sent { SendsDue (K.received out.old) (K.received out.new) pending.old pending.new result }
+    ensures sent { SendsDue (K.received out.old) (K.received out.new) pending.old pending.new
+        result }
     ensures none { OnOk result (IsUnbroken reader.old → pending.new ≡ []) }
     ensures counted { CountsFaults (K.faults out.old) (K.faults out.new) result }
 {
@@ -145,8 +146,9 @@ fn turn<P: Player, S: Source, K: Sink>(
     pending: &mut Bytes,
     out: &mut K,
 ) -> Result<bool, ReplayFault>
-    ensures turns { Turns P.answer P.closing number player.old player.new (S.left input.old) (S.left input.new)
-        reader.old reader.new (K.received out.old) (K.received out.new) pending.old pending.new result }
+    ensures turns { Turns P.answer P.closing number player.old player.new (S.left input.old)
+        (S.left input.new) reader.old reader.new (K.received out.old) (K.received out.new)
+        pending.old pending.new result }
     ensures read { IsBlamed (is_read_fault result) (S.faults input.old) (S.faults input.new) }
     ensures wrote { IsBlamed (is_write_fault result) (K.faults out.old) (K.faults out.new) }
 {
@@ -174,8 +176,8 @@ pub fn play<P: Player, S: Source, K: Sink>(
     input: &mut S,
     out: &mut K,
 ) -> Result<(), ReplayFault>
-    ensures plays { Plays P.answer P.closing player.old player.new (S.left input.old) (S.left input.new)
-        (K.received out.old) (K.received out.new) result }
+    ensures plays { Plays P.answer P.closing player.old player.new (S.left input.old)
+        (S.left input.new) (K.received out.old) (K.received out.new) result }
     ensures read { IsBlamed (is_read_fault result) (S.faults input.old) (S.faults input.new) }
     ensures wrote { IsBlamed (is_write_fault result) (K.faults out.old) (K.faults out.new) }
 {

@@ -1,6 +1,7 @@
 //! Who answers the lines of an input.
 
 ghost use Rattle.std.specs.Prelude.{◌≡◌, ◌≤◌, ◌<◌, ◌^◌, ℕ, List, Option, Result, Ok, length, IfOk};
+ghost use Rattle.mm_base.specs.Limits.{longest_line};
 ghost use Rattle.mm_play.specs.declared.player.Refused.{Refused};
 ghost use Rattle.mm_play.specs.Takes.{Takes};
 
@@ -38,7 +39,7 @@ pub trait Player {
 
     /// Answers a line of at most 8,400 bytes by its reply.
     fn take(&mut self, alloc: Global, line: &[u8]) -> Result<Bytes, TakeFault>
-        requires { length line.now ≤ 8400 }
+        requires { length line.now ≤ longest_line }
         ensures { Takes (answer self.old line.now) self.new result };
 
     /// The last lines. None where the input may not end here.
@@ -46,7 +47,8 @@ pub trait Player {
         ensures { IfOk result (λ last. last ≡ closing self.now) };
 
     /// Each answered line is one fewer.
-    ghost counts_down: { (it next : Self) (line reply : List ℕ) → answer it line ≡ Ok (reply, next) → lines_left next < lines_left it };
+    ghost counts_down: { (it next : Self) (line reply : List ℕ) → answer it line ≡ Ok (reply, next)
+        → lines_left next < lines_left it };
 
     /// It ends.
     ghost few: { (it : Self) → lines_left it < 2 ^ 31 };

@@ -2,7 +2,7 @@
 use Rattle.std.specs.Prelude.{Result, Ok, Err, IfOk, ◌≡◌, ℕ, suc, ◌+◌, ◌^◌, ◌<◌, ◌≤◌, Bool, true, false, nat_le, min, List, [], ◌++◌, length, Option, Some, None, is_some, option_map, if◌then◌else◌}
 use Rattle.std.proofs.Common.{refl, sym, ◌∙◌, ap, arith, subst}
 use Rattle.std.proofs.lemmas.Bool.Decides.{nat_tests}
-use Rattle.mm_quota.specs.Table.{Account, Action, Request, On, Says, account_named, put, decision_of, is_name, is_account, request_of, rises, account_bytes, body_of, count_bytes, spelling_of, is_state, ledger_of, stepped}
+use Rattle.mm_quota.specs.Table.{Account, Action, Request, On, Says, account_named, put, decision_of, is_name, is_account, request_of, rises, account_bytes, body_of, count_bytes, spelling_of, is_state, ledger_of, stepped, greatest_limit}
 use Rattle.mm_quota.specs.LedgerLaws.{FoundOf, account_named-found, length-put-there, length-put-absent}
 use Rattle.mm_quota.specs.SpellingLaws.{IsAccount-from, is_state-SpellsLedger}
 use Rattle.mm_quota.specs.QuotaLaws.{IsAction, IsQuotaRequest, request_of-IsQuotaRequest, PutIf, IsPut, decision_of-is}
@@ -21,7 +21,7 @@ pub few-from : (most : ℕ) (bytes : List ℕ) → is_state most bytes ≡ true 
 few-from most bytes is = (is_state-SpellsLedger most bytes is).ledger.few
 
 -- the account that was found
-within-step : (name : List ℕ) (found : Option declared.Account) (named : Option Account) → option_map as_account found ≡ named → FoundOf is_account name named → (account : declared.Account) → found ≡ Some account → (account.used ≤ account.limit) × (account.limit ≤ 2 ^ 48)
+within-step : (name : List ℕ) (found : Option declared.Account) (named : Option Account) → option_map as_account found ≡ named → FoundOf is_account name named → (account : declared.Account) → found ≡ Some account → (account.used ≤ account.limit) × (account.limit ≤ greatest_limit)
 within-step name found None same is account this = let clash : true ≡ false = sym (ap (λ (f : Option declared.Account). is_some (option_map as_account f)) this) ∙ ap (λ (n : Option Account). is_some n) same in cc
 within-step name found (Some other) same is account this =
     let one : Some (as_account account) ≡ Some other = sym (ap (λ (f : Option declared.Account). option_map as_account f) this) ∙ same in
@@ -31,7 +31,7 @@ within-step name found (Some other) same is account this =
     let limit : account.limit ≡ other.limit = ap (λ (a : Account). a.limit) e in
     (omega (arith, used, limit, kept.within), omega (arith, limit, kept.limited))
 
-pub found-within : (bytes name : List ℕ) (found : Option declared.Account) → IsSpelled bytes → option_map as_account found ≡ account_named name (ledger_of bytes) → (account : declared.Account) → found ≡ Some account → (account.used ≤ account.limit) × (account.limit ≤ 2 ^ 48)
+pub found-within : (bytes name : List ℕ) (found : Option declared.Account) → IsSpelled bytes → option_map as_account found ≡ account_named name (ledger_of bytes) → (account : declared.Account) → found ≡ Some account → (account.used ≤ account.limit) × (account.limit ≤ greatest_limit)
 found-within bytes name found is same account this = within-step name found (account_named name (ledger_of bytes)) same (account_named-found is_account name (ledger_of bytes) is.good) account this
 
 -- the account that a decision puts

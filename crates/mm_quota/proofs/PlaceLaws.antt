@@ -10,7 +10,7 @@ use Rattle.std.proofs.lemmas.Bool.Decides.{nat_tests}
 use Rattle.mm_module.specs.Bytes.{are_bytes}
 use Rattle.mm_module.specs.LineLaws.{and-true}
 use Rattle.mm_module.specs.PartLaws.{are_bytes-drop}
-use Rattle.mm_quota.specs.Table.{Account, order_of, account_named, put, total_used, is_account, rises, account_bytes, body_of, account_at, accounts_from, accounts_of, of_count_bytes, holds_ledger, is_ledger, is_state, ledger_of}
+use Rattle.mm_quota.specs.Table.{Account, order_of, account_named, put, total_used, is_account, rises, account_bytes, body_of, account_at, accounts_from, accounts_of, of_count_bytes, holds_ledger, is_ledger, is_state, ledger_of, greatest_limit}
 use Rattle.mm_quota.specs.LedgerLaws.{account_named-other, account_named-this, account_named-absent, bytes_eq-order}
 use Rattle.mm_quota.specs.SpellingLaws.{account_at-account_bytes, IsAccount-from, ReadsBody, accounts_from-reads}
 use Rattle.mm_quota.specs.Spelled.{IsSpelled, follow}
@@ -56,7 +56,7 @@ next-sum bytes rest count number total (account ∷ others) counted good spelled
 pub Summing-next : (bytes rest : List ℕ) (count number total : ℕ) → Summing bytes rest count number total → number < count → NextSum bytes count number total (account_at rest)
 Summing-next bytes rest count number total is going = next-sum bytes rest count number total is.todo is.counted is.good is.spelled is.summed going
 
-total_used-small : (accounts : List Account) → list_all is_account accounts ≡ true → total_used accounts ≤ 2 ^ 48 * length accounts
+total_used-small : (accounts : List Account) → list_all is_account accounts ≡ true → total_used accounts ≤ greatest_limit * length accounts
 total_used-small [] all = omega arith
 total_used-small (account ∷ accounts) all =
     let w = and-true (is_account account) (list_all is_account accounts) all in

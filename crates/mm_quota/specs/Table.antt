@@ -58,7 +58,8 @@ account_named name (account ∷ accounts) = if bytes_eq name account.name then S
 -- the accounts, with this one at its place in the order, instead of the one with its name
 abbrev pub put : Account → List Account → List Account
 put new [] = new ∷ []
-put new (account ∷ accounts) = match_ordering (order_of new.name account.name) (new ∷ account ∷ accounts) (new ∷ accounts) (account ∷ put new accounts)
+put new (account ∷ accounts) =
+    match_ordering (order_of new.name account.name) (new ∷ account ∷ accounts) (new ∷ accounts) (account ∷ put new accounts)
 
 -- what is used of all accounts
 abbrev pub total_used : List Account → ℕ
@@ -69,10 +70,12 @@ total_used (account ∷ accounts) = account.used + total_used accounts
 -- account of the name, where there is one.
 abbrev pub decision_of : Bool → List ℕ → Option Account → Action → Option Account × Says
 decision_of full name (Some account) (Open limit) = (None, IsThere)
-decision_of full name None (Open limit) = if full then (None, IsFull) else (Some (record { name = name; limit = limit; used = 0 }), IsOpened)
+decision_of full name None (Open limit) = if full then (None, IsFull)
+    else (Some (record { name = name; limit = limit; used = 0 }), IsOpened)
 decision_of full name None (Use number) = (None, IsNone)
 decision_of full name (Some account) (Use number) =
-    if nat_le number (account.limit - account.used) then (Some (record account { used = account.used + number }), IsUsed (account.used + number))
+    if nat_le number (account.limit - account.used)
+    then (Some (record account { used = account.used + number }), IsUsed (account.used + number))
     else (None, IsOver (account.limit - account.used))
 decision_of full name None (Free number) = (None, IsNone)
 decision_of full name (Some account) (Free number) =
@@ -111,9 +114,13 @@ text_of IsBad = codes "bad"
 unfoldable pub is_name : List ℕ → Bool
 is_name bytes = nat_le 1 (length bytes) && nat_le (length bytes) 32 && list_all is_visible bytes
 
--- an opening, where the limit is at most 2 ^ 48
+-- the greatest limit of an account
+abbrev pub greatest_limit : ℕ
+greatest_limit = 2 ^ 48
+
+-- an opening, where the limit may be one
 abbrev pub opening_of : ℕ → Option Action
-opening_of limit = if nat_le limit (2 ^ 48) then Some (Open limit) else None
+opening_of limit = if nat_le limit greatest_limit then Some (Open limit) else None
 
 -- the action of a word with a number
 abbrev pub action_of : List ℕ → ℕ → Option Action
@@ -126,12 +133,13 @@ action_of word number =
 unfoldable pub request_of : List (List ℕ) → Option Request
 request_of (word ∷ []) = if bytes_eq word (codes "sum") then Some Sum else None
 request_of (word ∷ name ∷ []) = if bytes_eq word (codes "left") && is_name name then Some (On name Left) else None
-request_of (word ∷ name ∷ number ∷ []) = if is_name name then option_map (λ action. On name action) (option_and_then (action_of word) (number_of number)) else None
+request_of (word ∷ name ∷ number ∷ []) = if is_name name
+    then option_map (λ action. On name action) (option_and_then (action_of word) (number_of number)) else None
 request_of _ = None
 
--- an account of a ledger: its name is one, its limit at most 2 ^ 48, and at most that is used
+-- an account of a ledger: its name is one, its limit may be one, and at most that is used
 unfoldable pub is_account : Account → Bool
-is_account account = is_name account.name && nat_le account.limit (2 ^ 48) && nat_le account.used account.limit
+is_account account = is_name account.name && nat_le account.limit greatest_limit && nat_le account.used account.limit
 
 -- the names rise strictly from this one on
 abbrev pub rises : List ℕ → List Account → Bool
@@ -166,7 +174,15 @@ spelling_of accounts = count_bytes (length accounts) ++ body_of accounts
 -- the account that begins with a name of this length, and the bytes after it
 unfoldable pub account_after : ℕ → List ℕ → Option (Account × List ℕ)
 account_after count bytes =
-    if nat_le (count + 16) (length bytes) then Some (record { name = take count bytes; limit = of_eight_bytes (take 8 (drop count bytes)); used = of_eight_bytes (take 8 (drop 8 (drop count bytes))) }, drop 8 (drop 8 (drop count bytes)))
+    if nat_le (count + 16) (length bytes) then
+    Some (
+      record {
+        name = take count bytes;
+        limit = of_eight_bytes (take 8 (drop count bytes));
+        used = of_eight_bytes (take 8 (drop 8 (drop count bytes)));
+      },
+      drop 8 (drop 8 (drop count bytes)),
+    )
     else None
 
 -- the account at the front of these bytes, and the bytes after it
@@ -177,7 +193,9 @@ account_at (count ∷ bytes) = account_after count bytes
 -- so many accounts and nothing after them
 abbrev pub accounts_from : ℕ → List ℕ → Option (List Account)
 accounts_from zero bytes = if length bytes == 0 then Some [] else None
-accounts_from (suc count) bytes = option_and_then (λ (front : Account × List ℕ). option_map (λ accounts. front.0 ∷ accounts) (accounts_from count front.1)) (account_at bytes)
+accounts_from (suc count) bytes =
+    option_and_then (λ (front : Account × List ℕ). option_map (λ accounts. front.0 ∷ accounts) (accounts_from count front.1))
+    (account_at bytes)
 
 -- the accounts that these bytes spell
 unfoldable pub accounts_of : List ℕ → Option (List Account)

@@ -7,6 +7,9 @@ ghost use Rattle.mm_quota.specs.Views.{as_account, as_front};
 use mm_base::{Bytes, Memory, bytes_of_u64};
 use mm_module::{are_visible, u64_of_bytes};
 
+/// The greatest limit of an account, 2^48.
+pub const GREATEST_LIMIT: u64 = 281474976710656;
+
 /// An account: a name of 1 to 32 bytes from 0x21 to 0x7e, a limit of at most 2^48, and what is used of it.
 #[derive(Clone, Copy, Debug)]
 pub struct Account<'a> {
@@ -28,7 +31,7 @@ pub fn name_is_formed(bytes: &[u8]) -> bool
 pub fn account_is_formed(account: &Account<'_>) -> bool
     ensures { result ≡ is_account (as_account account.now) }
 {
-    name_is_formed(account.name) && account.limit <= 1 << 48 && account.used <= account.limit
+    name_is_formed(account.name) && account.limit <= GREATEST_LIMIT && account.used <= account.limit
 }
 
 /// The account at the front of these bytes, and the bytes behind it.

@@ -44,7 +44,9 @@ fn with_account(
     account: &Account<'_>,
 ) -> Result<Bytes, Memory>
     requires { length account.now.name.now ≤ 255 }
-    ensures { IfOk result (λ state. state ≡ count_bytes count ++ (place.now.front.now ++ (account_bytes (as_account account.now) ++ place.now.back.now))) }
+    ensures { IfOk result
+        (λ state. state ≡ count_bytes count ++ (place.now.front.now
+        ++ (account_bytes (as_account account.now) ++ place.now.back.now))) }
 {
     let mut state = Bytes::with_capacity(alloc, capacity)?;
     put_count(&mut state, count)?;
@@ -88,8 +90,12 @@ fn acted(
     requires few { length (ledger_of state.now) ≤ most }
     requires named { is_name name.now ≡ true }
     requires action { IsAction (as_action action) }
-    ensures state { IfOk result (λ stepped. stepped.state ≡ spelling_of (outcome_of most (ledger_of state.now) (Some (On name.now (as_action action)))).0) }
-    ensures output { IfOk result (λ stepped. stepped.output ≡ text_of (outcome_of most (ledger_of state.now) (Some (On name.now (as_action action)))).1) }
+    ensures state { IfOk result (λ stepped. stepped.state
+        ≡ spelling_of
+        (outcome_of most (ledger_of state.now) (Some (On name.now (as_action action)))).0) }
+    ensures output { IfOk result (λ stepped. stepped.output
+        ≡ text_of
+        (outcome_of most (ledger_of state.now) (Some (On name.now (as_action action)))).1) }
 {
     let (count, _body) = parts(state);
     let place = Place::of(state, name);
@@ -109,8 +115,10 @@ fn acted(
 #[tactic(auto, unfolding(crate::specs::Table::stepped))]
 fn step(most: u16, alloc: Global, state: &[u8], request: &[u8]) -> Result<Stepped, Memory>
     requires { IsTrue (is_state most state.now) }
-    ensures state { IfOk result (λ after. after.state ≡ spelling_of (stepped most state.now request.now).0) }
-    ensures output { IfOk result (λ after. after.output ≡ text_of (stepped most state.now request.now).1) }
+    ensures state { IfOk result (λ after. after.state
+        ≡ spelling_of (stepped most state.now request.now).0) }
+    ensures output { IfOk result (λ after. after.output
+        ≡ text_of (stepped most state.now request.now).1) }
 {
     match read_request(request) {
         None => told(alloc, state, Says::Bad),
@@ -138,8 +146,10 @@ impl Module for Accounts<256> {
 
     fn step(&self, alloc: Global, state: &[u8], request: &[u8]) -> Result<Stepped, Memory>
         requires { IsTrue (is_state 256 state.now) }
-        ensures state { IfOk result (λ after. after.state ≡ small_ledger.next state.now request.now) }
-        ensures output { IfOk result (λ after. after.output ≡ small_ledger.says state.now request.now) }
+        ensures state { IfOk result (λ after. after.state
+            ≡ small_ledger.next state.now request.now) }
+        ensures output { IfOk result (λ after. after.output
+            ≡ small_ledger.says state.now request.now) }
         ensures others { IfOk result (λ after. OthersStay state.now request.now after.state) }
     {
         step(256, alloc, state, request)
@@ -169,8 +179,10 @@ impl Module for Accounts<16384> {
 
     fn step(&self, alloc: Global, state: &[u8], request: &[u8]) -> Result<Stepped, Memory>
         requires { IsTrue (is_state 16384 state.now) }
-        ensures state { IfOk result (λ after. after.state ≡ wide_ledger.next state.now request.now) }
-        ensures output { IfOk result (λ after. after.output ≡ wide_ledger.says state.now request.now) }
+        ensures state { IfOk result (λ after. after.state
+            ≡ wide_ledger.next state.now request.now) }
+        ensures output { IfOk result (λ after. after.output
+            ≡ wide_ledger.says state.now request.now) }
         ensures others { IfOk result (λ after. OthersStay state.now request.now after.state) }
     {
         step(16384, alloc, state, request)

@@ -1,12 +1,12 @@
 //! Requests to a ledger, and what it says.
 
-ghost use Rattle.std.specs.Prelude.{◌≡◌, ◌≤◌, ◌^◌, IfOk, option_map};
+ghost use Rattle.std.specs.Prelude.{◌≡◌, ◌≤◌, IfOk, option_map};
 ghost use Rattle.std.specs.Option.{ForSome};
 ghost use Rattle.mm_module.specs.Words.{words_of};
-ghost use Rattle.mm_quota.specs.Table.{action_of, request_of, decision_of, text_of, IsUsed};
+ghost use Rattle.mm_quota.specs.Table.{action_of, request_of, decision_of, text_of, IsUsed, greatest_limit};
 ghost use Rattle.mm_quota.specs.Views.{as_account, as_action, as_request, as_says};
 
-use crate::account::{Account, name_is_formed};
+use crate::account::{Account, GREATEST_LIMIT, name_is_formed};
 use mm_base::{Bytes, Memory, read_decimal};
 use mm_module::{Words, text_and_number};
 use std::alloc::Global;
@@ -47,7 +47,7 @@ fn read_action(word: &[u8], number: u64) -> Option<Action>
     ensures { option_map as_action result ≡ action_of word.now number }
 {
     if word == b"open".as_slice() {
-        return if number <= 1 << 48 {
+        return if number <= GREATEST_LIMIT {
             Some(Action::Open(number))
         } else {
             None
@@ -88,8 +88,10 @@ pub fn decision<'a>(
     found: Option<Account<'a>>,
     action: Action,
 ) -> (Option<Account<'a>>, Says)
-    requires { ForSome found (λ account. (account.used ≤ account.limit) × (account.limit ≤ 2 ^ 48)) }
-    ensures { (option_map as_account result.0, as_says result.1) ≡ decision_of full name.now (option_map as_account found.entry) (as_action action) }
+    requires { ForSome found (λ account. (account.used ≤ account.limit)
+        × (account.limit ≤ greatest_limit)) }
+    ensures { (option_map as_account result.0, as_says result.1)
+        ≡ decision_of full name.now (option_map as_account found.entry) (as_action action) }
 {
     let Some(account) = found else {
         return opening(full, name, action);
@@ -107,7 +109,8 @@ pub fn decision<'a>(
 
 /// What an action does where there is no such account.
 fn opening(full: bool, name: &[u8], action: Action) -> (Option<Account<'_>>, Says)
-    ensures { (option_map as_account result.0, as_says result.1) ≡ decision_of full name.now None (as_action action) }
+    ensures { (option_map as_account result.0, as_says result.1)
+        ≡ decision_of full name.now None (as_action action) }
 {
     match action {
         Action::Open(_) if full => (None, Says::Full),
@@ -125,7 +128,8 @@ fn opening(full: bool, name: &[u8], action: Action) -> (Option<Account<'_>>, Say
 
 /// The account with another use, and what is said.
 fn used(account: Account<'_>, amount: u64) -> (Option<Account<'_>>, Says)
-    ensures account { option_map as_account result.0 ≡ Some (record (as_account account.entry) { used = amount }) }
+    ensures account { option_map as_account result.0
+        ≡ Some (record (as_account account.entry) { used = amount }) }
     ensures says { as_says result.1 ≡ IsUsed amount }
 {
     let account = Account {

@@ -1,6 +1,7 @@
 -- What the code reads of a state.
-use Rattle.std.proofs.Common.{◌≡◌, ◌≢◌, ℕ, zero, suc, ◌<◌, ◌≤◌, ◌^◌, ◌&&◌, Bool, true, false, List, [], ◌∷◌, length, take, drop, refl, sym, ◌∙◌, ap, subst, arith, rules}
+use Rattle.std.proofs.Common.{◌≡◌, ◌≢◌, ℕ, zero, suc, ◌<◌, ◌≤◌, ◌&&◌, Bool, true, false, List, [], ◌∷◌, length, take, drop, refl, sym, ◌∙◌, ap, subst, arith, rules}
 use Rattle.std.specs.Prelude.{IsTrue, None}
+use Rattle.mm_base.specs.Limits.{last_position}
 use Rattle.mm_module.specs.Bytes.{are_bytes}
 use Rattle.mm_module.specs.Meaning.{Meaning}
 use Rattle.mm_receipt.specs.Receipts.{parts_by, parts_of}
@@ -37,9 +38,9 @@ pub long-at : (inner : Meaning) (bytes : List ℕ) → IsTrue (is_state inner by
 long-at inner bytes is = (spelled-at inner bytes is).long
 
 -- where the count isn't the last, there is room for one more
-pub room-at : (inner : Meaning) (bytes : List ℕ) (kept : Kept) → IsTrue (is_state inner bytes) → kept ≡ kept_of bytes → kept.count ≢ 2 ^ 48 → kept.count < 2 ^ 48
+pub room-at : (inner : Meaning) (bytes : List ℕ) (kept : Kept) → IsTrue (is_state inner bytes) → kept ≡ kept_of bytes → kept.count ≢ last_position → kept.count < last_position
 room-at inner bytes kept is read other =
-    let few : kept.count ≤ 2 ^ 48 = subst (λ (k : Kept). k.count ≤ 2 ^ 48) (sym read) (kept_of-IsKept inner bytes (spelled-at inner bytes is)).few in
+    let few : kept.count ≤ last_position = subst (λ (k : Kept). k.count ≤ last_position) (sym read) (kept_of-IsKept inner bytes (spelled-at inner bytes is)).few in
     omega (arith, few, other)
 
 -- the state inside is spelled

@@ -8,6 +8,7 @@ use Rattle.std.proofs.lemmas.List.{take-append-drop}
 use Rattle.std.proofs.lemmas.Slice.Eq.{bytes_eq-Decides}
 use Rattle.mm_base.specs.Fields.{eight_bytes, four_bytes}
 use Rattle.mm_base.proofs.FieldLaws.{length-eight_bytes, length-four_bytes, eight_bytes-injective, four_bytes-injective, append-injective}
+use Rattle.mm_base.specs.Limits.{last_position, longest_request}
 use Rattle.mm_module.specs.Meaning.{Meaning, outputs_from}
 use Rattle.mm_receipt.specs.declared.receipt.NotReceipt.{NotReceipt}
 use Rattle.mm_receipt.specs.declared.receipt.NotReceipt.TheVariants.{Form, Tag}
@@ -99,11 +100,11 @@ outputs-same inner kept (request ∷ requests) good =
     ∙ ap (λ (l : List (List ℕ)). (outcome_of inner kept request).1 ∷ l) (outputs-same inner (outcome_of inner kept request).0 requests (outcome_of-IsKept inner kept request good))
 
 -- a tagged request is told its receipt
-tagged-said : (inner : Meaning) (key : List ℕ) (kept : Kept) (request : List ℕ) (full : Bool) → (kept.count == 2 ^ 48) ≡ full → kept.count ≢ 2 ^ 48 → kept.key ≡ Some key
+tagged-said : (inner : Meaning) (key : List ℕ) (kept : Kept) (request : List ℕ) (full : Bool) → (kept.count == last_position) ≡ full → kept.count ≢ last_position → kept.key ≡ Some key
     → (let o : Kept × List ℕ = if full then (kept, codes "full") else taken inner kept request kept.key in o.1) ≡ receipt_of key (kept.count + 1) request (inner.says kept.inner request)
 tagged-said inner key kept request true is room keyed = absurd (room (last kept.count is))
   where
-    last : (n : ℕ) → (n == 2 ^ 48) ≡ true → n ≡ 2 ^ 48
+    last : (n : ℕ) → (n == last_position) ≡ true → n ≡ last_position
     last n h = grind (arith, nat_tests)
 tagged-said inner key kept request false is room keyed = ap (λ (k : Option (List ℕ)). (taken inner kept request k).1) keyed
 
@@ -113,13 +114,13 @@ taken-count inner kept request (Some key) = refl
 
 -- the count goes up by one, until it is full
 abbrev Counts : Kept → Kept → Type 0
-Counts kept next = (next.count ≡ kept.count + 1) ⊎ ((kept.count ≡ 2 ^ 48) × (next.count ≡ 2 ^ 48))
+Counts kept next = (next.count ≡ kept.count + 1) ⊎ ((kept.count ≡ last_position) × (next.count ≡ last_position))
 
-counts-by : (inner : Meaning) (kept : Kept) (request : List ℕ) (full : Bool) → (kept.count == 2 ^ 48) ≡ full
+counts-by : (inner : Meaning) (kept : Kept) (request : List ℕ) (full : Bool) → (kept.count == last_position) ≡ full
     → Counts kept (let o : Kept × List ℕ = if full then (kept, codes "full") else taken inner kept request kept.key in o.0)
 counts-by inner kept request true is = inr (last kept.count is, last kept.count is)
   where
-    last : (n : ℕ) → (n == 2 ^ 48) ≡ true → n ≡ 2 ^ 48
+    last : (n : ℕ) → (n == last_position) ≡ true → n ≡ last_position
     last n h = grind (arith, nat_tests)
 counts-by inner kept request false is = inl (taken-count inner kept request kept.key)
 
@@ -131,18 +132,18 @@ record WasTagged (inner : Meaning) (kept : Kept) (requests : List (List ℕ)) (k
   told : slice_get (outputs_by inner kept requests) before ≡ Some (receipt_of key position request said)
 
 here-tagged : (inner : Meaning) (key : List ℕ) (kept : Kept) (first : List ℕ) (requests : List (List ℕ)) → IsKept kept → IsCounted first
-    → (position : ℕ) (request said : List ℕ) → position ≤ 2 ^ 48 → length request ≤ 4096
+    → (position : ℕ) (request said : List ℕ) → position ≤ last_position → length request ≤ longest_request
     → IsTaggedBy inner key kept first (receipt_message position request said) → WasTagged inner kept (first ∷ requests) key position request said
 here-tagged inner key kept first requests good counted position request said near short t =
     let same = receipt_message-injective position request said (kept.count + 1) first (inner.says kept.inner first) (omega (arith, near)) (omega (arith, good.few)) (omega (arith, short)) counted t.is in
-    let told = tagged-said inner key kept first (kept.count == 2 ^ 48) refl t.room t.keyed in
+    let told = tagged-said inner key kept first (kept.count == last_position) refl t.room t.keyed in
     let receipt : receipt_of key (kept.count + 1) first (inner.says kept.inner first) ≡ receipt_of key position request said =
     ap (λ n. receipt_of key n first (inner.says kept.inner first)) (sym same.positions)
     ∙ ap (λ (l : List ℕ). receipt_of key position l (inner.says kept.inner first)) (sym same.requests)
     ∙ ap (λ (l : List ℕ). receipt_of key position request l) (sym same.outputs) in
     record { before = 0; place = omega (arith, same.positions); asked = ap (λ (l : List ℕ). Some l) (sym same.requests); told = ap (λ (l : List ℕ). Some l) (told ∙ receipt) }
 
-later-tagged : (inner : Meaning) (key : List ℕ) (kept : Kept) (first : List ℕ) (requests : List (List ℕ)) (position : ℕ) (request said : List ℕ) → position ≤ 2 ^ 48
+later-tagged : (inner : Meaning) (key : List ℕ) (kept : Kept) (first : List ℕ) (requests : List (List ℕ)) (position : ℕ) (request said : List ℕ) → position ≤ last_position
     → Counts kept (outcome_of inner kept first).0 → WasTagged inner (outcome_of inner kept first).0 requests key position request said
     → WasTagged inner kept (first ∷ requests) key position request said
 later-tagged inner key kept first requests position request said near (inl up) w =
@@ -150,13 +151,13 @@ later-tagged inner key kept first requests position request said near (inl up) w
 later-tagged inner key kept first requests position request said near (inr full) w = absurd (omega (arith, w.place, full.1, near))
 
 was-tagged : (inner : Meaning) (key : List ℕ) (kept : Kept) (requests : List (List ℕ)) → IsKept kept → AllByRecursion IsCounted requests
-    → (position : ℕ) (request said : List ℕ) → position ≤ 2 ^ 48 → length request ≤ 4096
+    → (position : ℕ) (request said : List ℕ) → position ≤ last_position → length request ≤ longest_request
     → IsTagged inner key kept requests (receipt_message position request said) → WasTagged inner kept requests key position request said
 was-tagged inner key kept [] good counted position request said near short t = absurd t
 was-tagged inner key kept (first ∷ requests) good counted position request said near short (inl t) =
     here-tagged inner key kept first requests good counted.0 position request said near short t
 was-tagged inner key kept (first ∷ requests) good counted position request said near short (inr t) =
-    later-tagged inner key kept first requests position request said near (counts-by inner kept first (kept.count == 2 ^ 48) refl)
+    later-tagged inner key kept first requests position request said near (counts-by inner kept first (kept.count == last_position) refl)
     (was-tagged inner key (outcome_of inner kept first).0 requests (outcome_of-IsKept inner kept first good) counted.1 position request said near short t)
 
 pub receipts-true : ReceiptsAreTrue

@@ -1,7 +1,8 @@
 -- A module round another, which counts requests and gives receipts.
-use Rattle.std.specs.Prelude.{ℕ, ◌+◌, ◌%◌, ◌^◌, ◌==◌, ◌&&◌, ◌||◌, Bool, false, nat_le, List, [], ◌∷◌, ◌++◌, length, take, drop, replicate, codes, Option, Some, None, if◌then◌else◌}
+use Rattle.std.specs.Prelude.{ℕ, ◌+◌, ◌%◌, ◌==◌, ◌&&◌, ◌||◌, Bool, false, nat_le, List, [], ◌∷◌, ◌++◌, length, take, drop, replicate, codes, Option, Some, None, if◌then◌else◌}
 use Rattle.std.specs.Str.{bytes_eq}
 use Rattle.mm_base.specs.Fields.{eight_bytes}
+use Rattle.mm_base.specs.Limits.{last_position}
 use Rattle.mm_module.specs.Bytes.{are_bytes}
 use Rattle.mm_module.specs.Meaning.{Meaning}
 use Rattle.mm_module.specs.Numbers.{of_eight_bytes}
@@ -42,7 +43,7 @@ taken inner kept request (Some key) = stamped inner kept request key
 
 -- what a request does, and what is said: there are 2^48 positions
 abbrev pub outcome_of : Meaning → Kept → List ℕ → Kept × List ℕ
-outcome_of inner kept request = if kept.count == 2 ^ 48 then (kept, codes "full") else taken inner kept request kept.key
+outcome_of inner kept request = if kept.count == last_position then (kept, codes "full") else taken inner kept request kept.key
 
 -- before every request
 abbrev pub first_kept : Meaning → Kept
@@ -68,7 +69,7 @@ is_keyed (form ∷ rest) = form == 1 || (form == 0 && bytes_eq (take 32 rest) (r
 
 -- a count and a key in front
 abbrev pub is_front : List ℕ → Bool
-is_front bytes = nat_le 41 (length bytes) && (nat_le (of_eight_bytes (take 8 bytes)) (2 ^ 48) && is_keyed (drop 8 bytes))
+is_front bytes = nat_le 41 (length bytes) && (nat_le (of_eight_bytes (take 8 bytes)) last_position && is_keyed (drop 8 bytes))
 
 abbrev pub kept_by : ℕ → List ℕ → Kept
 kept_by count [] = record { count = count; key = None; inner = [] }

@@ -1,13 +1,14 @@
 -- What receipts prove of a run.
 use Rattle.std.specs.Prelude.{◌≡◌, ◌≢◌, ℕ, ◌+◌, ◌^◌, ◌<◌, ◌≤◌, List, [], ◌∷◌, length, drop, slice_get, Some, Ok, ◌⊎◌}
 use Rattle.std.specs.List.{AllByRecursion}
+use Rattle.mm_base.specs.Limits.{last_position, longest_request}
 use Rattle.mm_module.specs.Meaning.{Meaning, outputs_from}
 use Rattle.mm_receipt.specs.Receipts.{receipt_message, verified}
 use Rattle.mm_receipt.specs.Table.{Kept, outcome_of, first_kept, receipted}
 
 -- A request is run under this key, and this is the message of its receipt.
 pub record IsTaggedBy (inner : Meaning) (key : List ℕ) (kept : Kept) (request message : List ℕ) : Type 0 where
-  pub room : kept.count ≢ 2 ^ 48
+  pub room : kept.count ≢ last_position
   pub keyed : kept.key ≡ Some key
   pub is : message ≡ receipt_message (kept.count + 1) request (inner.says kept.inner request)
 
@@ -23,8 +24,8 @@ IsCounted request = length request < 2 ^ 32
 
 -- An output that `verify` accepts, with its message among those that were tagged: it isn't forged.
 pub record IsUnforged (inner : Meaning) (requests : List (List ℕ)) (key : List ℕ) (position : ℕ) (request output : List ℕ) : Type 0 where
-  pub near : position ≤ 2 ^ 48
-  pub short : length request ≤ 4096
+  pub near : position ≤ last_position
+  pub short : length request ≤ longest_request
   pub accepted : verified key position request output ≡ Ok tt
   pub tagged : IsTagged inner key (first_kept inner) requests (receipt_message position request (drop 65 output))
 

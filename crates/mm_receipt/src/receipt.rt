@@ -1,8 +1,9 @@
 //! A receipt: 64 lower-case digits, a space and what was said.
 
-ghost use Rattle.std.specs.Prelude.{◌≡◌, ◌≤◌, ◌<◌, ◌^◌, ℕ, List, length, IfOk, option_map};
+ghost use Rattle.std.specs.Prelude.{◌≡◌, ◌≤◌, ◌<◌, ℕ, List, length, IfOk, option_map};
 ghost use Rattle.std.specs.List.{list_all};
 ghost use Rattle.hex.specs.Hex.{encode_lower};
+ghost use Rattle.mm_base.specs.Limits.{longest_request};
 ghost use Rattle.mm_receipt.specs.Receipts.{is_lower_digit, receipt_front, digits_of, receipt_of, parts_of, verified};
 
 use mm_base::{Bytes, Memory, bytes_of_u32, bytes_of_u64};
@@ -42,7 +43,7 @@ fn digits_in(tag: &Digest) -> [u8; 64]
 /// The digits of a receipt.
 #[tactic(auto, unfolding(crate::specs::Receipts::digits_of, crate::specs::Receipts::receipt_message))]
 fn digits_for(key: &[u8; 32], position: u64, request: &[u8], said: &[u8]) -> [u8; 64]
-    requires { length request.now ≤ 4096 }
+    requires { length request.now ≤ longest_request }
     ensures { result ≡ digits_of key.now position request.now said.now }
 {
     let front = front(position, request.len() as u32);
@@ -57,7 +58,7 @@ pub(crate) fn receipt(
     request: &[u8],
     said: &[u8],
 ) -> Result<Bytes, Memory>
-    requires { length request.now ≤ 4096 }
+    requires { length request.now ≤ longest_request }
     ensures { IfOk result (λ text. text ≡ receipt_of key.now position request.now said.now) }
 {
     let mut text = Bytes::copy_of(alloc, &digits_for(key, position, request, said))?;
@@ -102,7 +103,7 @@ pub fn verify(
     request: &[u8],
     output: &[u8],
 ) -> Result<(), NotReceipt>
-    requires { length request.now ≤ 4096 }
+    requires { length request.now ≤ longest_request }
     ensures { result ≡ verified key.now position request.now output.now }
 {
     let Some((digits, said)) = read_parts(output) else {

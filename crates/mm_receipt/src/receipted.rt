@@ -1,6 +1,7 @@
 //! A module whose outputs are receipts.
 
-ghost use Rattle.std.specs.Prelude.{◌≡◌, ◌+◌, ◌++◌, ◌<◌, ◌≤◌, ◌^◌, None, Some, IfOk, OnOk, IsTrue, length};
+ghost use Rattle.std.specs.Prelude.{◌≡◌, ◌+◌, ◌++◌, ◌<◌, ◌≤◌, None, Some, IfOk, OnOk, IsTrue, length};
+ghost use Rattle.mm_base.specs.Limits.{last_position};
 ghost use Rattle.mm_module.specs.Meaning.{IsLine};
 ghost use Rattle.mm_module.specs.Words.{words_of};
 ghost use Rattle.mm_receipt.specs.Table.{key_of_words, keyed_text, unkeyed, receipted, stamped, key_bytes, key_in, is_keyed, is_front, kept_by, kept_of, spelling_of, outcome_of};
@@ -8,8 +9,8 @@ ghost use Rattle.mm_receipt.specs.Views.{as_kept};
 ghost use Rattle.mm_receipt.specs.ReceiptedLaws.{receipted_is_lawful};
 
 use crate::receipt::receipt;
-use mm_base::{Bytes, Memory, bytes_of_u64};
-use mm_module::{LAST_POSITION, Module, Short, Stepped, Words, u64_of_bytes, value_in};
+use mm_base::{Bytes, LAST_POSITION, Memory, bytes_of_u64};
+use mm_module::{Module, Short, Stepped, Words, u64_of_bytes, value_in};
 use std::alloc::Global;
 
 /// A module round another, which counts the requests and says each output of the other with a receipt under a key.
@@ -117,7 +118,8 @@ fn put_key(bytes: &mut Bytes, key: Option<[u8; 32]>) -> Result<(), Memory>
 
 /// The bytes of a state.
 fn spelled(alloc: Global, count: u64, key: Option<[u8; 32]>, inner: &[u8]) -> Result<Bytes, Memory>
-    ensures { IfOk result (λ bytes. bytes ≡ spelling_of (record { count = count; key = key; inner = inner.now })) }
+    ensures { IfOk result
+        (λ bytes. bytes ≡ spelling_of (record { count = count; key = key; inner = inner.now })) }
 {
     let mut bytes = Bytes::copy_of(alloc, &bytes_of_u64(count))?;
     put_key(&mut bytes, key)?;
@@ -137,9 +139,11 @@ fn text_of_key(alloc: Global, key: Option<[u8; 32]>) -> Result<Bytes, Memory>
 
 /// A request before a key is set.
 fn step_unkeyed(alloc: Global, kept: Kept<'_>, request: &[u8]) -> Result<Stepped, Memory>
-    requires { kept.count < 2 ^ 48 }
-    ensures state { IfOk result (λ stepped. stepped.state ≡ spelling_of (unkeyed (as_kept kept.entry) (key_of_words (words_of request.now))).0) }
-    ensures output { IfOk result (λ stepped. stepped.output ≡ (unkeyed (as_kept kept.entry) (key_of_words (words_of request.now))).1) }
+    requires { kept.count < last_position }
+    ensures state { IfOk result (λ stepped. stepped.state
+        ≡ spelling_of (unkeyed (as_kept kept.entry) (key_of_words (words_of request.now))).0) }
+    ensures output { IfOk result (λ stepped. stepped.output
+        ≡ (unkeyed (as_kept kept.entry) (key_of_words (words_of request.now))).1) }
 {
     let key = key_of(request);
     Ok(Stepped {
@@ -159,9 +163,12 @@ impl<M: Short> Receipted<M> {
     ) -> Result<Stepped, Memory>
         requires spelled { IsTrue ((M.meaning self.now.inner).is_spelled kept.inner.now) }
         requires line { IsLine request.now }
-        requires room { kept.count < 2 ^ 48 }
-        ensures state { IfOk result (λ stepped. stepped.state ≡ spelling_of (stamped (M.meaning self.now.inner) (as_kept kept.entry) request.now key.now).0) }
-        ensures output { IfOk result (λ stepped. stepped.output ≡ (stamped (M.meaning self.now.inner) (as_kept kept.entry) request.now key.now).1) }
+        requires room { kept.count < last_position }
+        ensures state { IfOk result (λ stepped. stepped.state
+            ≡ spelling_of
+            (stamped (M.meaning self.now.inner) (as_kept kept.entry) request.now key.now).0) }
+        ensures output { IfOk result (λ stepped. stepped.output
+            ≡ (stamped (M.meaning self.now.inner) (as_kept kept.entry) request.now key.now).1) }
     {
         let position = kept.count + 1;
         let stepped = self.inner.step(alloc, kept.inner, request)?;
@@ -174,7 +181,8 @@ impl<M: Short> Receipted<M> {
 impl<M: Short> Module for Receipted<M> {
     ghost meaning = { λ it. receipted (M.meaning it.inner) };
 
-    ghost is_lawful = { λ it. receipted_is_lawful (M.meaning it.inner) (M.is_lawful it.inner) (M.is_short it.inner) };
+    ghost is_lawful = { λ it. receipted_is_lawful (M.meaning it.inner) (M.is_lawful it.inner)
+        (M.is_short it.inner) };
 
     fn id(&self) -> u8 {
         self.inner.id().wrapping_add(64)

@@ -1,5 +1,5 @@
 -- Receipts that aren't forged never clash: each known pair is one, and two of one position are equal.
-use Rattle.std.proofs.Common.{◌≡◌, ◌∙◌, ◌+◌, ◌≤◌, ◌^◌, ◌==◌, ◌&&◌, ◌++◌, ℕ, Bool, true, false, cond, nat_lt, nat_le, List, [], ◌∷◌, length, drop, take, Option, Some, None, Result, Ok, Err, refl, sym, ap, subst, arith}
+use Rattle.std.proofs.Common.{◌≡◌, ◌∙◌, ◌+◌, ◌≤◌, ◌==◌, ◌&&◌, ◌++◌, ℕ, Bool, true, false, cond, nat_lt, nat_le, List, [], ◌∷◌, length, drop, take, Option, Some, None, Result, Ok, Err, refl, sym, ap, subst, arith}
 use Rattle.std.specs.Prelude.{if◌then◌else◌}
 use Rattle.std.specs.BTreeMap.{is_at, insert_entry}
 use Rattle.std.specs.List.{AllByRecursion, position}
@@ -12,12 +12,13 @@ use Rattle.std.proofs.lemmas.Slice.Eq.{bytes_eq-Decides}
 use Rattle.mm_base.specs.Decimals.{number_of}
 use Rattle.mm_base.specs.declared.replay_fault.ReplayFault.{ReplayFault}
 use Rattle.mm_base.specs.declared.replay_fault.ReplayFault.TheVariants.{LineLong}
+use Rattle.mm_base.specs.Limits.{last_position, longest_line, longest_request}
 use Rattle.mm_module.specs.Meaning.{Meaning}
 use Rattle.mm_module.specs.Words.{is_space}
 use Rattle.mm_module.specs.LineLaws.{and-true}
 use Rattle.mm_play.specs.declared.player.Refused.{Refused}
 use Rattle.mm_play.specs.declared.player.Refused.TheVariants.{Bad, Much}
-use Rattle.mm_play.specs.Play.{Told, told, stopped, line_limit, refusal_at, answered, run}
+use Rattle.mm_play.specs.Play.{Told, told, stopped, refusal_at, answered, run}
 use Rattle.mm_play.proofs.Runs.{not_ok}
 use Rattle.mm_receipt.specs.declared.receipt.NotReceipt.{NotReceipt}
 use Rattle.mm_receipt.specs.declared.receipt.NotReceipt.TheVariants.{Form, Tag}
@@ -70,18 +71,18 @@ turn-step it line number lines written next false ran = answered-step it line nu
 
 -- what a first line keeps
 record IsFormed (asked : Asked) : Type 0 where
-  near : asked.position ≤ 2 ^ 48
-  short : length asked.request ≤ 4096
+  near : asked.position ≤ last_position
+  short : length asked.request ≤ longest_request
 
 abbrev MayWait : Option Asked → Type 0
 MayWait None = Unit {0}
 MayWait (Some asked) = IsFormed asked
 
-numbered-formed : (request : List ℕ) (number : ℕ) (flag : Bool) → (nat_le 1 number && nat_le number (2 ^ 48) && nat_le (length request) 4096) ≡ flag
+numbered-formed : (request : List ℕ) (number : ℕ) (flag : Bool) → (nat_le 1 number && nat_le number last_position && nat_le (length request) longest_request) ≡ flag
     → MayWait (if flag then Some (record { position = number; request = request }) else None)
 numbered-formed request number true is =
-    let w = and-true (nat_le 1 number && nat_le number (2 ^ 48)) (nat_le (length request) 4096) is in
-    let v = and-true (nat_le 1 number) (nat_le number (2 ^ 48)) w.0 in
+    let w = and-true (nat_le 1 number && nat_le number last_position) (nat_le (length request) longest_request) is in
+    let v = and-true (nat_le 1 number) (nat_le number last_position) w.0 in
     record { near = grind (arith, nat_tests); short = grind (arith, nat_tests) }
 numbered-formed request number false is = tt
 
@@ -227,7 +228,7 @@ module _ (inner : Meaning) (requests : List (List ℕ)) (counted : AllByRecursio
       → AllByRecursion (IsGenuine inner requests key) (pairs_of asked lines) → IsHonest inner requests key (pairs_of asked lines) written
   honest-from [] number tally asked written next s ran genuine = record { plain = sym (ap (λ (t : Told Checking). t.written) ran); right = tt }
   honest-from (line ∷ lines) number tally None written next s ran genuine =
-      let step = turn-step (record { tally = tally; asked = None }) line number lines written next (nat_lt line_limit (length line)) ran in
+      let step = turn-step (record { tally = tally; asked = None }) line number lines written next (nat_lt longest_line (length line)) ran in
       let w = first-waits tally line (asked_at line) (is_too_much tally line) step.reply step.mid refl refl step.answer in
       let mid : record { tally = step.mid.tally; asked = asked_at line } ≡ step.mid = ap (λ (a : Option Asked). record { tally = step.mid.tally; asked = a }) (sym w.asked) in
       let stands : Stands step.mid.tally (asked_at line) = record {
@@ -239,7 +240,7 @@ module _ (inner : Meaning) (requests : List (List ℕ)) (counted : AllByRecursio
       (ap (λ (c : Checking). run receipts_answer (number + 1) c lines) mid ∙ step.ran) genuine in
       record { plain = step.parts ∙ ap (λ (l : List ℕ). l ++ step.rest) w.silent ∙ rest.plain; right = rest.right }
   honest-from (line ∷ lines) number tally (Some asked) written next s ran genuine =
-      let step = turn-step (record { tally = tally; asked = Some asked }) line number lines written next (nat_lt line_limit (length line)) ran in
+      let step = turn-step (record { tally = tally; asked = Some asked }) line number lines written next (nat_lt longest_line (length line)) ran in
       let w = second-settles tally asked line (is_too_much tally line) step.reply step.mid refl step.answer in
       let answer = verified key asked.position asked.request line in
       let new : answer ≡ Ok tt → IsUnforged inner requests key asked.position asked.request line = unforged asked line s.formed genuine.0 in

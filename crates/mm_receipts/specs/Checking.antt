@@ -1,5 +1,5 @@
 -- The check of receipts: pairs of lines, a request with its position and then the output, each answered in a line.
-use Rattle.std.specs.Prelude.{ℕ, ◌+◌, ◌-◌, ◌*◌, ◌^◌, ◌&&◌, ◌||◌, Bool, nat_le, nat_lt, List, [], ◌∷◌, ◌++◌, length, take, drop, codes, Option, Some, None, Result, Ok, Err, if◌then◌else◌}
+use Rattle.std.specs.Prelude.{ℕ, ◌+◌, ◌-◌, ◌*◌, ◌&&◌, ◌||◌, Bool, nat_le, nat_lt, List, [], ◌∷◌, ◌++◌, length, take, drop, codes, Option, Some, None, Result, Ok, Err, if◌then◌else◌}
 use Rattle.std.specs.BTreeMap.{is_at, insert_entry}
 use Rattle.std.specs.Fmt.{decimal}
 use Rattle.std.specs.List.{position}
@@ -7,6 +7,7 @@ use Rattle.std.specs.Map.{lookup}
 use Rattle.std.specs.Ordering.{nat_cmp}
 use Rattle.std.specs.Str.{bytes_eq}
 use Rattle.mm_base.specs.Decimals.{number_of}
+use Rattle.mm_base.specs.Limits.{last_position, longest_request}
 use Rattle.mm_module.specs.Words.{is_space}
 use Rattle.mm_play.specs.declared.player.Refused.{Refused}
 use Rattle.mm_play.specs.declared.player.Refused.TheVariants.{Bad, Much}
@@ -29,7 +30,8 @@ most_read = 268435456
 abbrev pub numbered : List ℕ → Option ℕ → Option Asked
 numbered request None = None
 numbered request (Some number) =
-    if nat_le 1 number && nat_le number (2 ^ 48) && nat_le (length request) 4096 then Some (record { position = number; request = request }) else None
+    if nat_le 1 number && nat_le number last_position && nat_le (length request) longest_request
+    then Some (record { position = number; request = request }) else None
 
 abbrev pub parted : List ℕ → Option ℕ → Option Asked
 parted line None = None
@@ -85,7 +87,13 @@ verdict_text number Good = codes "good " ++ decimal number ++ 10 ∷ []
 
 -- a pair and its second line are counted
 abbrev pub counted_in : Tally → List ℕ → Tally
-counted_in tally line = record { key = tally.key; known = tally.known; good = tally.good; pairs = tally.pairs + 1; read = tally.read + length line }
+counted_in tally line = record {
+  key = tally.key;
+  known = tally.known;
+  good = tally.good;
+  pairs = tally.pairs + 1;
+  read = tally.read + length line;
+}
 
 -- a good pair is remembered
 abbrev pub remembered : Tally → Asked → List ℕ → Tally
@@ -111,7 +119,10 @@ abbrev pub first_by : Tally → List ℕ → Option Asked → Result (Asked × T
 first_by tally line None = Err Bad
 first_by tally line (Some asked) =
     if is_too_much tally line then Err Much
-    else Ok (asked, record { key = tally.key; known = tally.known; good = tally.good; pairs = tally.pairs; read = tally.read + length line })
+    else Ok (
+      asked,
+      record { key = tally.key; known = tally.known; good = tally.good; pairs = tally.pairs; read = tally.read + length line },
+    )
 
 -- the first line of a pair, which is answered nothing
 abbrev pub first_answer : Tally → List ℕ → Result (Asked × Tally) Refused

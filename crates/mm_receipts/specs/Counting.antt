@@ -11,22 +11,27 @@ use Rattle.mm_receipts.specs.declared.pair.Verdict.TheVariants.{NoForm, NoTag, C
 use Rattle.mm_receipts.specs.Checking.{Tally, Checking, most_pairs, is_too_much, asked_at, first_by, verdict_of, after_pair, second_answer, waits, settles, answer_at, receipts_answer, lines_left_at}
 
 few_pairs : (tally : Tally) (line : List ℕ) → is_too_much tally line ≡ false → tally.pairs < most_pairs
-few_pairs tally line h = let a : nat_le most_pairs tally.pairs ≡ false = left_or (nat_le most_pairs tally.pairs) _ h in grind (arith, nat_tests)
+few_pairs tally line h = let a : nat_le most_pairs tally.pairs ≡ false = left_or (nat_le most_pairs tally.pairs) _ h in
+    grind (arith, nat_tests)
 
-first_counts : (tally : Tally) (line : List ℕ) (found : Option Asked) (much : Bool) (reply : List ℕ) (next : Checking) → is_too_much tally line ≡ much
+first_counts : (tally : Tally) (line : List ℕ) (found : Option Asked) (much : Bool) (reply : List ℕ) (next : Checking)
+    → is_too_much tally line ≡ much
     → waits (first_by tally line found) ≡ Ok (reply, next) → lines_left_at next < 2 * (most_pairs - tally.pairs)
 first_counts tally line None much reply next is h = absurd (no_answer Bad reply next h)
 first_counts tally line (Some asked) true reply next is h = absurd (no_answer Much reply next (rw is at h))
 first_counts tally line (Some asked) false reply next is h =
-    subst (λ (c : Checking). lines_left_at c < 2 * (most_pairs - tally.pairs)) (same_next reply _ next _ (rw is at h)) (omega (arith, few_pairs tally line is))
+    subst (λ (c : Checking). lines_left_at c < 2 * (most_pairs - tally.pairs)) (same_next reply _ next _ (rw is at h))
+    (omega (arith, few_pairs tally line is))
 
-after-pairs : (tally : Tally) (asked : Asked) (output : List ℕ) (verdict : Verdict) → (after_pair tally asked output verdict).pairs ≡ tally.pairs + 1
+after-pairs : (tally : Tally) (asked : Asked) (output : List ℕ) (verdict : Verdict)
+    → (after_pair tally asked output verdict).pairs ≡ tally.pairs + 1
 after-pairs tally asked output NoForm = refl
 after-pairs tally asked output NoTag = refl
 after-pairs tally asked output Clash = refl
 after-pairs tally asked output Good = refl
 
-second_counts : (tally : Tally) (asked : Asked) (line : List ℕ) (much : Bool) (reply : List ℕ) (next : Checking) → is_too_much tally line ≡ much
+second_counts : (tally : Tally) (asked : Asked) (line : List ℕ) (much : Bool) (reply : List ℕ) (next : Checking)
+    → is_too_much tally line ≡ much
     → settles (second_answer tally asked line) ≡ Ok (reply, next) → lines_left_at next < 2 * (most_pairs - tally.pairs) - 1
 second_counts tally asked line true reply next is h = absurd (no_answer Much reply next (rw is at h))
 second_counts tally asked line false reply next is h =
@@ -39,7 +44,8 @@ counts_at tally None line reply next h = first_counts tally line (asked_at line)
 counts_at tally (Some asked) line reply next h = second_counts tally asked line (is_too_much tally line) reply next refl h
 
 -- an answered line leaves fewer
-pub receipts_count_down : (it next : Checking) (line reply : List ℕ) → receipts_answer it line ≡ Ok (reply, next) → lines_left_at next < lines_left_at it
+pub receipts_count_down : (it next : Checking) (line reply : List ℕ) → receipts_answer it line ≡ Ok (reply, next)
+    → lines_left_at next < lines_left_at it
 receipts_count_down it next line reply h = counts_at it.tally it.asked line reply next h
 
 left_few : (tally : Tally) (asked : Option Asked) → lines_left_at (record { tally = tally; asked = asked }) < 2 ^ 31

@@ -45,7 +45,8 @@ IsGenuine inner requests key pair =
 -- where the output is accepted, it is what was said to the request at its position
 abbrev pub IsTrue : Meaning → List (List ℕ) → List ℕ → Given → Type 0
 IsTrue inner requests key pair =
-    verified key pair.asked.position pair.asked.request pair.output ≡ Ok tt → WasRun inner requests pair.asked.position pair.asked.request pair.output
+    verified key pair.asked.position pair.asked.request pair.output ≡ Ok tt
+    → WasRun inner requests pair.asked.position pair.asked.request pair.output
 
 -- Each pair is answered as if it came alone, so that none is `clash`; and the good pairs are those of the run.
 pub record IsHonest (inner : Meaning) (requests : List (List ℕ)) (key : List ℕ) (pairs : List Given) (written : List ℕ) : Type 0 where

@@ -18,13 +18,15 @@ IsReported next (Ok report) = Counts next report
 IsReported next (Err fault) = Unit {0}
 
 -- A check took these bytes of the input and wrote those, which fit the answers line by line.
-pub record Checks (key : List ℕ) (left left' received received' : Option (List ℕ)) (result : Result ReceiptReport ReplayFault) : Type 0 where
+pub record Checks (key : List ℕ) (left left' received received' : Option (List ℕ))
+    (result : Result ReceiptReport ReplayFault) : Type 0 where
   pub taken : List ℕ
   pub sent : List ℕ
   pub next : Checking
   pub consumed : Consumes left left' taken
   pub appended : Appends received received' sent
-  pub settled : Settles (run receipts_answer 1 (first_checking key)) (run_of receipts_answer receipts_closing (first_checking key)) next left' taken sent result
+  pub settled : Settles (run receipts_answer 1 (first_checking key)) (run_of receipts_answer receipts_closing (first_checking key)) next
+      left' taken sent result
   pub reported : IsReported next result
 
 -- These lines were answered with this text; and honestly, where no receipt is forged.
@@ -39,7 +41,8 @@ pub record EndsHonestly (key : List ℕ) (lines : List (List ℕ)) (written : Li
   pub whole : written ≡ said ++ last_line answers.answered.0.tally.good answers.answered.0.tally.pairs
 
 -- A check took these bytes of the input and wrote those, by how it ended the answers to all lines or to some first ones.
-pub record ChecksHonestly (key : List ℕ) (left left' received received' : Option (List ℕ)) (result : Result ReceiptReport ReplayFault) : Type 0 where
+pub record ChecksHonestly (key : List ℕ) (left left' received received' : Option (List ℕ))
+    (result : Result ReceiptReport ReplayFault) : Type 0 where
   pub taken : List ℕ
   pub sent : List ℕ
   pub consumed : Consumes left left' taken

@@ -1,5 +1,6 @@
 -- The tally of the code, as contracts see it.
 use Rattle.std.specs.Prelude.{◌≡◌, ◌≤◌, length, Option, Some, None, Result, Ok, Err}
+use Rattle.mm_base.specs.Limits.{longest_request}
 use Rattle.mm_play.specs.declared.player.Refused.{Refused}
 use Rattle.mm_play.specs.declared.player.TakeFault.{TakeFault}
 use Rattle.mm_play.specs.declared.player.TakeFault.TheVariants as fault
@@ -19,4 +20,4 @@ IsFirst answer next (Err (fault.Refused why)) = answer ≡ Err why
 -- a request that waits has at most 4,096 bytes
 abbrev pub IsShortAsked : Option Asked → Type 0
 IsShortAsked None = Unit {0}
-IsShortAsked (Some asked) = length asked.request ≤ 4096
+IsShortAsked (Some asked) = length asked.request ≤ longest_request

@@ -83,7 +83,8 @@ fn checked<S: Source, K: Sink>(
     input: &mut S,
     out: &mut K,
 ) -> Result<ReceiptReport, ReplayFault>
-    ensures checks { Checks key.now (S.left input.old) (S.left input.new) (K.received out.old) (K.received out.new) result }
+    ensures checks { Checks key.now (S.left input.old) (S.left input.new) (K.received out.old)
+        (K.received out.new) result }
     ensures read { IsBlamed (is_read_fault result) (S.faults input.old) (S.faults input.new) }
     ensures wrote { IsBlamed (is_write_fault result) (K.faults out.old) (K.faults out.new) }
 {
@@ -111,17 +112,20 @@ pub fn receipts<S: Source, K: Sink>(
     input: &mut S,
     out: &mut K,
 ) -> Result<ReceiptReport, ReplayFault>
-    ensures checks { Checks key.now (S.left input.old) (S.left input.new) (K.received out.old) (K.received out.new) result }
+    ensures checks { Checks key.now (S.left input.old) (S.left input.new) (K.received out.old)
+        (K.received out.new) result }
     ensures read { IsBlamed (is_read_fault result) (S.faults input.old) (S.faults input.new) }
     ensures wrote { IsBlamed (is_write_fault result) (K.faults out.old) (K.faults out.new) }
 
     // Lines of that form within the limits are not refused.
     ensures complete { (bytes : List ℕ) → (next : Checking) → S.left input.old ≡ Some bytes
-        → (run_of receipts_answer receipts_closing (first_checking key.now) bytes).outcome ≡ Ok next → IsUnrefused result }
+        → (run_of receipts_answer receipts_closing (first_checking key.now) bytes).outcome ≡ Ok next
+        → IsUnrefused result }
 
     // Where a run of short requests tagged the message of each output that is accepted: no line is `clash P`, and each
     // good pair is the request at its position with what was said to it.
-    ensures honest { ChecksHonestly key.now (S.left input.old) (S.left input.new) (K.received out.old) (K.received out.new) result }
+    ensures honest { ChecksHonestly key.now (S.left input.old) (S.left input.new)
+        (K.received out.old) (K.received out.new) result }
 {
     checked(alloc, key, input, out)
 }

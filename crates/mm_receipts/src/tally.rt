@@ -1,13 +1,14 @@
 //! What was found so far.
 
-ghost use Rattle.std.specs.Prelude.{◌≡◌, ◌≤◌, ◌<◌, ◌^◌, ◌+◌, ℕ, List, false, length, IfOk, IfSome, OnOk, option_map};
+ghost use Rattle.std.specs.Prelude.{◌≡◌, ◌≤◌, ◌<◌, ◌+◌, ℕ, List, false, length, IfOk, IfSome, OnOk, option_map};
 ghost use Rattle.std.specs.List.{position};
+ghost use Rattle.mm_base.specs.Limits.{longest_line, longest_request};
 ghost use Rattle.mm_module.specs.Words.{is_space};
-ghost use Rattle.mm_receipts.specs.Checking.{asked_at, compared};
+ghost use Rattle.mm_receipts.specs.Checking.{asked_at, compared, most_pairs, most_read};
 
 use crate::pair::{Asked, Pair, Verdict};
 use crate::text::text_of;
-use mm_base::{Bytes, Memory, read_decimal};
+use mm_base::{Bytes, LAST_POSITION, LONGEST_REQUEST, Memory, read_decimal};
 use mm_play::{Refused, TakeFault};
 use mm_receipt::{NotReceipt, verify};
 use std::alloc::Global;
@@ -18,9 +19,6 @@ const MOST_PAIRS: u32 = 20_000;
 
 /// The most bytes of lines, each without its LF.
 const MOST_READ: u64 = 268_435_456;
-
-/// The highest position.
-const MOST: u64 = 281474976710656;
 
 /// The good pairs by their positions, and what counts against the limits.
 #[derive(Drop)]
@@ -33,9 +31,9 @@ pub struct Tally {
     pairs: u32,
     /// The bytes of their lines.
     read: u64,
-    ghost few: { pairs ≤ 20000 },
+    ghost few: { pairs ≤ most_pairs },
     ghost right: { good ≤ pairs },
-    ghost short: { read ≤ 268435456 },
+    ghost short: { read ≤ most_read },
 }
 
 /// Where the first space is.
@@ -72,7 +70,7 @@ impl Tally {
 
     // Whether a pair more would be too many, or a line more too many bytes.
     fn is_full(&self, line: &[u8]) -> bool
-        requires { length line.now ≤ 8400 }
+        requires { length line.now ≤ longest_line }
         ensures { result ≡ is_too_much (tallied self.now) line.now }
     {
         self.pairs >= MOST_PAIRS || self.read + line.len() as u64 > MOST_READ
@@ -80,9 +78,10 @@ impl Tally {
 
     /// Takes the first line of a pair.
     pub fn first(&mut self, alloc: Global, line: &[u8]) -> Result<Asked, TakeFault>
-        requires { length line.now ≤ 8400 }
-        ensures first { IsFirst (first_answer (tallied self.old) line.now) (tallied self.new) result }
-        ensures short { IfOk result (λ asked. length asked.request ≤ 4096) }
+        requires { length line.now ≤ longest_line }
+        ensures first { IsFirst (first_answer (tallied self.old) line.now) (tallied self.new)
+            result }
+        ensures short { IfOk result (λ asked. length asked.request ≤ longest_request) }
     {
         let (position, request) = match read_asked(line) {
             Some(parts) => parts,
@@ -102,7 +101,7 @@ impl Tally {
 
     // What a pair is answered.
     fn verdict(&self, asked: &Asked, output: &[u8]) -> Verdict
-        requires { length asked.now.request ≤ 4096 }
+        requires { length asked.now.request ≤ longest_request }
         ensures { result ≡ verdict_of (tallied self.now) asked.now output.now }
     {
         match verify(&self.key, asked.position, asked.request.as_slice(), output) {
@@ -118,7 +117,7 @@ impl Tally {
 
     // Counts a pair and its second line.
     fn count(&mut self, line: &[u8])
-        requires line { length line.now ≤ 8400 }
+        requires line { length line.now ≤ longest_line }
         requires room { is_too_much (tallied self.old) line.now ≡ false }
         ensures { tallied self.new ≡ counted_in (tallied self.old) line.now }
     {
@@ -146,9 +145,10 @@ impl Tally {
         output: &[u8],
         verdict: Verdict,
     ) -> Result<(), Memory>
-        requires line { length output.now ≤ 8400 }
+        requires line { length output.now ≤ longest_line }
         requires room { is_too_much (tallied self.old) output.now ≡ false }
-        ensures { OnOk result (tallied self.new ≡ after_pair (tallied self.old) asked output.now verdict) }
+        ensures { OnOk result (tallied self.new
+            ≡ after_pair (tallied self.old) asked output.now verdict) }
     {
         self.count(output);
         match verdict {
@@ -163,9 +163,10 @@ impl Tally {
 
     /// Answers a pair by its second line.
     pub fn second(&mut self, alloc: Global, asked: Asked, line: &[u8]) -> Result<Bytes, TakeFault>
-        requires line { length line.now ≤ 8400 }
-        requires short { length asked.request ≤ 4096 }
-        ensures { Takes (second_answer (tallied self.old) asked line.now) (tallied self.new) result }
+        requires line { length line.now ≤ longest_line }
+        requires short { length asked.request ≤ longest_request }
+        ensures { Takes (second_answer (tallied self.old) asked line.now) (tallied self.new)
+            result }
     {
         if self.is_full(line) {
             return Err(TakeFault::Refused(Refused::Much));
@@ -184,13 +185,14 @@ impl Tally {
 
 /// The position and the request of the first line of a pair.
 fn read_asked(line: &[u8]) -> Option<(u64, &[u8])>
-    ensures asked { option_map (λ (p : _). record { position = p.0; request = p.1.now }) result ≡ asked_at line.now }
-    ensures short { IfSome result (λ p. length p.1.now ≤ 4096) }
+    ensures asked { option_map (λ (p : _). record { position = p.0; request = p.1.now }) result
+        ≡ asked_at line.now }
+    ensures short { IfSome result (λ p. length p.1.now ≤ longest_request) }
 {
     let at = space_in(line)?;
     let position = read_decimal(&line[..at])?;
     let request = &line[at + 1..];
-    if 1 <= position && position <= MOST && request.len() <= 4096 {
+    if 1 <= position && position <= LAST_POSITION && request.len() <= LONGEST_REQUEST {
         Some((position, request))
     } else {
         None

@@ -5,9 +5,10 @@ use Rattle.std.proofs.lemmas.Bool.Decides.{nat_tests}
 use Rattle.std.proofs.lemmas.List.Sums.{sum_by-append}
 use Rattle.mm_base.specs.declared.replay_fault.ReplayFault.{ReplayFault}
 use Rattle.mm_base.specs.declared.replay_fault.ReplayFault.TheVariants.{LineLong}
+use Rattle.mm_base.specs.Limits.{longest_line, most_events}
 use Rattle.mm_schedule.specs.declared.header.Header.{Header}
 use Rattle.mm_play.specs.declared.player.Refused.TheVariants.{Bad, Much}
-use Rattle.mm_play.specs.Play.{Told, told, stopped, after_writing, line_limit, refusal_at, answered, run}
+use Rattle.mm_play.specs.Play.{Told, told, stopped, after_writing, refusal_at, answered, run}
 use Rattle.mm_play.proofs.Runs.{not_ok, ok_same}
 use Rattle.mm_schedule.specs.Events.{Event}
 use Rattle.mm_schedule.specs.Grammar.{event_at}
@@ -15,7 +16,7 @@ use Rattle.mm_model.specs.Moves.{Digests}
 use Rattle.mm_call.specs.Levels.{by_digests}
 use Rattle.mm_run.specs.Folds.{Followed, followed}
 use Rattle.mm_run.specs.Held.{world_of}
-use Rattle.mm_replay.specs.Schedule.{Running, most_events, most_kept, is_too_much, outcome_in, after_event, Stage, InEvents, event_answer, schedule_answer}
+use Rattle.mm_replay.specs.Schedule.{Running, most_kept, is_too_much, outcome_in, after_event, Stage, InEvents, event_answer, schedule_answer}
 use Rattle.mm_replay.specs.Text.{text_of, texts_of}
 
 abbrev pub followed_in : Running → List Event → Followed Digests
@@ -197,5 +198,5 @@ answers_from heading [] number r written p h = record {
   within = λ before line after events split read over. no_line before line after split;
 }
 answers_from heading (line ∷ lines) number r written p h =
-    answers_line heading r line lines number written p (nat_lt line_limit (length line))
+    answers_line heading r line lines number written p (nat_lt longest_line (length line))
     (λ event w q. answers_from heading lines (number + 1) (after_event r line event) w q) h

@@ -4,6 +4,7 @@ use Rattle.std.specs.List.{sum_by, slice_get}
 use Rattle.std.proofs.lemmas.List.Sums.{sum_by-append}
 use Rattle.std.proofs.Math.Nat.{min-eq_left}
 use Rattle.std.proofs.lemmas.Option.{slice_get_past}
+use Rattle.mm_base.specs.Limits.{most_members}
 use Rattle.mm_schedule.specs.declared.header.Header.{Header}
 use Rattle.mm_platform.specs.declared.plan.Meddle.{Meddle}
 use Rattle.mm_platform.specs.declared.plan.Stop.{Stop}
@@ -33,10 +34,10 @@ pub record Leaves (old new : Held) (event : Event) : Type 0 where
   pub header : new.header ≡ old.header
   pub digests : new.digests ≡ (held.outcome_in old event).state
   pub issued : new.issued ≡ (held.outcome_in old event).issued
-  pub fits : new.digests.count ≤ old.digests.count + 64
+  pub fits : new.digests.count ≤ old.digests.count + most_members
   pub issues : Issues old.issued new.issued
 
-pub leaves : (old new : Held) (event : Event) (said : Reply) → old.digests.count < 2 ^ 63 → (held.outcome_in old event).state.count ≤ old.digests.count + 64
+pub leaves : (old new : Held) (event : Event) (said : Reply) → old.digests.count < 2 ^ 63 → (held.outcome_in old event).state.count ≤ old.digests.count + most_members
     → Follows (held.outcome_in old event) old new said → Leaves old new event
 leaves old new event said few more f =
     let same : within_bits (held.outcome_in old event).state ≡ (held.outcome_in old event).state = within-small (held.outcome_in old event).state (omega (arith, few, more)) in
@@ -45,7 +46,7 @@ leaves old new event said few more f =
       header = f.header;
       digests = is;
       issued = f.issued;
-      fits = subst (λ (d : Digests). d.count ≤ old.digests.count + 64) (sym is) more;
+      fits = subst (λ (d : Digests). d.count ≤ old.digests.count + most_members) (sym is) more;
       issues = subst (λ (s : List (List ℕ)). Issues old.issued s) (sym f.issued) (outcome_issues (instance_of old) old.digests old.issued event);
     }
 

@@ -3,6 +3,7 @@ use Rattle.std.proofs.Common.{◌≡◌, ◌∙◌, ◌+◌, ℕ, Bool, true, fa
 use Rattle.std.specs.List.{sum_by}
 use Rattle.mm_base.specs.declared.replay_fault.ReplayFault.{ReplayFault}
 use Rattle.mm_base.specs.declared.replay_fault.ReplayFault.TheVariants.{LineLong}
+use Rattle.mm_base.specs.Limits.{longest_line}
 use Rattle.mm_schedule.specs.declared.header.Header.{Header}
 use Rattle.mm_digest.specs.declared.variant.Variant.{Variant}
 use Rattle.mm_digest.specs.declared.variant.Variant.TheVariants.{Basic, Opt}
@@ -11,7 +12,7 @@ use Rattle.mm_modules.specs.Modules.{meaning_of}
 use Rattle.mm_model.specs.History.{requests_of}
 use Rattle.mm_play.specs.declared.player.Refused.{Refused}
 use Rattle.mm_play.specs.declared.player.Refused.TheVariants.{Bad, Much}
-use Rattle.mm_play.specs.Play.{Told, told, stopped, line_limit, refusal_at, answered, run, run_of}
+use Rattle.mm_play.specs.Play.{Told, told, stopped, refusal_at, answered, run, run_of}
 use Rattle.mm_play.specs.Plays.{Settles}
 use Rattle.mm_play.specs.Tells.{Answered, Finished, RefusesMuch}
 use Rattle.mm_play.proofs.Runs.{not_ok, ok_same}
@@ -102,7 +103,7 @@ headed heading [] written p h = inl (
   sym (ap (λ (t : Told Stage). t.written) h),
   sym (ok_same AtHeader p (outcome_is (told [] (Ok AtHeader)) (told written (Ok p)) h)),
 )
-headed heading (first ∷ others) written p h = headed_line heading first others written p (nat_lt line_limit (length first)) h
+headed heading (first ∷ others) written p h = headed_line heading first others written p (nat_lt longest_line (length first)) h
 
 -- the limits, from the header on
 within_limits : (header : Header) (others : List (List ℕ)) (written : List ℕ) (p : Stage) → AnswersFrom (begun header) others written p → IsWithinLimits header others

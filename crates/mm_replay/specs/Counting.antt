@@ -2,6 +2,7 @@
 use Rattle.std.specs.Prelude.{◌≡◌, ℕ, ◌+◌, ◌-◌, ◌<◌, ◌^◌, Bool, true, false, nat_le, List, Option, None, Some, Result, Ok, Err, if◌then◌else◌}
 use Rattle.std.proofs.Common.{refl, subst, arith}
 use Rattle.std.proofs.lemmas.Bool.Decides.{nat_tests}
+use Rattle.mm_base.specs.Limits.{most_events}
 use Rattle.mm_schedule.specs.declared.header.Header.{Header}
 use Rattle.mm_schedule.specs.Events.{Event}
 use Rattle.mm_schedule.specs.Grammar.{event_at}
@@ -9,9 +10,10 @@ use Rattle.mm_play.specs.declared.player.Refused.{Refused}
 use Rattle.mm_play.specs.declared.player.Refused.TheVariants.{Bad, Much}
 use Rattle.mm_play.specs.Counting.{no_answer, same_next, left_or}
 use Rattle.mm_replay.specs.Text.{text_of}
-use Rattle.mm_replay.specs.Schedule.{Running, begun, is_too_much, outcome_in, after_event, most_events, Stage, AtHeader, InEvents, event_answer, header_answer, schedule_answer, lines_left_at}
+use Rattle.mm_replay.specs.Schedule.{Running, begun, is_too_much, outcome_in, after_event, Stage, AtHeader, InEvents, event_answer, header_answer, schedule_answer, lines_left_at}
 
-header_counts : (found : Option Header) (reply : List ℕ) (next : Stage) → header_answer found ≡ Ok (reply, next) → lines_left_at next < most_events + 1
+header_counts : (found : Option Header) (reply : List ℕ) (next : Stage) → header_answer found ≡ Ok (reply, next)
+    → lines_left_at next < most_events + 1
 header_counts None reply next h = absurd (no_answer Bad reply next h)
 header_counts (Some i) reply next h =
     subst (λ (s : Stage). lines_left_at s < most_events + 1) (same_next reply _ next (InEvents (begun i)) h) (omega arith)
@@ -20,20 +22,23 @@ pub few_events : (r : Running) (line : List ℕ) → is_too_much r line ≡ fals
 few_events r line h = let a : nat_le most_events r.events ≡ false = left_or (nat_le most_events r.events) _ h in grind (arith, nat_tests)
 
 event_counts : (r : Running) (line : List ℕ) (event : Event) (much : Bool) (reply : List ℕ) (next : Stage) → is_too_much r line ≡ much
-    → (let a : Result (List ℕ × Stage) Refused = if much then Err Much else Ok (text_of (outcome_in r event).reply, InEvents (after_event r line event)) in a ≡ Ok (reply, next))
+    → (let a : Result (List ℕ × Stage) Refused = if much then Err Much
+    else Ok (text_of (outcome_in r event).reply, InEvents (after_event r line event)) in a ≡ Ok (reply, next))
     → lines_left_at next < most_events - r.events
 event_counts r line event true reply next is h = absurd (no_answer Much reply next h)
 event_counts r line event false reply next is h =
     subst (λ (s : Stage). lines_left_at s < most_events - r.events) (same_next reply _ next (InEvents (after_event r line event)) h)
     (omega (arith, few_events r line is))
 
-found_counts : (r : Running) (line : List ℕ) (found : Option Event) (reply : List ℕ) (next : Stage) → event_answer r line found ≡ Ok (reply, next)
+found_counts : (r : Running) (line : List ℕ) (found : Option Event) (reply : List ℕ) (next : Stage)
+    → event_answer r line found ≡ Ok (reply, next)
     → lines_left_at next < most_events - r.events
 found_counts r line None reply next h = absurd (no_answer Bad reply next h)
 found_counts r line (Some event) reply next h = event_counts r line event (is_too_much r line) reply next refl h
 
 -- an answered line leaves fewer
-pub schedule_counts_down : (heading : List ℕ → Option Header) (it next : Stage) (line reply : List ℕ) → schedule_answer heading it line ≡ Ok (reply, next) → lines_left_at next < lines_left_at it
+pub schedule_counts_down : (heading : List ℕ → Option Header) (it next : Stage) (line reply : List ℕ)
+    → schedule_answer heading it line ≡ Ok (reply, next) → lines_left_at next < lines_left_at it
 schedule_counts_down heading AtHeader next line reply h = header_counts (heading line) reply next h
 schedule_counts_down heading (InEvents r) next line reply h = found_counts r line (event_at line) reply next h
 

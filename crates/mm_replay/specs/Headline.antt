@@ -2,6 +2,7 @@
 use Rattle.std.specs.Prelude.{◌≡◌, ◌≤◌, ◌<◌, ◌+◌, ℕ, List, [], ◌∷◌, ◌++◌, length, map, Option, Some, Result, ◌⊎◌}
 use Rattle.std.specs.List.{sum_by}
 use Rattle.mm_base.specs.declared.replay_fault.ReplayFault.{ReplayFault}
+use Rattle.mm_base.specs.Limits.{most_events}
 use Rattle.mm_modules.specs.Modules.{meaning_of}
 use Rattle.mm_schedule.specs.declared.header.Header.{Header}
 use Rattle.mm_play.specs.Tells.{TellsBy}
@@ -14,7 +15,7 @@ use Rattle.mm_schedule.specs.declared.reply.Reply.{Reply}
 use Rattle.mm_run.specs.Folds.{expected, replies_by_digests}
 use Rattle.mm_run.specs.Held.{world_of}
 use Rattle.mm_run.specs.Premises.{IsClearRun, IsGenuineRun}
-use Rattle.mm_replay.specs.Schedule.{most_events, most_kept}
+use Rattle.mm_replay.specs.Schedule.{most_kept}
 use Rattle.mm_replay.specs.Text.{texts_of}
 
 -- The replies to the events are those of one run of the module on one list of requests, as the verdict on histories
@@ -34,7 +35,8 @@ abbrev pub IsContinuous : Header → List Event → Type 0
 IsContinuous header events =
     let i = world_of header in
     IsClearRun i events → IsGenuineRun i events →
-    IsOneRun header events (replies_by_digests i events).replies (replies_by_digests i events).state.count (length (replies_by_digests i events).issued)
+    IsOneRun header events (replies_by_digests i events).replies (replies_by_digests i events).state.count
+    (length (replies_by_digests i events).issued)
 
 -- Behind these event lines, and their events, the line is one too many: it is event 20,001, or the event lines with it
 -- and the snapshots issued before it have more than 268,435,456 bytes.
@@ -48,7 +50,8 @@ IsWithinLimits header lines = (before : List (List ℕ)) (line : List ℕ) (afte
     → lines ≡ before ++ line ∷ after → map event_at before ≡ map Some events → IsOver header before events line → ⊥
 
 -- The lines are a header and events. What is written is the replies to the events, by digests, and then the last line.
-pub record AnswersEvents (heading : List ℕ → Option Header) (lines : List (List ℕ)) (written : List ℕ) (last : ℕ → ℕ → List ℕ) : Type 0 where
+pub record AnswersEvents (heading : List ℕ → Option Header) (lines : List (List ℕ)) (written : List ℕ)
+    (last : ℕ → ℕ → List ℕ) : Type 0 where
   pub first : List ℕ
   pub others : List (List ℕ)
   pub header : Header

@@ -26,6 +26,7 @@ pub record Replays (left left' received received' : Option (List ℕ)) (result :
   pub next : Stage
   pub consumed : Consumes left left' taken
   pub appended : Appends received received' sent
-  pub settled : Settles (run (schedule_answer header_at) 1 AtHeader) (run_of (schedule_answer header_at) schedule_closing AtHeader) next left' taken sent result
+  pub settled : Settles (run (schedule_answer header_at) 1 AtHeader) (run_of (schedule_answer header_at) schedule_closing AtHeader) next
+      left' taken sent result
   pub told : Tells header_at left' taken sent result
   pub reported : IsReported next result

@@ -1,6 +1,7 @@
 -- A schedule line by line: the header, and then the events.
 use Rattle.std.specs.Prelude.{ℕ, ◌+◌, ◌-◌, Bool, ◌||◌, nat_le, nat_lt, List, [], length, Option, None, Some, Result, Ok, Err, if◌then◌else◌}
 use Rattle.std.specs.List.{sum_by}
+use Rattle.mm_base.specs.Limits.{most_events}
 use Rattle.mm_schedule.specs.declared.header.Header.{Header}
 use Rattle.mm_schedule.specs.Events.{Event}
 use Rattle.mm_schedule.specs.Grammar.{event_at}
@@ -13,10 +14,7 @@ use Rattle.mm_play.specs.declared.player.Refused.{Refused}
 use Rattle.mm_play.specs.declared.player.Refused.TheVariants.{Bad, Much}
 use Rattle.mm_replay.specs.Text.{text_of}
 
--- the most events, and the most bytes of event lines and issued snapshots together
-abbrev pub most_events : ℕ
-most_events = 20000
-
+-- the most bytes of event lines and issued snapshots together
 abbrev pub most_kept : ℕ
 most_kept = 268435456
 

@@ -2,24 +2,23 @@
 
 ghost use Rattle.std.specs.Prelude.{◌≡◌, ◌≤◌, ◌<◌, ◌+◌, ◌*◌, ◌^◌, length, IfOk, OnOk, ◌++◌, false, ℕ, List, Some, None, slice_get};
 ghost use Rattle.std.specs.List.{sum_by};
+ghost use Rattle.mm_base.specs.Limits.{longest_line, most_events, most_members};
 
 use crate::put::put_reply;
 use crate::report::Report;
-use mm_base::{Bytes, Memory};
+use mm_base::{Bytes, MOST_EVENTS, Memory};
 use mm_play::{Refused, TakeFault};
 use mm_schedule::{Event, EventFault, Header, Reply, put_end, read_event};
 use mm_world::World;
 use std::alloc::Global;
-
-/// The most events of a schedule.
-const MOST_EVENTS: u32 = 20_000;
 
 /// The most bytes of event lines and issued snapshots together.
 const MOST_KEPT: u64 = 268_435_456;
 
 // The bytes of the issued snapshot with this number. None where it isn't issued.
 fn snapshot_length(world: &World, number: u32) -> u64
-    ensures some { (snapshot : List ℕ) → slice_get world.now.issued number ≡ Some snapshot → result ≡ length snapshot }
+    ensures some { (snapshot : List ℕ) → slice_get world.now.issued number ≡ Some snapshot
+        → result ≡ length snapshot }
     ensures none { slice_get world.now.issued number ≡ None → result ≡ 0 }
     ensures bound { result < 2 ^ 63 }
 {
@@ -39,12 +38,12 @@ pub struct Progress {
     read: u64,
     /// The bytes of the snapshots issued.
     issued: u64,
-    ghost few: { events ≤ 20000 },
-    ghost short: { read ≤ 8400 * events },
+    ghost few: { events ≤ most_events },
+    ghost short: { read ≤ longest_line * events },
     ghost counted: { issued ≡ sum_by length world.issued },
     ghost small: { issued < 2 ^ 63 + 2 ^ 62 },
     ghost one_each: { length world.issued ≤ events + 1 },
-    ghost fits: { world.digests.count ≤ 64 * events },
+    ghost fits: { world.digests.count ≤ most_members * events },
 }
 
 impl Progress {
@@ -75,7 +74,7 @@ impl Progress {
 
     // Whether one more event would be too many, or its line and the snapshots too many bytes.
     fn is_full(&self, line: &[u8]) -> bool
-        requires { length line.now ≤ 8400 }
+        requires { length line.now ≤ longest_line }
         ensures { result ≡ is_too_much (running self.now) line.now }
     {
         self.events >= MOST_EVENTS || self.read + line.len() as u64 + self.issued > MOST_KEPT
@@ -83,11 +82,13 @@ impl Progress {
 
     // Runs an event, and counts it and its line.
     fn run(&mut self, line: &[u8], event: &Event) -> Result<Reply, Memory>
-        requires line { length line.now ≤ 8400 }
+        requires line { length line.now ≤ longest_line }
         requires room { is_too_much (running self.old) line.now ≡ false }
-        ensures reply { IfOk result (λ reply. reply ≡ (outcome_in (running self.old) (event_of event.now)).reply) }
+        ensures reply { IfOk result
+            (λ reply. reply ≡ (outcome_in (running self.old) (event_of event.now)).reply) }
         ensures printable { IfOk result IsPrintable }
-        ensures after { OnOk result (running self.new ≡ after_event (running self.old) line.now (event_of event.now)) }
+        ensures after { OnOk result (running self.new
+            ≡ after_event (running self.old) line.now (event_of event.now)) }
     {
         let before = self.world.issued();
         let reply = self.world.event(event)?;
@@ -100,8 +101,9 @@ impl Progress {
     /// Answers an event, which this line of at most 8,400 bytes spells. `Refused::Much` comes exactly where it is event
     /// 20,001, or where the event lines and the snapshots issued have more than 268,435,456 bytes; it isn't run then.
     pub fn answer(&mut self, line: &[u8], event: &Event) -> Result<Reply, TakeFault>
-        requires { length line.now ≤ 8400 }
-        ensures answers { AnswersEvent (running self.old) (running self.new) line.now (event_of event.now) result }
+        requires { length line.now ≤ longest_line }
+        ensures answers { AnswersEvent (running self.old) (running self.new) line.now
+            (event_of event.now) result }
         ensures printable { IfOk result IsPrintable }
     {
         if self.is_full(line) {
@@ -115,8 +117,9 @@ impl Progress {
 
     /// Answers an event line by its reply.
     pub fn take(&mut self, alloc: Global, line: &[u8]) -> Result<Bytes, TakeFault>
-        requires { length line.now ≤ 8400 }
-        ensures { Takes (event_answer (running self.old) line.now (event_at line.now)) (InEvents (running self.new)) result }
+        requires { length line.now ≤ longest_line }
+        ensures { Takes (event_answer (running self.old) line.now (event_at line.now))
+            (InEvents (running self.new)) result }
     {
         let event = match read_event(alloc, line) {
             Ok(event) => event,
@@ -136,7 +139,8 @@ impl Progress {
 
     /// Puts the last line at the end.
     pub fn close(&self, into: &mut Bytes) -> Result<(), Memory>
-        ensures { OnOk result (into.new ≡ into.old ++ end_line (running self.now).digests.count (length (running self.now).issued)) }
+        ensures { OnOk result (into.new ≡ into.old ++ end_line (running self.now).digests.count
+            (length (running self.now).issued)) }
     {
         put_end(self.world.committed(), self.world.issued(), into)
     }

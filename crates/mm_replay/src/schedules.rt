@@ -110,13 +110,15 @@ pub fn replay<S: Source, K: Sink>(
     input: &mut S,
     out: &mut K,
 ) -> Result<Report, ReplayFault>
-    ensures replays { Replays (S.left input.old) (S.left input.new) (K.received out.old) (K.received out.new) result }
+    ensures replays { Replays (S.left input.old) (S.left input.new) (K.received out.old)
+        (K.received out.new) result }
     ensures read { IsBlamed (is_read_fault result) (S.faults input.old) (S.faults input.new) }
     ensures wrote { IsBlamed (is_write_fault result) (K.faults out.old) (K.faults out.new) }
 
     // A schedule within the grammar and the limits is not refused.
     ensures complete { (bytes : List ℕ) → (next : Stage) → S.left input.old ≡ Some bytes
-        → (run_of (schedule_answer header_at) schedule_closing AtHeader bytes).outcome ≡ Ok next → IsUnrefused result }
+        → (run_of (schedule_answer header_at) schedule_closing AtHeader bytes).outcome ≡ Ok next
+        → IsUnrefused result }
 {
     basic_is_expected();
     opt_is_expected();

@@ -28,7 +28,8 @@ pub record CanBegin (all others : List (List ℕ)) (asked : List Batch) (i : Ins
 
 -- 64 bytes were taken, of which the first 32 are the key; and a session of Basic was held. What it told is one run of
 -- the module from the empty list, and so on. Nothing is asked of the devices.
-pub record BeginsAndServes (meaning : Meaning) (after : TwoCell Torn) (new : Cached Sheets) (entropy entropy' input input' received received' : List ℕ) (result : Result Unit SessionFault) : Type 0 where
+pub record BeginsAndServes (meaning : Meaning) (after : TwoCell Torn) (new : Cached Sheets)
+    (entropy entropy' input input' received received' : List ℕ) (result : Result Unit SessionFault) : Type 0 where
   pub secrets : List ℕ
   pub counted : length secrets ≡ 64
   pub taken : entropy ≡ secrets ++ entropy'
@@ -36,6 +37,7 @@ pub record BeginsAndServes (meaning : Meaning) (after : TwoCell Torn) (new : Cac
   pub store : Cached Sheets
   pub session : Sessions Basic meaning (two_cells middle) (two_cells after) (kept_in_pages store) (kept_in_pages new)
       (Some input) (Some input') (Some received) (Some received') result
-  pub continues : (all others : List (List ℕ)) (asked : List Batch) → CanBegin all others asked (basic meaning (take 32 secrets)) (lines_of input) →
+  pub continues : (all others : List (List ℕ)) (asked : List Batch)
+      → CanBegin all others asked (basic meaning (take 32 secrets)) (lines_of input) →
       ContinuesTo all others asked (basic meaning (take 32 secrets)) first_history (two_cells after) (kept_in_pages new)
       (told_in None session.goes) (IsInHand None session.goes) result

@@ -24,7 +24,8 @@ use Rattle.mm_rows.specs.Devices.{kept_in_pages, two_cells}
 
 -- What is asked: the picked cell, and in Opt the register, stand for the history; the pages fit it; and no two
 -- messages of it and of the request that waits share a digest. Nothing is asked of the devices themselves.
-pub record CanRecoverInMemory (all others : List (List ℕ)) (asked : List Batch) (i : Instance) (y : History) (it : TwoCell Torn) (store : Cached Sheets) : Type 0 where
+pub record CanRecoverInMemory (all others : List (List ℕ)) (asked : List Batch) (i : Instance) (y : History) (it : TwoCell Torn)
+    (store : Cached Sheets) : Type 0 where
   pub stands : StandsFor i (two_cells it) y
   pub fits : Fits i store.device.slots y
   pub clear : IsClear all
@@ -34,7 +35,8 @@ pub record CanRecoverInMemory (all others : List (List ℕ)) (asked : List Batch
 
 -- From every history, under every key, and in Opt under every barrier, where what others did is known by the
 -- register's items.
-abbrev pub RecoversInMemory : Variant → Meaning → TwoCell Torn → TwoCell Torn → Cached Sheets → Cached Sheets → Result Resumed HostFault → Type 0
+abbrev pub RecoversInMemory : Variant → Meaning → TwoCell Torn → TwoCell Torn → Cached Sheets → Cached Sheets → Result Resumed HostFault
+    → Type 0
 RecoversInMemory Basic meaning before after old new result =
     (key : List ℕ) (y : History) (all others : List (List ℕ)) (asked : List Batch)
     (can : CanRecoverInMemory all others asked (basic meaning key) y before old) →

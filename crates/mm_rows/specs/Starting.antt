@@ -13,7 +13,8 @@ use Rattle.mm_rows.specs.Devices.{two_cells}
 
 -- 64 bytes were taken. Whatever the memory and the pages held before, the picked cell, and in Opt the register, stand
 -- for the first history of the instance of these bytes; and the pages are its first slots, which fit that history.
-pub record StartsInMemory (variant : Variant) (meaning : Meaning) (after : TwoCell Torn) (new : Cached Sheets) (left left' : List ℕ) : Type 0 where
+pub record StartsInMemory (variant : Variant) (meaning : Meaning) (after : TwoCell Torn) (new : Cached Sheets)
+    (left left' : List ℕ) : Type 0 where
   pub secrets : List ℕ
   pub counted : length secrets ≡ 64
   pub taken : left ≡ secrets ++ left'

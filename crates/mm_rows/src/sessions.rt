@@ -26,9 +26,11 @@ pub fn start<M: Module>(
     store: &mut PageStore<MemPages>,
     entropy: &mut MemSource,
 ) -> Result<(), InitFault>
-    ensures leaves { Leaves variant (M.meaning «module».now) (devices platform.old store.old entropy.old)
-        (devices platform.new store.new entropy.new) result }
-    ensures starts { OnOk result (StartsInMemory variant (M.meaning «module».now) platform.new store.new
+    ensures leaves { Leaves variant (M.meaning «module».now)
+        (devices platform.old store.old entropy.old) (devices platform.new store.new entropy.new)
+        result }
+    ensures starts { OnOk result
+        (StartsInMemory variant (M.meaning «module».now) platform.new store.new
         entropy.old.left entropy.new.left) }
 {
     tells_cell(platform);
@@ -58,7 +60,8 @@ pub fn go_on<M: Module>(
     platform: &mut TwoCell<MemRaw>,
     store: &mut PageStore<MemPages>,
 ) -> Result<Resumed, HostFault>
-    ensures { RecoversInMemory variant (M.meaning «module».now) platform.old platform.new store.old store.new result }
+    ensures { RecoversInMemory variant (M.meaning «module».now) platform.old platform.new store.old
+        store.new result }
 {
     resume(alloc, variant, module, platform, store)
 }
@@ -73,12 +76,14 @@ pub fn serve<M: Module>(
     input: &mut MemSource,
     out: &mut MemSink,
 ) -> Result<(), SessionFault>
-    ensures sessions { Sessions variant (M.meaning «module».now) (two_cells platform.old) (two_cells platform.new)
-        (kept_in_pages store.old) (kept_in_pages store.new) (Some input.old.left) (Some input.new.left)
-        (Some out.old.received) (Some out.new.received) result }
-    ensures continues { Continues variant (M.meaning «module».now) (two_cells platform.old) (two_cells platform.new)
-        (kept_in_pages store.old) (kept_in_pages store.new) (Some input.old.left) (Some input.new.left)
-        (Some out.old.received) (Some out.new.received) result }
+    ensures sessions { Sessions variant (M.meaning «module».now) (two_cells platform.old)
+        (two_cells platform.new) (kept_in_pages store.old) (kept_in_pages store.new)
+        (Some input.old.left) (Some input.new.left) (Some out.old.received) (Some out.new.received)
+        result }
+    ensures continues { Continues variant (M.meaning «module».now) (two_cells platform.old)
+        (two_cells platform.new) (kept_in_pages store.old) (kept_in_pages store.new)
+        (Some input.old.left) (Some input.new.left) (Some out.old.received) (Some out.new.received)
+        result }
 {
     session(alloc, variant, module, platform, store, input, out)
 }
@@ -94,7 +99,8 @@ pub fn start_and_serve<M: Module>(
     out: &mut MemSink,
 ) -> Result<Result<(), SessionFault>, InitFault>
     ensures { IfOk result (λ served. BeginsAndServes (M.meaning «module».now) platform.new store.new
-        entropy.old.left entropy.new.left input.old.left input.new.left out.old.received out.new.received served) }
+        entropy.old.left entropy.new.left input.old.left input.new.left out.old.received
+        out.new.received served) }
 {
     match start(alloc, Variant::Basic, module, platform, store, entropy) {
         Err(fault) => Err(fault),

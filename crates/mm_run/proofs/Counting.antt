@@ -1,10 +1,11 @@
 -- What an event comes to, in either variant: at most 64 requests are committed, the reply can be printed, and at most one
 -- snapshot is issued.
-use Rattle.std.proofs.Common.{◌≡◌, ℕ, ◌+◌, ◌≤◌, ◌^◌, Bool, true, false, List, [], ◌∷◌, ◌++◌, length, IsTrue, Option, None, Some, Result, Ok, Err, refl, sym, ap, subst, arith, length-append}
+use Rattle.std.proofs.Common.{◌≡◌, ℕ, ◌+◌, ◌≤◌, Bool, true, false, List, [], ◌∷◌, ◌++◌, length, IsTrue, Option, None, Some, Result, Ok, Err, refl, sym, ap, subst, arith, length-append}
 use Rattle.std.specs.Prelude.{All, if◌then◌else◌, ◌||◌, nat_lt}
 use Rattle.std.specs.List.{list_any}
 use Rattle.std.proofs.lemmas.Bool.Decides.{nat_tests}
 use Rattle.std.proofs.lemmas.List.Elements.{All-nil, All-cons}
+use Rattle.mm_base.specs.Limits.{last_position, longest_request, most_members}
 use Rattle.mm_digest.specs.declared.variant.Variant.{Variant}
 use Rattle.mm_digest.specs.declared.variant.Variant.TheVariants.{Basic, Opt}
 use Rattle.mm_module.specs.Meaning.{Meaning, IsLawful, outputs_from}
@@ -104,43 +105,43 @@ last_false true b c e = absurd (cc)
 last_false false true c e = absurd (cc)
 last_false false false c e = e
 
-le_of : (n : ℕ) → nat_lt 64 n ≡ false → n ≤ 64
+le_of : (n : ℕ) → nat_lt most_members n ≡ false → n ≤ most_members
 le_of n h = grind (arith, nat_tests)
 
-pub short_size : (b : Batch) → is_long b ≡ false → size_of (normal b) ≤ 64
+pub short_size : (b : Batch) → is_long b ≡ false → size_of (normal b) ≤ most_members
 short_size b e =
-    let f : nat_lt 64 (size_of b) ≡ false = last_false (nat_lt 4096 (length (text_of b))) (list_any is_lf (text_of b)) (nat_lt 64 (size_of b)) e in
-    let few : size_of b ≤ 64 = le_of (size_of b) f in
+    let f : nat_lt most_members (size_of b) ≡ false = last_false (nat_lt longest_request (length (text_of b))) (list_any is_lf (text_of b)) (nat_lt most_members (size_of b)) e in
+    let few : size_of b ≤ most_members = le_of (size_of b) f in
     omega (arith, few, ap (λ (m : List (List ℕ)). length m) (members_of-normal b))
 
-none_more : (n : ℕ) → n ≤ n + 64
+none_more : (n : ℕ) → n ≤ n + most_members
 none_more n = omega arith
 
-outcome_few : (i : Instance) (d : Digests) (issued : List (List ℕ)) (stop : Stop) (o : Called Digests) (n : ℕ) → o.state.count ≤ d.count + n → n ≤ 64
-    → (outcome_by (by_digests i) stop issued o).state.count ≤ d.count + 64
+outcome_few : (i : Instance) (d : Digests) (issued : List (List ℕ)) (stop : Stop) (o : Called Digests) (n : ℕ) → o.state.count ≤ d.count + n → n ≤ most_members
+    → (outcome_by (by_digests i) stop issued o).state.count ≤ d.count + most_members
 outcome_few i d issued stop o n h k = omega (arith, then_count i stop o.ending o.state)
 
 asked_few : (i : Instance) (d : Digests) (issued : List (List ℕ)) (meddles : List Meddle) (stop : Stop) (bytes : List ℕ) (b : Batch) (long : Bool) → is_long b ≡ long
-    → (if long then uncalled d issued (reply.No cause.Long) else outcome_by (by_digests i) stop issued (called i (by_digests i) d (course_of stop meddles) bytes (normal b))).state.count ≤ d.count + 64
+    → (if long then uncalled d issued (reply.No cause.Long) else outcome_by (by_digests i) stop issued (called i (by_digests i) d (course_of stop meddles) bytes (normal b))).state.count ≤ d.count + most_members
 asked_few i d issued meddles stop bytes b true e = none_more d.count
 asked_few i d issued meddles stop bytes b false e =
     outcome_few i d issued stop (called i (by_digests i) d (course_of stop meddles) bytes (normal b)) (size_of (normal b))
     (called_few i d (course_of stop meddles) bytes (normal b)) (short_size b e)
 
 bytes_few : (i : Instance) (d : Digests) (issued : List (List ℕ)) (meddles : List Meddle) (stop : Stop) (bytes : Option (List ℕ)) (b : Batch)
-    → (asked i (by_digests i) d issued meddles stop bytes b).state.count ≤ d.count + 64
+    → (asked i (by_digests i) d issued meddles stop bytes b).state.count ≤ d.count + most_members
 bytes_few i d issued meddles stop None b = none_more d.count
 bytes_few i d issued meddles stop (Some bytes) b = asked_few i d issued meddles stop bytes b (is_long b) refl
 
 check_few : (i : Instance) (d : Digests) (issued : List (List ℕ)) (meddles : List Meddle) (stop : Stop) (is_lost : Bool)
-    → (closed_outcome (by_digests i) stop issued (checkpointed_with i (by_digests i) d (course_of stop meddles) is_lost)).state.count ≤ d.count + 64
+    → (closed_outcome (by_digests i) stop issued (checkpointed_with i (by_digests i) d (course_of stop meddles) is_lost)).state.count ≤ d.count + most_members
 check_few i d issued meddles stop is_lost =
     let c : Course = course_of stop meddles in
     let o : Checkpointed Digests = checkpointed_with i (by_digests i) d c is_lost in
     omega (arith, closing_count i stop o.ending o.state, count-made i o.moves d, ap sizes_of (checkpoint_none i.variant d.flag is_lost c.fates))
 
 pub few_committed : (i : Instance) (d : Digests) (issued : List (List ℕ)) (event : Event)
-    → (outcome_of i (by_digests i) d issued event).state.count ≤ d.count + 64
+    → (outcome_of i (by_digests i) d issued event).state.count ≤ d.count + most_members
 few_committed i d issued (Ask meddles stop offer b) = bytes_few i d issued meddles stop (offered_bytes issued offer) b
 few_committed i d issued (Checkpoint meddles stop) = check_few i d issued meddles stop _
 few_committed i d issued Power = none_more d.count
@@ -149,17 +150,17 @@ few_committed i d issued (Extend value) = none_more d.count
 -- the reply can be printed: an output is a line, and no position is past the last
 
 short_outputs : (meaning : Meaning) → IsLawful meaning → (state : List ℕ) (members : List (List ℕ)) → IsTrue (meaning.is_spelled state)
-    → All (λ (output : List ℕ). length output ≤ 4096) (outputs_from meaning state members)
-short_outputs meaning lawful state [] spelled = All-nil (λ (output : List ℕ). length output ≤ 4096)
+    → All (λ (output : List ℕ). length output ≤ longest_request) (outputs_from meaning state members)
+short_outputs meaning lawful state [] spelled = All-nil (λ (output : List ℕ). length output ≤ longest_request)
 short_outputs meaning lawful state (request ∷ members) spelled =
-    All-cons (λ (output : List ℕ). length output ≤ 4096) (meaning.says state request) (outputs_from meaning (meaning.next state request) members)
+    All-cons (λ (output : List ℕ). length output ≤ longest_request) (meaning.says state request) (outputs_from meaning (meaning.next state request) members)
     ((lawful.says_lines state request spelled).short)
     (short_outputs meaning lawful (meaning.next state request) members (lawful.goes_on state request spelled))
 
 -- an offer that is accepted has a spelled state and positions left for the batch
 record IsAccepted (meaning : Meaning) (offered : Content) (b : Batch) : Type 0 where
   spelled : IsTrue (meaning.is_spelled offered.state)
-  fits : offered.position + size_of b ≤ 2 ^ 48
+  fits : offered.position + size_of b ≤ last_position
 
 -- what is found, where it isn't refused
 abbrev IsFoundWell : Meaning → Batch → Result Found Refusal → Type 0
@@ -189,7 +190,7 @@ well_from i seen b (Ok snapshot) =
     well_with i.meaning b snapshot.content (examined i.meaning i.key snapshot b ((by_digests i).verdict seen snapshot.content b))
     (λ (again : Bool) e.
     let a = accepted _ _ _ _ again e in
-    record { spelled = a.0; fits = le_tells (snapshot.content.position + size_of b) (2 ^ 48) a.1 })
+    record { spelled = a.0; fits = le_tells (snapshot.content.position + size_of b) last_position a.1 })
 
 well_by : (meaning : Meaning) (b : Batch) (lost : Bool) (why : Refusal) (found : Result Found Refusal) → IsFoundWell meaning b found
     → IsFoundWell meaning b (if lost then Err why else found)
@@ -287,7 +288,7 @@ printed world event =
     let lawful = subst IsLawful (sym (meaning_by world.header.variant (meaning_of world.header.«module») world_key world_barrier)) (any_is_lawful world.header.«module») in
     printable (instance_of world) lawful world.digests world.issued event
 
-pub world_few : (world : Held) (event : Event) → (outcome_in world event).state.count ≤ world.digests.count + 64
+pub world_few : (world : Held) (event : Event) → (outcome_in world event).state.count ≤ world.digests.count + most_members
 world_few world event = few_committed (instance_of world) world.digests world.issued event
 
 pub grown : (world : Held) (event : Event) → length (outcome_in world event).issued ≤ length world.issued + 1

@@ -61,7 +61,8 @@ SchedulesGoOn = (i : Instance) (es fs : List Event) (y : History) (d : Digests) 
 abbrev pub OptIsExpected : Type 0
 OptIsExpected = (meaning : Meaning) (key barrier : List ℕ) (events : List Event) →
     IsClearRun (opt meaning key barrier) events → IsGenuineRun (opt meaning key barrier) events →
-    AgreesThroughout (opt meaning key barrier) (expected (opt meaning key barrier) events) (replies_by_digests (opt meaning key barrier) events)
+    AgreesThroughout (opt meaning key barrier) (expected (opt meaning key barrier) events)
+    (replies_by_digests (opt meaning key barrier) events)
 
 -- A snapshot says, sealed under the key, what names a position of the history.
 pub record IsIssued (i : Instance) (y : History) (bytes : List ℕ) : Type 0 where

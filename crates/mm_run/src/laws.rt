@@ -32,13 +32,15 @@ pub fn schedules_go_on()
 /// Every snapshot that was issued names a position of the history, after each schedule.
 pub fn issued_snapshots_name_positions()
     ensures basic { (meaning : Meaning) (key : List ℕ) → IssuedNamePositions (basic meaning key) }
-    ensures opt { (meaning : Meaning) (key barrier : List ℕ) → IssuedNamePositions (opt meaning key barrier) }
+    ensures opt { (meaning : Meaning) (key barrier : List ℕ)
+        → IssuedNamePositions (opt meaning key barrier) }
 {}
 
 /// The premises on digests and offers can be met: a counter's run of `ask last add 5` meets them, under every key; in Opt
 /// with the barrier of each world.
 pub fn premises_are_met()
-    ensures basic { (key : List ℕ) → IsClearRun (basic counter key) one_ask × IsGenuineRun (basic counter key) one_ask }
+    ensures basic { (key : List ℕ)
+        → IsClearRun (basic counter key) one_ask × IsGenuineRun (basic counter key) one_ask }
     ensures opt { (key : List ℕ) → IsClearRun (opt counter key world_barrier) one_ask
         × IsGenuineRun (opt counter key world_barrier) one_ask }
 {}

@@ -33,7 +33,8 @@ pub fn offered<'a>(
     issued: &'a [Bytes],
     offer: &'a Offer,
 ) -> Result<Option<OfferedBytes<'a>>, Memory>
-    ensures { IfOk result (λ found. option_map bytes_in found ≡ offered_bytes issued.now offer.now) }
+    ensures { IfOk result (λ found. option_map bytes_in found
+        ≡ offered_bytes issued.now offer.now) }
 {
     match offer {
         Offer::Number(number) => Ok(lent(issued, *number as usize)),
@@ -69,7 +70,8 @@ fn turned(
     number: usize,
     offset: u32,
 ) -> Result<Option<OfferedBytes<'static>>, Memory>
-    ensures { IfOk result (λ found. option_map bytes_in found ≡ option_map (flipped offset) (slice_get issued.now number)) }
+    ensures { IfOk result (λ found. option_map bytes_in found
+        ≡ option_map (flipped offset) (slice_get issued.now number)) }
 {
     match issued_at(issued, number) {
         None => Ok(None),

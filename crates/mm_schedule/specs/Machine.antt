@@ -17,7 +17,8 @@ pub record RunsOn (meaning : Meaning) (requests : List (List ℕ)) (batch : Batc
   pub grown : after ≡ requests ++ members_of batch
 
 -- the requests end with the batch, and it is told as it was the first time
-pub record Repeats (meaning : Meaning) (requests : List (List ℕ)) (batch : Batch) (before : ℕ) (outputs after : List (List ℕ)) : Type 0 where
+pub record Repeats (meaning : Meaning) (requests : List (List ℕ)) (batch : Batch) (before : ℕ)
+    (outputs after : List (List ℕ)) : Type 0 where
   pub earlier : List (List ℕ)
   pub ends : requests ≡ earlier ++ members_of batch
   pub position : before ≡ length earlier

@@ -55,5 +55,5 @@ Promises ReceiptQuota requests replies = Unit {0}
 
 -- every run of a module keeps its promise
 abbrev pub RunsKeepPromises : Type 0
-RunsKeepPromises = (machine : AnyModule) (events : List Event) (replies : List Reply) (requests : List (List ℕ))
-    → Runs (meaning_of machine) [] events replies requests → Promises machine requests replies
+RunsKeepPromises = («module» : AnyModule) (events : List Event) (replies : List Reply) (requests : List (List ℕ))
+    → Runs (meaning_of «module») [] events replies requests → Promises «module» requests replies

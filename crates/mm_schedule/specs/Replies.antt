@@ -1,6 +1,7 @@
 -- The lines that answer events.
-use Rattle.std.specs.Prelude.{ℕ, ◌+◌, Bool, true, false, List, [], ◌∷◌, ◌++◌, ◌≤◌, ◌^◌, All, length, codes}
+use Rattle.std.specs.Prelude.{ℕ, ◌+◌, Bool, true, false, List, [], ◌∷◌, ◌++◌, ◌≤◌, All, length, codes}
 use Rattle.std.specs.Fmt.{decimal}
+use Rattle.mm_base.specs.Limits.{last_position, longest_request}
 use Rattle.mm_schedule.specs.declared.reply.Cause.{Cause}
 use Rattle.mm_schedule.specs.declared.reply.Cause.TheVariants.{Long, Lost, Form, Kind, State, Tag, Stale, Full, Segment, Snapshot}
 use Rattle.mm_schedule.specs.declared.reply.Reply.{Reply}
@@ -58,7 +59,8 @@ end_line committed issued = codes "end " ++ decimal committed ++ 32 ∷ [] ++ de
 
 -- what a reply has to meet to be printed: short outputs, and positions of at most 2^48
 abbrev pub IsPrintable : Reply → Type 0
-IsPrintable (Told again before outputs) = (All (λ (output : List ℕ). length output ≤ 4096) outputs) × (before + length outputs ≤ 2 ^ 48)
+IsPrintable (Told again before outputs) = (All (λ (output : List ℕ). length output ≤ longest_request) outputs)
+    × (before + length outputs ≤ last_position)
 IsPrintable (No cause) = Unit {0}
 IsPrintable (Kept way position) = Unit {0}
 IsPrintable (Nothing way) = Unit {0}

@@ -1,7 +1,8 @@
 //! Replies as lines.
 
-ghost use Rattle.std.specs.Prelude.{◌≡◌, ◌+◌, ◌<◌, ◌≤◌, ◌^◌, ◌++◌, [], ◌∷◌, Some, codes, length, take, slice_get};
+ghost use Rattle.std.specs.Prelude.{◌≡◌, ◌+◌, ◌<◌, ◌≤◌, ◌++◌, [], ◌∷◌, Some, codes, length, take, slice_get};
 ghost use Rattle.std.specs.Fmt.{decimal};
+ghost use Rattle.mm_base.specs.Limits.{longest_request};
 ghost use Rattle.mm_schedule.specs.Replies.{end_line, IsPrintable, lines_of, told_line, told_text, way_text};
 
 use crate::reply::{Reply, Way};
@@ -69,7 +70,8 @@ fn print_words(first: &[u8], second: &[u8], into: &mut [u8; 4200]) -> usize
 
 fn print_kept(way: Way, position: u64, into: &mut [u8; 4200]) -> usize
     ensures within { result ≤ 4200 }
-    ensures line { take result into.new ≡ way_text way ++ codes " kept " ++ decimal position ++ 10 ∷ [] }
+    ensures line { take result into.new
+        ≡ way_text way ++ codes " kept " ++ decimal position ++ 10 ∷ [] }
 {
     let at = put(into, 0, way.text());
     let at = put(into, at, b" kept ");
@@ -80,7 +82,7 @@ fn print_kept(way: Way, position: u64, into: &mut [u8; 4200]) -> usize
 /// Writes the line of a position and its output with its LF to the front of `into`, and answers its length. Takes no
 /// memory.
 pub fn print_told(again: bool, position: u64, output: &[u8], into: &mut [u8; 4200]) -> usize
-    requires { length output.now ≤ 4096 }
+    requires { length output.now ≤ longest_request }
     ensures within { result ≤ 4200 }
     ensures line { take result into.new ≡ told_line again position output.now }
 {

@@ -12,7 +12,8 @@ use mm_base::{Bytes, Memory, put_decimal};
 pub fn put_line(reply: &Reply, index: usize, into: &mut Bytes) -> Result<(), Memory>
     requires index { index < length (lines_of reply.now) }
     requires printable { IsPrintable reply.now }
-    ensures { OnOk result ((line : List ℕ) × (slice_get (lines_of reply.now) index ≡ Some line) × (into.new ≡ into.old ++ line)) }
+    ensures { OnOk result ((line : List ℕ) × (slice_get (lines_of reply.now) index ≡ Some line)
+        × (into.new ≡ into.old ++ line)) }
 {
     match reply {
         Reply::Told {
@@ -54,7 +55,8 @@ fn put_words(first: &[u8], second: &[u8], into: &mut Bytes) -> Result<(), Memory
 }
 
 fn put_kept(way: Way, position: u64, into: &mut Bytes) -> Result<(), Memory>
-    ensures { OnOk result (into.new ≡ into.old ++ (way_text way ++ codes " kept " ++ decimal position ++ 10 ∷ [])) }
+    ensures { OnOk result
+        (into.new ≡ into.old ++ (way_text way ++ codes " kept " ++ decimal position ++ 10 ∷ [])) }
 {
     into.append(way.text())?;
     into.append(b" kept ")?;

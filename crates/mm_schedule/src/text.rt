@@ -207,7 +207,8 @@ fn meddles_in(line: &[u8]) -> Option<(Meddles, &[u8])>
 /// These meddles and those of a line, from a step on, and what follows them.
 #[tactic(auto, unfolding(crate::specs::Grammar::meddles_at))]
 fn more_meddles(meddles: Meddles, least: u8, line: &[u8]) -> Option<(Meddles, &[u8])>
-    ensures { option_map texts.read_of result ≡ texts.behind (meddles_of meddles) (meddles_at (8 - meddles.count) least line.now) }
+    ensures { option_map texts.read_of result
+        ≡ texts.behind (meddles_of meddles) (meddles_at (8 - meddles.count) least line.now) }
 {
     if meddles.count == 8 {
         return Some((meddles, line));

@@ -1,5 +1,5 @@
 -- Bytes that spell a snapshot have its fields at their places.
-use Rattle.std.proofs.Common.{ℕ, ◌≡◌, ◌+◌, ◌-◌, ◌≤◌, ◌^◌, Bool, true, false, ◌&&◌, List, ◌++◌, length, take, drop, Result, Ok, Err, refl, sym, ap, ◌∙◌, subst, arith, length-append, append_assoc}
+use Rattle.std.proofs.Common.{ℕ, ◌≡◌, ◌+◌, ◌-◌, ◌≤◌, Bool, true, false, ◌&&◌, List, ◌++◌, length, take, drop, Result, Ok, Err, refl, sym, ap, ◌∙◌, subst, arith, length-append, append_assoc}
 use Rattle.std.specs.Prelude.{if◌then◌else◌, nat_le, ◌==◌, slice_index}
 use Rattle.std.specs.Int.{w64, from_be_bytes, to_be_bytes}
 use Rattle.std.specs.Str.{bytes_eq}
@@ -7,7 +7,7 @@ use Rattle.std.proofs.Math.Seq.{take-append_seam, drop-append_seam, drop-append-
 use Rattle.std.proofs.lemmas.Bool.Decides.{nat_tests}
 use Rattle.std.proofs.lemmas.Slice.Eq.{bytes_eq-Decides}
 use Rattle.std.proofs.lemmas.Nat.{from_be_bytes-to_be_bytes_8}
-use Rattle.mm_base.specs.Limits.{limit_of}
+use Rattle.mm_base.specs.Limits.{last_position, limit_of}
 use Rattle.mm_digest.specs.declared.digest.Digest.{Digest}
 use Rattle.mm_digest.specs.declared.variant.Variant.{Variant}
 use Rattle.mm_digest.specs.Messages.{variant_byte}
@@ -55,7 +55,7 @@ pub record HasFields (x : Content) (end : List ℕ) (size : ℕ) (bytes : List �
   pub tag : drop (length bytes - 32) bytes ≡ end
   pub long : 50 + size ≤ length bytes
 
-position_read : (n : ℕ) (rest : List ℕ) → n ≤ 2 ^ 48 → from_be_bytes w64 (take 8 (eight_bytes n ++ rest)) ≡ n
+position_read : (n : ℕ) (rest : List ℕ) → n ≤ last_position → from_be_bytes w64 (take 8 (eight_bytes n ++ rest)) ≡ n
 unfolding eight_bytes
 position_read n rest h =
     ap (from_be_bytes w64) (take_front 8 (to_be_bytes w64 n) rest (length-eight_bytes n)) ∙ from_be_bytes-to_be_bytes_8 n (omega arith)
@@ -163,8 +163,8 @@ complete bytes s p =
       fields = fields_by s.content.id s.content.position s.content.place s.content.state s.tag bytes p.0.content.place h;
       spelled = both_true (nat_le (50 + size) (length bytes) && is_bounded s.content) (bytes_eq bytes (snapshot_spelling s))
           (both_true (nat_le (50 + size) (length bytes)) (is_bounded s.content) (le_is (50 + size) (length bytes) h.long)
-          (both_true (nat_le s.content.position (2 ^ 48)) (nat_le (length s.content.state) (limit_of s.content.id))
-          (le_is s.content.position (2 ^ 48) p.0.content.position) (le_is (length s.content.state) (limit_of s.content.id) p.0.content.state)))
+          (both_true (nat_le s.content.position last_position) (nat_le (length s.content.state) (limit_of s.content.id))
+          (le_is s.content.position last_position p.0.content.position) (le_is (length s.content.state) (limit_of s.content.id) p.0.content.state)))
           ((bytes_eq-Decides bytes (snapshot_spelling s)).1 p.1);
     }
 

@@ -1,12 +1,12 @@
 -- What is read of an offer.
-use Rattle.std.proofs.Common.{ℕ, ◌≡◌, ◌+◌, ◌-◌, ◌≤◌, ◌^◌, Bool, true, false, ◌&&◌, List, ◌++◌, length, take, drop, Ok, Err, refl, sym, ap, ◌∙◌, subst, arith, length-drop}
+use Rattle.std.proofs.Common.{ℕ, ◌≡◌, ◌+◌, ◌-◌, ◌≤◌, Bool, true, false, ◌&&◌, List, ◌++◌, length, take, drop, Ok, Err, refl, sym, ap, ◌∙◌, subst, arith, length-drop}
 use Rattle.std.specs.Prelude.{if◌then◌else◌, nat_le, ◌==◌, slice_index}
 use Rattle.std.specs.Str.{bytes_eq}
 use Rattle.std.proofs.lemmas.Bool.{and_parts}
 use Rattle.std.proofs.lemmas.Bool.Decides.{nat_tests}
 use Rattle.std.proofs.lemmas.Slice.Eq.{bytes_eq-Decides}
 use Rattle.std.proofs.lemmas.List.{length-take}
-use Rattle.mm_base.specs.Limits.{limit_of}
+use Rattle.mm_base.specs.Limits.{last_position, limit_of}
 use Rattle.mm_digest.specs.declared.variant.Variant.{Variant}
 use Rattle.mm_digest.specs.declared.variant.Variant.TheVariants as variants
 use Rattle.mm_seal.specs.declared.snapshot.PartsFault.TheVariants.{Form, Kind}
@@ -79,7 +79,7 @@ spells_read variant id bytes snapshot e =
     let t = parts_tell variant id bytes snapshot e in
     let parts = and_parts (nat_le (50 + place_length (variant_of snapshot.content.place)) (length bytes) && is_bounded snapshot.content) (bytes_eq bytes (snapshot_spelling snapshot)) t.spelled in
     let long = and_parts (nat_le (50 + place_length (variant_of snapshot.content.place)) (length bytes)) (is_bounded snapshot.content) parts.0 in
-    let bounds = and_parts (nat_le snapshot.content.position (2 ^ 48)) (nat_le (length snapshot.content.state) (limit_of snapshot.content.id)) long.1 in
+    let bounds = and_parts (nat_le snapshot.content.position last_position) (nat_le (length snapshot.content.state) (limit_of snapshot.content.id)) long.1 in
     let kinds = and_parts (same_variant (variant_of snapshot.content.place) variant) (snapshot.content.id == id) t.kind in
     let enough : 50 + place_length (variant_of snapshot.content.place) ≤ length bytes = le_tells _ _ long.0 in
     let P : Snapshot → Type 0 = λ s. 50 + place_length (variant_of s.content.place) ≤ length bytes → IsWhole s in

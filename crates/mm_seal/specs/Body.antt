@@ -1,6 +1,6 @@
 -- What a body in code says, as plain data, and what reading one gives.
-use Rattle.std.specs.Prelude.{◌≡◌, ◌≢◌, ◌+◌, ◌≤◌, ◌^◌, ℕ, List, ◌++◌, length, slice_index}
-use Rattle.mm_base.specs.Limits.{limit_of}
+use Rattle.std.specs.Prelude.{◌≡◌, ◌≢◌, ◌+◌, ◌≤◌, ℕ, List, ◌++◌, length, slice_index}
+use Rattle.mm_base.specs.Limits.{last_position, limit_of}
 use Rattle.mm_digest.specs.declared.variant.Variant.{Variant}
 use Rattle.mm_digest.specs.declared.variant.Variant.TheVariants.{Basic, Opt}
 use Rattle.mm_digest.specs.Messages.{variant_byte}
@@ -40,5 +40,5 @@ PlacedIn bytes variant place rest =
 -- the head is the content's, and the content is within its bounds and has this length
 abbrev pub HasHead : Content → List ℕ → ℕ → Type 0
 HasHead content head size =
-    (head ≡ front_head content) × (content.position ≤ 2 ^ 48) × (length content.state ≡ size)
+    (head ≡ front_head content) × (content.position ≤ last_position) × (length content.state ≡ size)
     × (length content.state ≤ limit_of content.id)

@@ -1,8 +1,8 @@
 -- What an offer is taken apart to, as a function of its bytes.
-use Rattle.std.specs.Prelude.{ℕ, ◌+◌, ◌-◌, ◌^◌, ◌==◌, ◌&&◌, Bool, true, false, List, length, take, drop, Result, Ok, Err, if◌then◌else◌, nat_le, slice_index}
+use Rattle.std.specs.Prelude.{ℕ, ◌+◌, ◌-◌, ◌==◌, ◌&&◌, Bool, true, false, List, length, take, drop, Result, Ok, Err, if◌then◌else◌, nat_le, slice_index}
 use Rattle.std.specs.Int.{w64, from_be_bytes}
 use Rattle.std.specs.Str.{bytes_eq}
-use Rattle.mm_base.specs.Limits.{limit_of}
+use Rattle.mm_base.specs.Limits.{last_position, limit_of}
 use Rattle.mm_digest.specs.declared.digest.Digest.{Digest}
 use Rattle.mm_digest.specs.declared.variant.Variant.{Variant}
 use Rattle.mm_digest.specs.Messages.{variant_byte}
@@ -37,7 +37,7 @@ fields_of bytes = if slice_index bytes 4 == 2 then snapshot_with true 64 bytes e
 
 -- a snapshot's fields are within their bounds
 abbrev pub is_bounded : Content → Bool
-is_bounded content = nat_le content.position (2 ^ 48) && nat_le (length content.state) (limit_of content.id)
+is_bounded content = nat_le content.position last_position && nat_le (length content.state) (limit_of content.id)
 
 -- whether the bytes are long enough for the fields of this variant, and spell the snapshot
 abbrev pub is_spelled_by : List ℕ → Snapshot → Bool

@@ -1,6 +1,6 @@
 -- The bytes of a snapshot, and its seal.
-use Rattle.std.specs.Prelude.{◌≡◌, ◌≢◌, ◌≤◌, ◌^◌, ℕ, List, [], ◌∷◌, ◌++◌, length, Result, Ok, Err}
-use Rattle.mm_base.specs.Limits.{limit_of}
+use Rattle.std.specs.Prelude.{◌≡◌, ◌≢◌, ◌≤◌, ℕ, List, [], ◌∷◌, ◌++◌, length, Result, Ok, Err}
+use Rattle.mm_base.specs.Limits.{last_position, limit_of}
 use Rattle.mm_digest.specs.declared.variant.Variant.{Variant}
 use Rattle.mm_digest.specs.declared.variant.Variant.TheVariants as variants
 use Rattle.mm_digest.specs.Messages.{variant_byte}
@@ -37,7 +37,7 @@ pub record Content : Type 0 where
 
 pub record IsContent (content : Content) : Type 0 where
   pub place : IsPlace content.place
-  pub position : content.position ≤ 2 ^ 48
+  pub position : content.position ≤ last_position
   pub state : length content.state ≤ limit_of content.id
 
 -- what comes before the place: `MMS`, the version, the variant and the module's id

@@ -14,7 +14,8 @@ pub fn version(id: u8) -> u8
 
 // The 32 bytes in front, and the rest.
 pub fn split_key(bytes: &[u8]) -> Option<([u8; 32], &[u8])>
-    ensures { MatchOption result (length bytes.now < 32) (λ p. (bytes.now ≡ p.0 ++ p.1.now) × (length p.0 ≡ 32)) }
+    ensures { MatchOption result (length bytes.now < 32)
+        (λ p. (bytes.now ≡ p.0 ++ p.1.now) × (length p.0 ≡ 32)) }
 {
     let (front, rest) = bytes.split_first_chunk::<32>()?;
     Some((*front, rest))
@@ -22,7 +23,8 @@ pub fn split_key(bytes: &[u8]) -> Option<([u8; 32], &[u8])>
 
 /// The digest in the 32 bytes in front, and the rest. None exactly where there are fewer bytes.
 pub fn split_digest(bytes: &[u8]) -> Option<(Digest, &[u8])>
-    ensures { MatchOption result (length bytes.now < 32) (λ p. (bytes.now ≡ p.0.bytes ++ p.1.now) × (length p.0.bytes ≡ 32)) }
+    ensures { MatchOption result (length bytes.now < 32)
+        (λ p. (bytes.now ≡ p.0.bytes ++ p.1.now) × (length p.0.bytes ≡ 32)) }
 {
     let (front, rest) = bytes.split_first_chunk::<32>()?;
     Some((Digest { bytes: *front }, rest))

@@ -1,21 +1,18 @@
 //! Snapshots: a place, a position and a state, sealed under the cell's key.
 
-ghost use Rattle.std.specs.Prelude.{◌≡◌, ◌≤◌, ◌<◌, ◌^◌, ◌++◌, ◌↔◌, IsTrue, IfOk, MatchOption, OnOk, OnErr, length};
-ghost use Rattle.mm_base.specs.Limits.{limit_of};
+ghost use Rattle.std.specs.Prelude.{◌≡◌, ◌≤◌, ◌<◌, ◌++◌, ◌↔◌, IsTrue, IfOk, MatchOption, OnOk, OnErr, length};
+ghost use Rattle.mm_base.specs.Limits.{last_position, limit_of};
 ghost use Rattle.mm_digest.specs.Hmac.{hmac_of};
 ghost use Rattle.mm_seal.specs.Snapshot.{variant_of, place_spelling, IsPlace, front_head, snapshot_front, sealed_of, IsOfKind, IsNoSnapshot, Spells, ReadsParts, Opens, OneSpelling};
 ghost use Rattle.mm_seal.specs.Parts.{parts_of};
 ghost use Rattle.mm_seal.specs.Body.{content_of, IsNoFront, IsFrontOf, HasFieldsOf, HasHead, PlacedIn, place_length};
 
 use crate::field::{split_digest, version};
-use mm_base::{Bytes, Memory, bytes_of_u32, bytes_of_u64, split_u32, split_u64};
+use mm_base::{Bytes, LAST_POSITION, Memory, bytes_of_u32, bytes_of_u64, split_u32, split_u64};
 use mm_digest::{Digest, HmacKey, Variant};
 use std::alloc::Global;
 use std::marker::Model;
 use thiserror::Error;
-
-// The greatest position: 2^48.
-const MAX_POSITION: u64 = 0x1_0000_0000_0000;
 
 /// Where in a platform's history a snapshot was made.
 #[derive(Clone, Copy, Debug, PartialEq, Eq)]
@@ -125,7 +122,7 @@ impl<'a> Offered<'a> {
 /// The snapshot of this content, sealed under the key. The position is at most 2^48, and the state
 /// has at most as many bytes as its module's id allows.
 pub fn seal(alloc: Global, key: &[u8; 32], body: &Body<'_>) -> Result<Bytes, Memory>
-    requires position { body.now.position ≤ 2 ^ 48 }
+    requires position { body.now.position ≤ last_position }
     requires state { length body.now.state.now ≤ limit_of body.now.module }
     ensures { IfOk result (λ bytes. bytes ≡ sealed_of key.now (content_of body.now)) }
 {
@@ -135,7 +132,7 @@ pub fn seal(alloc: Global, key: &[u8; 32], body: &Body<'_>) -> Result<Bytes, Mem
 /// The same, under a key that is absorbed.
 #[tactic(auto, unfolding(crate::specs::Snapshot::sealed_of))]
 pub fn seal_under(alloc: Global, key: &HmacKey, body: &Body<'_>) -> Result<Bytes, Memory>
-    requires position { body.now.position ≤ 2 ^ 48 }
+    requires position { body.now.position ≤ last_position }
     requires state { length body.now.state.now ≤ limit_of body.now.module }
     ensures { IfOk result (λ bytes. bytes ≡ sealed_of key.now (content_of body.now)) }
 {
@@ -265,7 +262,8 @@ fn offered_in(bytes: &[u8]) -> Option<Offered<'_>>
 
 // The content that these bytes are the front of.
 fn body_of(front: &[u8]) -> Option<Body<'_>>
-    ensures { MatchOption result (IsNoFront front.now) (λ body. IsFrontOf front.now (content_of body)) }
+    ensures { MatchOption result (IsNoFront front.now)
+        (λ body. IsFrontOf front.now (content_of body)) }
 {
     let variant = variant_at(front)?;
     let (head, rest) = front.split_at(6);
@@ -311,7 +309,8 @@ fn place_len(variant: Variant) -> usize
 
 // The place in front, and the rest.
 fn split_place(variant: Variant, bytes: &[u8]) -> Option<(Place, &[u8])>
-    ensures { MatchOption result (length bytes.now < place_length variant) (λ p. PlacedIn bytes.now variant p.0 p.1.now) }
+    ensures { MatchOption result (length bytes.now < place_length variant)
+        (λ p. PlacedIn bytes.now variant p.0 p.1.now) }
 {
     let (digest, rest) = split_digest(bytes)?;
     match variant {
@@ -329,7 +328,7 @@ fn is_body(body: &Body<'_>, head: &[u8], length: u32) -> bool
     ensures { IsTrue result ↔ HasHead (content_of body.now) head.now length }
 {
     head == head_of(body).as_slice()
-        && body.position <= MAX_POSITION
+        && body.position <= LAST_POSITION
         && body.state.len() == length as usize
         && body.state.len() <= limit(body.module)
 }

@@ -3,6 +3,7 @@ use Rattle.std.specs.Prelude.{◌≡◌, ◌≢◌, ◌+◌, ◌<◌, ◌≤◌,
 use Rattle.sha2.specs.Sha256.{sha256}
 use Rattle.mm_base.specs.Lines.{IsWithin}
 use Rattle.mm_base.specs.Fields.{eight_bytes, four_bytes}
+use Rattle.mm_base.specs.Limits.{last_position, longest_request}
 
 -- a request, and the position that it is to take
 pub record Pending : Type 0 where
@@ -12,8 +13,8 @@ pub record Pending : Type 0 where
 -- a record that stands in this slot: slots 2 and 3 take turns
 pub record IsPending (slot : ℕ) (p : Pending) : Type 0 where
   pub least : 1 ≤ p.position
-  pub most : p.position ≤ 2 ^ 48
-  pub line : IsWithin 4096 p.request
+  pub most : p.position ≤ last_position
+  pub line : IsWithin longest_request p.request
   pub parity : slot ≡ 2 + p.position % 2
 
 -- `MMP1`

@@ -111,7 +111,8 @@ impl MemStore {
     /// Makes the call of this number fail, counted from 1 from now on, and no other. A write that fails
     /// so leaves these bytes in its slot. After want of memory nothing has changed.
     pub fn stop_at(&mut self, call: u64, leaves: &[u8]) -> Result<(), Memory>
-        ensures ok { OnOk result (self.new ≡ record self.old { ahead = call; leaves = leaves.now }) }
+        ensures ok { OnOk result
+            (self.new ≡ record self.old { ahead = call; leaves = leaves.now }) }
         ensures err { OnErr result (self.new ≡ self.old) }
     {
         self.leaves = Bytes::copy_of(self.alloc, leaves)?;
@@ -123,7 +124,11 @@ impl MemStore {
     /// changed.
     pub fn set_slot(&mut self, slot: u8, bytes: &[u8]) -> Result<(), Memory>
         requires { slot < 4 }
-        ensures ok { OnOk result (self.new ≡ record self.old { slots = with_slot self.old.slots slot bytes.now; is_honest = false }) }
+        ensures ok { OnOk result
+            (self.new ≡ record self.old {
+              slots = with_slot self.old.slots slot bytes.now;
+              is_honest = false;
+            }) }
         ensures err { OnErr result (self.new ≡ self.old) }
     {
         let kept = Bytes::copy_of(self.alloc, bytes)?;
@@ -143,7 +148,9 @@ impl MemStore {
     // Begins a call, and tells whether it is the one that is to fail.
     fn is_to_fail(&mut self) -> bool
         ensures fails { IsTrue result ↔ (self.old.ahead ≡ 1) }
-        ensures after { self.new ≡ (if result then record (called self.old) { faults = counted self.old.faults } else called self.old) }
+        ensures after { self.new
+            ≡ (if result then record (called self.old) { faults = counted self.old.faults }
+            else called self.old) }
     {
         let fails = self.ahead == 1;
         self.ahead = self.ahead.saturating_sub(1);

@@ -1,21 +1,18 @@
 //! The record of a request that is pending: it is written before the request is asked.
 
-ghost use Rattle.std.specs.Prelude.{◌≡◌, ◌≤◌, ◌+◌, ◌^◌, ◌++◌, ◌↔◌, IsTrue, IfOk, OnOk, MatchOption, length};
+ghost use Rattle.std.specs.Prelude.{◌≡◌, ◌≤◌, ◌+◌, ◌++◌, ◌↔◌, IsTrue, IfOk, OnOk, MatchOption, length};
 ghost use Rattle.std.specs.Option.{option_map};
 ghost use Rattle.sha2.specs.Sha256.{sha256};
 ghost use Rattle.mm_base.specs.Lines.{IsWithin};
+ghost use Rattle.mm_base.specs.Limits.{last_position, longest_request};
 ghost use Rattle.mm_store.specs.Pending.{IsPending, record_word, pending_front, pending_spelling, ReadsPending, OneReading, IsFrontOf, IsNoFront};
 ghost use Rattle.mm_store.specs.Records.{pending_of};
 
-use mm_base::{Bytes, Memory, bytes_of_u32, bytes_of_u64, split_u32, split_u64};
+use mm_base::{
+    Bytes, LAST_POSITION, LONGEST_REQUEST, Memory, bytes_of_u32, bytes_of_u64, split_u32, split_u64,
+};
 use sha2::{Digest as _, Sha256};
 use std::alloc::Global;
-
-// The greatest position: 2^48.
-const MAX_POSITION: u64 = 0x1_0000_0000_0000;
-
-// The most bytes that a request has.
-const LONGEST_REQUEST: usize = 4096;
 
 /// A request of at most 4,096 bytes without LF, and the position from 1 to 2^48 that it is to take.
 #[derive(Clone, Copy, Debug)]
@@ -29,9 +26,10 @@ pub struct PendingRequest<'a> {
 #[tactic(auto, unfolding(crate::specs::Pending::pending_spelling))]
 pub fn pending_bytes(alloc: Global, position: u64, request: &[u8]) -> Result<Bytes, Memory>
     requires least { 1 ≤ position }
-    requires most { position ≤ 2 ^ 48 + 1 }
-    requires line { IsWithin 4096 request.now }
-    ensures { IfOk result (λ bytes. bytes ≡ pending_spelling (record { position = position; request = request.now })) }
+    requires most { position ≤ last_position + 1 }
+    requires line { IsWithin longest_request request.now }
+    ensures { IfOk result (λ bytes. bytes
+        ≡ pending_spelling (record { position = position; request = request.now })) }
 {
     let mut bytes = Bytes::with_capacity(alloc, 48 + request.len())?;
     put_front(&mut bytes, position, request)?;
@@ -42,8 +40,9 @@ pub fn pending_bytes(alloc: Global, position: u64, request: &[u8]) -> Result<Byt
 
 // Puts what is hashed at the end.
 fn put_front(bytes: &mut Bytes, position: u64, request: &[u8]) -> Result<(), Memory>
-    requires { length request.now ≤ 4096 }
-    ensures { OnOk result (bytes.new ≡ bytes.old ++ pending_front (record { position = position; request = request.now })) }
+    requires { length request.now ≤ longest_request }
+    ensures { OnOk result (bytes.new
+        ≡ bytes.old ++ pending_front (record { position = position; request = request.now })) }
 {
     bytes.append(b"MMP1")?;
     bytes.append(&bytes_of_u64(position))?;
@@ -101,14 +100,14 @@ fn stands_in(pending: &PendingRequest<'_>, slot: u8) -> bool
     ensures { IsTrue result ↔ IsPending slot (pending_of pending.now) }
 {
     let position = pending.position;
-    (1..=MAX_POSITION).contains(&position)
+    (1..=LAST_POSITION).contains(&position)
         && is_line(pending.request)
         && u64::from(slot) == 2 + position % 2
 }
 
 // Whether a request has at most 4,096 bytes and no LF.
 fn is_line(request: &[u8]) -> bool
-    ensures { IsTrue result ↔ IsWithin 4096 request.now }
+    ensures { IsTrue result ↔ IsWithin longest_request request.now }
 {
     request.len() <= LONGEST_REQUEST && !request.contains(&b'\n')
 }

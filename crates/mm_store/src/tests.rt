@@ -171,7 +171,8 @@ fn put(store: &mut MemStore, slot: u8, bytes: &[u8]) -> Result<(), StoreFault> {
 
 // Copies slot 0 to slot 1, over any store.
 fn copy_slot<T: Store>(store: &mut T, alloc: Global) -> Result<(), StoreFault>
-    ensures { OnOk result ((T.kept store.old).is_honest ≡ true → (slots : Slots) → (T.kept store.old).slots ≡ Some slots
+    ensures { OnOk result ((T.kept store.old).is_honest ≡ true → (slots : Slots)
+        → (T.kept store.old).slots ≡ Some slots
         → (T.kept store.new).slots ≡ Some (with_slot slots 1 (seen_in slots 0))) }
 {
     let bytes = store.read(alloc, 0)?;

@@ -4,7 +4,8 @@ use Rattle.std.proofs.Common.{arith}
 use Rattle.std.proofs.lemmas.Bool.Decides.{nat_tests}
 use Rattle.mm_twocell.specs.Torn.{Torn, whole, told_by}
 
-chosen_size : (all bytes : List ℕ) (is : Bool) → (length all == 209) ≡ is → (if is then Some all else None) ≡ Some bytes → length bytes ≡ 209
+chosen_size : (all bytes : List ℕ) (is : Bool) → (length all == 209) ≡ is → (if is then Some all else None) ≡ Some bytes
+    → length bytes ≡ 209
 chosen_size all bytes true e f = let same : length all ≡ length bytes = cc in grind (arith, nat_tests, e, same)
 chosen_size all bytes false e f = absurd (cc)
 

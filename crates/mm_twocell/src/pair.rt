@@ -89,7 +89,8 @@ impl<R: RawNv + Register> Platform for TwoCell<R> {
 // The selector, at place 208.
 fn read_selector<R: RawNv>(raw: &mut R) -> Result<u8, StepFault>
     ensures goes { ReadsRaw (R.standing raw.old) (R.standing raw.new) (result_err result) }
-    ensures read { IfOk result (λ selector. (bytes : List ℕ) → (R.standing raw.old).cell ≡ Some bytes
+    ensures read { IfOk result (λ selector. (bytes : List ℕ)
+        → (R.standing raw.old).cell ≡ Some bytes
         → selector ≡ slice_index bytes 208) }
 {
     let mut selector = [0];
@@ -100,7 +101,8 @@ fn read_selector<R: RawNv>(raw: &mut R) -> Result<u8, StepFault>
 // Reads the cell that the selector picks.
 fn read_picked<R: RawNv>(raw: &mut R, into: &mut [u8; 104]) -> Result<(), StepFault>
     ensures goes { ReadsRaw (R.standing raw.old) (R.standing raw.new) (result_err result) }
-    ensures read { OnOk result ((bytes : List ℕ) → (R.standing raw.old).cell ≡ Some bytes → into.new ≡ picked bytes) }
+    ensures read { OnOk result ((bytes : List ℕ) → (R.standing raw.old).cell ≡ Some bytes
+        → into.new ≡ picked bytes) }
     ensures unread { OnErr result (into.new ≡ into.old) }
 {
     let selector = read_selector(raw)?;

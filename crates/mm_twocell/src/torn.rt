@@ -55,7 +55,8 @@ impl MemRaw {
     /// now on; none where it is 0. A write that fails leaves these bytes in front of its range, as far as
     /// it goes. After want of memory nothing has changed.
     pub fn stop_at(&mut self, call: u64, leaves: &[u8]) -> Result<(), Memory>
-        ensures ok { OnOk result (self.new ≡ record self.old { ahead = call; leaves = leaves.now }) }
+        ensures ok { OnOk result
+            (self.new ≡ record self.old { ahead = call; leaves = leaves.now }) }
         ensures err { OnErr result (self.new ≡ self.old) }
     {
         self.leaves = Vec::from_slice(*self.leaves.allocator(), leaves)?;
@@ -136,7 +137,8 @@ impl RawNv for MemRaw {
 
     fn raw_write(&mut self, at: u16, bytes: &[u8]) -> Result<(), StepFault>
         requires { at + length bytes.now ≤ 209 }
-        ensures goes { WritesRaw at bytes.now (told_by self.old) (told_by self.new) (result_err result) }
+        ensures goes { WritesRaw at bytes.now (told_by self.old) (told_by self.new)
+            (result_err result) }
         ensures failing { IsErr result ↔ (self.old.ahead ≡ 1) }
         ensures after { self.new ≡ after_write at bytes.now self.old }
     {
@@ -177,7 +179,8 @@ impl Register for MemRaw {
     #[tactic(auto, using(crate::proofs::Steadying::read_steps))]
     fn reg_read(&mut self) -> Result<Digest, StepFault>
         ensures goes { Goes ReadRegister (told_by self.old) (told_by self.new) (result_err result) }
-        ensures read { IfOk result (λ value. (items : List Item) → (told_by self.new).items ≡ Some items
+        ensures read { IfOk result (λ value. (items : List Item)
+            → (told_by self.new).items ≡ Some items
             → value.bytes ≡ register_of (values_of items)) }
         ensures done { IsOk result }
         ensures steps { StepsRegister ReadRegister self.old self.new }
@@ -187,7 +190,8 @@ impl Register for MemRaw {
 
     #[tactic(auto, using(crate::proofs::Steadying::reset_steps))]
     fn reg_reset(&mut self) -> Result<(), StepFault>
-        ensures goes { Goes ResetRegister (told_by self.old) (told_by self.new) (result_err result) }
+        ensures goes { Goes ResetRegister (told_by self.old) (told_by self.new)
+            (result_err result) }
         ensures done { IsOk result }
         ensures steps { StepsRegister ResetRegister self.old self.new }
     {
@@ -197,7 +201,8 @@ impl Register for MemRaw {
     #[tactic(auto, using(crate::proofs::Steadying::extend_steps))]
     fn reg_extend(&mut self, value: &Digest) -> Result<(), StepFault>
         requires { 1 ≤ (told_by self.old).spare }
-        ensures goes { Goes (ExtendRegister value.now.bytes) (told_by self.old) (told_by self.new) (result_err result) }
+        ensures goes { Goes (ExtendRegister value.now.bytes) (told_by self.old) (told_by self.new)
+            (result_err result) }
         ensures done { IsOk result }
         ensures steps { StepsRegister (ExtendRegister value.now.bytes) self.old self.new }
     {

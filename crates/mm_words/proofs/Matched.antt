@@ -10,6 +10,7 @@ use Rattle.clap.specs.Walk.{Text, first_of, rows_of}
 use Rattle.clap.specs.declared.parser.matches.Found.{Found}
 use Rattle.clap.proofs.WalkLemmas.{first_value-rows}
 use Rattle.mm_base.proofs.DecimalLemmas.{read_by_spelling}
+use Rattle.mm_base.specs.Limits.{most_events}
 use Rattle.mm_digest.specs.declared.variant.Variant.{Variant}
 use Rattle.mm_digest.specs.declared.variant.Variant.TheVariants.{Basic, Opt}
 use Rattle.mm_module.specs.Values.{value_at}
@@ -62,8 +63,8 @@ generated_again : (it : Generated) (found : Found) → IsGenerated it → first_
     → first_of (codes "COUNT") (rows_of found) ≡ Some (decimal it.count) → header_in found ≡ Some it.header → generated_in found ≡ Some it
 unfolding generated_in
 generated_again it found allowed number count header =
-    let few : it.count ≤ 20000 = allowed.count in
-    let test : nat_lt 20000 it.count ≡ false = grind (arith, nat_tests) in
+    let few : it.count ≤ most_events = allowed.count in
+    let test : nat_lt most_events it.count ≡ false = grind (arith, nat_tests) in
     rw (
       first_value-rows found (codes "NUMBER") ∙ number,
       first_value-rows found (codes "COUNT") ∙ count,

@@ -6,6 +6,7 @@ use Rattle.std.specs.Option.{option_map_or}
 use Rattle.std.specs.Str.{bytes_eq}
 use Rattle.mm_base.specs.Decimals.{number_of}
 use Rattle.mm_base.proofs.DecimalLemmas.{read_by_spelling}
+use Rattle.mm_base.specs.Limits.{most_events}
 use Rattle.mm_module.specs.Values.{value_at}
 use Rattle.mm_modules.specs.Modules.{module_named, name_of}
 use Rattle.mm_schedule.specs.Headers.{variant_at, variant_text}
@@ -50,7 +51,7 @@ header-again header = rw (variant-read header.variant, name-read header.module) 
 generated-again : (it : Generated) → IsGenerated it
     → generated_by (decimal it.number) (decimal it.count) (variant_text it.header.variant) (name_of it.header.module) ≡ Some it
 generated-again it allowed =
-    let few : it.count ≤ 20000 = allowed.count in
+    let few : it.count ≤ most_events = allowed.count in
     rw (
       read_by_spelling (decimal it.number) it.number allowed.number refl,
       read_by_spelling (decimal it.count) it.count (omega arith) refl,

@@ -2,6 +2,7 @@
 use Rattle.std.specs.Prelude.{◌≡◌, ◌<◌, ◌≤◌, ◌^◌, ℕ, List, [], ◌∷◌, Some, codes}
 use Rattle.std.specs.Fmt.{decimal}
 use Rattle.mm_base.specs.Input.{joined}
+use Rattle.mm_base.specs.Limits.{most_events}
 use Rattle.mm_module.specs.Values.{value_at}
 use Rattle.mm_modules.specs.Modules.{name_of}
 use Rattle.mm_schedule.specs.Headers.{variant_text}
@@ -38,7 +39,7 @@ AreWordsOf Help words = words ≡ codes "--help" ∷ []
 -- a number of 64 bits, and at most 20,000 events
 pub record IsGenerated (it : Generated) : Type 0 where
   pub number : it.number < 2 ^ 64
-  pub count : it.count ≤ 20000
+  pub count : it.count ≤ most_events
 
 -- the numbers of a command are within their bounds
 abbrev pub IsInBounds : Command → Type 0

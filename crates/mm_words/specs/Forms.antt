@@ -4,6 +4,7 @@ use Rattle.std.specs.Str.{bytes_eq}
 use Rattle.clap.specs.Words.{first_value}
 use Rattle.clap.specs.declared.parser.matches.Found.{Found}
 use Rattle.mm_base.specs.Decimals.{number_of}
+use Rattle.mm_base.specs.Limits.{most_events}
 use Rattle.mm_module.specs.Values.{value_at}
 use Rattle.mm_modules.specs.Modules.{module_named}
 use Rattle.mm_schedule.specs.Headers.{variant_at}
@@ -22,7 +23,7 @@ is_refused (byte ∷ rest) = byte == 45 || bytes_eq (byte ∷ rest) (codes "help
 
 -- a count of events
 abbrev pub count_at : List ℕ → Option ℕ
-count_at word = number_of word >>= λ count. if nat_lt 20000 count then None else Some count
+count_at word = number_of word >>= λ count. if nat_lt most_events count then None else Some count
 
 -- the words of a variant and a module, each read as what it has to be
 unfoldable pub header_in : Found → Option Header

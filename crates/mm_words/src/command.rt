@@ -77,7 +77,8 @@ pub(crate) fn is_alone(words: &[&str], alone: &str) -> bool
 
 /// Whether the words are this one, and the variant and the module of a header.
 fn are_header_words(words: &[&str], form: &str, header: &Header) -> bool
-    ensures { result ≡ pointwise bytes_eq (map (λ s. s.now) words.now) (form.now ∷ header_words header.now) }
+    ensures { result ≡ pointwise bytes_eq (map (λ s. s.now) words.now)
+        (form.now ∷ header_words header.now) }
 {
     let [word, variant, module] = words else {
         return false;
@@ -89,7 +90,8 @@ fn are_header_words(words: &[&str], form: &str, header: &Header) -> bool
 
 /// Whether the words are this one, and those of a generated schedule.
 fn are_generated_words(words: &[&str], form: &str, it: &Generated) -> bool
-    ensures { result ≡ pointwise bytes_eq (map (λ s. s.now) words.now) (form.now ∷ generated_words it.now) }
+    ensures { result ≡ pointwise bytes_eq (map (λ s. s.now) words.now)
+        (form.now ∷ generated_words it.now) }
 {
     let [word, number, count, variant, module] = words else {
         return false;

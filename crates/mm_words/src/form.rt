@@ -2,18 +2,16 @@
 
 ghost use Rattle.std.specs.Prelude.{◌≡◌, ◌≤◌, IfSome};
 ghost use Rattle.clap.specs.Words.{found_of};
+ghost use Rattle.mm_base.specs.Limits.{most_events};
 ghost use Rattle.mm_words.specs.Commands.{IsInBounds, IsGenerated};
 ghost use Rattle.mm_words.specs.Forms.{command_in, count_at, generated_in, header_in, key_found};
 
 use crate::command::{Command, Generated};
 use clap::ArgMatches;
-use mm_base::read_decimal;
+use mm_base::{MOST_EVENTS, read_decimal};
 use mm_module::value_in;
 use mm_modules::by_name;
 use mm_schedule::{Header, read_variant};
-
-/// The most events of a generated schedule.
-const MOST: u64 = 20_000;
 
 /// The command of a subcommand with this name and these matches.
 #[tactic(auto, unfolding(crate::specs::Forms::command_in))]
@@ -88,11 +86,11 @@ fn key_in(matches: &ArgMatches<'_>) -> Option<[u8; 32]>
 
 /// The number of events that a word writes, None where it is no decimal or over 20,000.
 fn read_count(word: &str) -> Option<u32>
-    ensures few { IfSome result (λ count. count ≤ 20000) }
+    ensures few { IfSome result (λ count. count ≤ most_events) }
     ensures count { result ≡ count_at word.now }
 {
     let count = read_decimal(word.as_bytes())?;
-    if count > MOST {
+    if count > u64::from(MOST_EVENTS) {
         return None;
     }
     Some(count as u32)

@@ -23,8 +23,10 @@ const LONGEST: usize = 5;
 /// where they spell none, but for want of memory.
 pub fn read_words(alloc: Global, words: &[&str]) -> Result<Command, WordsFault>
     ensures ok { IfOk result (λ command. SpellsCommand command (map (λ s. s.now) words.now)) }
-    ensures one { IfOk result (λ command. (other : Told) → SpellsCommand other (map (λ s. s.now) words.now) → other ≡ command) }
-    ensures usage { result ≡ Err fault.Usage → (command : Told) → SpellsCommand command (map (λ s. s.now) words.now) → ⊥ }
+    ensures one { IfOk result (λ command. (other : Told)
+        → SpellsCommand other (map (λ s. s.now) words.now) → other ≡ command) }
+    ensures usage { result ≡ Err fault.Usage → (command : Told)
+        → SpellsCommand command (map (λ s. s.now) words.now) → ⊥ }
 {
     if is_alone(words, "--help") {
         return Ok(Command::Help);
@@ -55,7 +57,8 @@ fn is_refused(word: &str) -> bool
 /// The command that `clap` finds in the words.
 fn parsed(alloc: Global, words: &[&str]) -> Result<Command, WordsFault>
     ensures allowed { IfOk result IsInBounds }
-    ensures gets { (command : Told) → SpellsCommand command (map (λ s. s.now) words.now) → IsMatched command → Gets command result }
+    ensures gets { (command : Told) → SpellsCommand command (map (λ s. s.now) words.now)
+        → IsMatched command → Gets command result }
 {
     let Ok(line) = command_line(alloc) else {
         return Err(WordsFault::Memory);

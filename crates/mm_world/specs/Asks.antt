@@ -34,10 +34,12 @@ pub record Lacks (i : Instance) (d : Digests) (meddles : List Meddle) (stop : St
   pub quiet : IsQuiet new
   pub writes : new.writes ≡ old.writes
   pub called : (new ≡ old)
-      ⊎ (Stands i new (seen_at i (by_digests i) d (course_of stop meddles)) × (new.steps ≡ counted_by (length (reading_steps i.variant)) old.steps))
+      ⊎ (Stands i new (seen_at i (by_digests i) d (course_of stop meddles))
+      × (new.steps ≡ counted_by (length (reading_steps i.variant)) old.steps))
 
 -- the batch is asked of these bytes, if any are offered, over a quiet platform
-abbrev pub AsksAs : Variant → Meaning → Standing → Standing → List (List ℕ) → List Meddle → Stop → Option (List ℕ) → Batch → Result Called Memory → Type 0
+abbrev pub AsksAs : Variant → Meaning → Standing → Standing → List (List ℕ) → List Meddle → Stop → Option (List ℕ) → Batch
+    → Result Called Memory → Type 0
 AsksAs variant meaning old new issued meddles stop bytes b result =
     (key barrier : List ℕ) (d : Digests) → Stands (instance_by variant meaning key barrier) old d → IsQuiet old
     → MatchResult result
@@ -57,6 +59,7 @@ ChecksAs variant meaning old new issued meddles stop result =
     → MatchResult result
     (λ said. Came (instance_by variant meaning key barrier)
     (closed_outcome (by_digests (instance_by variant meaning key barrier)) stop issued
-    (checkpointed (instance_by variant meaning key barrier) (by_digests (instance_by variant meaning key barrier)) d (course_of stop meddles)))
+    (checkpointed (instance_by variant meaning key barrier) (by_digests (instance_by variant meaning key barrier)) d
+    (course_of stop meddles)))
     d.count issued old new (quiet_as said))
     (λ _. new ≡ old)

@@ -162,7 +162,8 @@ fn basic<M: Module>(
     keys: &mut KeptKey,
 ) -> Ended
     requires short { is_long (batch_of batch) ≡ false }
-    ensures { CallsTo Basic (M.meaning «module».now) platform.old platform.new offer.now (batch_of batch.entry) result }
+    ensures { CallsTo Basic (M.meaning «module».now) platform.old platform.new offer.now
+        (batch_of batch.entry) result }
 {
     match mm_basic::begin(batch) {
         Ok(call) => call.finish_keeping(alloc, module, platform, offer, batch, keys),
@@ -180,7 +181,8 @@ fn opt<M: Module>(
     keys: &mut KeptKey,
 ) -> Ended
     requires short { is_long (batch_of batch) ≡ false }
-    ensures { CallsTo Opt (M.meaning «module».now) platform.old platform.new offer.now (batch_of batch.entry) result }
+    ensures { CallsTo Opt (M.meaning «module».now) platform.old platform.new offer.now
+        (batch_of batch.entry) result }
 {
     match mm_opt::begin(batch) {
         Ok(call) => call.finish_keeping(alloc, module, platform, offer, batch, keys),
@@ -199,7 +201,8 @@ fn finish<M: Module>(
     keys: &mut KeptKey,
 ) -> Ended
     requires short { is_long (batch_of batch) ≡ false }
-    ensures { CallsTo variant (M.meaning «module».now) platform.old platform.new offer.now (batch_of batch.entry) result }
+    ensures { CallsTo variant (M.meaning «module».now) platform.old platform.new offer.now
+        (batch_of batch.entry) result }
 {
     match variant {
         Variant::Basic => basic(alloc, module, platform, offer, batch, keys),
@@ -238,7 +241,8 @@ fn ask<M: Module>(
     stop: Stop,
     keys: &mut KeptKey,
 ) -> Result<Called, Memory>
-    ensures { (issued : List (List ℕ)) → AsksAs variant (M.meaning «module».now) platform.old platform.new issued meddles.now stop
+    ensures { (issued : List (List ℕ))
+        → AsksAs variant (M.meaning «module».now) platform.old platform.new issued meddles.now stop
         (Some offer.now) (batch_of batch.entry) result }
 {
     if is_long(&batch) {
@@ -265,8 +269,8 @@ pub fn asked<M: Module>(
     stop: Stop,
     keys: &mut KeptKey,
 ) -> Result<Called, Memory>
-    ensures { AsksAs variant (M.meaning «module».now) platform.old platform.new issued.now meddles.now stop
-        (offered_bytes issued.now offer.now) (batch_of batch.entry) result }
+    ensures { AsksAs variant (M.meaning «module».now) platform.old platform.new issued.now
+        meddles.now stop (offered_bytes issued.now offer.now) (batch_of batch.entry) result }
 {
     match offered(alloc, issued, offer) {
         Err(memory) => Err(memory),

@@ -42,8 +42,10 @@ impl Model for World {
 
 // The first cell and snapshot of a world.
 fn provisioned(alloc: Global, header: &Header) -> Result<Provisioned, Memory>
-    ensures cell { IfOk result (λ made. made.cell ≡ cell_spelling (cell_of (world_of header.now) first_history)) }
-    ensures snapshot { IfOk result (λ made. made.snapshot ≡ issued_bytes (world_of header.now) first_history) }
+    ensures cell { IfOk result (λ made. made.cell
+        ≡ cell_spelling (cell_of (world_of header.now) first_history)) }
+    ensures snapshot { IfOk result
+        (λ made. made.snapshot ≡ issued_bytes (world_of header.now) first_history) }
 {
     match header.variant {
         Variant::Basic => mm_basic::provision(
@@ -58,6 +60,7 @@ fn provisioned(alloc: Global, header: &Header) -> Result<Provisioned, Memory>
 
 impl World {
     ghost use Rattle.std.specs.Prelude.{◌≡◌, ◌<◌, ◌≤◌, ◌+◌, ◌-◌, ◌^◌, IfOk, OnErr, length, slice_get, option_copied};
+    ghost use Rattle.mm_base.specs.Limits.{most_members};
     ghost use Rattle.mm_module.specs.Batches.{batch_of};
     ghost use Rattle.mm_schedule.specs.Events.{Ask, Checkpoint, Power, Extend, event_of};
     ghost use Rattle.mm_schedule.specs.Replies.{IsPrintable};
@@ -100,20 +103,23 @@ impl World {
     /// reading steps.
     pub fn event(&mut self, event: &Event) -> Result<Reply, Memory>
         requires { length self.old.issued < 2 ^ 32 - 1 }
-        ensures ok { IfOk result (Follows (outcome_in self.old (event_of event.now)) self.old self.new) }
+        ensures ok { IfOk result
+            (Follows (outcome_in self.old (event_of event.now)) self.old self.new) }
         ensures wants { OnErr result (Wants (event_of event.now) self.old self.new) }
 
         // The reply can be printed; at most one snapshot is issued, and at most 64 requests are committed.
         ensures printable { IfOk result IsPrintable }
         ensures grows { length self.new.issued ≤ length self.old.issued + 1 }
-        ensures few { (outcome_in self.old (event_of event.now)).state.count ≤ self.old.digests.count + 64 }
+        ensures few { (outcome_in self.old (event_of event.now)).state.count
+            ≤ self.old.digests.count + most_members }
     {
         self.run(event)
     }
 
     fn run(&mut self, event: &Event) -> Result<Reply, Memory>
         requires { length self.old.issued < 2 ^ 32 - 1 }
-        ensures ok { IfOk result (Follows (outcome_in self.old (event_of event.now)) self.old self.new) }
+        ensures ok { IfOk result
+            (Follows (outcome_in self.old (event_of event.now)) self.old self.new) }
         ensures memory { OnErr result (Wants (event_of event.now) self.old self.new) }
     {
         match event {
@@ -182,8 +188,11 @@ impl World {
         batch: Batch<'_>,
     ) -> Result<Reply, Memory>
         requires { length self.old.issued < 2 ^ 32 - 1 }
-        ensures ok { IfOk result (Follows (outcome_in self.old (Ask meddles.now stop offer.now (batch_of batch.entry))) self.old self.new) }
-        ensures memory { OnErr result (Wants (Ask meddles.now stop offer.now (batch_of batch.entry)) self.old self.new) }
+        ensures ok { IfOk result
+            (Follows (outcome_in self.old (Ask meddles.now stop offer.now (batch_of batch.entry)))
+            self.old self.new) }
+        ensures memory { OnErr result
+            (Wants (Ask meddles.now stop offer.now (batch_of batch.entry)) self.old self.new) }
     {
         self.issued.reserve(1)?;
         let alloc = *self.issued.allocator();
@@ -215,7 +224,8 @@ impl World {
 
     // Closes the open segment.
     fn checkpoint(&mut self, meddles: &[Meddle], stop: Stop) -> Result<Reply, Memory>
-        ensures ok { IfOk result (Follows (outcome_in self.old (Checkpoint meddles.now stop)) self.old self.new) }
+        ensures ok { IfOk result
+            (Follows (outcome_in self.old (Checkpoint meddles.now stop)) self.old self.new) }
         ensures memory { OnErr result (self.new ≡ self.old) }
     {
         checkpoint(&mut self.platform, meddles, stop)
@@ -231,7 +241,8 @@ impl World {
 
     // Others extend the register.
     fn extend(&mut self, value: &Digest) -> Result<Reply, Memory>
-        ensures ok { IfOk result (Follows (outcome_in self.old (Extend value.now.bytes)) self.old self.new) }
+        ensures ok { IfOk result
+            (Follows (outcome_in self.old (Extend value.now.bytes)) self.old self.new) }
         ensures memory { OnErr result (self.new ≡ self.old) }
     {
         self.platform.foreign(value)?;

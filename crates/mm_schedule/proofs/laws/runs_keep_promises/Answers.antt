@@ -2,4 +2,4 @@ use Rattle.mm_schedule.proofs.PromiseLaws.{promises-kept}
 use Rattle.mm_schedule.proofs.laws.runs_keep_promises.Goals as goal
 
 pub returns : goal.returns
-returns c machine events replies requests runs = promises-kept machine events replies requests runs
+returns c «module» events replies requests runs = promises-kept «module» events replies requests runs

@@ -3,8 +3,7 @@
 ghost use Rattle.std.specs.Prelude.{◌≡◌, ◌↔◌, IfOk, IsTrue};
 ghost use Rattle.mm_module.specs.Meaning.{Meaning, IsLine, IsLawful, IsShort};
 
-use crate::limits::LONGEST_REQUEST;
-use mm_base::{Bytes, Memory};
+use mm_base::{Bytes, LONGEST_REQUEST, Memory};
 use std::alloc::Global;
 
 /// What one request gave: the state after it, and what the module says.
@@ -16,11 +15,11 @@ pub struct Stepped {
     pub output: Bytes,
 }
 
-/// A small state machine whose states, requests and outputs are byte lists.
+/// A small program whose states, requests and outputs are byte lists.
 ///
 /// A state has at most 65,536 bytes, or 1,048,576 where the id is 128 or more.
 pub trait Module {
-    /// The machine as functions of byte lists: what each call below gives.
+    /// The module as functions of byte lists: what each call below gives.
     ghost meaning: { Self → Meaning };
 
     /// The number under which cells and snapshots name the module.
@@ -39,8 +38,10 @@ pub trait Module {
     fn step(&self, alloc: Global, state: &[u8], request: &[u8]) -> Result<Stepped, Memory>
         requires spelled { IsTrue ((meaning self.now).is_spelled state.now) }
         requires line { IsLine request.now }
-        ensures state { IfOk result (λ stepped. stepped.state ≡ (meaning self.now).next state.now request.now) }
-        ensures output { IfOk result (λ stepped. stepped.output ≡ (meaning self.now).says state.now request.now) };
+        ensures state { IfOk result (λ stepped. stepped.state
+            ≡ (meaning self.now).next state.now request.now) }
+        ensures output { IfOk result (λ stepped. stepped.output
+            ≡ (meaning self.now).says state.now request.now) };
 
     /// The laws hold at every module.
     ghost is_lawful: { (it : Self) → IsLawful (meaning it) };
