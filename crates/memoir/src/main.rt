@@ -22,7 +22,7 @@ fn words_after_name(rt: &HostRuntime) -> io::Result<Vec<String>> {
 }
 
 // Does what the words say.
-fn run(rt: &HostRuntime) -> io::Result<Status> {
+fn carry_out(rt: &HostRuntime) -> io::Result<Status> {
     let texts = words_after_name(rt)?;
     let mut words: Vec<&str> = Vec::new(rt.alloc());
     for text in texts.iter() {
@@ -43,7 +43,7 @@ fn run(rt: &HostRuntime) -> io::Result<Status> {
 }
 
 fn main(rt: HostRuntime) -> ExitCode {
-    match run(&rt) {
+    match carry_out(&rt) {
         Ok(status) => ExitCode::from(status.code()),
         Err(_) => {
             let _ = print!(rt; "stop memory\n");

@@ -6,7 +6,7 @@ ghost use Rattle.mm_model.specs.Long.{is_long};
 ghost use Rattle.mm_basic.specs.Asks.{AsksTo};
 
 use crate::found::{Found, Ready};
-use crate::step::{commit, read, write};
+use crate::step::{read, write, write_last};
 use mm_call::{Ended, KeptKey};
 use mm_model::{BatchAnswer, Refusal};
 use mm_module::{Batch, Module};
@@ -126,7 +126,7 @@ impl Call {
         ensures continuity { TurnContinues (M.meaning «module».now) self (P.standing platform.old)
             (P.standing platform.new) offer.now (batch_of batch.entry) result }
     {
-        self.turn(alloc, module, platform, offer, batch, keys)
+        self.make_step(alloc, module, platform, offer, batch, keys)
     }
 
     /// Moves the call to its end: what `advance` does, over and over. After the reading step it has no allocator.
@@ -169,10 +169,11 @@ impl Call {
         ensures faults { Blames (fault_in (result_of result)) (P.standing platform.old).faults
             (P.standing platform.new).faults }
     {
-        self.end(alloc, module, platform, offer, batch, keys)
+        self.make_steps(alloc, module, platform, offer, batch, keys)
     }
 
-    fn end<M: Module, P: Platform>(
+    // Makes the next device step and those after it.
+    fn make_steps<M: Module, P: Platform>(
         self,
         alloc: Global,
         module: &M,
@@ -186,12 +187,13 @@ impl Call {
             (P.standing platform.new) offer.now (batch_of batch.entry) result }
     {
         match self.ready {
-            None => ask(alloc, module, platform, offer, batch, keys),
-            Some(ready) => commit(ready, platform),
+            None => read_and_write(alloc, module, platform, offer, batch, keys),
+            Some(ready) => write_last(ready, platform),
         }
     }
 
-    fn turn<M: Module, P: Platform>(
+    // Makes the next device step.
+    fn make_step<M: Module, P: Platform>(
         self,
         alloc: Global,
         module: &M,
@@ -212,7 +214,7 @@ impl Call {
 }
 
 // A call from its first step to its end.
-fn ask<M: Module, P: Platform>(
+fn read_and_write<M: Module, P: Platform>(
     alloc: Global,
     module: &M,
     platform: &mut P,
@@ -227,7 +229,7 @@ fn ask<M: Module, P: Platform>(
     match read(alloc, module, platform, offer, batch, keys) {
         Err(refusal) => Ended::refused(refusal),
         Ok(Found::Repeat(answer)) => Ended::Answered(answer),
-        Ok(Found::Change(ready)) => commit(ready, platform),
+        Ok(Found::Change(ready)) => write_last(ready, platform),
     }
 }
 

@@ -18,9 +18,9 @@ ghost use Rattle.mm_basic.specs.Steps.{FindsIn};
 ghost use Rattle.mm_call.specs.Refusals.{OrMemory, fault_in};
 
 use crate::found::{Found, Ready};
-use mm_call::{KeptKey, answer, examine, has_tab};
+use mm_call::{KeptKey, answer, examine};
 use mm_digest::{Digest, Variant, successor, successor_batch};
-use mm_model::{Refusal, Verdict};
+use mm_model::{Refusal, Verdict, has_tab};
 use mm_module::{Batch, Module};
 use mm_seal::{Cell, CellFault, Offered, PartsFault, Place, cell_bytes, parts, read_cell};
 use std::alloc::Global;

@@ -46,7 +46,7 @@ pub fn write<P: Platform>(ready: Ready, platform: &mut P) -> Result<BatchAnswer,
 }
 
 /// The last step, as the end of its call.
-pub fn commit<P: Platform>(ready: Ready, platform: &mut P) -> Ended
+pub fn write_last<P: Platform>(ready: Ready, platform: &mut P) -> Ended
     ensures { WritesTo ready (P.standing platform.old) (P.standing platform.new) result }
 {
     let commits = Some(ready.answer.position);

@@ -106,10 +106,10 @@ impl Prepared {
         ensures faults { Blames (result_err result) (P.standing platform.old).faults (P.standing platform.new).faults }
         ensures continuity { CommitContinues self (P.standing platform.old) (P.standing platform.new) result }
     {
-        self.write(platform)
+        self.commit_found(platform)
     }
 
-    fn write<P: Platform>(self, platform: &mut P) -> Result<Committed, StepFault>
+    fn commit_found<P: Platform>(self, platform: &mut P) -> Result<Committed, StepFault>
         ensures { CommitsFound self (P.standing platform.old) (P.standing platform.new) result }
     {
         match self.found {

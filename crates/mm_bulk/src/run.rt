@@ -56,7 +56,7 @@ fn run_schedule(
 {
     let schedule = generate(alloc, number, count, header)?;
     let mut rest = behind_header(schedule.as_slice());
-    let mut progress = Progress::begin(alloc, header)?;
+    let mut progress = Progress::new(alloc, header)?;
     let mut counts = Counts::none();
     let mut replies = Bytes::new(alloc);
     'lines: while let Some((line, behind)) = first_line(rest) {
@@ -65,7 +65,7 @@ fn run_schedule(
         put_reply(&reply, &mut replies)?;
         rest = behind;
     }
-    progress.close(&mut replies)?;
+    progress.put_last_line(&mut replies)?;
     let report = progress.report();
     Ok(Summary {
         counts,
@@ -100,7 +100,7 @@ fn answered(alloc: Global, line: &[u8], progress: &mut Progress) -> Result<Reply
         Err(EventFault::Memory) => return Err(BulkFault::Memory),
         Err(EventFault::Bad) => unreachable!(),
     };
-    match progress.answer(line, &event) {
+    match progress.reply_to_event(line, &event) {
         Ok(reply) => Ok(reply),
         Err(TakeFault::Refused(Refused::Much)) => Err(BulkFault::TooMuch),
         Err(_) => Err(BulkFault::Memory),

@@ -7,7 +7,7 @@ use Rattle.mm_digest.specs.declared.variant.Variant.TheVariants.{Basic, Opt}
 use Rattle.mm_digest.specs.Messages.{zero_bytes, extended_of, start_of}
 use Rattle.mm_module.specs.Meaning.{Meaning}
 use Rattle.mm_module.specs.Batch.{Batch}
-use Rattle.mm_model.specs.Chains.{link, register_of, summary_of}
+use Rattle.mm_model.specs.Chains.{anchor_of, link, register_of, summary_of}
 use Rattle.mm_model.specs.Instance.{Instance, basic}
 use Rattle.mm_model.specs.History.{History, Value, Move, Commit, Foreign, Placed, Reset, Close, Power, committed, moved, values_of}
 use Rattle.mm_model.proofs.Batches.{total-append, total-cons}
@@ -30,6 +30,10 @@ IsBasicMove Close = ⊥
 pub summary-nil : (id : ℕ) → start_of Basic id ≡ summary_of id []
 unfolding summary_of
 summary-nil id = refl
+
+pub anchor-nil : (id : ℕ) → start_of Opt id ≡ anchor_of id []
+unfolding anchor_of
+anchor-nil id = refl
 
 pub agrees-moved : (meaning : Meaning) (key : List ℕ) (y : History) (d : Digests) (m : Move) → IsBasicMove m
     → Agrees (basic meaning key) y d → Agrees (basic meaning key) (moved (basic meaning key) y m) (made (basic meaning key) d m)

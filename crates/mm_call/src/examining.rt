@@ -2,7 +2,7 @@
 
 ghost use Rattle.std.specs.Prelude.{◌≡◌, ◌+◌, ◌≤◌, false, IsTrue, OnOk};
 ghost use Rattle.mm_base.specs.Limits.{last_position};
-ghost use Rattle.mm_module.specs.Batch.{has_tab, size_of};
+ghost use Rattle.mm_module.specs.Batch.{size_of};
 ghost use Rattle.mm_module.specs.Batches.{batch_of};
 ghost use Rattle.mm_model.specs.Long.{is_long};
 ghost use Rattle.mm_call.specs.Order.{admitted, examined};
@@ -12,13 +12,6 @@ use mm_digest::HmacKey;
 use mm_model::{Refusal, Verdict};
 use mm_module::{Batch, Module};
 use mm_seal::Offered;
-
-/// Whether a text is several requests.
-pub fn has_tab(text: &[u8]) -> bool
-    ensures { result ≡ has_tab text.now }
-{
-    text.iter().any(|byte| *byte == b'\t')
-}
 
 /// Whether an offer is accepted, and as a repeat, by the verdict on it. State, Tag, Stale and Full come in this order.
 /// Takes no memory.

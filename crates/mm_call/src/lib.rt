@@ -14,7 +14,7 @@ mod laws;
 mod run;
 
 pub use ended::Ended;
-pub use examining::{examine, has_tab};
+pub use examining::examine;
 pub use first::Provisioned;
 pub use kept::KeptKey;
 pub use laws::{

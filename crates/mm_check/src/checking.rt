@@ -28,7 +28,7 @@ fn judge<S: Source>(alloc: Global, input: &mut S) -> Result<Verdicts, ReplayFaul
     let mut player = CheckPlayer::new();
     let mut nowhere = Nowhere {};
     match play(alloc, &mut player, input, &mut nowhere) {
-        Ok(()) => match player.finish(alloc) {
+        Ok(()) => match player.into_verdicts(alloc) {
             Ok(verdicts) => Ok(verdicts),
             Err(_) => Err(ReplayFault::Memory),
         },

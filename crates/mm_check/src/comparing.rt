@@ -83,7 +83,7 @@ fn agreement_of(differs: Option<u32>) -> Agreement
 
 impl Comparing {
     /// At the first recorded line.
-    pub fn begin(alloc: Global, reading: Reading) -> Result<Comparing, Memory>
+    pub fn new(alloc: Global, reading: Reading) -> Result<Comparing, Memory>
         ensures { IfOk result (λ it. it ≡ first_compared reading) }
     {
         let (header, events, decided) = reading.decide(alloc)?;
@@ -98,7 +98,7 @@ impl Comparing {
     }
 
     /// Behind a recorded line.
-    pub fn take(mut self, alloc: Global, line: &[u8]) -> Result<Comparing, TakeFault>
+    pub fn compare_line(mut self, alloc: Global, line: &[u8]) -> Result<Comparing, TakeFault>
         ensures { ComparesLine (compare_line self line.now) result }
     {
         if self.count >= MOST_RECORDED {
@@ -114,7 +114,7 @@ impl Comparing {
     }
 
     /// The verdicts at the end of the recorded lines.
-    pub fn finish(&self) -> Verdicts
+    pub fn verdicts(&self) -> Verdicts
         ensures { AreVerdictsOn self.now result }
     {
         let is_whole = self.expected.len() <= self.count as usize;

@@ -37,10 +37,10 @@ pub(crate) struct Decided {
 
 impl Deciding {
     /// At the first event.
-    fn begin(alloc: Global, header: &Header) -> Result<Deciding, Memory>
+    fn new(alloc: Global, header: &Header) -> Result<Deciding, Memory>
         ensures { IfOk result (λ it. StandsBehind header.now [] it) }
     {
-        let expecting = Expecting::begin(alloc, header)?;
+        let expecting = Expecting::new(alloc, header)?;
         let mut numbers = Numbers::new(alloc);
         numbers.list(alloc, &[0, header.variant.byte(), header.module.id()])?;
         Ok(Deciding {
@@ -52,7 +52,7 @@ impl Deciding {
     }
 
     // Follows the event of this index.
-    fn next(
+    fn follow_event(
         &mut self,
         alloc: Global,
         header: &Header,
@@ -96,7 +96,12 @@ impl Deciding {
     }
 
     // What all events come to.
-    fn finish(mut self, alloc: Global, header: &Header, events: &[Event]) -> Result<Decided, Memory>
+    fn into_decided(
+        mut self,
+        alloc: Global,
+        header: &Header,
+        events: &[Event],
+    ) -> Result<Decided, Memory>
         requires few { length events.now ≤ most_events }
         requires stands { StandsBehind header.now (events_of events.now) self }
         ensures { IfOk result (DecidesRun header.now (events_of events.now)) }
@@ -129,9 +134,9 @@ pub(crate) fn decide(alloc: Global, header: &Header, events: &[Event]) -> Result
     requires { length events.now ≤ most_events }
     ensures { IfOk result (DecidesRun header.now (events_of events.now)) }
 {
-    let mut deciding = Deciding::begin(alloc, header)?;
+    let mut deciding = Deciding::new(alloc, header)?;
     'events: for index in 0..events.len() {
-        deciding.next(alloc, header, events, index)?;
+        deciding.follow_event(alloc, header, events, index)?;
     }
-    deciding.finish(alloc, header, events)
+    deciding.into_decided(alloc, header, events)
 }

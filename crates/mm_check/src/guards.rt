@@ -19,9 +19,8 @@ ghost use Rattle.mm_check.specs.Numbering.{is_secured};
 ghost use Rattle.mm_check.specs.Guards.{events_of, unless_long, digest_items, HasAll, secured_by};
 
 use mm_base::Memory;
-use mm_call::has_tab;
 use mm_digest::{Digest, Variant, secured, secured_batch};
-use mm_model::is_long;
+use mm_model::{has_tab, is_long};
 use mm_module::Batch;
 use mm_platform::Meddle;
 use mm_schedule::{Event, Meddles};

@@ -39,45 +39,45 @@ impl Model for CheckPlayer {
 }
 
 /// Behind the header of this line.
-fn begin(alloc: Global, line: &[u8]) -> Result<Phase, TakeFault>
+fn first_phase(alloc: Global, line: &[u8]) -> Result<Phase, TakeFault>
     ensures { Steps (headed (header_at line.now)) result }
 {
     let header = match read_header(line) {
         Some(header) => header,
         None => return Err(TakeFault::Refused(Refused::Bad)),
     };
-    match Reading::begin(alloc, &header) {
+    match Reading::new(alloc, &header) {
         Ok(reading) => Ok(Phase::Events(reading)),
         Err(_) => Err(TakeFault::Memory),
     }
 }
 
 /// Behind a line among the events.
-fn read(alloc: Global, reading: Reading, line: &[u8]) -> Result<Phase, TakeFault>
+fn read_line(alloc: Global, reading: Reading, line: &[u8]) -> Result<Phase, TakeFault>
     requires { length line.now ≤ longest_line }
     ensures { Steps (read_line reading line.now) result }
 {
     if line == b"replies".as_slice() {
-        return match Comparing::begin(alloc, reading) {
+        return match Comparing::new(alloc, reading) {
             Ok(comparing) => Ok(Phase::Replies(comparing)),
             Err(_) => Err(TakeFault::Memory),
         };
     }
-    match reading.take(alloc, line) {
+    match reading.add_event(alloc, line) {
         Ok(reading) => Ok(Phase::Events(reading)),
         Err(fault) => Err(fault),
     }
 }
 
 /// Behind the next line.
-fn step(alloc: Global, phase: Option<Phase>, line: &[u8]) -> Result<Phase, TakeFault>
+fn next_phase(alloc: Global, phase: Option<Phase>, line: &[u8]) -> Result<Phase, TakeFault>
     requires { length line.now ≤ longest_line }
     ensures { Steps (check_answer header_at (stage_of phase) line.now) result }
 {
     match phase {
-        None => begin(alloc, line),
-        Some(Phase::Events(reading)) => read(alloc, reading, line),
-        Some(Phase::Replies(comparing)) => match comparing.take(alloc, line) {
+        None => first_phase(alloc, line),
+        Some(Phase::Events(reading)) => read_line(alloc, reading, line),
+        Some(Phase::Replies(comparing)) => match comparing.compare_line(alloc, line) {
             Ok(comparing) => Ok(Phase::Replies(comparing)),
             Err(fault) => Err(fault),
         },
@@ -91,13 +91,13 @@ impl Player for CheckPlayer {
 
     ghost lines_left = { check_left };
 
-    fn take(&mut self, alloc: Global, line: &[u8]) -> Result<Bytes, TakeFault> {
-        let phase = step(alloc, self.phase.take(), line)?;
+    fn reply(&mut self, alloc: Global, line: &[u8]) -> Result<Bytes, TakeFault> {
+        let phase = next_phase(alloc, self.phase.take(), line)?;
         self.phase = Some(phase);
         Ok(Bytes::new(alloc))
     }
 
-    fn close(&self, alloc: Global) -> Result<Option<Bytes>, Memory> {
+    fn last_lines(&self, alloc: Global) -> Result<Option<Bytes>, Memory> {
         match &self.phase {
             Some(_) => Ok(Some(Bytes::new(alloc))),
             None => Ok(None),
@@ -118,15 +118,15 @@ impl CheckPlayer {
     }
 
     /// The verdicts at the end of the input.
-    pub fn finish(self, alloc: Global) -> Result<Verdicts, Memory>
+    pub fn into_verdicts(self, alloc: Global) -> Result<Verdicts, Memory>
         requires { self ≢ AtHeader }
         ensures { IfOk result (Concludes self) }
     {
         let CheckPlayer { phase } = self;
         match phase {
             None => unreachable!(),
-            Some(Phase::Events(reading)) => reading.finish(alloc),
-            Some(Phase::Replies(comparing)) => Ok(comparing.finish()),
+            Some(Phase::Events(reading)) => reading.into_verdicts(alloc),
+            Some(Phase::Replies(comparing)) => Ok(comparing.verdicts()),
         }
     }
 }

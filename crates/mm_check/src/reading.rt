@@ -80,10 +80,10 @@ fn remember(
 
 impl Reading {
     /// Behind the header.
-    pub fn begin(alloc: Global, header: &Header) -> Result<Reading, Memory>
+    pub fn new(alloc: Global, header: &Header) -> Result<Reading, Memory>
         ensures { IfOk result (λ it. it ≡ first_read header.now) }
     {
-        let progress = Progress::begin(alloc, header)?;
+        let progress = Progress::new(alloc, header)?;
         Ok(Reading {
             header: *header,
             progress,
@@ -93,12 +93,12 @@ impl Reading {
     }
 
     /// Behind the event of a line.
-    pub fn take(mut self, alloc: Global, line: &[u8]) -> Result<Reading, TakeFault>
+    pub fn add_event(mut self, alloc: Global, line: &[u8]) -> Result<Reading, TakeFault>
         requires { length line.now ≤ longest_line }
         ensures { ReadsEvent (read_event self line.now (event_at line.now)) result }
     {
         let event = event_in(alloc, line)?;
-        let reply = self.progress.answer(line, &event)?;
+        let reply = self.progress.reply_to_event(line, &event)?;
         match remember(alloc, &mut self.events, &mut self.told, event, &reply) {
             Ok(()) => Ok(self),
             Err(_) => Err(TakeFault::Memory),
@@ -121,7 +121,7 @@ impl Reading {
     }
 
     /// The verdicts where no lines are recorded: the lines of the run itself are tested.
-    pub fn finish(mut self, alloc: Global) -> Result<Verdicts, Memory>
+    pub fn into_verdicts(mut self, alloc: Global) -> Result<Verdicts, Memory>
         ensures { IfOk result
             (AreVerdicts self.header self.events (run_lines (world_of self.header) self.events)) }
     {

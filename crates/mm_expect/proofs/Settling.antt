@@ -25,10 +25,9 @@ use Rattle.mm_model.proofs.Batches.{is_last_tells}
 use Rattle.mm_model.proofs.Forms.{reads_zero}
 use Rattle.mm_call.specs.Answers.{last_outputs, answer_on}
 use Rattle.mm_call.specs.declared.ended.Ended.TheVariants.{Answered}
-use Rattle.mm_call.proofs.Moving.{summary-nil}
+use Rattle.mm_call.proofs.Moving.{anchor-nil, summary-nil}
 use Rattle.mm_model.specs.Life.{is_empty, has_value}
 use Rattle.mm_call.proofs.Calling.{requests-push, said_last}
-use Rattle.mm_run.proofs.OptRuns.{anchor-nil}
 use Rattle.mm_expect.specs.declared.marks.Marks.{Marks}
 use Rattle.mm_expect.specs.Marks.{marks_of, with_value, emptied, closed_marks, linked_marks, grown, opened_marks}
 use Rattle.mm_expect.specs.Recorded.{Recorded, barrier_of, instance_with, instance_of}

@@ -66,7 +66,7 @@ impl Chronicle {
     }
 
     /// A call that offers these bytes and asks for the batch.
-    pub(crate) fn ask(
+    pub(crate) fn call(
         &mut self,
         key: &HmacKey,
         course: &Course<'_>,
@@ -89,12 +89,12 @@ impl Chronicle {
         match self.find(key, bytes, batch) {
             Err(refusal) => Ok(Ended::Refused(refusal)),
             Ok(true) => self.answer(key, batch, true),
-            Ok(false) => self.ask_new(key, course, batch),
+            Ok(false) => self.call_new(key, course, batch),
         }
     }
 
     // The rest of a call whose batch is a new one.
-    fn ask_new(
+    fn call_new(
         &mut self,
         key: &HmacKey,
         course: &Course<'_>,

@@ -110,7 +110,7 @@ fn restore(chronicle: &mut Chronicle, stop: Stop, is_broken: bool)
 }
 
 // A call that offers these bytes: what is said, and its messages.
-fn call(
+fn call_and_list(
     chronicle: &mut Chronicle,
     key: &HmacKey,
     course: &Course<'_>,
@@ -126,7 +126,7 @@ fn call(
 {
     list_asked(chronicle, key, bytes, batch, messages)?;
     chronicle.forget_messages();
-    let ended = chronicle.ask(key, course, bytes, batch)?;
+    let ended = chronicle.call(key, course, bytes, batch)?;
     chronicle.hand_messages(messages)?;
     let is_broken = is_broken(&ended);
     restore(chronicle, course.stop, is_broken);
@@ -144,7 +144,7 @@ fn is_broken(ended: &Ended) -> bool
 }
 
 // An event that asks for a batch of what is offered.
-fn ask(
+fn follow_ask(
     chronicle: &mut Chronicle,
     key: &HmacKey,
     issued: &[Bytes],
@@ -164,7 +164,7 @@ fn ask(
             if is_long(&batch) {
                 return Ok(quiet(Reply::No(Cause::Long)));
             }
-            call(
+            call_and_list(
                 chronicle,
                 key,
                 course,
@@ -177,7 +177,7 @@ fn ask(
 }
 
 // An event that closes the open segment.
-fn checkpoint(
+fn follow_checkpoint(
     chronicle: &mut Chronicle,
     issued: &[Bytes],
     course: &Course<'_>,
@@ -195,7 +195,7 @@ fn checkpoint(
 }
 
 // Power is lost and comes back.
-fn power(chronicle: &mut Chronicle, issued: &[Bytes], messages: &mut Vec<Bytes>) -> Said
+fn follow_power(chronicle: &mut Chronicle, issued: &[Bytes], messages: &mut Vec<Bytes>) -> Said
     ensures { WentByEvent chronicle.old chronicle.new issued.now Power messages.old.items
         messages.new.items result }
 {
@@ -204,7 +204,7 @@ fn power(chronicle: &mut Chronicle, issued: &[Bytes], messages: &mut Vec<Bytes>)
 }
 
 // Others extend the register.
-fn extend(
+fn follow_extend(
     chronicle: &mut Chronicle,
     issued: &[Bytes],
     value: &Digest,
@@ -243,7 +243,7 @@ fn follow(
                 meddles: listed(meddles),
             };
             let batch = Batch::One(request.as_slice());
-            ask(chronicle, key, issued, offer, &course, batch, messages)
+            follow_ask(chronicle, key, issued, offer, &course, batch, messages)
         }
         Event::Batch {
             meddles,
@@ -256,17 +256,17 @@ fn follow(
                 meddles: listed(meddles),
             };
             let batch = Batch::Many(text.as_slice());
-            ask(chronicle, key, issued, offer, &course, batch, messages)
+            follow_ask(chronicle, key, issued, offer, &course, batch, messages)
         }
         Event::Checkpoint { meddles, stop } => {
             let course = Course {
                 stop: *stop,
                 meddles: listed(meddles),
             };
-            checkpoint(chronicle, issued, &course, messages)
+            follow_checkpoint(chronicle, issued, &course, messages)
         }
-        Event::Power => Ok(power(chronicle, issued, messages)),
-        Event::Extend { value } => extend(chronicle, issued, value, messages),
+        Event::Power => Ok(follow_power(chronicle, issued, messages)),
+        Event::Extend { value } => follow_extend(chronicle, issued, value, messages),
     }
 }
 
@@ -291,7 +291,7 @@ impl Expecting {
     ghost use Rattle.mm_expect.specs.Judged.{DecidesLater};
 
     /// A schedule with this header, before its first event.
-    pub fn begin(alloc: Global, header: &Header) -> Result<Expecting, Memory>
+    pub fn new(alloc: Global, header: &Header) -> Result<Expecting, Memory>
         ensures first { IfOk result (λ it. it ≡ first_traced header.now) }
         ensures after { IfOk result (IsAfter header.now []) }
     {

@@ -30,7 +30,7 @@ fn check(
 
 fn begin(alloc: Global, header: &[u8]) -> Result<Expecting, Fail> {
     let header = read_header(header).ok_or("no header")?;
-    let it = Expecting::begin(alloc, &header)?;
+    let it = Expecting::new(alloc, &header)?;
     Ok(it)
 }
 

@@ -10,7 +10,6 @@ use Rattle.mm_digest.proofs.Lengths.{length-zero_bytes, length-start_of}
 use Rattle.mm_module.specs.Batch.{Batch}
 use Rattle.mm_module.specs.Meaning.{Meaning, IsLawful}
 use Rattle.mm_seal.specs.Snapshot.{IsContent}
-use Rattle.mm_model.specs.Chains.{anchor_of}
 use Rattle.mm_model.specs.History.{first_history}
 use Rattle.mm_model.specs.Instance.{Instance}
 use Rattle.mm_model.specs.Places.{Names, issued}
@@ -20,8 +19,7 @@ use Rattle.mm_model.proofs.Fitting.{sealed_of-most}
 use Rattle.mm_model.proofs.Named.{basic_issued, opt_issued}
 use Rattle.mm_call.specs.Asked.{IsWithin}
 use Rattle.mm_call.specs.Standing.{instance_by}
-use Rattle.mm_call.proofs.Moving.{summary-nil}
-use Rattle.mm_digest.specs.Messages.{start_of}
+use Rattle.mm_call.proofs.Moving.{anchor-nil, summary-nil}
 use Rattle.mm_store.specs.Pending.{ReadsPending}
 use Rattle.mm_store.specs.Slots.{longest_slot, seen_in}
 use Rattle.mm_store.proofs.PendingLaws.{reads_none-short}
@@ -29,10 +27,6 @@ use Rattle.mm_store.proofs.SlotLaws.{longest_slot-is}
 use Rattle.mm_host.specs.Waiting.{IsWaiting}
 use Rattle.mm_host.specs.Fitting.{Holds}
 use Rattle.mm_host.specs.Begins.{first_on, first_slots, IsFirst}
-
-pub anchor-nil : (id : ℕ) → anchor_of id [] ≡ start_of Opt id
-unfolding anchor_of
-anchor-nil id = refl
 
 -- the first snapshot has a spelling
 first_formed : (variant : Variant) (meaning : Meaning) (key barrier : List ℕ) → IsLawful meaning → IsContent (issued (instance_by variant meaning key barrier) first_history)
@@ -42,7 +36,7 @@ first_formed Basic meaning key barrier lawful = record {
   state = lawful.fits meaning.first lawful.begins;
 }
 first_formed Opt meaning key barrier lawful = record {
-  place = (ap length (anchor-nil meaning.id) ∙ length-start_of Opt meaning.id, length-zero_bytes);
+  place = (ap length (sym (anchor-nil meaning.id)) ∙ length-start_of Opt meaning.id, length-zero_bytes);
   position = omega arith;
   state = lawful.fits meaning.first lawful.begins;
 }

@@ -19,7 +19,7 @@ use Rattle.mm_model.specs.History.{Value, first_history, values_of as entry_valu
 use Rattle.mm_model.specs.Standing.{StandsFor, cell_of, issued_bytes}
 use Rattle.mm_model.proofs.Digests.{register_folds}
 use Rattle.mm_call.specs.Standing.{instance_by}
-use Rattle.mm_call.proofs.Moving.{summary-nil}
+use Rattle.mm_call.proofs.Moving.{anchor-nil, summary-nil}
 use Rattle.mm_store.specs.declared.fault.StoreFault.{StoreFault}
 use Rattle.mm_store.specs.declared.fault.StoreFault.TheVariants as fault
 use Rattle.mm_store.specs.Kept.{Kept}
@@ -30,7 +30,7 @@ use Rattle.mm_host.specs.declared.init_fault.InitFault.TheVariants.{Memory, Plat
 use Rattle.mm_host.specs.InitFaults.{store_failed_as}
 use Rattle.mm_host.specs.Init.{Devices, LooksAtCell, TakesBytes, instance_from, Put, first_puts, AfterPut, PutsAll, written_as, AfterPuts, SetsUp, AfterTaking, AfterLooking, Inits}
 use Rattle.mm_host.specs.Begins.{first_on, ShowsValues, Begins, Leaves, TellsUse, BlamesDevice}
-use Rattle.mm_host.proofs.First.{anchor-nil, is_first}
+use Rattle.mm_host.proofs.First.{is_first}
 
 -- All of an exit.
 pub record Comes (variant : Variant) (meaning : Meaning) (before after : Devices) (result : Result Unit InitFault) : Type 0 where
@@ -120,7 +120,7 @@ stands_first Basic meaning key barrier standing values k b e s = record {
 }
 stands_first Opt meaning key barrier standing values k b e s = record {
   spells = record {
-    summary = ap length (anchor-nil meaning.id) ∙ length-start_of Opt meaning.id;
+    summary = ap length (sym (anchor-nil meaning.id)) ∙ length-start_of Opt meaning.id;
     key = k;
     barrier = b;
     variant = tt;

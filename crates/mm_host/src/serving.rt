@@ -109,7 +109,7 @@ fn serve_lines<M: Module, P: Platform, T: Store, S: Source, K: Sink>(
 {
     let mut last = first;
     let mut number: u32 = 1;
-    'lines: while let Some(next) = turn(
+    'lines: while let Some(next) = serve_next(
         alloc,
         variant,
         module,
@@ -128,7 +128,7 @@ fn serve_lines<M: Module, P: Platform, T: Store, S: Source, K: Sink>(
 }
 
 // Reads the line of this number and serves it. None where the input ends before it.
-fn turn<M: Module, P: Platform, T: Store, S: Source, K: Sink>(
+fn serve_next<M: Module, P: Platform, T: Store, S: Source, K: Sink>(
     alloc: Global,
     variant: Variant,
     module: &M,
@@ -151,7 +151,7 @@ fn turn<M: Module, P: Platform, T: Store, S: Source, K: Sink>(
     ensures wrote { IsBlamed (is_write_fault result) (K.faults out.old) (K.faults out.new) }
 {
     match reader.next(input, LONGEST_REQUEST) {
-        Ok(Read::Line(line)) => take_line(
+        Ok(Read::Line(line)) => serve_line(
             alloc, variant, module, platform, store, out, number, last, line,
         ),
         Ok(Read::Tail) => Err(SessionFault::BadLine { line: number }),
@@ -162,7 +162,7 @@ fn turn<M: Module, P: Platform, T: Store, S: Source, K: Sink>(
 }
 
 // Serves the line of this number, unless it is one too many.
-fn take_line<M: Module, P: Platform, T: Store, K: Sink>(
+fn serve_line<M: Module, P: Platform, T: Store, K: Sink>(
     alloc: Global,
     variant: Variant,
     module: &M,
@@ -185,14 +185,14 @@ fn take_line<M: Module, P: Platform, T: Store, K: Sink>(
     if number > MOST_LINES {
         return Err(SessionFault::TooMuch);
     }
-    match serve(alloc, variant, module, platform, store, out, last, line) {
+    match ask_and_tell(alloc, variant, module, platform, store, out, last, line) {
         Ok(next) => Ok(Some(next)),
         Err(fault) => Err(fault),
     }
 }
 
 // Asks a line, and tells what came.
-fn serve<M: Module, P: Platform, T: Store, K: Sink>(
+fn ask_and_tell<M: Module, P: Platform, T: Store, K: Sink>(
     alloc: Global,
     variant: Variant,
     module: &M,

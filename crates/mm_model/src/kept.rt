@@ -27,8 +27,8 @@ pub enum KeptEntry {
     Value(Digest),
 }
 
-// Whether some byte is a TAB.
-fn has_tab(text: &[u8]) -> bool
+/// Whether a text is several requests: whether some byte of it is a TAB.
+pub fn has_tab(text: &[u8]) -> bool
     ensures { result ≡ has_tab text.now }
 {
     text.iter().any(|byte| *byte == b'\t')

@@ -14,7 +14,7 @@ mod verdict;
 
 pub use answer::{Answer, BatchAnswer};
 pub use examples::{after_one_request, after_two_requests};
-pub use kept::{KeptBatch, KeptEntry, copy_entries, last_is, normal, some_value};
+pub use kept::{KeptBatch, KeptEntry, copy_entries, has_tab, last_is, normal, some_value};
 pub use laws::{
     anchors_are_told_apart, basic_verdict_is_judged, batches_are_hashed, batches_are_told_apart,
     chains_go_on, ended_histories_accept_nothing, histories_list_their_messages,

@@ -1,5 +1,5 @@
 -- The first cell and snapshot.
-use Rattle.std.proofs.Common.{◌≡◌, ℕ, false, List, [], refl, sym, ap, ◌∙◌}
+use Rattle.std.proofs.Common.{◌≡◌, ℕ, false, List, [], ap, ◌∙◌}
 use Rattle.mm_digest.specs.declared.digest.Digest.{Digest}
 use Rattle.mm_digest.specs.declared.variant.Variant.TheVariants.{Opt}
 use Rattle.mm_digest.specs.Messages.{zero_bytes, start_of}
@@ -13,13 +13,10 @@ use Rattle.mm_model.specs.Instance.{opt}
 use Rattle.mm_model.specs.History.{first_history}
 use Rattle.mm_model.specs.Places.{digest_of}
 use Rattle.mm_model.specs.Standing.{cell_of, issued_bytes}
-
-no_segments : (id : ℕ) → anchor_of id [] ≡ start_of Opt id
-unfolding anchor_of
-no_segments id = refl
+use Rattle.mm_call.proofs.Moving.{anchor-nil}
 
 first_digest : (id said : ℕ) (anchor : Digest) → said ≡ id → anchor.bytes ≡ start_of Opt said → anchor ≡ digest_of (anchor_of id [])
-first_digest id said anchor id_is start_is = ap digest_of (start_is ∙ ap (start_of Opt) id_is ∙ sym (no_segments id))
+first_digest id said anchor id_is start_is = ap digest_of (start_is ∙ ap (start_of Opt) id_is ∙ anchor-nil id)
 
 abbrev pub made_cell : ℕ → Digest → List ℕ → List ℕ → Cell
 made_cell id anchor key barrier = record { variant = Opt; «module» = id; flag = false; summary = anchor; key = key; barrier = barrier }

@@ -5,7 +5,9 @@ ghost use Rattle.mm_module.specs.Batches.{batch_of};
 ghost use Rattle.mm_model.specs.Long.{is_long};
 ghost use Rattle.mm_opt.specs.declared.stage.Stage.TheVariants.{Begun, Changing};
 
-use crate::finish::{ask, extend_last, open, place_on, see, write_last};
+use crate::finish::{
+    extend_last, open, place_on, read_and_change, read_register_and_change, write_last,
+};
 use crate::found::{Found, Opening};
 use crate::stage::{Change, Stage};
 use crate::step::{empty, extend, place, read_cell, read_register, write};
@@ -138,7 +140,7 @@ impl Call {
         ensures goes { TurnsOn (M.meaning «module».now) self (P.standing platform.old)
             (P.standing platform.new) offer.now (batch_of batch.entry) result }
     {
-        self.turn(alloc, module, platform, offer, batch, keys)
+        self.make_step(alloc, module, platform, offer, batch, keys)
     }
 
     /// Moves the call to its end: what `advance` does, over and over. After the reading steps it has no allocator.
@@ -181,10 +183,11 @@ impl Call {
         ensures faults { Blames (fault_in (result_of result)) (P.standing platform.old).faults
             (P.standing platform.new).faults }
     {
-        self.end(alloc, module, platform, offer, batch, keys)
+        self.make_steps(alloc, module, platform, offer, batch, keys)
     }
 
-    fn end<M: Module, P: Platform>(
+    // Makes the next device step and those after it.
+    fn make_steps<M: Module, P: Platform>(
         self,
         alloc: Global,
         module: &M,
@@ -199,13 +202,16 @@ impl Call {
             (P.standing platform.new) offer.now (batch_of batch.entry) result }
     {
         match self.stage {
-            Stage::Begun => ask(alloc, module, platform, offer, batch, keys),
-            Stage::Seen(cell) => see(alloc, module, &cell, platform, offer, batch, keys),
-            Stage::Changing(change) => change.end(platform),
+            Stage::Begun => read_and_change(alloc, module, platform, offer, batch, keys),
+            Stage::Seen(cell) => {
+                read_register_and_change(alloc, module, &cell, platform, offer, batch, keys)
+            }
+            Stage::Changing(change) => change.make_steps(platform),
         }
     }
 
-    fn turn<M: Module, P: Platform>(
+    // Makes the next device step.
+    fn make_step<M: Module, P: Platform>(
         self,
         alloc: Global,
         module: &M,
@@ -224,7 +230,7 @@ impl Call {
             Stage::Seen(cell) => {
                 Turn::found(read_register(alloc, module, &cell, platform, offer, batch, keys))
             }
-            Stage::Changing(change) => change.make(platform),
+            Stage::Changing(change) => change.make_step(platform),
         }
     }
 }
@@ -260,7 +266,7 @@ impl Change {
     }
 
     // Makes this step and those after it. It is handed no allocator, so it asks for no memory.
-    fn end<P: Platform>(self, platform: &mut P) -> Ended
+    fn make_steps<P: Platform>(self, platform: &mut P) -> Ended
         requires { MayChange self (P.standing platform.old) }
         ensures { ChangesTo self (P.standing platform.old) (P.standing platform.new) result }
     {
@@ -273,7 +279,7 @@ impl Change {
     }
 
     // Makes the device step. It is handed no allocator, so it asks for no memory.
-    fn make<P: Platform>(self, platform: &mut P) -> Turn
+    fn make_step<P: Platform>(self, platform: &mut P) -> Turn
         requires { MayChange self (P.standing platform.old) }
         ensures { Changes self (P.standing platform.old) (P.standing platform.new) result }
     {

@@ -75,10 +75,11 @@ impl CheckpointCall {
         ensures goes { ClosingTurnsOn self (P.standing platform.old) (P.standing platform.new)
             result }
     {
-        self.turn(platform)
+        self.make_step(platform)
     }
 
-    fn turn<P: Platform>(self, platform: &mut P) -> CheckpointTurn
+    // Makes the next device step.
+    fn make_step<P: Platform>(self, platform: &mut P) -> CheckpointTurn
         ensures { ClosingTurns self (P.standing platform.old) (P.standing platform.new) result }
     {
         match self.stage {
@@ -163,12 +164,12 @@ fn weigh_and_close<P: Platform>(
 {
     match weigh(cell, platform) {
         Err(refusal) => Err(refusal),
-        Ok(next) => finish(&next, platform),
+        Ok(next) => close_by(&next, platform),
     }
 }
 
 // The last step of a checkpoint, whose fault is handed on.
-fn finish<P: Platform>(
+fn close_by<P: Platform>(
     next: &[u8; 104],
     platform: &mut P,
 ) -> Result<Checkpointed, CheckpointRefusal>

@@ -17,9 +17,9 @@ ghost use Rattle.mm_opt.specs.Steps.{FindsIn};
 
 use crate::found::{Found, Opening, Ready};
 use crate::verdicts::{has_lost_power, verdict};
-use mm_call::{KeptKey, answer, examine, has_tab};
+use mm_call::{KeptKey, answer, examine};
 use mm_digest::{Digest, Variant, extended, secured, secured_batch, zero};
-use mm_model::{BatchAnswer, Refusal, Verdict};
+use mm_model::{BatchAnswer, Refusal, Verdict, has_tab};
 use mm_module::{Batch, Module};
 use mm_seal::{Cell, CellFault, Offered, PartsFault, Place, cell_bytes, parts, read_cell};
 use std::alloc::Global;

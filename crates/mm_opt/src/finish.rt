@@ -19,7 +19,7 @@ use mm_seal::Cell;
 use std::alloc::Global;
 
 /// A call from its first step on.
-pub fn ask<M: Module, P: Platform>(
+pub fn read_and_change<M: Module, P: Platform>(
     alloc: Global,
     module: &M,
     platform: &mut P,
@@ -32,11 +32,11 @@ pub fn ask<M: Module, P: Platform>(
         offer.now (batch_of batch.entry) result }
 {
     let found = read(alloc, module, platform, offer, batch, keys);
-    end(found, platform)
+    finish_found(found, platform)
 }
 
 /// A call from its second step on.
-pub fn see<M: Module, P: Platform>(
+pub fn read_register_and_change<M: Module, P: Platform>(
     alloc: Global,
     module: &M,
     cell: &Cell,
@@ -50,7 +50,7 @@ pub fn see<M: Module, P: Platform>(
         (P.standing platform.new) offer.now (batch_of batch.entry) result }
 {
     let found = found_in(alloc, module, cell, platform, offer, batch, keys);
-    end(found, platform)
+    finish_found(found, platform)
 }
 
 fn found_in<M: Module, P: Platform>(
@@ -71,7 +71,7 @@ fn found_in<M: Module, P: Platform>(
 }
 
 /// What is left of a call that found this. It is handed no allocator.
-pub fn end<P: Platform>(found: Result<Found, Refusal>, platform: &mut P) -> Ended
+pub fn finish_found<P: Platform>(found: Result<Found, Refusal>, platform: &mut P) -> Ended
     requires { LeavesRoom found (P.standing platform.old) }
     ensures { EndsTo found (P.standing platform.old) (P.standing platform.new) result }
 {

@@ -14,7 +14,7 @@ ghost use Rattle.mm_opt.specs.declared.stage.Stage.TheVariants.{Begun};
 ghost use Rattle.mm_opt.specs.Asks.{Reads, ReadsOn, MayCommit, LeavesRoom, CommitsFound, Calls, StepsBy, WritesBy};
 
 use crate::call::{Call, begin};
-use crate::finish::end;
+use crate::finish::finish_found;
 use crate::found::Found;
 use crate::step::{read_cell, read_register};
 use mm_call::{Ended, KeptKey};
@@ -152,7 +152,7 @@ fn commit_found<P: Platform>(found: Found, platform: &mut P) -> Result<Committed
     requires { MayCommit found (P.standing platform.old) }
     ensures { CommitsFound found (P.standing platform.old) (P.standing platform.new) result }
 {
-    match end(Ok(found), platform) {
+    match finish_found(Ok(found), platform) {
         Ended::Answered(answer) => Ok(Committed { answer }),
         Ended::Broken { fault, .. } => Err(fault),
         Ended::Refused(_) => unreachable!(),

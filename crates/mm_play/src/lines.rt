@@ -19,8 +19,8 @@ use std::alloc::Global;
 /// Where so many bytes are pending they are sent, though more lines are at hand.
 const MANY_PENDING: usize = 65536;
 
-/// Has the line of this number answered, and puts the reply behind what is pending.
-fn answer_line<P: Player>(
+/// Puts the player's reply to the line of this number behind what is pending.
+fn queue_reply<P: Player>(
     alloc: Global,
     number: u32,
     line: &[u8],
@@ -31,7 +31,7 @@ fn answer_line<P: Player>(
     ensures { Answers number (P.answer player.old line.now) player.new pending.old pending.new
         result }
 {
-    match player.take(alloc, line) {
+    match player.reply(alloc, line) {
         Ok(reply) => match pending.append(reply.as_slice()) {
             Ok(()) => Ok(true),
             Err(_) => Err(ReplayFault::Memory),
@@ -51,7 +51,7 @@ fn end_input<P: Player>(
 ) -> Result<bool, ReplayFault>
     ensures { Ends number (P.closing player.now) pending.old pending.new result }
 {
-    match player.close(alloc) {
+    match player.last_lines(alloc) {
         Ok(Some(last)) => match pending.append(last.as_slice()) {
             Ok(()) => Ok(false),
             Err(_) => Err(ReplayFault::Memory),
@@ -61,9 +61,10 @@ fn end_input<P: Player>(
     }
 }
 
-/// Reads a line and has it answered, or meets the end of the input. Answers whether lines may follow. Where the source
-/// may be asked for bytes, since no whole line is held, nothing is pending.
-fn answer_next<P: Player, S: Source>(
+/// Reads a line and queues the reply to it, or meets the end of the input. Answers whether lines
+/// may follow. Where the source may be asked for bytes, since no whole line is held, nothing is
+/// pending.
+fn read_and_reply<P: Player, S: Source>(
     alloc: Global,
     number: u32,
     reader: &mut LineReader,
@@ -78,7 +79,7 @@ fn answer_next<P: Player, S: Source>(
     ensures unwritten { is_write_fault result ≡ false }
 {
     match reader.next(input, LONGEST_LINE) {
-        Ok(Read::Line(line)) => answer_line(alloc, number, line, player, pending),
+        Ok(Read::Line(line)) => queue_reply(alloc, number, line, player, pending),
         Ok(Read::Tail) => Err(ReplayFault::BadLine { line: number }),
         Ok(Read::End) => end_input(alloc, number, player, pending),
         Err(LineFault::ReadFault) => Err(ReplayFault::ReadFault),
@@ -135,9 +136,9 @@ fn send_then<K: Sink>(
     }
 }
 
-/// One turn: a line is read and answered, or the input ends. Answers whether lines may follow; where none does, nothing
-/// is pending.
-fn turn<P: Player, S: Source, K: Sink>(
+/// Plays the next line: it is read and answered, or the input ends. Answers whether lines may
+/// follow; where none does, nothing is pending.
+fn play_next<P: Player, S: Source, K: Sink>(
     alloc: Global,
     number: u32,
     reader: &mut LineReader,
@@ -156,7 +157,7 @@ fn turn<P: Player, S: Source, K: Sink>(
         Ok(()) => {}
         Err(_) => return Err(ReplayFault::WriteFault),
     }
-    match answer_next(alloc, number, reader, player, input, pending) {
+    match read_and_reply(alloc, number, reader, player, input, pending) {
         Ok(true) => Ok(true),
         Ok(false) => send_then(alloc, Ok(false), pending, out),
         Err(fault) => match fault {
@@ -184,7 +185,7 @@ pub fn play<P: Player, S: Source, K: Sink>(
     let mut reader = LineReader::new(alloc)?;
     let mut pending = Bytes::new(alloc);
     let mut number: u32 = 1;
-    'lines: while turn(alloc, number, &mut reader, player, input, &mut pending, out)? {
+    'lines: while play_next(alloc, number, &mut reader, player, input, &mut pending, out)? {
         number += 1;
     }
     Ok(())

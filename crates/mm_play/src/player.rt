@@ -37,13 +37,13 @@ pub trait Player {
     /// How many more lines it answers, at most.
     ghost lines_left: { Self → ℕ };
 
-    /// Answers a line of at most 8,400 bytes by its reply.
-    fn take(&mut self, alloc: Global, line: &[u8]) -> Result<Bytes, TakeFault>
+    /// The reply to a line of at most 8,400 bytes.
+    fn reply(&mut self, alloc: Global, line: &[u8]) -> Result<Bytes, TakeFault>
         requires { length line.now ≤ longest_line }
         ensures { Takes (answer self.old line.now) self.new result };
 
     /// The last lines. None where the input may not end here.
-    fn close(&self, alloc: Global) -> Result<Option<Bytes>, Memory>
+    fn last_lines(&self, alloc: Global) -> Result<Option<Bytes>, Memory>
         ensures { IfOk result (λ last. last ≡ closing self.now) };
 
     /// Each answered line is one fewer.

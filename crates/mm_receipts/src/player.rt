@@ -39,7 +39,7 @@ impl Player for ReceiptPlayer {
 
     ghost lines_left = { lines_left_at };
 
-    fn take(&mut self, alloc: Global, line: &[u8]) -> Result<Bytes, TakeFault> {
+    fn reply(&mut self, alloc: Global, line: &[u8]) -> Result<Bytes, TakeFault> {
         match self.asked.take() {
             None => {
                 let asked = self.tally.first(alloc, line)?;
@@ -50,7 +50,7 @@ impl Player for ReceiptPlayer {
         }
     }
 
-    fn close(&self, alloc: Global) -> Result<Option<Bytes>, Memory> {
+    fn last_lines(&self, alloc: Global) -> Result<Option<Bytes>, Memory> {
         match &self.asked {
             None => {
                 let (good, pairs) = self.tally.counts();

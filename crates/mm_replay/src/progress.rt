@@ -56,7 +56,7 @@ impl Progress {
     ghost use Rattle.mm_replay.specs.Replays.{Reports};
 
     /// A replay at its first event.
-    pub fn begin(alloc: Global, header: &Header) -> Result<Progress, Memory>
+    pub fn new(alloc: Global, header: &Header) -> Result<Progress, Memory>
         ensures { IfOk result (λ progress. running progress ≡ begun header.now) }
     {
         let world = World::new(alloc, header)?;
@@ -80,8 +80,8 @@ impl Progress {
         self.events >= MOST_EVENTS || self.read + line.len() as u64 + self.issued > MOST_KEPT
     }
 
-    // Runs an event, and counts it and its line.
-    fn run(&mut self, line: &[u8], event: &Event) -> Result<Reply, Memory>
+    // Plays an event in the world, and counts it and its line.
+    fn play_event(&mut self, line: &[u8], event: &Event) -> Result<Reply, Memory>
         requires line { length line.now ≤ longest_line }
         requires room { is_too_much (running self.old) line.now ≡ false }
         ensures reply { IfOk result
@@ -98,9 +98,10 @@ impl Progress {
         Ok(reply)
     }
 
-    /// Answers an event, which this line of at most 8,400 bytes spells. `Refused::Much` comes exactly where it is event
-    /// 20,001, or where the event lines and the snapshots issued have more than 268,435,456 bytes; it isn't run then.
-    pub fn answer(&mut self, line: &[u8], event: &Event) -> Result<Reply, TakeFault>
+    /// The reply to an event, which this line of at most 8,400 bytes spells. `Refused::Much` comes
+    /// exactly where it is event 20,001, or where the event lines and the snapshots issued have more
+    /// than 268,435,456 bytes; it isn't run then.
+    pub fn reply_to_event(&mut self, line: &[u8], event: &Event) -> Result<Reply, TakeFault>
         requires { length line.now ≤ longest_line }
         ensures answers { AnswersEvent (running self.old) (running self.new) line.now
             (event_of event.now) result }
@@ -109,14 +110,14 @@ impl Progress {
         if self.is_full(line) {
             return Err(TakeFault::Refused(Refused::Much));
         }
-        match self.run(line, event) {
+        match self.play_event(line, event) {
             Ok(reply) => Ok(reply),
             Err(_) => Err(TakeFault::Memory),
         }
     }
 
-    /// Answers an event line by its reply.
-    pub fn take(&mut self, alloc: Global, line: &[u8]) -> Result<Bytes, TakeFault>
+    /// The reply to an event line, as text.
+    pub fn reply_to_line(&mut self, alloc: Global, line: &[u8]) -> Result<Bytes, TakeFault>
         requires { length line.now ≤ longest_line }
         ensures { Takes (event_answer (running self.old) line.now (event_at line.now))
             (InEvents (running self.new)) result }
@@ -126,7 +127,7 @@ impl Progress {
             Err(EventFault::Memory) => return Err(TakeFault::Memory),
             Err(EventFault::Bad) => return Err(TakeFault::Refused(Refused::Bad)),
         };
-        let reply = match self.answer(line, &event) {
+        let reply = match self.reply_to_event(line, &event) {
             Ok(reply) => reply,
             Err(fault) => return Err(fault),
         };
@@ -138,7 +139,7 @@ impl Progress {
     }
 
     /// Puts the last line at the end.
-    pub fn close(&self, into: &mut Bytes) -> Result<(), Memory>
+    pub fn put_last_line(&self, into: &mut Bytes) -> Result<(), Memory>
         ensures { OnOk result (into.new ≡ into.old ++ end_line (running self.now).digests.count
             (length (running self.now).issued)) }
     {

@@ -52,15 +52,15 @@ impl SchedulePlayer {
     }
 }
 
-/// Begins a replay by its header line.
-fn begin(alloc: Global, line: &[u8]) -> Result<Progress, TakeFault>
+/// A replay at its first event, by its header line.
+fn at_first_event(alloc: Global, line: &[u8]) -> Result<Progress, TakeFault>
     ensures { Begins (header_answer (header_at line.now)) result }
 {
     let header = match read_header(line) {
         Some(header) => header,
         None => return Err(TakeFault::Refused(Refused::Bad)),
     };
-    match Progress::begin(alloc, &header) {
+    match Progress::new(alloc, &header) {
         Ok(progress) => Ok(progress),
         Err(_) => Err(TakeFault::Memory),
     }
@@ -73,21 +73,21 @@ impl Player for SchedulePlayer {
 
     ghost lines_left = { lines_left_at };
 
-    fn take(&mut self, alloc: Global, line: &[u8]) -> Result<Bytes, TakeFault> {
+    fn reply(&mut self, alloc: Global, line: &[u8]) -> Result<Bytes, TakeFault> {
         match &mut self.progress {
-            Some(progress) => progress.take(alloc, line),
+            Some(progress) => progress.reply_to_line(alloc, line),
             None => {
-                self.progress = Some(begin(alloc, line)?);
+                self.progress = Some(at_first_event(alloc, line)?);
                 Ok(Bytes::new(alloc))
             }
         }
     }
 
-    fn close(&self, alloc: Global) -> Result<Option<Bytes>, Memory> {
+    fn last_lines(&self, alloc: Global) -> Result<Option<Bytes>, Memory> {
         match &self.progress {
             Some(progress) => {
                 let mut last = Bytes::new(alloc);
-                progress.close(&mut last)?;
+                progress.put_last_line(&mut last)?;
                 Ok(Some(last))
             }
             None => Ok(None),

@@ -3,14 +3,13 @@ use Rattle.std.proofs.Common.{ℕ, ◌≡◌, ◌+◌, Bool, true, false, cond, 
 use Rattle.std.specs.Prelude.{◌==◌, if◌then◌else◌, filter}
 use Rattle.std.specs.List.{AllByRecursion, Contains}
 use Rattle.std.proofs.lemmas.List.{append-nil}
-use Rattle.mm_digest.specs.Messages.{start_message, start_of}
+use Rattle.mm_digest.specs.Messages.{start_message}
 use Rattle.mm_digest.specs.declared.variant.Variant.TheVariants.{Opt}
 use Rattle.mm_module.specs.Meaning.{Meaning}
 use Rattle.mm_module.specs.Batch.{Batch}
 use Rattle.mm_platform.specs.declared.plan.Meddle.{Meddle}
 use Rattle.mm_platform.specs.declared.plan.Stop.{Stop}
 use Rattle.mm_platform.specs.Standing.{due}
-use Rattle.mm_model.specs.Chains.{anchor_of}
 use Rattle.mm_model.specs.Instance.{Instance, opt}
 use Rattle.mm_model.specs.History.{Value, History, Move, Foreign, Reset, Power as PowerMove, moved, first_history}
 use Rattle.mm_model.specs.Messages.{Within, IsClear, AreNoGuards, history_messages, move_messages}
@@ -29,6 +28,7 @@ use Rattle.mm_call.specs.Called.{called, seen_at}
 use Rattle.mm_call.specs.Checkpoints.{checkpointed, IsSameCheckpoint}
 use Rattle.mm_call.specs.Asked.{counted_part, counted_moves, from_reset, moves_messages, foreign_in, right_messages, IsWithin}
 use Rattle.mm_call.specs.Laws.{IsSameCall}
+use Rattle.mm_call.proofs.Moving.{anchor-nil}
 use Rattle.mm_call.proofs.OptHolding.{opt_agrees_moved, foreign_may, power_may, power_brings, holds_moved, foreign_fine}
 use Rattle.mm_call.proofs.Walks.{asks, taking, taking_is, messages-made, foreign_in-append, foreign_in-foreign, foreign_in-first, from_reset-foreign}
 use Rattle.mm_call.proofs.OptWalks.{AreOwn}
@@ -267,10 +267,6 @@ module _ (meaning : Meaning) (key barrier : List ℕ) (all others : List (List �
     power = λ y d k. power_keeps y d k;
     foreign = λ y d v k c messages. foreign_keeps y d v k c messages;
   }
-
-pub anchor-nil : (id : ℕ) → start_of Opt id ≡ anchor_of id []
-unfolding anchor_of
-anchor-nil id = refl
 
 starts : (meaning : Meaning) (key barrier : List ℕ) (all others : List (List ℕ)) (asked_for : List Batch) → Contains all (start_message Opt meaning.id)
     → Keeps all others asked_for (opt meaning key barrier) first_history (first_digests (opt meaning key barrier))

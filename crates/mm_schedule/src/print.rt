@@ -3,7 +3,7 @@
 ghost use Rattle.std.specs.Prelude.{◌≡◌, ◌+◌, ◌<◌, ◌≤◌, ◌++◌, [], ◌∷◌, Some, codes, length, take, slice_get};
 ghost use Rattle.std.specs.Fmt.{decimal};
 ghost use Rattle.mm_base.specs.Limits.{longest_request};
-ghost use Rattle.mm_schedule.specs.Replies.{end_line, IsPrintable, lines_of, told_line, told_text, way_text};
+ghost use Rattle.mm_schedule.specs.Replies.{IsPrintable, lines_of, told_line, told_text, way_text};
 
 use crate::reply::{Reply, Way};
 use itoa::Buffer;
@@ -42,18 +42,6 @@ pub fn print_line(reply: &Reply, index: usize, into: &mut [u8; 4200]) -> usize
         Reply::Power => print_words(b"power", b"", into),
         Reply::Extended => print_words(b"extended", b"", into),
     }
-}
-
-/// Writes the line `end N K`: so many requests were committed, so many snapshots issued.
-pub fn print_end(committed: u64, issued: u32, into: &mut [u8; 4200]) -> usize
-    ensures within { result ≤ 4200 }
-    ensures line { take result into.new ≡ end_line committed issued }
-{
-    let at = put(into, 0, b"end ");
-    let at = put_number(into, at, committed);
-    let at = put(into, at, b" ");
-    let at = put_number(into, at, u64::from(issued));
-    put(into, at, b"\n")
 }
 
 /// Writes two words and an LF.

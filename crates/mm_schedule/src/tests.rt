@@ -1,7 +1,7 @@
 //! Lines from outside, and the lines that answer them.
 
 use crate::{
-    Cause, Event, EventFault, Header, Reply, Way, print_end, print_line, read_event, read_header,
+    Cause, Event, EventFault, Header, Reply, Way, print_line, put_end, read_event, read_header,
     reply_lines,
 };
 use mm_base::Bytes;
@@ -193,8 +193,9 @@ fn a_batch_has_a_line_for_each_request(rt: HostRuntime) -> Result<(), Fail> {
     let mut into = [0; 4200];
     let size = print_line(&reply, 1, &mut into);
     assert_eq!(rt; &into[..size], b"again 11 12\n".as_slice());
-    let size = print_end(2, 3, &mut into);
-    assert_eq!(rt; &into[..size], b"end 2 3\n".as_slice());
+    let mut last = Bytes::new(rt.alloc());
+    put_end(2, 3, &mut last)?;
+    assert_eq!(rt; last.as_slice(), b"end 2 3\n".as_slice());
     Ok(())
 }
 

@@ -5,7 +5,7 @@ use Rattle.std.specs.Prelude.{◌⊎◌, ◌==◌, option_to_list, min, is_some,
 use Rattle.mm_base.specs.declared.fault.Memory.{Memory}
 use Rattle.mm_digest.specs.declared.variant.Variant.{Variant}
 use Rattle.mm_digest.specs.declared.variant.Variant.TheVariants.{Basic, Opt}
-use Rattle.mm_digest.specs.Messages.{zero_bytes, start_of}
+use Rattle.mm_digest.specs.Messages.{zero_bytes}
 use Rattle.mm_digest.proofs.Lengths.{length-zero_bytes, length-start_of}
 use Rattle.mm_module.specs.Batch.{Batch}
 use Rattle.mm_module.specs.Meaning.{Meaning}
@@ -18,7 +18,6 @@ use Rattle.mm_platform.specs.declared.plan.Stop.{Stop}
 use Rattle.mm_platform.specs.Standing.{Item, Standing, values_of, register_of}
 use Rattle.mm_platform.specs.Steps.{beside, Cycles, EndsCycle, items_cycled}
 use Rattle.mm_platform.specs.Memory.{fresh}
-use Rattle.mm_model.specs.Chains.{anchor_of}
 use Rattle.mm_model.specs.Instance.{Instance}
 use Rattle.mm_model.specs.History.{Foreign, Power as PowerMove, first_history}
 use Rattle.mm_model.specs.Moves.{Digests, made}
@@ -28,7 +27,7 @@ use Rattle.mm_call.specs.Levels.{by_digests}
 use Rattle.mm_call.specs.Courses.{Fate, seen_in}
 use Rattle.mm_call.specs.Called.{seen_at, reading_steps}
 use Rattle.mm_call.specs.Standing.{instance_by, cell_at, shown}
-use Rattle.mm_call.proofs.Moving.{summary-nil, committed_in}
+use Rattle.mm_call.proofs.Moving.{anchor-nil, summary-nil, committed_in}
 use Rattle.mm_call.proofs.Walks.{foreign_first}
 use Rattle.mm_modules.specs.Modules.{meaning_of}
 use Rattle.mm_schedule.specs.declared.header.Header.{Header}
@@ -290,10 +289,6 @@ length-world_key = refl
 length-world_barrier : length world_barrier ≡ 32
 unfolding world_barrier rising_from
 length-world_barrier = refl
-
-anchor-nil : (id : ℕ) → start_of Opt id ≡ anchor_of id []
-unfolding anchor_of
-anchor-nil id = refl
 
 stands_new : (variant : Variant) (meaning : Meaning) (cell : List ℕ) → cell ≡ cell_spelling (cell_of (instance_by variant meaning world_key world_barrier) first_history)
     → Stands (instance_by variant meaning world_key world_barrier) (fresh cell) (first_digests (instance_by variant meaning world_key world_barrier))

@@ -153,7 +153,7 @@ fn came_to(stop: Stop, ended: Ended, size: u64) -> Result<Called, Memory>
 }
 
 // Makes the call of Basic.
-fn basic<M: Module>(
+fn call_basic<M: Module>(
     alloc: Global,
     module: &M,
     platform: &mut MemPlatform,
@@ -172,7 +172,7 @@ fn basic<M: Module>(
 }
 
 // Makes the call of Opt.
-fn opt<M: Module>(
+fn call_opt<M: Module>(
     alloc: Global,
     module: &M,
     platform: &mut MemPlatform,
@@ -191,7 +191,7 @@ fn opt<M: Module>(
 }
 
 // Makes the call of either variant.
-fn finish<M: Module>(
+fn call_core<M: Module>(
     alloc: Global,
     variant: Variant,
     module: &M,
@@ -205,8 +205,8 @@ fn finish<M: Module>(
         (batch_of batch.entry) result }
 {
     match variant {
-        Variant::Basic => basic(alloc, module, platform, offer, batch, keys),
-        Variant::Opt => opt(alloc, module, platform, offer, batch, keys),
+        Variant::Basic => call_basic(alloc, module, platform, offer, batch, keys),
+        Variant::Opt => call_opt(alloc, module, platform, offer, batch, keys),
     }
 }
 
@@ -229,8 +229,9 @@ fn restore(platform: &mut MemPlatform, stop: Stop)
     }
 }
 
-// Asks for a batch, offering these bytes, over a platform that is on and has no plan.
-fn ask<M: Module>(
+// Makes the call that offers these bytes and asks for a batch, under the plan of these meddles and
+// this stop, over a platform that is on and has no plan.
+fn planned_call<M: Module>(
     alloc: Global,
     variant: Variant,
     module: &M,
@@ -251,13 +252,13 @@ fn ask<M: Module>(
     if let Err(memory) = platform.plan(stop, meddles) {
         return Err(memory);
     }
-    let ended = finish(alloc, variant, module, platform, offer, batch, keys);
+    let ended = call_core(alloc, variant, module, platform, offer, batch, keys);
     settle(platform, stop, is_broken(&ended));
     came_to(stop, ended, batch.len() as u64)
 }
 
-/// Asks for a batch, by the issued snapshots.
-pub fn asked<M: Module>(
+/// Makes the call that asks for a batch, with the bytes that the offer names.
+pub fn call_by_offer<M: Module>(
     alloc: Global,
     variant: Variant,
     module: &M,
@@ -275,7 +276,7 @@ pub fn asked<M: Module>(
     match offered(alloc, issued, offer) {
         Err(memory) => Err(memory),
         Ok(None) => Ok(Called::refused(Cause::Snapshot)),
-        Ok(Some(offered)) => ask(
+        Ok(Some(offered)) => planned_call(
             alloc,
             variant,
             module,
@@ -322,8 +323,8 @@ fn is_stopped(ended: &Result<Checkpointed, CheckpointRefusal>) -> bool
     matches!(ended, Err(CheckpointRefusal::Device(_)))
 }
 
-/// Closes the open segment. In Basic there is none, and its first step finds that.
-pub fn checkpoint(
+/// Makes a checkpoint under such a plan, which closes the open segment. In Basic there is none, and its first step finds that.
+pub fn planned_checkpoint(
     platform: &mut MemPlatform,
     meddles: &[Meddle],
     stop: Stop,

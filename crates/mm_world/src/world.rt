@@ -6,7 +6,7 @@ ghost use Rattle.mm_model.specs.History.{first_history};
 ghost use Rattle.mm_model.specs.Standing.{cell_of, issued_bytes};
 ghost use Rattle.mm_run.specs.Held.{world_of};
 
-use crate::call::{Called, asked, checkpoint};
+use crate::call::{Called, call_by_offer, planned_checkpoint};
 use crate::parts::{first, keep, listed};
 use mm_base::{Bytes, Memory};
 use mm_call::{KeptKey, Provisioned};
@@ -99,7 +99,7 @@ impl World {
         }
     }
 
-    /// Runs one event, and answers it. After want of memory nothing has changed, but that a call may have made its
+    /// Follows one event, and answers it. After want of memory nothing has changed, but that a call may have made its
     /// reading steps.
     pub fn event(&mut self, event: &Event) -> Result<Reply, Memory>
         requires { length self.old.issued < 2 ^ 32 - 1 }
@@ -113,10 +113,11 @@ impl World {
         ensures few { (outcome_in self.old (event_of event.now)).state.count
             ≤ self.old.digests.count + most_members }
     {
-        self.run(event)
+        self.follow(event)
     }
 
-    fn run(&mut self, event: &Event) -> Result<Reply, Memory>
+    // Follows one event, by its kind.
+    fn follow(&mut self, event: &Event) -> Result<Reply, Memory>
         requires { length self.old.issued < 2 ^ 32 - 1 }
         ensures ok { IfOk result
             (Follows (outcome_in self.old (event_of event.now)) self.old self.new) }
@@ -129,7 +130,7 @@ impl World {
                 offer,
                 request,
             } => {
-                self.ask(
+                self.follow_ask(
                     listed(meddles),
                     *stop,
                     offer,
@@ -141,10 +142,10 @@ impl World {
                 stop,
                 offer,
                 text,
-            } => { self.ask(listed(meddles), *stop, offer, Batch::Many(text.as_slice())) }
-            Event::Checkpoint { meddles, stop } => self.checkpoint(listed(meddles), *stop),
-            Event::Power => Ok(self.power()),
-            Event::Extend { value } => self.extend(value),
+            } => { self.follow_ask(listed(meddles), *stop, offer, Batch::Many(text.as_slice())) }
+            Event::Checkpoint { meddles, stop } => self.follow_checkpoint(listed(meddles), *stop),
+            Event::Power => Ok(self.follow_power()),
+            Event::Extend { value } => self.follow_extend(value),
         }
     }
 
@@ -179,8 +180,8 @@ impl World {
         &self.platform
     }
 
-    // Asks for a batch.
-    fn ask(
+    // Follows an event that asks for a batch.
+    fn follow_ask(
         &mut self,
         meddles: &[Meddle],
         stop: Stop,
@@ -196,7 +197,7 @@ impl World {
     {
         self.issued.reserve(1)?;
         let alloc = *self.issued.allocator();
-        match asked(
+        match call_by_offer(
             alloc,
             self.header.variant,
             &self.header.module,
@@ -222,17 +223,17 @@ impl World {
         }
     }
 
-    // Closes the open segment.
-    fn checkpoint(&mut self, meddles: &[Meddle], stop: Stop) -> Result<Reply, Memory>
+    // Follows an event that closes the open segment.
+    fn follow_checkpoint(&mut self, meddles: &[Meddle], stop: Stop) -> Result<Reply, Memory>
         ensures ok { IfOk result
             (Follows (outcome_in self.old (Checkpoint meddles.now stop)) self.old self.new) }
         ensures memory { OnErr result (self.new ≡ self.old) }
     {
-        checkpoint(&mut self.platform, meddles, stop)
+        planned_checkpoint(&mut self.platform, meddles, stop)
     }
 
     // Power is lost and comes back.
-    fn power(&mut self) -> Reply
+    fn follow_power(&mut self) -> Reply
         ensures { Follows (outcome_in self.old Power) self.old self.new result }
     {
         let _ = self.platform.cycle();
@@ -240,7 +241,7 @@ impl World {
     }
 
     // Others extend the register.
-    fn extend(&mut self, value: &Digest) -> Result<Reply, Memory>
+    fn follow_extend(&mut self, value: &Digest) -> Result<Reply, Memory>
         ensures ok { IfOk result
             (Follows (outcome_in self.old (Extend value.now.bytes)) self.old self.new) }
         ensures memory { OnErr result (self.new ≡ self.old) }

@@ -57,7 +57,7 @@ returns-clause-sums c =
     told_at c.args.header.now (schedule_lines c.args.number c.args.count c.args.header.now) (running c.lines.progress) c.lines.counts
     c.report-report.result.committed c.report-report.result.issued c.digest_of.result c.lines.replies
     c.lines.invariant.header c.report-report.ensures.0 c.report-report.ensures.1
-    (c.digest_of.ensures ∙ ap sha256 (c.as_slice-2.ensures.value ∙ c.in_ok-close.ensures)) made
+    (c.digest_of.ensures ∙ ap sha256 (c.as_slice-2.ensures.value ∙ c.in_ok-put_last_line.ensures)) made
 
 pub returns-in_err-reply-clause-limit : goal.returns-in_err-reply-clause-limit
 returns-in_err-reply-clause-limit c =

@@ -7,14 +7,14 @@ pub returns-in_err-next-clause-serves : goal.returns-in_err-next-clause-serves
 returns-in_err-next-clause-serves g c =
     let p = err_from_is_err_and c.from_residual.result c.from_residual.ensures.1 in
     rw (p.1, p.2) (serves_stopped c.args.variant (g.M.Module.meaning c.args.module.now) _ _ c.lines.number _ _
-    _ _ _ _ _ _ c.lines.reader c.turn.new.reader c.turn.result _ c.lines.invariant.stands c.turn.ensures.turns c.in_err-next.was)
+    _ _ _ _ _ _ c.lines.reader c.serve_next.new.reader c.serve_next.result _ c.lines.invariant.stands c.serve_next.ensures.turns c.in_err-next.was)
 
 pub lines-preserved : goal.lines-preserved
 lines-preserved g c =
     let went = c.in_ok-next.was ∙ ap Ok c.in-Some.is in
     record {
       stands = stands_on c.args.variant (g.M.Module.meaning c.args.module.now) _ _ c.lines.number _ _ c.in-Some.next
-          _ _ _ _ _ _ c.lines.reader c.turn.new.reader c.turn.result c.lines.invariant.stands c.turn.ensures.turns went;
+          _ _ _ _ _ _ c.lines.reader c.serve_next.new.reader c.serve_next.result c.lines.invariant.stands c.serve_next.ensures.turns went;
       sized = rw c.in-Some.is at c.in_ok-next.ensures.sized;
       input = c.in_ok-next.ensures.read ∙ c.lines.invariant.input;
       output = c.in_ok-next.ensures.wrote ∙ c.lines.invariant.output;
@@ -23,4 +23,4 @@ lines-preserved g c =
 pub returns-clause-serves : goal.returns-clause-serves
 returns-clause-serves g c =
     serves_ended c.args.variant (g.M.Module.meaning c.args.module.now) _ _ c.lines.number _ _
-    _ _ _ _ _ _ c.lines.reader c.turn.new.reader c.turn.result _ c.lines.invariant.stands c.turn.ensures.turns (c.in_ok-next.was ∙ ap Ok c.in_default.is)
+    _ _ _ _ _ _ c.lines.reader c.serve_next.new.reader c.serve_next.result _ c.lines.invariant.stands c.serve_next.ensures.turns (c.in_ok-next.was ∙ ap Ok c.in_default.is)

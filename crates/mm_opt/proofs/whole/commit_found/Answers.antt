@@ -6,15 +6,15 @@ use Rattle.mm_opt.proofs.whole.commit_found.Goals as goal
 
 pub returns-in-Answered : goal.returns-in-Answered
 returns-in-Answered g c =
-    commits_as c.args.found (g.P.Device.standing c.args.platform.now) (g.P.Device.standing c.end.new.platform) c.end.result
-    (Ok c.in-Answered.answer) c.end.ensures (ap (λ (v : Ended). result_of v) c.in-Answered.is)
+    commits_as c.args.found (g.P.Device.standing c.args.platform.now) (g.P.Device.standing c.finish_found.new.platform) c.finish_found.result
+    (Ok c.in-Answered.answer) c.finish_found.ensures (ap (λ (v : Ended). result_of v) c.in-Answered.is)
 
 pub returns-in-Broken : goal.returns-in-Broken
 returns-in-Broken g c =
-    commits_as c.args.found (g.P.Device.standing c.args.platform.now) (g.P.Device.standing c.end.new.platform) c.end.result
-    (Err c.in-Broken.fault) c.end.ensures (ap (λ (v : Ended). result_of v) c.in-Broken.is)
+    commits_as c.args.found (g.P.Device.standing c.args.platform.now) (g.P.Device.standing c.finish_found.new.platform) c.finish_found.result
+    (Err c.in-Broken.fault) c.finish_found.ensures (ap (λ (v : Ended). result_of v) c.in-Broken.is)
 
 pub unreachable-requires : goal.unreachable-requires
 unreachable-requires g c =
-    not_refused c.args.found (g.P.Device.standing c.args.platform.now) (g.P.Device.standing c.end.new.platform) c.in-Refused.field-0
+    not_refused c.args.found (g.P.Device.standing c.args.platform.now) (g.P.Device.standing c.finish_found.new.platform) c.in-Refused.field-0
     c.in-Refused.ensures

@@ -8,11 +8,11 @@ returns-in_err-reader-clause-plays g c =
     let p = err_from_is_err_and c.from_residual.result c.from_residual.ensures.1 in
     rw (p.1, p.2) (plays_nothing g.P.Player.answer g.P.Player.closing c.args.player.now _ _)
 
-pub returns-in_err-turn-clause-plays : goal.returns-in_err-turn-clause-plays
-returns-in_err-turn-clause-plays g c =
-    let p = err_from_is_err_and c.from_residual-in_err-turn.result c.from_residual-in_err-turn.ensures.1 in
-    rw (p.1, p.2) (plays_stopped g.P.Player.answer g.P.Player.closing c.args.player.now c.lines.player c.turn.new.player c.lines.number
-    _ _ _ _ _ _ c.lines.reader c.turn.new.reader c.lines.pending c.turn.new.pending c.turn.result _ c.lines.invariant.stands c.turn.ensures.turns c.in_err-turn.was)
+pub returns-in_err-play_next-clause-plays : goal.returns-in_err-play_next-clause-plays
+returns-in_err-play_next-clause-plays g c =
+    let p = err_from_is_err_and c.from_residual-in_err-play_next.result c.from_residual-in_err-play_next.ensures.1 in
+    rw (p.1, p.2) (plays_stopped g.P.Player.answer g.P.Player.closing c.args.player.now c.lines.player c.play_next.new.player c.lines.number
+    _ _ _ _ _ _ c.lines.reader c.play_next.new.reader c.lines.pending c.play_next.new.pending c.play_next.result _ c.lines.invariant.stands c.play_next.ensures.turns c.in_err-play_next.was)
 
 pub lines-init : goal.lines-init
 lines-init g c = record {
@@ -24,21 +24,21 @@ lines-init g c = record {
 
 pub lines-preserved : goal.lines-preserved
 lines-preserved g c =
-    let went = c.in_ok-turn.was ∙ ap Ok c.if-branch.true in
-    let s = stands_on g.P.Player.answer g.P.Player.closing c.args.player.now c.lines.player c.turn.new.player c.lines.number
-    _ _ _ _ _ _ c.lines.reader c.turn.new.reader c.lines.pending c.turn.new.pending c.turn.result c.lines.invariant.stands c.turn.ensures.turns went in
-    let a = answered_line g.P.Player.answer g.P.Player.closing c.lines.player c.turn.new.player c.lines.number
-    _ _ _ _ c.lines.reader c.turn.new.reader c.lines.pending c.turn.new.pending c.turn.result c.turn.ensures.turns went in
-    let fewer : g.P.Player.lines_left c.turn.new.player < g.P.Player.lines_left c.lines.player =
-    g.met.P.Player.counts_down c.lines.player c.turn.new.player a.0 a.1 a.2 in
+    let went = c.in_ok-play_next.was ∙ ap Ok c.if-branch.true in
+    let s = stands_on g.P.Player.answer g.P.Player.closing c.args.player.now c.lines.player c.play_next.new.player c.lines.number
+    _ _ _ _ _ _ c.lines.reader c.play_next.new.reader c.lines.pending c.play_next.new.pending c.play_next.result c.lines.invariant.stands c.play_next.ensures.turns went in
+    let a = answered_line g.P.Player.answer g.P.Player.closing c.lines.player c.play_next.new.player c.lines.number
+    _ _ _ _ c.lines.reader c.play_next.new.reader c.lines.pending c.play_next.new.pending c.play_next.result c.play_next.ensures.turns went in
+    let fewer : g.P.Player.lines_left c.play_next.new.player < g.P.Player.lines_left c.lines.player =
+    g.met.P.Player.counts_down c.lines.player c.play_next.new.player a.0 a.1 a.2 in
     record {
       stands = s;
-      input = c.in_ok-turn.ensures.read ∙ c.lines.invariant.input;
-      output = c.in_ok-turn.ensures.wrote ∙ c.lines.invariant.output;
+      input = c.in_ok-play_next.ensures.read ∙ c.lines.invariant.input;
+      output = c.in_ok-play_next.ensures.wrote ∙ c.lines.invariant.output;
       few = omega arith;
     }
 
 pub returns-clause-plays : goal.returns-clause-plays
 returns-clause-plays g c =
-    plays_ended g.P.Player.answer g.P.Player.closing c.args.player.now c.lines.player c.turn.new.player c.lines.number
-    _ _ _ _ _ _ c.lines.reader c.turn.new.reader c.lines.pending c.turn.new.pending c.turn.result c.lines.invariant.stands c.turn.ensures.turns (c.in_ok-turn.was ∙ ap Ok c.if-branch.false)
+    plays_ended g.P.Player.answer g.P.Player.closing c.args.player.now c.lines.player c.play_next.new.player c.lines.number
+    _ _ _ _ _ _ c.lines.reader c.play_next.new.reader c.lines.pending c.play_next.new.pending c.play_next.result c.lines.invariant.stands c.play_next.ensures.turns (c.in_ok-play_next.was ∙ ap Ok c.if-branch.false)
