@@ -15,12 +15,13 @@ use Rattle.mm_model.specs.declared.refusal.Refusal.{Refusal}
 use Rattle.mm_model.specs.declared.refusal.Refusal.TheVariants.{Memory}
 use Rattle.mm_model.specs.declared.verdict.Verdict.{Verdict}
 use Rattle.mm_model.specs.declared.verdict.Verdict.TheVariants.{Fresh, Again, Lost, Stale}
+use Rattle.mm_model.specs.Places.{digest_of}
 use Rattle.mm_basic.specs.declared.found.Found.{Found}
 use Rattle.mm_basic.specs.declared.found.Found.TheVariants.{Repeat, Change}
 use Rattle.mm_basic.specs.Seen.{Seen, NoCell, OtherCell, NoOffer, Both}
 use Rattle.mm_call.specs.Order.{admitted, weighed, examined}
 use Rattle.mm_basic.specs.Order.{summary_in, verdict_of}
-use Rattle.mm_basic.specs.Answers.{digest, linked, answer_of, cell_after, found_from, found_in}
+use Rattle.mm_basic.specs.Answers.{linked, answer_of, committed_cell, found_from, found_in}
 use Rattle.mm_call.specs.Refusals.{fault_in, OrMemory}
 use Rattle.mm_basic.specs.Steps.{FindsIn}
 use Rattle.mm_call.proofs.Weighing.{weighed_only}
@@ -98,7 +99,7 @@ shaped_from meaning key next offered b (Ok false) h = (refl, h false refl)
 accepted_fit : (meaning : Meaning) → IsLawful meaning → (key : List ℕ) (offered : Snapshot) (b : Batch) (verdict : Verdict) (again : Bool) → examined meaning key offered b verdict ≡ Ok again → IsFit b (answer_of meaning key offered.content b again)
 accepted_fit meaning lawful key offered b verdict again e =
     let a = weighed_only _ _ _ _ again e in
-    is_fit meaning lawful key offered.content.state offered.content.position (InBasic (digest (linked offered.content b))) b again
+    is_fit meaning lawful key offered.content.state offered.content.position (InBasic (digest_of (linked offered.content b))) b again
     (length-link (summary_in offered.content.place) (normal b))
     (subst (λ (t : Bool). IsTrue t) (sym a.spelled) refl)
     (grind (arith, nat_tests, a.fitting))
@@ -110,7 +111,7 @@ shaped_in meaning lawful OtherCell b = tt
 shaped_in meaning lawful (NoOffer Form) b = tt
 shaped_in meaning lawful (NoOffer Kind) b = tt
 shaped_in meaning lawful (Both cell offered) b =
-    shaped_from meaning cell.key (cell_after cell offered.content b) offered.content b (examined meaning cell.key offered b (verdict_of cell offered b))
+    shaped_from meaning cell.key (committed_cell cell offered.content b) offered.content b (examined meaning cell.key offered b (verdict_of cell offered b))
     (accepted_fit meaning lawful cell.key offered b (verdict_of cell offered b))
 
 shaped_or : (b : Batch) (x found : Result Found Refusal) → IsShaped b x → OrMemory x found → IsShaped b found

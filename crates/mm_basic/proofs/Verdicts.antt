@@ -24,7 +24,7 @@ use Rattle.mm_model.proofs.Digests.{summary-push}
 use Rattle.mm_model.specs.declared.answer.BatchAnswer.{BatchAnswer}
 use Rattle.mm_model.specs.declared.verdict.Verdict.TheVariants.{Fresh, Again}
 use Rattle.mm_basic.specs.Order.{summary_in}
-use Rattle.mm_basic.specs.Answers.{digest, linked, answer_of}
+use Rattle.mm_basic.specs.Answers.{linked, answer_of}
 use Rattle.mm_call.proofs.Ending.{total_with, outputs_with, state_with}
 
 -- an offer taken apart that has a spelled state and its tag is right

@@ -1,6 +1,5 @@
 -- What a call answers, and what it writes.
 use Rattle.std.specs.Prelude.{ℕ, Bool, true, false, List, Result, Ok, Err}
-use Rattle.mm_digest.specs.declared.digest.Digest.{Digest}
 use Rattle.mm_module.specs.Meaning.{Meaning}
 use Rattle.mm_module.specs.Batch.{Batch, normal}
 use Rattle.mm_seal.specs.declared.cell.Cell.{Cell}
@@ -13,6 +12,7 @@ use Rattle.mm_model.specs.Chains.{link}
 use Rattle.mm_model.specs.declared.answer.BatchAnswer.{BatchAnswer}
 use Rattle.mm_model.specs.declared.refusal.Refusal.{Refusal}
 use Rattle.mm_model.specs.declared.refusal.Refusal.TheVariants as refusal
+use Rattle.mm_model.specs.Places.{digest_of}
 use Rattle.mm_basic.specs.declared.found.Found.{Found}
 use Rattle.mm_basic.specs.declared.found.Found.TheVariants.{Repeat, Change}
 use Rattle.mm_basic.specs.Seen.{Seen, NoCell, OtherCell, NoOffer, Both}
@@ -20,19 +20,16 @@ use Rattle.mm_call.specs.Order.{examined}
 use Rattle.mm_basic.specs.Order.{summary_in, verdict_of}
 use Rattle.mm_call.specs.Answers.{answer_at}
 
-abbrev pub digest : List ℕ → Digest
-digest bytes = record { bytes = bytes }
-
 -- the summary after the batch
 abbrev pub linked : Content → Batch → List ℕ
 linked offered b = link (summary_in offered.place) (normal b)
 
 abbrev pub answer_of : Meaning → List ℕ → Content → Batch → Bool → BatchAnswer
-answer_of meaning key offered b again = answer_at meaning key offered (Basic (digest (linked offered b))) b again
+answer_of meaning key offered b again = answer_at meaning key offered (Basic (digest_of (linked offered b))) b again
 
 -- the cell once the batch is committed
-abbrev pub cell_after : Cell → Content → Batch → List ℕ
-cell_after cell offered b = cell_spelling (record cell { summary = digest (linked offered b) })
+abbrev pub committed_cell : Cell → Content → Batch → List ℕ
+committed_cell cell offered b = cell_spelling (record cell { summary = digest_of (linked offered b) })
 
 -- A repeat is answered, and a new batch is ready to be committed.
 abbrev pub found_from : Result Bool Refusal → List ℕ → (Bool → BatchAnswer) → Result Found Refusal
@@ -49,4 +46,4 @@ found_in meaning (NoOffer Form) b = Err refusal.Form
 found_in meaning (NoOffer Kind) b = Err refusal.Kind
 found_in meaning (Both cell offered) b =
     found_from (examined meaning cell.key offered b (verdict_of cell offered b))
-    (cell_after cell offered.content b) (answer_of meaning cell.key offered.content b)
+    (committed_cell cell offered.content b) (answer_of meaning cell.key offered.content b)

@@ -5,12 +5,13 @@ use Rattle.mm_digest.specs.declared.variant.Variant.{Variant}
 use Rattle.mm_digest.specs.declared.variant.Variant.TheVariants.{Basic, Opt}
 use Rattle.mm_digest.specs.Messages.{zero_bytes, anchored_of}
 use Rattle.mm_platform.specs.declared.fault.StepFault.{StepFault}
-use Rattle.mm_platform.specs.Standing.{Item, Standing, values_of, register_of}
+use Rattle.mm_platform.specs.Standing.{Item, Standing, item_values, register_after}
 use Rattle.mm_platform.specs.Steps.{Act, ReadCell, WriteCell, ReadRegister, Goes}
 use Rattle.mm_seal.specs.declared.cell.Cell.{Cell}
 use Rattle.mm_seal.specs.declared.cell.CellFault.{CellFault}
 use Rattle.mm_seal.specs.declared.cell.CellFault.TheVariants as fault
 use Rattle.mm_seal.specs.Cell.{ReadsCell, cell_spelling}
+use Rattle.mm_model.specs.Places.{digest_of}
 use Rattle.mm_call.specs.Leaving.{IsUntouched}
 use Rattle.mm_opt.specs.declared.segment.Checkpointed.{Checkpointed}
 use Rattle.mm_opt.specs.declared.segment.Checkpointed.TheVariants.{Done, NoSegment}
@@ -21,7 +22,6 @@ use Rattle.mm_opt.specs.declared.segment.Segment.TheVariants.{Open, Shut}
 use Rattle.mm_opt.specs.declared.stage.CheckpointStage.{CheckpointStage}
 use Rattle.mm_opt.specs.declared.stage.CheckpointStage.TheVariants as stage
 use Rattle.mm_base.specs.Faults.{counted}
-use Rattle.mm_opt.specs.Answers.{digest}
 use Rattle.mm_opt.specs.Steps.{Makes}
 use Rattle.mm_opt.specs.Asks.{OneStep, TwoSteps}
 
@@ -80,7 +80,7 @@ pub record Looks (old new : Standing) (found : Result Segment CheckpointRefusal)
 -- the cell once its segment is closed, where the register has this value
 abbrev pub closed_cell : Cell → List ℕ → List ℕ
 closed_cell cell register =
-    cell_spelling (record cell { variant = Opt; flag = false; summary = digest (anchored_of cell.summary.bytes register) })
+    cell_spelling (record cell { variant = Opt; flag = false; summary = digest_of (anchored_of cell.summary.bytes register) })
 
 -- the bytes that close the segment, by whether the register reads zero
 abbrev pub closing_by : Bool → Cell → List ℕ → Result (List ℕ) CheckpointRefusal
@@ -93,7 +93,7 @@ closing_in cell register = closing_by (bytes_eq register zero_bytes) cell regist
 -- What is found on a platform, whose register is read; it is the platform's, where that tells its items.
 pub record FindsClosing (cell : Cell) (new : Standing) (found : Result (List ℕ) CheckpointRefusal) : Type 0 where
   pub register : List ℕ
-  pub told : (items : List Item) → new.items ≡ Some items → register ≡ register_of (values_of items)
+  pub told : (items : List Item) → new.items ≡ Some items → register ≡ register_after (item_values items)
   pub found_is : found ≡ closing_in cell register
 
 -- The second step, and what is found where it doesn't fail.
