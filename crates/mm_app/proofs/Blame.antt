@@ -41,13 +41,13 @@ use Rattle.mm_app.specs.Blame.{BlamesOutput, BlamesSource, tells_platform_fault,
 use Rattle.mm_app.specs.Bulk.{bulk_told}
 use Rattle.mm_app.specs.Checkpoint.{checkpoint_told}
 use Rattle.mm_app.specs.Commands.{Does, DoesOrLacks, ReadsInput, UsesPlatform, UsesStore}
-use Rattle.mm_store.specs.Kept.{Kept}
+use Rattle.mm_store.specs.Kept.{StoreStanding}
 use Rattle.mm_app.specs.Outside.{Outside, IsStill}
 use Rattle.mm_app.specs.Power.{power_told}
 use Rattle.mm_app.specs.Running.{ServesIfFound, FindsInstance, header_found, instance_found, refused_at, session_status}
 use Rattle.mm_app.specs.Starting.{init_told}
 use Rattle.mm_app.specs.Status.{status_of}
-use Rattle.mm_app.specs.Telling.{EndsAtOnce, GivesText, Stops, StopsAs, Tells, status_by}
+use Rattle.mm_app.specs.Telling.{EndsAtOnce, GivesText, TellsStop, StopsAs, Tells, status_by}
 use Rattle.mm_app.specs.declared.status.Status.{Status}
 use Rattle.mm_app.specs.declared.status.Status.TheVariants.{Done, Usage, Memory, WriteFault, PlatformFault, Blank, Cell}
 
@@ -236,7 +236,7 @@ unheld_end (Ok held) end e = inr (headed_end held.variant (module_with held.modu
 platform_end : (end : Status) → (let r : Result Header Status = Err end in r ≡ Err PlatformFault) → end ≡ PlatformFault
 platform_end end e = cc
 
-record RunBlames (before after : Standing) (old new : Kept) (reads reads' : ℕ) (status : Status) : Type 0 where
+record RunBlames (before after : Standing) (old new : StoreStanding) (reads reads' : ℕ) (status : Status) : Type 0 where
   platform : plays.IsBlamed (tells_platform_fault status) before.faults after.faults
   store : plays.IsBlamed (tells_store_fault status) old.faults new.faults
   source : plays.IsBlamed (tells_read_fault status) reads reads'
@@ -246,7 +246,7 @@ failed_rose : (fault : StepFault) (before after : Standing) (made : Bool) → En
 failed_rose Failed before after made e = e.faults
 failed_rose Off before after made e = e.faults
 
-run_blames : (fault : Option StepFault) (found : Result Header Status) (before middle after : Standing) (made : Bool) (old new : Kept)
+run_blames : (fault : Option StepFault) (found : Result Header Status) (before middle after : Standing) (made : Bool) (old new : StoreStanding)
     (left left' received received' : Option (List ℕ)) (reads reads' writes writes' : ℕ) (status : Status)
     → EndsBy fault before middle made → FindsInstance fault before found
     → ServesIfFound found middle after old new left left' received received' reads reads' writes writes' status
@@ -265,7 +265,7 @@ run_blames None (Err end) before middle after made old new left left' received r
     let none = (unheld_as end (unheld_end sees.read end sees.found_is)).alike in
     record {
       platform = unblamed _ _ _ (ap tells_platform_fault a.stops.ends ∙ none.platform) (ap (λ (s : Standing). s.faults) a.standing ∙ e.faults);
-      store = unblamed _ _ _ (ap tells_store_fault a.stops.ends ∙ none.store) (ap (λ (k : Kept). k.faults) a.kept);
+      store = unblamed _ _ _ (ap tells_store_fault a.stops.ends ∙ none.store) (ap (λ (k : StoreStanding). k.faults) a.kept);
       source = unblamed _ _ _ (ap tells_read_fault a.stops.ends ∙ none.source) a.unfailed;
     }
 run_blames (Some fault) (Ok header) before middle after made old new left left' received received' reads reads' writes writes' status e f a = absurd (cc)
@@ -274,7 +274,7 @@ run_blames (Some fault) (Err end) before middle after made old new left left' re
     record {
       platform = blamed_as _ _ _ _ (ap tells_platform_fault is)
           (subst (λ (s : Standing). Rose before.faults s.faults) (sym a.standing) (failed_rose fault before middle made e));
-      store = unblamed _ _ _ (ap tells_store_fault is) (ap (λ (k : Kept). k.faults) a.kept);
+      store = unblamed _ _ _ (ap tells_store_fault is) (ap (λ (k : StoreStanding). k.faults) a.kept);
       source = unblamed _ _ _ (ap tells_read_fault is) a.unfailed;
     }
 
@@ -293,7 +293,7 @@ output_stopped end status received received' writes writes' other s = record {
 }
 
 output_played : {T : Type 0} (answer : Result T ReplayFault) (status : Status) (middle received' : Option (List ℕ)) (writes count writes' : ℕ)
-    → plays.IsBlamed (plays.is_write_fault answer) writes count → status ≡ status_of answer → Stops middle received' count writes' status
+    → plays.IsBlamed (plays.is_write_fault answer) writes count → status ≡ status_of answer → TellsStop middle received' count writes' status
     → BlamesOutput status writes writes'
 output_played (Ok it) status middle received' writes count writes' b e s = record {
   failed = λ h. absurd (cc);
@@ -315,7 +315,7 @@ output_told (Ok text) received received' writes writes' status other t = output_
 output_told (Err end) received received' writes writes' status other t = output_stopped end status received received' writes writes' other t
 
 output_served : (answer : Result (Unit {0}) SessionFault) (status : Status) (middle received' : Option (List ℕ)) (writes count writes' : ℕ)
-    → plays.IsBlamed (session_blame.is_write_fault answer) writes count → status ≡ session_status answer → Stops middle received' count writes' status
+    → plays.IsBlamed (session_blame.is_write_fault answer) writes count → status ≡ session_status answer → TellsStop middle received' count writes' status
     → BlamesOutput status writes writes'
 output_served (Ok it) status middle received' writes count writes' b e s = record { failed = λ h. absurd (cc); done = λ h. s.done h ∙ b }
 output_served (Err session.WriteFault) status middle received' writes count writes' b e s = record {
@@ -337,7 +337,7 @@ unserved : (fault : Option StepFault) (before : Standing) (end : Status) → Fin
 unserved None before end f = (unheld_as end (unheld_end f.2.read end f.2.found_is)).other
 unserved (Some fault) before end f = let is = platform_end end f in λ h. cc
 
-output_run : (fault : Option StepFault) (found : Result Header Status) (before middle after : Standing) (old new : Kept)
+output_run : (fault : Option StepFault) (found : Result Header Status) (before middle after : Standing) (old new : StoreStanding)
     (left left' received received' : Option (List ℕ)) (reads reads' writes writes' : ℕ) (status : Status)
     → FindsInstance fault before found
     → ServesIfFound found middle after old new left left' received received' reads reads' writes writes' status
@@ -394,7 +394,7 @@ same_standing : (old new : Outside) → new.standing ≡ old.standing → new.st
 same_standing old new e = ap (λ (s : Standing). s.faults) e
 
 same_kept : (old new : Outside) → new.kept ≡ old.kept → new.kept.faults ≡ old.kept.faults
-same_kept old new e = ap (λ (k : Kept). k.faults) e
+same_kept old new e = ap (λ (k : StoreStanding). k.faults) e
 
 -- nobody is blamed, and nothing has changed but the output
 pub still_blamed : (command : Command) (old new : Outside) (status : Status) → IsStill old new → BlameAlike status Done → Blamed command old new status

@@ -10,7 +10,7 @@ use Rattle.mm_play.specs.Plays.{ForWhole}
 use Rattle.mm_play.specs.Takes.{IsFrontOf}
 use Rattle.mm_play.specs.Tells.{AnswersFirst, anywhere, before_line}
 use Rattle.mm_replay.specs.declared.report.Report.{Report}
-use Rattle.mm_replay.specs.Headline.{AnswersAll, AnswersEvents, AnswersLines, IsTooMuch, Tells, unended}
+use Rattle.mm_replay.specs.Headline.{AnswersAll, AnswersEvents, AnswersLines, IsTooMuch, IsOut, unended}
 use Rattle.mm_replay.specs.Replays.{Replays}
 use Rattle.mm_replay.specs.Text.{texts_of}
 use Rattle.mm_run.specs.Folds.{replies_by_digests}
@@ -148,7 +148,7 @@ at_write taken sent (written, front, inl first) = cut_short first.done first.res
 at_write taken sent (written, front, inr all) = cut_short_all (lines_of taken) written sent front all
 
 at_end : (left : Option (List ℕ)) (taken sent stop unsent : List ℕ) (answer : Result Report ReplayFault)
-    → Tells header_at left taken sent answer → stop_line (status_of answer) ≡ stop ++ unsent → WhatIsOut taken (sent ++ stop) (status_of answer)
+    → IsOut header_at left taken sent answer → stop_line (status_of answer) ≡ stop ++ unsent → WhatIsOut taken (sent ++ stop) (status_of answer)
 at_end left taken sent stop unsent (Ok report) tells parts =
     subst (λ s. WhatIsOut taken s Done) (sym (unsent_after sent stop unsent parts)) (finished (lines_of taken) sent tells)
 at_end left taken sent stop unsent (Err fault.WriteFault) tells parts =

@@ -1,18 +1,18 @@
 -- What the command `check` does.
 use Rattle.std.specs.Prelude.{◌≡◌, ℕ, List, Option, Result}
 use Rattle.mm_base.specs.declared.replay_fault.ReplayFault.{ReplayFault}
-use Rattle.mm_check.specs.Checks.{Checks}
+use Rattle.mm_check.specs.Checks.{ChecksRun}
 use Rattle.mm_check.specs.declared.verdicts.Verdicts.{Verdicts}
 use Rattle.mm_play.specs.Plays.{IsBlamed, is_read_fault, is_write_fault}
 use Rattle.mm_app.specs.Status.{status_of}
-use Rattle.mm_app.specs.Telling.{Stops}
+use Rattle.mm_app.specs.Telling.{TellsStop}
 use Rattle.mm_app.specs.declared.status.Status.{Status}
 
 -- A check of a recorded run, which ended with an answer of this status. The input's count rose exactly where the input is
 -- to blame for it, and the output's exactly where the output is.
 pub record RunChecked (left left' received received' : Option (List ℕ)) (reads reads' writes writes' : ℕ) (status : Status) : Type 0 where
   pub answer : Result Verdicts ReplayFault
-  pub checks : Checks left left' received received' answer
+  pub checks : ChecksRun left left' received received' answer
   pub read : IsBlamed (is_read_fault answer) reads reads'
   pub wrote : IsBlamed (is_write_fault answer) writes writes'
   pub ends : status ≡ status_of answer
@@ -23,4 +23,4 @@ pub record ChecksRunAndStops (left left' received received' : Option (List ℕ))
   pub middle : Option (List ℕ)
   pub count : ℕ
   pub checked : RunChecked left left' received middle reads reads' writes count status
-  pub stops : Stops middle received' count writes' status
+  pub stops : TellsStop middle received' count writes' status

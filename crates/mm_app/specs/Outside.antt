@@ -1,13 +1,13 @@
 -- What the objects that the program is handed tell: the platform, the store, the input, the entropy and the output.
 use Rattle.std.specs.Prelude.{◌≡◌, ℕ, List, Option}
 use Rattle.mm_platform.specs.Standing.{Standing}
-use Rattle.mm_store.specs.Kept.{Kept}
+use Rattle.mm_store.specs.Kept.{StoreStanding}
 
 -- what stands on the platform, what the store keeps, what is left of the input and of the entropy, what the output
 -- received; and the counts of faults of the last three (the first two have theirs)
 pub record Outside : Type 0 where
   pub standing : Standing
-  pub kept : Kept
+  pub kept : StoreStanding
   pub left : Option (List ℕ)
   pub reads : ℕ
   pub entropy : Option (List ℕ)
@@ -15,7 +15,7 @@ pub record Outside : Type 0 where
   pub received : Option (List ℕ)
   pub writes : ℕ
 
-abbrev pub outside : Standing → Kept
+abbrev pub outside : Standing → StoreStanding
     → (left : Option (List ℕ)) (reads : ℕ) (entropy : Option (List ℕ)) (takes : ℕ) (received : Option (List ℕ)) (writes : ℕ) → Outside
 outside standing kept left reads entropy takes received writes = record {
   standing = standing;

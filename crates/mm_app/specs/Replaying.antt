@@ -5,7 +5,7 @@ use Rattle.mm_play.specs.Plays.{IsBlamed, is_read_fault, is_write_fault}
 use Rattle.mm_replay.specs.declared.report.Report.{Report}
 use Rattle.mm_replay.specs.Replays.{Replays}
 use Rattle.mm_app.specs.Status.{status_of}
-use Rattle.mm_app.specs.Telling.{Stops}
+use Rattle.mm_app.specs.Telling.{TellsStop}
 use Rattle.mm_app.specs.declared.status.Status.{Status}
 
 -- A replay, which ended with an answer of this status. The input's count rose exactly where the input is to blame for
@@ -23,4 +23,4 @@ pub record ReplaysAndStops (left left' received received' : Option (List ℕ)) (
   pub middle : Option (List ℕ)
   pub count : ℕ
   pub replayed : Replayed left left' received middle reads reads' writes count status
-  pub stops : Stops middle received' count writes' status
+  pub stops : TellsStop middle received' count writes' status

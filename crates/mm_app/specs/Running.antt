@@ -1,7 +1,7 @@
 -- What the command `run` does.
 use Rattle.std.specs.Prelude.{◌≡◌, ℕ, List, Option, None, Some, Result, Ok, Err}
 use Rattle.mm_digest.specs.declared.variant.Variant.{Variant}
-use Rattle.mm_host.specs.Continuing.{Continues}
+use Rattle.mm_host.specs.Continuing.{SessionContinues}
 use Rattle.mm_host.specs.SessionBlame.{IsRefusalNamed, is_platform_fault, is_read_fault, is_store_fault, is_write_fault}
 use Rattle.mm_host.specs.SessionLines.{SparesLines}
 use Rattle.mm_host.specs.Sessions.{Sessions}
@@ -20,8 +20,8 @@ use Rattle.mm_seal.specs.Cell.{ReadsCell}
 use Rattle.mm_seal.specs.declared.cell.Cell.{Cell as Held}
 use Rattle.mm_seal.specs.declared.cell.CellFault.{CellFault}
 use Rattle.mm_seal.specs.declared.cell.CellFault.TheVariants as unheld
-use Rattle.mm_store.specs.Kept.{Kept}
-use Rattle.mm_app.specs.Telling.{Stops, StopsAs}
+use Rattle.mm_store.specs.Kept.{StoreStanding}
+use Rattle.mm_app.specs.Telling.{TellsStop, StopsAs}
 use Rattle.mm_app.specs.declared.status.Status.{Status}
 use Rattle.mm_app.specs.declared.status.Status.TheVariants.{Done, ReadFault, WriteFault, Memory, PlatformFault, StoreFault, Blank, Cell, Lost, Refused, BadLine, LineLong, TooMuch}
 
@@ -78,12 +78,12 @@ pub record LooksAtInstance (before after : Standing) (found : Result Header Stat
 
 -- A session over the instance, which ended with an answer of this status: its steps; that lines within the limits aren't to
 -- blame; and from which history to which it went, by one run of the module, with slots to go on from. Each count of faults rose exactly where its object is to blame.
-pub record ServedInstance (header : Header) (before after : Standing) (old new : Kept) (left left' received received' : Option (List ℕ))
+pub record ServedInstance (header : Header) (before after : Standing) (old new : StoreStanding) (left left' received received' : Option (List ℕ))
     (reads reads' writes writes' : ℕ) (status : Status) : Type 0 where
   pub answer : Result (Unit {0}) SessionFault
   pub sessions : Sessions header.variant (meaning_of header.module) before after old new left left' received received' answer
   pub lines : SparesLines left answer
-  pub continues : Continues header.variant (meaning_of header.module) before after old new left left' received received' answer
+  pub continues : SessionContinues header.variant (meaning_of header.module) before after old new left left' received received' answer
   pub platform : IsBlamed (is_platform_fault answer) before.faults after.faults
   pub store : IsBlamed (is_store_fault answer) old.faults new.faults
   pub read : IsBlamed (is_read_fault answer) reads reads'
@@ -92,15 +92,15 @@ pub record ServedInstance (header : Header) (before after : Standing) (old new :
   pub ends : status ≡ session_status answer
 
 -- Such a session, and then its stop line. `between` is what the output had received between the two, and `count` its count.
-pub record ServesAndStops (header : Header) (before after : Standing) (old new : Kept) (left left' received received' : Option (List ℕ))
+pub record ServesAndStops (header : Header) (before after : Standing) (old new : StoreStanding) (left left' received received' : Option (List ℕ))
     (reads reads' writes writes' : ℕ) (status : Status) : Type 0 where
   pub between : Option (List ℕ)
   pub count : ℕ
   pub served : ServedInstance header before after old new left left' received between reads reads' writes count status
-  pub stops : Stops between received' count writes' status
+  pub stops : TellsStop between received' count writes' status
 
 -- No instance was found, and nothing more was done.
-pub record FindsNone (end : Status) (before after : Standing) (old new : Kept) (left left' received received' : Option (List ℕ))
+pub record FindsNone (end : Status) (before after : Standing) (old new : StoreStanding) (left left' received received' : Option (List ℕ))
     (reads reads' writes writes' : ℕ) (status : Status) : Type 0 where
   pub standing : after ≡ before
   pub kept : new ≡ old
@@ -109,7 +109,7 @@ pub record FindsNone (end : Status) (before after : Standing) (old new : Kept) (
   pub stops : StopsAs end received received' writes writes' status
 
 abbrev pub ServesIfFound : Result Header Status
-    → (before after : Standing) (old new : Kept) (left left' received received' : Option (List ℕ)) (reads reads' writes writes' : ℕ)
+    → (before after : Standing) (old new : StoreStanding) (left left' received received' : Option (List ℕ)) (reads reads' writes writes' : ℕ)
     → Status → Type 0
 ServesIfFound (Err end) before after old new left left' received received' reads reads' writes writes' status =
     FindsNone end before after old new left left' received received' reads reads' writes writes' status
@@ -117,7 +117,7 @@ ServesIfFound (Ok header) before after old new left left' received received' rea
     ServesAndStops header before after old new left left' received received' reads reads' writes writes' status
 
 -- The platform's cell was read, and a session served over the instance that it holds.
-pub record RunsInstance (before after : Standing) (old new : Kept) (left left' received received' : Option (List ℕ))
+pub record RunsInstance (before after : Standing) (old new : StoreStanding) (left left' received received' : Option (List ℕ))
     (reads reads' writes writes' : ℕ) (status : Status) : Type 0 where
   pub middle : Standing
   pub found : Result Header Status

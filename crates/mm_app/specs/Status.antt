@@ -7,24 +7,24 @@ use Rattle.mm_app.specs.declared.status.Status.{Status}
 use Rattle.mm_app.specs.declared.status.Status.TheVariants.{Done, Usage, ReadFault, WriteFault, Memory, PlatformFault, StoreFault, Blank, Already, Cell, Lost, Refused, BadLine, LineLong, TooMuch, Short, Kind}
 
 -- the exit status
-abbrev pub code_of : Status → ℕ
-code_of Done = 0
-code_of Usage = 2
-code_of ReadFault = 3
-code_of WriteFault = 4
-code_of Memory = 5
-code_of PlatformFault = 6
-code_of StoreFault = 7
-code_of Blank = 8
-code_of Already = 9
-code_of Cell = 10
-code_of Lost = 11
-code_of (Refused why) = 12
-code_of (BadLine line) = 13
-code_of (LineLong line) = 14
-code_of TooMuch = 15
-code_of (Short got) = 16
-code_of Kind = 17
+abbrev pub exit_code : Status → ℕ
+exit_code Done = 0
+exit_code Usage = 2
+exit_code ReadFault = 3
+exit_code WriteFault = 4
+exit_code Memory = 5
+exit_code PlatformFault = 6
+exit_code StoreFault = 7
+exit_code Blank = 8
+exit_code Already = 9
+exit_code Cell = 10
+exit_code Lost = 11
+exit_code (Refused why) = 12
+exit_code (BadLine line) = 13
+exit_code (LineLong line) = 14
+exit_code TooMuch = 15
+exit_code (Short got) = 16
+exit_code Kind = 17
 
 -- how the program ends where a command stopped so
 abbrev pub status_at : ReplayFault → Status

@@ -10,7 +10,7 @@ use Rattle.mm_app.specs.declared.status.Status.TheVariants.{Done, Usage, Memory,
 
 -- The status's stop line went out, and the output's count is as before; or the output failed within it, and its count
 -- rose. Where there is no stop line, nothing was tried.
-pub record Stops (received received' : Option (List ℕ)) (writes writes' : ℕ) (status : Status) : Type 0 where
+pub record TellsStop (received received' : Option (List ℕ)) (writes writes' : ℕ) (status : Status) : Type 0 where
   pub result : Result (Unit {0}) write.WriteFault
   pub sends : Sends received received' (stop_line status) result
   pub counts : CountsFaults writes writes' result
@@ -32,7 +32,7 @@ pub record WritesText (text : List ℕ) (received received' : Option (List ℕ))
 -- a status with its stop line
 pub record StopsAs (end : Status) (received received' : Option (List ℕ)) (writes writes' : ℕ) (status : Status) : Type 0 where
   pub ends : status ≡ end
-  pub stops : Stops received received' writes writes' end
+  pub stops : TellsStop received received' writes writes' end
 
 -- what was to be told: a text where all was done, and otherwise a status, with its stop line
 abbrev pub Tells : Result (List ℕ) Status → (received received' : Option (List ℕ)) (writes writes' : ℕ) → Status → Type 0
@@ -52,4 +52,4 @@ pub record GivesText (text : List ℕ) (old new : Outside) (status : Status) : T
 -- Words that are no command: the status is Usage, or Memory where that was wanting, and its stop line is written.
 pub record IsRefused (received received' : Option (List ℕ)) (writes writes' : ℕ) (status : Status) : Type 0 where
   pub ends : (status ≡ Usage) ⊎ (status ≡ Memory)
-  pub stops : Stops received received' writes writes' status
+  pub stops : TellsStop received received' writes writes' status

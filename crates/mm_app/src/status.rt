@@ -46,11 +46,11 @@ pub enum Status {
 impl Status {
     ghost use Rattle.std.specs.Prelude.{◌≡◌};
     ghost use Rattle.mm_app.specs.Running.{refused_at, session_at, session_status};
-    ghost use Rattle.mm_app.specs.Status.{code_of, status_at};
+    ghost use Rattle.mm_app.specs.Status.{exit_code, status_at};
 
     /// The program's exit status.
     pub fn code(&self) -> u8
-        ensures { result ≡ code_of self.now }
+        ensures { result ≡ exit_code self.now }
     {
         match self {
             Status::Done => 0,

@@ -12,7 +12,7 @@ use Rattle.std.specs.List.{list_all}
 use Rattle.std.specs.Result.{result_ok}
 use Rattle.std.specs.Str.{IsUtf8}
 use Rattle.std.specs.Str.Parse.{digits_value, ParsesUnsigned}
-use Rattle.mm_base.specs.Decimals.{is_decimal, number_of}
+use Rattle.mm_base.specs.Decimals.{is_decimal, decimal_number}
 
 -- a text of digits, and its value
 abbrev AreDigits : List ℕ → Type 0
@@ -47,8 +47,8 @@ given_where true value number is = (refl, cc)
 given_where false value number is = cc
 
 -- what is read is spelled
-pub spelled_by_reading : (ds : List ℕ) (number : ℕ) → number_of ds ≡ Some number → ds ≡ decimal number
-unfolding number_of
+pub spelled_by_reading : (ds : List ℕ) (number : ℕ) → decimal_number ds ≡ Some number → ds ≡ decimal number
+unfolding decimal_number
 spelled_by_reading ds number is =
     let given : (is_decimal ds && nat_lt (digits_value 10 ds) (2 ^ 64) ≡ true) × (digits_value 10 ds ≡ number) = given_where _ _ number is in
     let form : is_decimal ds ≡ true = grind (arith, common_steps, nat_tests, given.0) in
@@ -61,8 +61,8 @@ alone_of_spelling (suc number) ds small is leads =
     let more : 48 < get_or ds 0 0 = rw is (first_decimal (suc number) (omega arith) small) in absurd (omega arith)
 
 -- what is spelled is read
-pub read_by_spelling : (ds : List ℕ) (number : ℕ) → number < 2 ^ 64 → ds ≡ decimal number → number_of ds ≡ Some number
-unfolding number_of
+pub read_by_spelling : (ds : List ℕ) (number : ℕ) → number < 2 ^ 64 → ds ≡ decimal number → decimal_number ds ≡ Some number
+unfolding decimal_number
 read_by_spelling ds number small is =
     let are : AreDigits ds = rw is (digits_decimal digits number small) in
     let some : 0 < length ds = rw is (decimal_nonempty number small) in
@@ -71,13 +71,13 @@ read_by_spelling ds number small is =
     grind (arith, common_steps, nat_tests)
 
 -- what has not the form of a decimal is not read
-pub none_without_form : (ds : List ℕ) → is_decimal ds ≡ false → number_of ds ≡ None
-unfolding number_of
+pub none_without_form : (ds : List ℕ) → is_decimal ds ≡ false → decimal_number ds ≡ None
+unfolding decimal_number
 none_without_form ds form = rw form refl
 
 -- `parse` gives the number
-pub parsed_number : {E : Type 0} (ds : List ℕ) (r : Result ℕ E) → is_decimal ds ≡ true → ParsesUnsigned 64 10 ds r → result_ok r ≡ number_of ds
-unfolding number_of
+pub parsed_number : {E : Type 0} (ds : List ℕ) (r : Result ℕ E) → is_decimal ds ≡ true → ParsesUnsigned 64 10 ds r → result_ok r ≡ decimal_number ds
+unfolding decimal_number
 parsed_number {E} ds (Ok number) form parses =
     let parts : ((0 < length ds) × (digits_value 10 ds < 2 ^ 64)) × (number ≡ digits_value 10 ds) =
     parse_digits digits {E = E} 64 ds (Ok number) parses (digits_of_decimal ds form) in

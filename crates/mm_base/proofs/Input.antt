@@ -3,7 +3,7 @@ use Rattle.std.proofs.Common.{◌≡◌, ◌≢◌, ◌∙◌, ℕ, List, [], �
 use Rattle.std.specs.List.{AllByRecursion}
 use Rattle.std.proofs.lemmas.Bool.{ne_eqb}
 use Rattle.std.proofs.lemmas.List.Elements.{All-head, All-tail}
-use Rattle.mm_base.specs.Input.{IsUnbroken, onto_first, onto_tail, lines_of, tail_of, joined}
+use Rattle.mm_base.specs.Input.{IsUnbroken, onto_first, onto_tail, lines_of, tail_of, lines_joined}
 
 -- no LF
 abbrev IsNoBreak : ℕ → Type 0
@@ -50,18 +50,18 @@ pub tail_of-line : (line rest : List ℕ) → IsUnbroken line → tail_of (line 
 tail_of-line line rest h = tail_of-append line (10 ∷ rest) h
 
 -- whole lines go first
-pub lines_of-joined : (lines : List (List ℕ)) (rest : List ℕ) → AllByRecursion IsUnbroken lines → lines_of (joined lines ++ rest) ≡ lines ++ lines_of rest
+pub lines_of-joined : (lines : List (List ℕ)) (rest : List ℕ) → AllByRecursion IsUnbroken lines → lines_of (lines_joined lines ++ rest) ≡ lines ++ lines_of rest
 lines_of-joined [] rest h = refl
 lines_of-joined (line ∷ lines) rest h =
-    ap lines_of (append_assoc line (10 ∷ joined lines) rest)
-    ∙ lines_of-line line (joined lines ++ rest) h.0
+    ap lines_of (append_assoc line (10 ∷ lines_joined lines) rest)
+    ∙ lines_of-line line (lines_joined lines ++ rest) h.0
     ∙ ap (λ more. line ∷ more) (lines_of-joined lines rest h.1)
 
-pub tail_of-joined : (lines : List (List ℕ)) (rest : List ℕ) → AllByRecursion IsUnbroken lines → tail_of (joined lines ++ rest) ≡ tail_of rest
+pub tail_of-joined : (lines : List (List ℕ)) (rest : List ℕ) → AllByRecursion IsUnbroken lines → tail_of (lines_joined lines ++ rest) ≡ tail_of rest
 tail_of-joined [] rest h = refl
 tail_of-joined (line ∷ lines) rest h =
-    ap tail_of (append_assoc line (10 ∷ joined lines) rest)
-    ∙ tail_of-line line (joined lines ++ rest) h.0
+    ap tail_of (append_assoc line (10 ∷ lines_joined lines) rest)
+    ∙ tail_of-line line (lines_joined lines ++ rest) h.0
     ∙ tail_of-joined lines rest h.1
 
 -- bytes with no LF are all tail
@@ -72,7 +72,7 @@ pub tail_of-unbroken : (bytes : List ℕ) → IsUnbroken bytes → tail_of bytes
 tail_of-unbroken bytes h = ap tail_of (sym (append-nil bytes)) ∙ tail_of-append bytes [] h ∙ append-nil bytes
 
 -- lines join one after another
-pub joined-append : (before after : List (List ℕ)) → joined (before ++ after) ≡ joined before ++ joined after
+pub joined-append : (before after : List (List ℕ)) → lines_joined (before ++ after) ≡ lines_joined before ++ lines_joined after
 joined-append [] after = refl
 joined-append (line ∷ lines) after =
-    ap (λ bytes. line ++ 10 ∷ bytes) (joined-append lines after) ∙ sym (append_assoc line (10 ∷ joined lines) (joined after))
+    ap (λ bytes. line ++ 10 ∷ bytes) (joined-append lines after) ∙ sym (append_assoc line (10 ∷ lines_joined lines) (lines_joined after))

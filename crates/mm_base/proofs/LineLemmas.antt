@@ -7,7 +7,7 @@ use Rattle.std.specs.Prelude.{Option, Result, Ok, Err, slice_range}
 use Rattle.std.specs.Io.KnownBytes.{Consumes, IsAtEnd, Keeps}
 use Rattle.mm_base.specs.declared.fault.Failed.{Failed}
 use Rattle.mm_base.specs.Input.{IsUnbroken}
-use Rattle.mm_base.specs.Lines.{Breaks, Refills, Takes}
+use Rattle.mm_base.specs.Lines.{Breaks, Refills, TakesHeld}
 use Rattle.mm_base.proofs.StreamLemmas.{Consumes-none, Consumes-both, Consumes-kept}
 
 pub range-joined : (xs : List ℕ) (s m e : ℕ) → s ≤ m → m ≤ e → slice_range xs s e ≡ slice_range xs s m ++ slice_range xs m e
@@ -95,12 +95,12 @@ drop-range xs s e n short =
     ∙ ap (λ (size : ℕ). take size (drop n (drop s xs))) (sym rest)
     ∙ sym (drop-take n (e - s - n) (drop s xs)) ∙ ap (λ (size : ℕ). drop n (take size (drop s xs))) whole
 
-pub Takes-none : (left : Option (List ℕ)) (held : List ℕ) → Takes left left held [] held
+pub Takes-none : (left : Option (List ℕ)) (held : List ℕ) → TakesHeld left left held [] held
 Takes-none left held = record { taken = []; consumed = Consumes-none left; goes = append-nil held }
 
 -- two calls, one after the other
 pub Takes-both : (left mid left' : Option (List ℕ)) (held between held' said more : List ℕ)
-    → Takes left mid held said between → Takes mid left' between more held' → Takes left left' held (said ++ more) held'
+    → TakesHeld left mid held said between → TakesHeld mid left' between more held' → TakesHeld left left' held (said ++ more) held'
 Takes-both left mid left' held between held' said more one two = record {
   taken = one.taken ++ two.taken;
   consumed = Consumes-both left mid left' one.taken two.taken one.consumed two.consumed;
@@ -109,7 +109,7 @@ Takes-both left mid left' held between held' said more one two = record {
 }
 
 pub Takes-refilled : (left mid left' : Option (List ℕ)) (held between held' : List ℕ) (result : Result ℕ Failed)
-    → Takes left mid held [] between → Refills mid left' between held' result → Takes left left' held [] held'
+    → TakesHeld left mid held [] between → Refills mid left' between held' result → TakesHeld left left' held [] held'
 Takes-refilled left mid left' held between held' result one two = record {
   taken = one.taken ++ two.taken;
   consumed = Consumes-both left mid left' one.taken two.taken one.consumed two.consumed;

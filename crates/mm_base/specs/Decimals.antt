@@ -10,5 +10,5 @@ is_decimal [] = false
 is_decimal (d ∷ ds) = if d == 48 then length ds == 0 else list_all is_ascii_digit (d ∷ ds)
 
 -- the number that a decimal of at most 64 bits writes
-unfoldable pub number_of : List ℕ → Option ℕ
-number_of ds = if is_decimal ds && nat_lt (digits_value 10 ds) (2 ^ 64) then Some (digits_value 10 ds) else None
+unfoldable pub decimal_number : List ℕ → Option ℕ
+decimal_number ds = if is_decimal ds && nat_lt (digits_value 10 ds) (2 ^ 64) then Some (digits_value 10 ds) else None

@@ -2,5 +2,5 @@
 use Rattle.std.specs.Prelude.{ℕ, List, slice_range}
 use Rattle.mm_base.specs.declared.lines.Held.{Held}
 
-abbrev pub held_in : Held → List ℕ
-held_in held = slice_range held.buffer.items held.start held.end
+abbrev pub bytes_held : Held → List ℕ
+bytes_held held = slice_range held.buffer.items held.start held.end

@@ -26,6 +26,6 @@ tail_of [] = []
 tail_of (byte ∷ rest) = if byte == 10 then tail_of rest else onto_tail (byte ∷ []) (lines_of rest) (tail_of rest)
 
 -- the bytes of these lines, each with its LF
-abbrev pub joined : List (List ℕ) → List ℕ
-joined [] = []
-joined (line ∷ lines) = line ++ 10 ∷ joined lines
+abbrev pub lines_joined : List (List ℕ) → List ℕ
+lines_joined [] = []
+lines_joined (line ∷ lines) = line ++ 10 ∷ lines_joined lines

@@ -33,7 +33,7 @@ pub record Refills (left left' : Option (List ℕ)) (held held' : List ℕ) (res
   pub gives : Gives left' taken result
 
 -- bytes that may grow into a line
-pub record IsWithin (limit : ℕ) (bytes : List ℕ) : Type 0 where
+pub record MayGrow (limit : ℕ) (bytes : List ℕ) : Type 0 where
   pub unbroken : IsUnbroken bytes
   pub short : length bytes ≤ limit
 
@@ -43,11 +43,11 @@ pub record IsLong (limit : ℕ) (bytes : List ℕ) : Type 0 where
   pub long : limit < length bytes
 
 -- what a look at the bytes held tells: a line, none so far, or one that is too long
-abbrev pub Looks : ℕ → List ℕ → Result (Option ℕ) LineFault → Type 0
-Looks limit held (Ok (Some size)) = (size ≤ limit) × Breaks held size
-Looks limit held (Ok None) = IsWithin limit held
-Looks limit held (Err LineLong) = IsLong limit held
-Looks limit held (Err ReadFault) = ⊥
+abbrev pub SeesLine : ℕ → List ℕ → Result (Option ℕ) LineFault → Type 0
+SeesLine limit held (Ok (Some size)) = (size ≤ limit) × Breaks held size
+SeesLine limit held (Ok None) = MayGrow limit held
+SeesLine limit held (Err LineLong) = IsLong limit held
+SeesLine limit held (Err ReadFault) = ⊥
 
 -- what the end of the input leaves
 abbrev pub seen_at_end : List ℕ → Seen
@@ -55,22 +55,22 @@ seen_at_end [] = End
 seen_at_end (_ ∷ _) = Tail
 
 -- the bytes held and the bytes taken are the bytes said and the bytes still held
-pub record Takes (left left' : Option (List ℕ)) (held said held' : List ℕ) : Type 0 where
+pub record TakesHeld (left left' : Option (List ℕ)) (held said held' : List ℕ) : Type 0 where
   pub taken : List ℕ
   pub consumed : Consumes left left' taken
   pub goes : held ++ taken ≡ said ++ held'
 
 -- what is seen at the front of the bytes held
-abbrev pub Finds : ℕ → Option (List ℕ) → List ℕ → Result Seen LineFault → Type 0
-Finds limit left held (Ok (Line size)) = (size ≤ limit) × Breaks held size
-Finds limit left held (Ok Tail) = IsWithin limit held × (0 < length held) × IsAtEnd left
-Finds limit left held (Ok End) = (held ≡ []) × IsAtEnd left
-Finds limit left held (Err ReadFault) = IsWithin limit held
-Finds limit left held (Err LineLong) = IsLong limit held
+abbrev pub FindsLine : ℕ → Option (List ℕ) → List ℕ → Result Seen LineFault → Type 0
+FindsLine limit left held (Ok (Line size)) = (size ≤ limit) × Breaks held size
+FindsLine limit left held (Ok Tail) = MayGrow limit held × (0 < length held) × IsAtEnd left
+FindsLine limit left held (Ok End) = (held ≡ []) × IsAtEnd left
+FindsLine limit left held (Err ReadFault) = MayGrow limit held
+FindsLine limit left held (Err LineLong) = IsLong limit held
 
 pub record Sees (limit : ℕ) (left left' : Option (List ℕ)) (held held' : List ℕ) (result : Result Seen LineFault) : Type 0 where
-  pub takes : Takes left left' held [] held'
-  pub finds : Finds limit left' held' result
+  pub takes : TakesHeld left left' held [] held'
+  pub finds : FindsLine limit left' held' result
 
 -- the source's count rose where it failed, and is as before otherwise
 abbrev pub RisesAtFault : {T : Type 0} → ℕ → ℕ → Result T LineFault → Type 0

@@ -4,7 +4,7 @@ ghost use Rattle.std.specs.Prelude.{◌≡◌, ◌<◌, ◌^◌, ◌++◌, ℕ, 
 ghost use Rattle.std.specs.Fmt.{decimal};
 ghost use Rattle.std.specs.Char.{is_ascii_digit};
 ghost use Rattle.std.specs.List.{list_all};
-ghost use Rattle.mm_base.specs.Decimals.{is_decimal, number_of};
+ghost use Rattle.mm_base.specs.Decimals.{is_decimal, decimal_number};
 
 use crate::bytes::Bytes;
 use crate::fault::Memory;
@@ -13,7 +13,7 @@ use itoa::Buffer;
 /// The number that the bytes write, where they are a decimal of at most 18446744073709551615.
 #[tactic(auto, using(crate::proofs::DecimalLemmas::spelled_by_reading, crate::proofs::DecimalLemmas::read_by_spelling))]
 pub fn read_decimal(bytes: &[u8]) -> Option<u64>
-    ensures value { result ≡ number_of bytes.now }
+    ensures value { result ≡ decimal_number bytes.now }
     ensures spelled { IfSome result (λ number. bytes.now ≡ decimal number) }
     ensures only { (number : ℕ) → number < 2 ^ 64 → bytes.now ≡ decimal number
         → result ≡ Some number }
@@ -46,7 +46,7 @@ fn are_digits(bytes: &[u8]) -> bool
 /// The number that a decimal writes, where it has at most 64 bits.
 fn parsed(decimal: &[u8]) -> Option<u64>
     requires { IsTrue (is_decimal decimal.now) }
-    ensures { result ≡ number_of decimal.now }
+    ensures { result ≡ decimal_number decimal.now }
 {
     let text = std::str::from_utf8(decimal).unwrap();
     text.parse::<u64>().ok()

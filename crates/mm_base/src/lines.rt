@@ -8,7 +8,7 @@ ghost use Rattle.std.specs.Borrow.{sem};
 ghost use Rattle.std.specs.Io.BufRead.{Rests};
 ghost use Rattle.mm_base.specs.Input.{IsUnbroken};
 ghost use Rattle.mm_base.specs.Limits.{longest_line};
-ghost use Rattle.mm_base.specs.Lines.{Breaks, CountsReads, Looks, Refills, Sees, seen_at_end};
+ghost use Rattle.mm_base.specs.Lines.{Breaks, CountsReads, SeesLine, Refills, Sees, seen_at_end};
 
 use crate::fault::{Failed, Memory};
 use crate::source::{Source, copy_front};
@@ -59,11 +59,11 @@ pub struct LineReader {
 
 impl Model for LineReader {
     ghost use Rattle.std.specs.Prelude.{List, ℕ};
-    ghost use Rattle.mm_base.specs.Held.{held_in};
+    ghost use Rattle.mm_base.specs.Held.{bytes_held};
 
     ghost Value = { List ℕ };
 
-    ghost view = { λ reader. held_in reader.held };
+    ghost view = { λ reader. bytes_held reader.held };
 }
 
 impl LineReader {
@@ -123,10 +123,10 @@ struct Held {
 }
 
 impl Held {
-    ghost use Rattle.mm_base.specs.Held.{held_in};
+    ghost use Rattle.mm_base.specs.Held.{bytes_held};
 
     fn new(alloc: Global) -> Result<Held, Memory>
-        ensures { IfOk result (λ held. held_in held ≡ []) }
+        ensures { IfOk result (λ held. bytes_held held ≡ []) }
     {
         let buffer = vec![in alloc; 0; ROOM]?;
         Ok(Held {
@@ -139,9 +139,9 @@ impl Held {
 
     /// Where the first line ends, counted from the first byte held.
     fn find_break(&mut self) -> Option<usize>
-        ensures same { held_in self.new ≡ held_in self.old }
-        ensures found { MatchOption result (IsUnbroken (held_in self.old))
-            (Breaks (held_in self.old)) }
+        ensures same { bytes_held self.new ≡ bytes_held self.old }
+        ensures found { MatchOption result (IsUnbroken (bytes_held self.old))
+            (Breaks (bytes_held self.old)) }
     {
         let unseen = &self.buffer[self.scanned..self.end];
         let Some(at) = line_feed(unseen) else {
@@ -154,8 +154,8 @@ impl Held {
 
     /// Looks for a line of at most `limit` bytes, and answers its length.
     fn look(&mut self, limit: usize) -> Result<Option<usize>, LineFault>
-        ensures same { held_in self.new ≡ held_in self.old }
-        ensures looks { Looks limit (held_in self.old) result }
+        ensures same { bytes_held self.new ≡ bytes_held self.old }
+        ensures looks { SeesLine limit (bytes_held self.old) result }
     {
         match self.find_break() {
             Some(size) if size <= limit => Ok(Some(size)),
@@ -167,8 +167,8 @@ impl Held {
     /// Takes bytes until a line, the end of the input or a fault is seen.
     fn see<S: Source>(&mut self, source: &mut S, limit: usize) -> Result<Seen, LineFault>
         requires { limit ≤ longest_line }
-        ensures seen { Sees limit (S.left source.old) (S.left source.new) (held_in self.old)
-            (held_in self.new) result }
+        ensures seen { Sees limit (S.left source.old) (S.left source.new) (bytes_held self.old)
+            (bytes_held self.new) result }
         ensures counted { CountsReads (S.faults source.old) (S.faults source.new) result }
     {
         'refills: loop {
@@ -185,7 +185,7 @@ impl Held {
 
     /// What the end of the input leaves.
     fn ending(&self) -> Seen
-        ensures { result ≡ seen_at_end (held_in self.now) }
+        ensures { result ≡ seen_at_end (bytes_held self.now) }
     {
         if self.start == self.end {
             Seen::End
@@ -196,11 +196,11 @@ impl Held {
 
     /// Lets go of the first line, which stands before `start` then.
     fn skip(&mut self, size: usize)
-        requires { Breaks (held_in self.old) size }
-        ensures rest { held_in self.new ≡ drop (size + 1) (held_in self.old) }
+        requires { Breaks (bytes_held self.old) size }
+        ensures rest { bytes_held self.new ≡ drop (size + 1) (bytes_held self.old) }
         ensures room { size < self.new.start }
         ensures line { slice_range self.new.buffer.items (self.new.start - 1 - size)
-            (self.new.start - 1) ≡ take size (held_in self.old) }
+            (self.new.start - 1) ≡ take size (bytes_held self.old) }
     {
         self.start += size + 1;
         self.scanned = self.start;
@@ -208,9 +208,9 @@ impl Held {
 
     /// Takes more bytes from the source, and answers how many.
     fn refill<S: Source>(&mut self, source: &mut S) -> Result<usize, Failed>
-        requires { length (held_in self.old) ≤ longest_line }
-        ensures refilled { Refills (S.left source.old) (S.left source.new) (held_in self.old)
-            (held_in self.new) result }
+        requires { length (bytes_held self.old) ≤ longest_line }
+        ensures refilled { Refills (S.left source.old) (S.left source.new) (bytes_held self.old)
+            (bytes_held self.new) result }
         ensures counted { CountsFaults (S.faults source.old) (S.faults source.new) result }
     {
         self.make_room();
@@ -223,8 +223,8 @@ impl Held {
 
     /// Moves the bytes to the front of the buffer where they stand at its end.
     fn make_room(&mut self)
-        requires { length (held_in self.old) ≤ longest_line }
-        ensures same { held_in self.new ≡ held_in self.old }
+        requires { length (bytes_held self.old) ≤ longest_line }
+        ensures same { bytes_held self.new ≡ bytes_held self.old }
         ensures room { self.new.end < ROOM }
     {
         if self.end < ROOM {

@@ -41,7 +41,7 @@ use Rattle.mm_basic.specs.declared.found.Found.{Found}
 use Rattle.mm_basic.specs.declared.found.Found.TheVariants.{Repeat, Change}
 use Rattle.mm_basic.specs.declared.found.Ready.{Ready}
 use Rattle.mm_basic.specs.Seen.{Seen}
-use Rattle.mm_basic.specs.Answers.{found_in, found_from, answer_of, cell_after}
+use Rattle.mm_basic.specs.Answers.{found_in, found_from, answer_of, committed_cell}
 use Rattle.mm_basic.specs.Steps.{Finds}
 use Rattle.mm_basic.proofs.Reading.{one_sight, seen_by}
 
@@ -102,7 +102,7 @@ content_with id o position state = record { id = id; place = InBasic o; position
 -- by what the offer is examined to
 found_examined : (meaning : Meaning) (key digest register : List ℕ) (count : ℕ) (o : Digest) (id position : ℕ) (state : List ℕ) (b : Batch) (e : Result Bool Refusal) (found : Result Found Refusal)
     → (e ≡ Ok false → link o.bytes (normal b) ≡ link digest (normal b)) → (e ≡ Ok true → link o.bytes (normal b) ≡ digest)
-    → OrMemory (found_from e (cell_after (cell_at (basic meaning key) (shut digest register count)) (content_with id o position state) b)
+    → OrMemory (found_from e (committed_cell (cell_at (basic meaning key) (shut digest register count)) (content_with id o position state) b)
     (answer_of meaning key (content_with id o position state) b)) found
     → IsFound (basic meaning key) (shut digest register count) (normal b) (call.found_with (content_with id o position state) e) found
 found_examined meaning key digest register count o id position state b (Err why) found f r m = m

@@ -33,7 +33,7 @@ use Rattle.mm_basic.specs.declared.found.Ready.{Ready}
 use Rattle.mm_basic.specs.Seen.{Seen, Both}
 use Rattle.mm_call.specs.Order.{examined}
 use Rattle.mm_basic.specs.Order.{verdict_of}
-use Rattle.mm_basic.specs.Answers.{digest, answer_of, cell_after, found_from, found_in}
+use Rattle.mm_basic.specs.Answers.{digest, answer_of, committed_cell, found_from, found_in}
 use Rattle.mm_call.specs.Refusals.{fault_of, fault_in, handed_on, OrMemory}
 use Rattle.mm_basic.specs.Steps.{Finds, Reads, Writes}
 use Rattle.mm_basic.specs.Asks.{CommitsFound, Ends, Calls}
@@ -63,7 +63,7 @@ change_answered meaning key y offered b names e =
     answered_on meaning key y offered b false names ∙ ap (λ (bs : List Batch). answer_with meaning key (bs ++ normal b ∷ []) b false) e
 
 -- the cell that commits it
-change_written : (meaning : Meaning) (key : List ℕ) (y : History) (offered : Content) (b : Batch) (names : Names (basic meaning key) y offered) → names.named ≡ y.batches → cell_after (cell_of (basic meaning key) y) offered b ≡ cell_spelling (cell_of (basic meaning key) (with_committed (basic meaning key) y b))
+change_written : (meaning : Meaning) (key : List ℕ) (y : History) (offered : Content) (b : Batch) (names : Names (basic meaning key) y offered) → names.named ≡ y.batches → committed_cell (cell_of (basic meaning key) y) offered b ≡ cell_spelling (cell_of (basic meaning key) (with_committed (basic meaning key) y b))
 change_written meaning key y offered b names e =
     ap (λ (s : List ℕ). cell_spelling (record (cell_of (basic meaning key) y) { summary = digest s }))
     (linked_at (basic meaning key) y names.named offered b names.place
@@ -84,7 +84,7 @@ both_alike meaning key y all old offer b offered asked taken =
     λ (p : s ≡ true) (q : t ≡ true). verdict_on meaning key y all offered.content (normal b) (asked.clear offered.content (right p q)) (names p q) in
     let fits : Bool = nat_le (offered.content.position + size_of b) last_position in
     let same : examined meaning key offered b v ≡ examined meaning key offered b w = weighed_alike s t v w fits agree in
-    let next : List ℕ = cell_after (cell_of i y) offered.content b in
+    let next : List ℕ = committed_cell (cell_of i y) offered.content b in
     let answer : Bool → BatchAnswer = answer_of meaning key offered.content b in
     ap (λ (e : Result Bool Refusal). found_from e next answer) same
     ∙ accepted_alike (examined meaning key offered b w) i y b next answer

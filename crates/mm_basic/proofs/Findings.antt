@@ -20,7 +20,7 @@ use Rattle.mm_basic.specs.declared.found.Found.TheVariants.{Repeat, Change}
 use Rattle.mm_basic.specs.Seen.{Seen, NoCell, OtherCell, NoOffer, Both}
 use Rattle.mm_call.specs.Order.{admitted, weighed, examined}
 use Rattle.mm_basic.specs.Order.{summary_in, verdict_of}
-use Rattle.mm_basic.specs.Answers.{digest, linked, answer_of, cell_after, found_from, found_in}
+use Rattle.mm_basic.specs.Answers.{digest, linked, answer_of, committed_cell, found_from, found_in}
 use Rattle.mm_call.specs.Refusals.{fault_in, OrMemory}
 use Rattle.mm_basic.specs.Steps.{FindsIn}
 use Rattle.mm_call.proofs.Weighing.{weighed_only}
@@ -110,7 +110,7 @@ shaped_in meaning lawful OtherCell b = tt
 shaped_in meaning lawful (NoOffer Form) b = tt
 shaped_in meaning lawful (NoOffer Kind) b = tt
 shaped_in meaning lawful (Both cell offered) b =
-    shaped_from meaning cell.key (cell_after cell offered.content b) offered.content b (examined meaning cell.key offered b (verdict_of cell offered b))
+    shaped_from meaning cell.key (committed_cell cell offered.content b) offered.content b (examined meaning cell.key offered b (verdict_of cell offered b))
     (accepted_fit meaning lawful cell.key offered b (verdict_of cell offered b))
 
 shaped_or : (b : Batch) (x found : Result Found Refusal) → IsShaped b x → OrMemory x found → IsShaped b found

@@ -8,7 +8,7 @@ use Rattle.mm_digest.specs.Messages.{extended_of}
 use Rattle.mm_platform.specs.declared.fault.StepFault.{StepFault}
 use Rattle.mm_platform.specs.Standing.{Item, Plan, Standing}
 use Rattle.mm_platform.specs.Steps.{Act, ReadCell, WriteCell, Goes}
-use Rattle.mm_platform.specs.Told.{plan_of}
+use Rattle.mm_platform.specs.Told.{next_plan}
 use Rattle.mm_module.specs.Meaning.{Meaning}
 use Rattle.mm_module.specs.Batch.{Batch, normal, size_of}
 use Rattle.mm_seal.specs.Cell.{IsCell, cell_spelling}
@@ -25,7 +25,7 @@ use Rattle.mm_call.specs.Refusals.{fault_of, handed_on}
 use Rattle.mm_call.specs.Levels.{all_made, by_digests}
 use Rattle.mm_call.specs.Found as call
 use Rattle.mm_call.specs.Courses.{Fails, Fate, Course, Walked, walk, made_move, end_of, AreTold}
-use Rattle.mm_call.specs.Called.{Breaks, called, called_with, ended_by, kept_at, position_of, told}
+use Rattle.mm_call.specs.Called.{Breaks, called, called_with, ended_by, kept_at, position_of, given_for}
 use Rattle.mm_call.specs.Standing.{cell_at, StandsAt}
 use Rattle.mm_call.specs.CallsOn.{GoesBy, CallsOn}
 use Rattle.mm_call.specs.declared.ended.Ended.{Ended}
@@ -125,7 +125,7 @@ is_write meaning key d register b next is e = record {
 
 -- what a written step gives
 written_gives : (written : Result BatchAnswer StepFault) (i : Instance) (seen last : Digests) (b : Batch) (offered : Content) (moves : List Move) (answer : BatchAnswer) → IfOk written (λ (given : BatchAnswer). given ≡ answer) → answer ≡ (by_digests i).answer false seen seen offered b
-    → handed_on written ≡ told (ended_by (by_digests i) seen last b (Ok (record { offered = offered; again = false })) moves (result_err written))
+    → handed_on written ≡ given_for (ended_by (by_digests i) seen last b (Ok (record { offered = offered; again = false })) moves (result_err written))
 written_gives (Ok given) i seen last b offered moves answer h e = ap (λ (x : BatchAnswer). Ok x) (h ∙ e)
 written_gives (Err fault) i seen last b offered moves answer h e = refl
 
@@ -165,12 +165,12 @@ called_on meaning c offer b old new result tells goes = record {
       continues_by (basic meaning key) (basic_calls_agree meaning key) old new c offer (normal b) result (goes key) all others asked y;
 }
 
-one_told : (old new : Standing) (fault : Option StepFault) → (g : Goes ReadCell old new fault) → AreTold old (met (fate_of ReadCell old new fault g ∷ []) 1 (plan_of old))
+one_told : (old new : Standing) (fault : Option StepFault) → (g : Goes ReadCell old new fault) → AreTold old (met (fate_of ReadCell old new fault g ∷ []) 1 (next_plan old))
 one_told old new fault g =
     told_by old (fate_of ReadCell old new fault g ∷ [])
     (λ (plan : Plan) (on : old.is_on ≡ true) (known : old.plan ≡ Some plan) (at : plan.at ≡ 0). (met_at ReadCell old new fault plan 0 (begins_at old plan on known at) g, tt))
 
-two_told : (old middle new : Standing) (next : List ℕ) (fault : Option StepFault) → (g : Goes ReadCell old middle None) (h : Goes (WriteCell next) middle new fault) → AreTold old (met (fate_of ReadCell old middle None g ∷ fate_of (WriteCell next) middle new fault h ∷ []) 1 (plan_of old))
+two_told : (old middle new : Standing) (next : List ℕ) (fault : Option StepFault) → (g : Goes ReadCell old middle None) (h : Goes (WriteCell next) middle new fault) → AreTold old (met (fate_of ReadCell old middle None g ∷ fate_of (WriteCell next) middle new fault h ∷ []) 1 (next_plan old))
 two_told old middle new next fault g h =
     told_by old (fate_of ReadCell old middle None g ∷ fate_of (WriteCell next) middle new fault h ∷ [])
     (λ (plan : Plan) (on : old.is_on ≡ true) (known : old.plan ≡ Some plan) (at : plan.at ≡ 0). (
@@ -192,18 +192,18 @@ failed_ends true flag i d seen b found plan lacks old new fault g =
 
 failed_to : (meaning : Meaning) (offer : List ℕ) (b : Batch) (old new : Standing) (fault : StepFault) → Goes ReadCell old new (Some fault) → CallsTo Basic meaning old new offer b (Broken fault None)
 failed_to meaning offer b old new fault g = record {
-  calls = called_on meaning (course (fate_of ReadCell old new (Some fault) g ∷ []) (plan_of old) false) offer b old new (Err (Device fault)) (one_told old new (Some fault) g)
-      (λ (key : List ℕ) (d : Digests) s. failed_goes meaning key d (plan_of old) false offer (normal b) old new fault g s);
-  keeps = λ (key barrier : List ℕ) (d : Digests) s. let i : Instance = basic meaning key in let c : Course = course (fate_of ReadCell old new (Some fault) g ∷ []) (plan_of old) false in
-      failed_ends (call.is_fresh (finds i d c offer (normal b))) d.flag i d (sees i d c) (normal b) (finds i d c offer (normal b)) (plan_of old) false old new fault g;
+  calls = called_on meaning (course (fate_of ReadCell old new (Some fault) g ∷ []) (next_plan old) false) offer b old new (Err (Device fault)) (one_told old new (Some fault) g)
+      (λ (key : List ℕ) (d : Digests) s. failed_goes meaning key d (next_plan old) false offer (normal b) old new fault g s);
+  keeps = λ (key barrier : List ℕ) (d : Digests) s. let i : Instance = basic meaning key in let c : Course = course (fate_of ReadCell old new (Some fault) g ∷ []) (next_plan old) false in
+      failed_ends (call.is_fresh (finds i d c offer (normal b))) d.flag i d (sees i d c) (normal b) (finds i d c offer (normal b)) (next_plan old) false old new fault g;
   plans = λ (plan : Plan) (on : old.is_on ≡ true) (known : old.plan ≡ Some plan) (at : plan.at ≡ 0).
       planned_broken ReadCell old new fault plan 0 (begins_at old plan on known at) g;
 }
 
 refused_to : (meaning : Meaning) (offer : List ℕ) (b : Batch) (old new : Standing) (why : Refusal) → fault_of why ≡ None → Goes ReadCell old new None → Finds meaning old offer b (Err why) → CallsTo Basic meaning old new offer b (Refused why)
 refused_to meaning offer b old new why e g f = record {
-  calls = called_on meaning (course (fate_of ReadCell old new None g ∷ []) (plan_of old) (lacks_by why)) offer b old new (Err why) (one_told old new None g)
-      (λ (key : List ℕ) (d : Digests) s. refused_goes meaning key d (plan_of old) offer b old new why g f s);
+  calls = called_on meaning (course (fate_of ReadCell old new None g ∷ []) (next_plan old) (lacks_by why)) offer b old new (Err why) (one_told old new None g)
+      (λ (key : List ℕ) (d : Digests) s. refused_goes meaning key d (next_plan old) offer b old new why g f s);
   keeps = λ (key barrier : List ℕ) (d : Digests) s. e;
   plans = λ (plan : Plan) (on : old.is_on ≡ true) (known : old.plan ≡ Some plan) (at : plan.at ≡ 0).
       planned_done ReadCell old new plan 0 (begins_at old plan on known at) g;
@@ -211,8 +211,8 @@ refused_to meaning offer b old new why e g f = record {
 
 repeat_to : (meaning : Meaning) (offer : List ℕ) (b : Batch) (old new : Standing) (answer : BatchAnswer) → Goes ReadCell old new None → Finds meaning old offer b (Ok (Repeat answer)) → CallsTo Basic meaning old new offer b (Answered answer)
 repeat_to meaning offer b old new answer g f = record {
-  calls = called_on meaning (course (fate_of ReadCell old new None g ∷ []) (plan_of old) false) offer b old new (Ok answer) (one_told old new None g)
-      (λ (key : List ℕ) (d : Digests) s. repeat_goes meaning key d (plan_of old) offer b old new answer g f s);
+  calls = called_on meaning (course (fate_of ReadCell old new None g ∷ []) (next_plan old) false) offer b old new (Ok answer) (one_told old new None g)
+      (λ (key : List ℕ) (d : Digests) s. repeat_goes meaning key d (next_plan old) offer b old new answer g f s);
   keeps = λ (key barrier : List ℕ) (d : Digests) s. tt;
   plans = λ (plan : Plan) (on : old.is_on ≡ true) (known : old.plan ≡ Some plan) (at : plan.at ≡ 0).
       planned_done ReadCell old new plan 0 (begins_at old plan on known at) g;
@@ -250,14 +250,14 @@ change_plans (Err fault) old middle new next position g h = λ (plan : Plan) (on
 
 change_to : (meaning : Meaning) (offer : List ℕ) (b : Batch) (old middle new : Standing) (ready : Ready) (written : Result BatchAnswer StepFault) → Goes ReadCell old middle None → Finds meaning old offer b (Ok (Change ready)) → Writes ready middle new written → CallsTo Basic meaning old new offer b (committed_as (Some ready.answer.position) written)
 change_to meaning offer b old middle new ready written g f w =
-    let c : Course = course (fate_of ReadCell old middle None g ∷ fate_of (WriteCell ready.next) middle new (result_err written) w.goes ∷ []) (plan_of old) false in
+    let c : Course = course (fate_of ReadCell old middle None g ∷ fate_of (WriteCell ready.next) middle new (result_err written) w.goes ∷ []) (next_plan old) false in
     let r : Result BatchAnswer Refusal = result_of (committed_as (Some ready.answer.position) written) in
     record {
       calls = called_on meaning c offer b old new r (two_told old middle new ready.next (result_err written) g w.goes)
           (λ (key : List ℕ) (d : Digests) s. subst (λ (x : Result BatchAnswer Refusal). GoesBy (basic meaning key) d (called (basic meaning key) (by_digests (basic meaning key)) d c offer (normal b)) old new x)
           (sym (committed_result (Some ready.answer.position) written))
-          (change_goes meaning key d (plan_of old) offer b old middle new ready written g f w.goes w.gives s));
-      keeps = λ (key barrier : List ℕ) (d : Digests) s. change_keeps written meaning key d (plan_of old) offer b old middle new ready g f w.goes s;
+          (change_goes meaning key d (next_plan old) offer b old middle new ready written g f w.goes w.gives s));
+      keeps = λ (key barrier : List ℕ) (d : Digests) s. change_keeps written meaning key d (next_plan old) offer b old middle new ready g f w.goes s;
       plans = change_plans written old middle new ready.next (Some ready.answer.position) g w.goes;
     }
 

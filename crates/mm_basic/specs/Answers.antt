@@ -31,8 +31,8 @@ abbrev pub answer_of : Meaning → List ℕ → Content → Batch → Bool → B
 answer_of meaning key offered b again = answer_at meaning key offered (Basic (digest (linked offered b))) b again
 
 -- the cell once the batch is committed
-abbrev pub cell_after : Cell → Content → Batch → List ℕ
-cell_after cell offered b = cell_spelling (record cell { summary = digest (linked offered b) })
+abbrev pub committed_cell : Cell → Content → Batch → List ℕ
+committed_cell cell offered b = cell_spelling (record cell { summary = digest (linked offered b) })
 
 -- A repeat is answered, and a new batch is ready to be committed.
 abbrev pub found_from : Result Bool Refusal → List ℕ → (Bool → BatchAnswer) → Result Found Refusal
@@ -49,4 +49,4 @@ found_in meaning (NoOffer Form) b = Err refusal.Form
 found_in meaning (NoOffer Kind) b = Err refusal.Kind
 found_in meaning (Both cell offered) b =
     found_from (examined meaning cell.key offered b (verdict_of cell offered b))
-    (cell_after cell offered.content b) (answer_of meaning cell.key offered.content b)
+    (committed_cell cell offered.content b) (answer_of meaning cell.key offered.content b)

@@ -20,9 +20,9 @@ act_of None = ReadCell
 act_of (Some ready) = WriteCell ready.next
 
 -- the number of that step
-abbrev pub number_of : Option Ready → ℕ
-number_of None = 1
-number_of (Some ready) = 2
+abbrev pub step_number : Option Ready → ℕ
+step_number None = 1
+step_number (Some ready) = 2
 
 -- What is found in these bytes of a cell, and in the offered ones.
 pub record FindsIn (meaning : Meaning) (bytes offer : List ℕ) (b : Batch) (found : Result Found Refusal) : Type 0 where

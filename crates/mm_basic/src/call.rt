@@ -62,13 +62,13 @@ impl Call {
     ghost use Rattle.std.specs.Option.{option_map};
     ghost use Rattle.mm_module.specs.Batches.{batch_of};
     ghost use Rattle.mm_model.specs.Long.{is_long};
-    ghost use Rattle.mm_basic.specs.Steps.{number_of};
+    ghost use Rattle.mm_basic.specs.Steps.{step_number};
     ghost use Rattle.mm_call.specs.Leaving.{Blames};
     ghost use Rattle.mm_basic.specs.Turns.{Turns, TurnContinues, turn_fault};
 
     /// The number of the next device step, from 1.
     pub fn next_step(&self) -> u8
-        ensures { result ≡ number_of self.now }
+        ensures { result ≡ step_number self.now }
     {
         match &self.ready {
             None => 1,

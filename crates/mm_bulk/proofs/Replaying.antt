@@ -26,8 +26,8 @@ use Rattle.mm_gen.proofs.Readable.{is_schedule}
 use Rattle.mm_play.specs.Play.{Told, told, after_writing, and_then, ended, run}
 use Rattle.mm_run.specs.Folds.{replies_by_digests}
 use Rattle.mm_run.specs.Held.{world_of}
-use Rattle.mm_replay.specs.Schedule.{Running, Stage, AtHeader, InEvents, after_event, begun, is_too_much, outcome_in, schedule_answer, schedule_closing}
-use Rattle.mm_replay.specs.Text.{text_of, texts_of}
+use Rattle.mm_replay.specs.Schedule.{Running, Stage, AtHeader, InEvents, after_event, begun, is_too_much, running_outcome, schedule_answer, schedule_closing}
+use Rattle.mm_replay.specs.Text.{text_of_replies, texts_of}
 use Rattle.mm_bulk.specs.Limits.{IsLimited, is_over}
 use Rattle.mm_bulk.specs.Replayed.{IsReplayed, replay_of}
 use Rattle.mm_bulk.specs.Sums.{SumsUp}
@@ -45,7 +45,7 @@ fits line short = grind (arith, nat_tests)
 
 -- an event line that passes no limit is answered
 goes : (number : ℕ) (r : Running) (line : List ℕ) (more : List (List ℕ)) (event : Event) → length line ≤ longest_line → event_at line ≡ Some event → is_too_much r line ≡ false
-    → lines_run number r (line ∷ more) ≡ after_writing (text_of (outcome_in r event).reply) (lines_run (number + 1) (after_event r line event) more)
+    → lines_run number r (line ∷ more) ≡ after_writing (text_of_replies (running_outcome r event).reply) (lines_run (number + 1) (after_event r line event) more)
 goes number r line more event short is room = rw (fits line short, is, room) refl
 
 -- one that passes a limit ends the replay
@@ -68,7 +68,7 @@ answered_more : (number : ℕ) (r : Running) (line : List ℕ) (lines : List (Li
     → is_too_much r line ≡ false → AreAnswered (number + 1) (after_event r line event) lines events → AreAnswered number r (line ∷ lines) (event ∷ events)
 answered_more number r line lines event events short is room rest = record {
   last = rest.last;
-  ran = goes number r line lines event short is room ∙ ap (after_writing (text_of (outcome_in r event).reply)) rest.ran;
+  ran = goes number r line lines event short is room ∙ ap (after_writing (text_of_replies (running_outcome r event).reply)) rest.ran;
   digests = rest.digests;
   issued = rest.issued;
 }

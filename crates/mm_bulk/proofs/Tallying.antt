@@ -9,7 +9,7 @@ use Rattle.std.proofs.lemmas.Bool.Decides.{nat_tests}
 use Rattle.std.proofs.lemmas.List.{length-append}
 use Rattle.std.proofs.lemmas.List.Elements.{recursion_from_All}
 use Rattle.sha2.specs.Sha256.{sha256}
-use Rattle.mm_base.specs.Input.{IsUnbroken, joined}
+use Rattle.mm_base.specs.Input.{IsUnbroken, lines_joined}
 use Rattle.mm_base.specs.Limits.{longest_line, most_events}
 use Rattle.mm_digest.specs.declared.digest.Digest.{Digest}
 use Rattle.mm_schedule.specs.declared.header.Header.{Header}
@@ -27,10 +27,10 @@ use Rattle.mm_run.specs.Folds.{Followed, followed, replies_by_digests}
 use Rattle.mm_run.specs.Held.{world_of}
 use Rattle.mm_model.specs.Moves.{Digests}
 use Rattle.mm_call.specs.Levels.{by_digests}
-use Rattle.mm_replay.specs.Schedule.{Running, after_event, begun, is_too_much, outcome_in}
-use Rattle.mm_replay.specs.Text.{text_of, texts_of}
-use Rattle.mm_bulk.specs.Answered.{Answered}
-use Rattle.mm_bulk.specs.Counting.{counted, counts_of, no_counts, total}
+use Rattle.mm_replay.specs.Schedule.{Running, after_event, begun, is_too_much, running_outcome}
+use Rattle.mm_replay.specs.Text.{text_of_replies, texts_of}
+use Rattle.mm_bulk.specs.Answered.{RunsLine}
+use Rattle.mm_bulk.specs.Counting.{counted_reply, counts_of, no_counts, total}
 use Rattle.mm_bulk.specs.Limits.{IsLimited, is_over}
 use Rattle.mm_bulk.specs.LineBreaks.{is_break, line_at}
 use Rattle.mm_bulk.specs.Sums.{SumsUp}
@@ -77,7 +77,7 @@ left_of r events = followed (world_of r.header) (by_digests (world_of r.header))
 -- the whole is what was counted and written, and then what is left
 record Rests (r : Running) (counts : Counts) (text : List ℕ) (left whole : Followed Digests) : Type 0 where
   replies : text ++ texts_of left.replies ≡ texts_of whole.replies
-  counted : fold counted counts left.replies ≡ counts_of whole.replies
+  counted_reply : fold counted_reply counts left.replies ≡ counts_of whole.replies
   state : left.state ≡ whole.state
   issued : left.issued ≡ whole.issued
 
@@ -85,7 +85,7 @@ pub record Going (lines : List (List ℕ)) (rest : List ℕ) (r : Running) (coun
   left : List (List ℕ)
   events : List Event
   all : List Event
-  bytes : rest ≡ joined left
+  bytes : rest ≡ lines_joined left
   are : AllByRecursion IsEventLine left
   read : map event_at left ≡ map Some events
   whole : map event_at lines ≡ map Some all
@@ -96,14 +96,14 @@ pub record Going (lines : List (List ℕ)) (rest : List ℕ) (r : Running) (coun
 -- an event line that is answered next
 pub record Next (lines : List (List ℕ)) (rest : List ℕ) (r : Running) (counts : Counts) (text line behind : List ℕ) : Type 0 where
   pub less : length behind < length rest
-  pub header : (reply : Reply) (new : Running) → Answered r new line reply → new.header ≡ r.header
+  pub header : (reply : Reply) (new : Running) → RunsLine r new line reply → new.header ≡ r.header
   pub short : length line ≤ longest_line
   pub known : is_some (event_at line) ≡ true
   pub room : total counts < most_events
   pub over : is_too_much r line ≡ true → is_over (begun r.header) lines ≡ true
-  pub on : (reply : Reply) (new : Running) → Answered r new line reply → Going lines behind new (counted counts reply) (text ++ text_of reply)
+  pub on : (reply : Reply) (new : Running) → RunsLine r new line reply → Going lines behind new (counted_reply counts reply) (text ++ text_of_replies reply)
 
-total-counted : (counts : Counts) (reply : Reply) → total (counted counts reply) ≡ total counts + 1
+total-counted : (counts : Counts) (reply : Reply) → total (counted_reply counts reply) ≡ total counts + 1
 total-counted counts (Told false before outputs) = omega arith
 total-counted counts (Told true before outputs) = omega arith
 total-counted counts (No cause) = omega arith
@@ -139,9 +139,9 @@ answered_on : (lines more : List (List ℕ)) (line : List ℕ) (r : Running) (co
     → AllByRecursion IsEventLine more → map event_at more ≡ map Some events → map event_at lines ≡ map Some all
     → total counts + length (line ∷ more) ≤ most_events → is_over (after_event r line event) more ≡ is_over (begun r.header) lines
     → Rests r counts text (left_of r (event ∷ events)) (replies_by_digests (world_of r.header) all)
-    → Going lines (joined more) (after_event r line event) (counted counts (outcome_in r event).reply) (text ++ text_of (outcome_in r event).reply)
+    → Going lines (lines_joined more) (after_event r line event) (counted_reply counts (running_outcome r event).reply) (text ++ text_of_replies (running_outcome r event).reply)
 answered_on lines more line r counts text event events all are read whole few over rests =
-    let said : Reply = (outcome_in r event).reply in
+    let said : Reply = (running_outcome r event).reply in
     let behind : Followed Digests = left_of (after_event r line event) events in
     record {
       left = more;
@@ -154,15 +154,15 @@ answered_on lines more line r counts text event events all are read whole few ov
       few = omega (arith, total-counted counts said, few);
       over = over;
       rests = record {
-        replies = append_assoc text (text_of said) (texts_of behind.replies) ∙ rests.replies;
-        counted = rests.counted;
+        replies = append_assoc text (text_of_replies said) (texts_of behind.replies) ∙ rests.replies;
+        counted_reply = rests.counted;
         state = rests.state;
         issued = rests.issued;
       };
     }
 
 next_line : (lines left : List (List ℕ)) (rest : List ℕ) (r : Running) (counts : Counts) (text : List ℕ) (events all : List Event) (line behind : List ℕ)
-    → rest ≡ joined left → AllByRecursion IsEventLine left → map event_at left ≡ map Some events → map event_at lines ≡ map Some all
+    → rest ≡ lines_joined left → AllByRecursion IsEventLine left → map event_at left ≡ map Some events → map event_at lines ≡ map Some all
     → total counts + length left ≤ most_events → is_over r left ≡ is_over (begun r.header) lines
     → Rests r counts text (left_of r events) (replies_by_digests (world_of r.header) all)
     → line_at rest ≡ Some (line, behind) → Next lines rest r counts text line behind
@@ -172,10 +172,10 @@ next_line lines (l ∷ more) rest r counts text [] all line behind bytes are rea
     absurd (no_events (event_at l) (map event_at more) read)
 next_line lines (l ∷ more) rest r counts text (event ∷ events) all line behind bytes are read whole few over rests found =
     let both = heads (event_at l) (Some event) (map event_at more) (map Some events) read in
-    let first : Some (l, joined more) ≡ Some (line, behind) = sym (line_again l (joined more) are.0.unbroken) ∙ ap line_at (sym bytes) ∙ found in
-    let same : (l, joined more) ≡ (line, behind) = ap (λ (o : Option (List ℕ × List ℕ)). option_map_or (λ (p : List ℕ × List ℕ). p) o (line, behind)) first in
-    let made : Next lines rest r counts text l (joined more) = record {
-      less = omega (arith, length-append l (10 ∷ joined more), ap (λ (b : List ℕ). length b) bytes);
+    let first : Some (l, lines_joined more) ≡ Some (line, behind) = sym (line_again l (lines_joined more) are.0.unbroken) ∙ ap line_at (sym bytes) ∙ found in
+    let same : (l, lines_joined more) ≡ (line, behind) = ap (λ (o : Option (List ℕ × List ℕ)). option_map_or (λ (p : List ℕ × List ℕ). p) o (line, behind)) first in
+    let made : Next lines rest r counts text l (lines_joined more) = record {
+      less = omega (arith, length-append l (10 ∷ lines_joined more), ap (λ (b : List ℕ). length b) bytes);
       header = λ reply new answered. ap (λ (x : Running). x.header) (answered.1 event both.0).1;
       short = are.0.short;
       known = rw both.0 refl;
@@ -196,7 +196,7 @@ next lines rest r counts text line behind going found =
 -- ---- the end
 
 ended_at : (lines left : List (List ℕ)) (rest : List ℕ) (r : Running) (counts : Counts) (text : List ℕ) (events all : List Event)
-    → rest ≡ joined left → AllByRecursion IsEventLine left → map event_at left ≡ map Some events → map event_at lines ≡ map Some all
+    → rest ≡ lines_joined left → AllByRecursion IsEventLine left → map event_at left ≡ map Some events → map event_at lines ≡ map Some all
     → Rests r counts text (left_of r events) (replies_by_digests (world_of r.header) all) → line_at rest ≡ None
     → SumsUp r.header lines (record {
       counts = counts;
@@ -213,15 +213,15 @@ ended_at lines [] rest r counts text [] all bytes are read whole rests none =
 ended_at lines [] rest r counts text (event ∷ events) all bytes are read whole rests none =
     absurd (no_events (Some event) (map Some events) (sym read))
 ended_at lines (l ∷ more) rest r counts text events all bytes are read whole rests none =
-    let some : line_at rest ≡ Some (l, joined more) = ap line_at bytes ∙ line_again l (joined more) are.0.unbroken in
-    absurd (no_pair (l, joined more) (sym none ∙ some))
+    let some : line_at rest ≡ Some (l, lines_joined more) = ap line_at bytes ∙ line_again l (lines_joined more) are.0.unbroken in
+    absurd (no_pair (l, lines_joined more) (sym none ∙ some))
 
-over_end : (lines left : List (List ℕ)) (rest : List ℕ) (r : Running) → rest ≡ joined left → AllByRecursion IsEventLine left
+over_end : (lines left : List (List ℕ)) (rest : List ℕ) (r : Running) → rest ≡ lines_joined left → AllByRecursion IsEventLine left
     → is_over r left ≡ is_over (begun r.header) lines → line_at rest ≡ None → is_over (begun r.header) lines ≡ false
 over_end lines [] rest r bytes are over none = sym over
 over_end lines (l ∷ more) rest r bytes are over none =
-    let some : line_at rest ≡ Some (l, joined more) = ap line_at bytes ∙ line_again l (joined more) are.0.unbroken in
-    absurd (no_pair (l, joined more) (sym none ∙ some))
+    let some : line_at rest ≡ Some (l, lines_joined more) = ap line_at bytes ∙ line_again l (lines_joined more) are.0.unbroken in
+    absurd (no_pair (l, lines_joined more) (sym none ∙ some))
 
 -- no line was one too many
 pub within : (lines : List (List ℕ)) (rest : List ℕ) (r : Running) (counts : Counts) (text : List ℕ) (header : Header) → Going lines rest r counts text
@@ -260,7 +260,7 @@ events_read (line ∷ lines) are =
     rw (spelled_is_read line are.0.event are.0.spelled) (ap (λ (more : List (Option Event)). Some are.0.event ∷ more) (events_read lines are.1))
 
 pub begins : (number count : ℕ) (header : Header) → count ≤ most_events
-    → Going (schedule_lines number count header) (joined (schedule_lines number count header)) (begun header) no_counts []
+    → Going (schedule_lines number count header) (lines_joined (schedule_lines number count header)) (begun header) no_counts []
 begins number count header few =
     let is = is_schedule number count header few in
     let lines : List (List ℕ) = schedule_lines number count header in
@@ -280,8 +280,8 @@ begins number count header few =
     }
 
 pub behind_first : (number count : ℕ) (header : Header)
-    → line_at (schedule_text number count header) ≡ Some (header_text header, joined (schedule_lines number count header))
-behind_first number count header = line_again (header_text header) (joined (schedule_lines number count header)) (header-unbroken header)
+    → line_at (schedule_text number count header) ≡ Some (header_text header, lines_joined (schedule_lines number count header))
+behind_first number count header = line_again (header_text header) (lines_joined (schedule_lines number count header)) (header-unbroken header)
 
 -- a summary by its parts
 pub told_at : (header : Header) (lines : List (List ℕ)) (r : Running) (counts : Counts) (committed issued : ℕ) (digest : Digest) (text : List ℕ)
@@ -307,12 +307,12 @@ told_at header lines r counts committed issued digest text same one two three ma
 
 -- the beginning, by what stands there
 pub starts : (number count : ℕ) (header : Header) (rest : List ℕ) (r : Running) (counts : Counts) (text : List ℕ) → count ≤ most_events
-    → rest ≡ joined (schedule_lines number count header) → r ≡ begun header → counts ≡ no_counts → text ≡ []
+    → rest ≡ lines_joined (schedule_lines number count header) → r ≡ begun header → counts ≡ no_counts → text ≡ []
     → Going (schedule_lines number count header) rest r counts text
 starts number count header rest r counts text few one two three four = rw (one, two, three, four) (begins number count header few)
 
 -- a line more, by what stands behind it
 pub goes_on : (lines : List (List ℕ)) (rest : List ℕ) (r new : Running) (counts more : Counts) (text written line behind : List ℕ) (reply : Reply)
-    → Next lines rest r counts text line behind → Answered r new line reply → more ≡ counted counts reply → written ≡ text ++ text_of reply
+    → Next lines rest r counts text line behind → RunsLine r new line reply → more ≡ counted_reply counts reply → written ≡ text ++ text_of_replies reply
     → Going lines behind new more written
 goes_on lines rest r new counts more text written line behind reply step answered one two = rw (one, two) (step.on reply new answered)

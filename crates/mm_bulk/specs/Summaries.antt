@@ -2,7 +2,7 @@
 use Rattle.std.specs.Prelude.{ℕ, List, [], ◌∷◌, ◌++◌, codes}
 use Rattle.std.specs.Fmt.{decimal}
 use Rattle.hex.specs.Hex.{encode_lower}
-use Rattle.mm_base.specs.Input.{joined}
+use Rattle.mm_base.specs.Input.{lines_joined}
 use Rattle.mm_bulk.specs.declared.counts.Counts.{Counts}
 use Rattle.mm_bulk.specs.declared.summary.Summary.{Summary}
 
@@ -25,4 +25,4 @@ replies_text digest = codes "replies " ++ encode_lower digest
 -- the five lines
 abbrev pub bulk_text : ℕ → Summary → List ℕ
 bulk_text events it =
-    joined (events_text events ∷ told_counts it.counts ∷ other_counts it.counts ∷ end_text it ∷ replies_text it.replies.bytes ∷ [])
+    lines_joined (events_text events ∷ told_counts it.counts ∷ other_counts it.counts ∷ end_text it ∷ replies_text it.replies.bytes ∷ [])

@@ -13,8 +13,8 @@ use Rattle.mm_bulk.specs.Counting.{counts_of}
 use Rattle.mm_bulk.specs.declared.summary.Summary.{Summary}
 
 -- the replies counted, and digested with the last line of a replay
-abbrev pub summary_of : Followed Digests → Summary
-summary_of run = record {
+abbrev pub bulk_summary : Followed Digests → Summary
+bulk_summary run = record {
   counts = counts_of run.replies;
   committed = run.state.count;
   issued = length run.issued;
@@ -25,4 +25,4 @@ summary_of run = record {
 pub record SumsUp (header : Header) (lines : List (List ℕ)) (it : Summary) : Type 0 where
   pub events : List Event
   pub read : map event_at lines ≡ map Some events
-  pub told : it ≡ summary_of (replies_by_digests (world_of header) events)
+  pub told : it ≡ bulk_summary (replies_by_digests (world_of header) events)

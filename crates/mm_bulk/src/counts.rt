@@ -2,7 +2,7 @@
 
 ghost use Rattle.std.specs.Prelude.{◌≡◌, ◌+◌, ◌<◌};
 ghost use Rattle.mm_base.specs.Limits.{most_events};
-ghost use Rattle.mm_bulk.specs.Counting.{counted, no_counts, total};
+ghost use Rattle.mm_bulk.specs.Counting.{counted_reply, no_counts, total};
 
 use mm_schedule::Reply;
 
@@ -35,7 +35,7 @@ impl Counts {
     /// Counts one reply more. A reply of several lines is one.
     pub fn count(&mut self, reply: &Reply)
         requires { total self.old < most_events }
-        ensures counted { self.new ≡ counted self.old reply.now }
+        ensures counted_reply { self.new ≡ counted_reply self.old reply.now }
         ensures total { total self.new ≡ total self.old + 1 }
     {
         match reply {

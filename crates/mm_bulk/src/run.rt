@@ -8,7 +8,7 @@ ghost use Rattle.mm_schedule.specs.Replies.{IsPrintable};
 ghost use Rattle.mm_gen.specs.Schedules.{schedule_lines};
 ghost use Rattle.mm_replay.specs.Progress.{running};
 ghost use Rattle.mm_replay.specs.Schedule.{begun, is_too_much};
-ghost use Rattle.mm_bulk.specs.Answered.{Answered};
+ghost use Rattle.mm_bulk.specs.Answered.{RunsLine};
 ghost use Rattle.mm_bulk.specs.Limits.{IsLimited, is_over};
 ghost use Rattle.mm_bulk.specs.LineBreaks.{line_at};
 ghost use Rattle.mm_bulk.specs.Replayed.{IsReplayed, replay_of};
@@ -21,7 +21,7 @@ use crate::summary::Summary;
 use mm_base::Bytes;
 use mm_digest::Digest;
 use mm_gen::generate;
-use mm_play::{Refused, TakeFault};
+use mm_play::{Refused, ReplyFault};
 use mm_replay::{Progress, put_reply};
 use mm_schedule::{EventFault, Header, Reply, read_event};
 use sha2::{Digest as _, Sha256};
@@ -90,7 +90,7 @@ fn behind_header(text: &[u8]) -> &[u8]
 fn answered(alloc: Global, line: &[u8], progress: &mut Progress) -> Result<Reply, BulkFault>
     requires short { length line.now ≤ longest_line }
     requires known { is_some (event_at line.now) ≡ true }
-    ensures reply { IfOk result (Answered (running progress.old) (running progress.new) line.now) }
+    ensures reply { IfOk result (RunsLine (running progress.old) (running progress.new) line.now) }
     ensures printable { IfOk result IsPrintable }
     ensures limit { result ≡ Err BulkFault.TooMuch
         → is_too_much (running progress.old) line.now ≡ true }
@@ -102,7 +102,7 @@ fn answered(alloc: Global, line: &[u8], progress: &mut Progress) -> Result<Reply
     };
     match progress.reply_to_event(line, &event) {
         Ok(reply) => Ok(reply),
-        Err(TakeFault::Refused(Refused::Much)) => Err(BulkFault::TooMuch),
+        Err(ReplyFault::Refused(Refused::Much)) => Err(BulkFault::TooMuch),
         Err(_) => Err(BulkFault::Memory),
     }
 }

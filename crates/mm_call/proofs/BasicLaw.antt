@@ -19,7 +19,7 @@ use Rattle.mm_model.specs.declared.refusal.Refusal.{Refusal}
 use Rattle.mm_model.proofs.Lists.{each_append}
 use Rattle.mm_model.specs.Standing.{IsGenuine}
 use Rattle.mm_call.specs.Levels.{by_lists, by_digests, all_made, Agrees}
-use Rattle.mm_call.specs.Found.{Found, found_at, found_in, is_fresh, right_content}
+use Rattle.mm_call.specs.Found.{Found, found_at, found_unless_wanting, is_fresh, right_content}
 use Rattle.mm_call.specs.Courses.{End, Done, Fails, Fate, Course, Walked, step_moves, after_step, walk}
 use Rattle.mm_call.specs.Called.{called, called_with}
 use Rattle.mm_call.specs.Asked.{IsPlain, IsWithin, right_messages}
@@ -88,7 +88,7 @@ names_any meaning key y y' offered e n = record {
 }
 
 -- what is found, where memory isn't wanting
-pub unlacked : (found : Result Found Refusal) (lacks : Bool) (f : Found) → found_in found lacks ≡ Ok f → found ≡ Ok f
+pub unlacked : (found : Result Found Refusal) (lacks : Bool) (f : Found) → found_unless_wanting found lacks ≡ Ok f → found ≡ Ok f
 unlacked (Err why) lacks f e = cc
 unlacked (Ok found) false f e = e
 unlacked (Ok found) true f e = cc
@@ -212,9 +212,9 @@ basic_same meaning key all others asked y d course offer b agrees a =
       genuine = λ content right. names_any meaning key y sees content same (a.genuine content right);
     } in
     let lists : Result Found Refusal = found_at i (by_lists i) sees b offer in
-    let found : Result Found Refusal = found_in lists course.lacks in
-    let agree : found_in (found_at i (by_digests i) seen b offer) course.lacks ≡ found =
-    ap (λ x. found_in x course.lacks) (found_same meaning key all sees seen offer b holds asking) in
+    let found : Result Found Refusal = found_unless_wanting lists course.lacks in
+    let agree : found_unless_wanting (found_at i (by_digests i) seen b offer) course.lacks ≡ found =
+    ap (λ x. found_unless_wanting x course.lacks) (found_same meaning key all sees seen offer b holds asking) in
     let starts : Starts all others asked i y d seen b found = record {
       agrees = agrees;
       within = a.within;

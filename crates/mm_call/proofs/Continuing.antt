@@ -12,10 +12,10 @@ use Rattle.mm_model.specs.declared.answer.BatchAnswer.{BatchAnswer}
 use Rattle.mm_model.specs.declared.refusal.Refusal.{Refusal}
 use Rattle.mm_call.specs.Levels.{by_lists, by_digests}
 use Rattle.mm_call.specs.Courses.{Course}
-use Rattle.mm_call.specs.Called.{Called, called, told}
+use Rattle.mm_call.specs.Called.{Called, called, given_for}
 use Rattle.mm_call.specs.Standing.{RegisterAt, StandsAt}
 use Rattle.mm_call.specs.Asked.{IsAsked}
-use Rattle.mm_call.specs.CallsOn.{GoesBy, Continues}
+use Rattle.mm_call.specs.CallsOn.{GoesBy, CallContinues}
 use Rattle.mm_call.specs.Laws.{CallsAgree}
 use Rattle.mm_call.proofs.OptHolding.{agrees_is, is_agrees}
 
@@ -40,13 +40,13 @@ pub continues_by : (i : Instance) → CallsAgree i → (old new : Standing) (cou
     → ((d : Digests) → StandsAt i old d → GoesBy i d (called i (by_digests i) d course offer b) old new result)
     → (all others : List (List ℕ)) (asked : List Batch) (y : History) → StandsFor i old y
     → IsAsked all others asked i y (called i (by_digests i) (digests_of i y) course offer b).moves offer b
-    → Continues all others asked i (called i (by_lists i) y course offer b) new result
+    → CallContinues all others asked i (called i (by_lists i) y course offer b) new result
 continues_by i law old new course offer b result goes all others asked y s a =
     let d : Digests = digests_of i y in
     let same = law all others asked y d course offer b (is_agrees i y d refl) a in
     let g = goes d (stands_at i old y s) in
     let o : Called History = called i (by_lists i) y course offer b in record {
-      gives = g.gives ∙ ap told same.ending;
+      gives = g.gives ∙ ap given_for same.ending;
       stands = stands_for i new o.state (subst (StandsAt i new) (agrees_is i o.state (called i (by_digests i) d course offer b).state same.agrees) g.stands);
       within = same.within;
     }

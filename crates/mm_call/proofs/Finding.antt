@@ -24,7 +24,7 @@ use Rattle.mm_model.proofs.Batches.{at_the_end, before_the_last}
 use Rattle.mm_call.specs.Order.{admitted, weighed, examined}
 use Rattle.mm_call.proofs.Weighing.{weighed_alike}
 use Rattle.mm_seal.specs.Parts.{parts_of}
-use Rattle.mm_call.specs.Found.{content_if_right, right_content, Found, found_with, found_from, found_at}
+use Rattle.mm_call.specs.Found.{content_if_right, right_content, Found, found_with, found_by_verdict, found_at}
 use Rattle.mm_model.specs.Moves.{Digests}
 use Rattle.mm_call.specs.Levels.{by_lists, by_digests, Agrees}
 use Rattle.mm_call.specs.Asked.{IsPlain, right_messages}
@@ -83,7 +83,7 @@ right_named meaning key all y bytes b snapshot asking e state tagged =
 found_from_same : (meaning : Meaning) (key : List ℕ) (all : List (List ℕ)) (y : History) (d : Digests) (bytes : List ℕ) (b : Batch)
     (parts : Result Snapshot PartsFault) → parts_of Basic meaning.id bytes ≡ parts
     → Holds all (basic meaning key) y d → Asking all (basic meaning key) y bytes b
-    → found_from (basic meaning key) (by_digests (basic meaning key)) d b parts ≡ found_from (basic meaning key) (by_lists (basic meaning key)) y b parts
+    → found_by_verdict (basic meaning key) (by_digests (basic meaning key)) d b parts ≡ found_by_verdict (basic meaning key) (by_lists (basic meaning key)) y b parts
 found_from_same meaning key all y d bytes b (Err Form) e h asking = refl
 found_from_same meaning key all y d bytes b (Err Kind) e h asking = refl
 found_from_same meaning key all y d bytes b (Ok snapshot) e h asking =
@@ -97,7 +97,7 @@ pub found_same : (meaning : Meaning) (key : List ℕ) (all : List (List ℕ)) (y
     → found_at (basic meaning key) (by_digests (basic meaning key)) d b bytes ≡ found_at (basic meaning key) (by_lists (basic meaning key)) y b bytes
 found_same meaning key all y d bytes b h asking =
     let i = basic meaning key in
-    ap (λ f. if f && bytes_eq d.register zero_bytes then Err refusal.Lost else found_from i (by_digests i) d b (parts_of Basic meaning.id bytes)) h.agrees.flag
+    ap (λ f. if f && bytes_eq d.register zero_bytes then Err refusal.Lost else found_by_verdict i (by_digests i) d b (parts_of Basic meaning.id bytes)) h.agrees.flag
     ∙ found_from_same meaning key all y d bytes b (parts_of Basic meaning.id bytes) refl h asking
 
 -- What is found is at the end of the history, or before its last batch, which is then the one that is asked.
@@ -132,7 +132,7 @@ found_with_tells offered (Err why) found e = cc
 
 placed_from : (meaning : Meaning) (key : List ℕ) (all : List (List ℕ)) (y : History) (bytes : List ℕ) (b : Batch)
     (parts : Result Snapshot PartsFault) → parts_of Basic meaning.id bytes ≡ parts → Asking all (basic meaning key) y bytes b
-    → (found : Found) → found_from (basic meaning key) (by_lists (basic meaning key)) y b parts ≡ Ok found
+    → (found : Found) → found_by_verdict (basic meaning key) (by_lists (basic meaning key)) y b parts ≡ Ok found
     → Placed (basic meaning key) y b found
 placed_from meaning key all y bytes b (Err Form) e asking found is = cc
 placed_from meaning key all y bytes b (Err Kind) e asking found is = cc
@@ -163,7 +163,7 @@ placed meaning key all y bytes b asking found is =
 -- what is found was rightly offered, so that the messages of its call are listed
 right_from : (meaning : Meaning) (key : List ℕ) (all : List (List ℕ)) (y : History) (bytes : List ℕ) (b : Batch)
     (parts : Result Snapshot PartsFault) → parts_of Basic meaning.id bytes ≡ parts → Asking all (basic meaning key) y bytes b
-    → (found : Found) → found_from (basic meaning key) (by_lists (basic meaning key)) y b parts ≡ Ok found
+    → (found : Found) → found_by_verdict (basic meaning key) (by_lists (basic meaning key)) y b parts ≡ Ok found
     → Within (offer_messages (basic meaning key) found.offered.place b) all
 right_from meaning key all y bytes b (Err Form) e asking found is = cc
 right_from meaning key all y bytes b (Err Kind) e asking found is = cc

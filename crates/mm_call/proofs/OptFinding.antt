@@ -27,7 +27,7 @@ use Rattle.mm_call.proofs.Weighing.{weighed_alike}
 use Rattle.mm_seal.specs.Parts.{parts_of}
 use Rattle.mm_model.specs.Moves.{Digests}
 use Rattle.mm_call.specs.Levels.{by_lists, by_digests}
-use Rattle.mm_call.specs.Found.{Found, found_with, found_from, found_at}
+use Rattle.mm_call.specs.Found.{Found, found_with, found_by_verdict, found_at}
 use Rattle.mm_call.specs.Asked.{right_messages}
 use Rattle.mm_call.proofs.Reading.{is_right}
 use Rattle.mm_call.proofs.Finding.{Asking, right_is, weighed_tells, found_with_tells, admitted_tells}
@@ -87,7 +87,7 @@ right_named meaning key barrier all y bytes b snapshot asking e state tagged =
 found_from_same : (meaning : Meaning) (key barrier : List ℕ) (all others : List (List ℕ)) (asked : List Batch) (y : History) (d : Digests) (bytes : List ℕ) (b : Batch)
     (parts : Result Snapshot PartsFault) → parts_of Opt meaning.id bytes ≡ parts → IsApart all others asked barrier → Contains asked b
     → Holds all others asked (opt meaning key barrier) y d → Asking all (opt meaning key barrier) y bytes b
-    → found_from (opt meaning key barrier) (by_digests (opt meaning key barrier)) d b parts ≡ found_from (opt meaning key barrier) (by_lists (opt meaning key barrier)) y b parts
+    → found_by_verdict (opt meaning key barrier) (by_digests (opt meaning key barrier)) d b parts ≡ found_by_verdict (opt meaning key barrier) (by_lists (opt meaning key barrier)) y b parts
 found_from_same meaning key barrier all others asked y d bytes b (Err Form) e c is_asked h asking = refl
 found_from_same meaning key barrier all others asked y d bytes b (Err Kind) e c is_asked h asking = refl
 found_from_same meaning key barrier all others asked y d bytes b (Ok snapshot) e c is_asked h asking =
@@ -111,7 +111,7 @@ pub found_same : (meaning : Meaning) (key barrier : List ℕ) (all others : List
     → found_at (opt meaning key barrier) (by_digests (opt meaning key barrier)) d b bytes ≡ found_at (opt meaning key barrier) (by_lists (opt meaning key barrier)) y b bytes
 found_same meaning key barrier all others asked y d bytes b c is_asked h asking =
     let i = opt meaning key barrier in
-    ap (λ f. if f then Err refusal.Lost else found_from i (by_digests i) d b (parts_of Opt meaning.id bytes)) (lost_same meaning key barrier all others asked y d c.clear h)
+    ap (λ f. if f then Err refusal.Lost else found_by_verdict i (by_digests i) d b (parts_of Opt meaning.id bytes)) (lost_same meaning key barrier all others asked y d c.clear h)
     ∙ ap (λ x. if is_lost (life_of Opt y) then Err refusal.Lost else x)
     (found_from_same meaning key barrier all others asked y d bytes b (parts_of Opt meaning.id bytes) refl c is_asked h asking)
 
@@ -133,7 +133,7 @@ admitted_lives LostLife here repeat fits again e = cc
 
 placed_from : (meaning : Meaning) (key barrier : List ℕ) (all : List (List ℕ)) (y : History) (bytes : List ℕ) (b : Batch)
     (parts : Result Snapshot PartsFault) → parts_of Opt meaning.id bytes ≡ parts → Asking all (opt meaning key barrier) y bytes b
-    → (found : Found) → found_from (opt meaning key barrier) (by_lists (opt meaning key barrier)) y b parts ≡ Ok found
+    → (found : Found) → found_by_verdict (opt meaning key barrier) (by_lists (opt meaning key barrier)) y b parts ≡ Ok found
     → Placed all (opt meaning key barrier) y b found
 placed_from meaning key barrier all y bytes b (Err Form) e asking found is = cc
 placed_from meaning key barrier all y bytes b (Err Kind) e asking found is = cc

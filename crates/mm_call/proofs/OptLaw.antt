@@ -23,7 +23,7 @@ use Rattle.mm_model.proofs.Lists.{each_left, each_right}
 use Rattle.mm_model.proofs.Named.{opt_names}
 use Rattle.mm_model.proofs.Moves.{sound_moved}
 use Rattle.mm_call.specs.Levels.{Level, by_lists, by_digests, all_made, Agrees}
-use Rattle.mm_call.specs.Found.{Found, found_at, found_in, is_fresh}
+use Rattle.mm_call.specs.Found.{Found, found_at, found_unless_wanting, is_fresh}
 use Rattle.mm_call.specs.Courses.{Done, Fate, Course, Walked, walk}
 use Rattle.mm_call.specs.Called.{Called, called, Breaks, kept_at, ended_by, called_by}
 use Rattle.mm_call.specs.Asked.{counted_part, counted_moves, from_reset, moves_messages, foreign_in, IsWithin, IsAsked}
@@ -268,12 +268,12 @@ module _ (meaning : Meaning) (key barrier : List ℕ) (all others : List (List �
 
   abbrev ListsCall : Bool → History → Course → List ℕ → Batch → Called History
   ListsCall flag y c offer b =
-      let found = found_in (Lists y c offer b) c.lacks in
+      let found = found_unless_wanting (Lists y c offer b) c.lacks in
       called_by (by_lists (opt meaning key barrier)) y (all_made (by_lists (opt meaning key barrier)) y (before c)) b found (steps_walk c flag found b)
 
   abbrev DigestsCall : Bool → Digests → Course → List ℕ → Batch → Called Digests
   DigestsCall flag d c offer b =
-      let found = found_in (ByDigests d c offer b) c.lacks in
+      let found = found_unless_wanting (ByDigests d c offer b) c.lacks in
       called_by (by_digests (opt meaning key barrier)) d (all_made (by_digests (opt meaning key barrier)) d (before c)) b found (steps_walk c flag found b)
 
   apart_of : (y : History) (moves : List Move) (offer : List ℕ) (b : Batch) → IsAsked all others asked (opt meaning key barrier) y moves offer b
@@ -282,7 +282,7 @@ module _ (meaning : Meaning) (key barrier : List ℕ) (all others : List (List �
 
   inside_same : (y : History) (d : Digests) (c : Course) (offer : List ℕ) (b : Batch) → y.is_open ≡ true → Agrees (opt meaning key barrier) y d
       → (c.fates 1).ends ≡ Done → (c.fates 2).ends ≡ Done
-      → (x : Result Found Refusal) → (found_in (ByDigests d c offer b) c.lacks ≡ found_in (Lists y c offer b) c.lacks → x ≡ found_in (Lists y c offer b) c.lacks)
+      → (x : Result Found Refusal) → (found_unless_wanting (ByDigests d c offer b) c.lacks ≡ found_unless_wanting (Lists y c offer b) c.lacks → x ≡ found_unless_wanting (Lists y c offer b) c.lacks)
       → IsAsked all others asked (opt meaning key barrier) y (steps_walk c true x b).moves offer b
       → IsSameCall all others asked (opt meaning key barrier) (ListsCall true y c offer b) (DigestsCall true d c offer b)
   inside_same y d c offer b e agrees p q x k a =
@@ -291,8 +291,8 @@ module _ (meaning : Meaning) (key barrier : List ℕ) (all others : List (List �
       let w = (c.fates 2).brings in
       let sees : History = all_made (by_lists i) y (before c) in
       let seen : Digests = all_made (by_digests i) d (before c) in
-      let found : Result Found Refusal = found_in (Lists y c offer b) c.lacks in
-      let other : Result Found Refusal = found_in (ByDigests d c offer b) c.lacks in
+      let found : Result Found Refusal = found_unless_wanting (Lists y c offer b) c.lacks in
+      let other : Result Found Refusal = found_unless_wanting (ByDigests d c offer b) c.lacks in
       let rest : Walked = walk c.fates 3 (changing true (is_fresh x) b) in
       let h = holds_open meaning key barrier all others asked y d e agrees a.within in
       let counts : Counts true y (steps_walk c true x b).moves = inside_counts y (steps_walk c true x b).moves offer b e a in
@@ -308,7 +308,7 @@ module _ (meaning : Meaning) (key barrier : List ℕ) (all others : List (List �
         listed = a.offered;
         genuine = subst (λ x. IsGenuine i x offer) (sym (sight_is i y c)) named;
       } in
-      let agree : other ≡ found = ap (λ x. found_in x c.lacks)
+      let agree : other ≡ found = ap (λ x. found_unless_wanting x c.lacks)
       (found_same meaning key barrier all others asked sees seen offer b (apart_of y _ offer b a) a.is_asked hs asking) in
       let placed_at : (f : Found) → found ≡ Ok f → Placed all i (sight y c) b f = λ f is.
       subst (λ x. Placed all i x b f) (sight_is i y c) (placed meaning key barrier all sees offer b asking f (unlacked (Lists y c offer b) c.lacks f is)) in
@@ -322,15 +322,15 @@ module _ (meaning : Meaning) (key barrier : List ℕ) (all others : List (List �
       → (walked : Walked) (values : List (List ℕ)) (fault : StepFault)
       → ((rest : Walked) → two_reads (c.fates 1).brings (c.fates 1).ends (c.fates 2).brings (c.fates 2).ends rest ≡ walked)
       → walked.moves ≡ map Foreign values → walked.broken ≡ Some fault
-      → (x : Result Found Refusal) → (found_in (ByDigests d c offer b) c.lacks ≡ found_in (Lists y c offer b) c.lacks → x ≡ found_in (Lists y c offer b) c.lacks)
+      → (x : Result Found Refusal) → (found_unless_wanting (ByDigests d c offer b) c.lacks ≡ found_unless_wanting (Lists y c offer b) c.lacks → x ≡ found_unless_wanting (Lists y c offer b) c.lacks)
       → IsAsked all others asked (opt meaning key barrier) y (steps_walk c true x b).moves offer b
       → IsSameCall all others asked (opt meaning key barrier) (ListsCall true y c offer b) (DigestsCall true d c offer b)
   inside_cut y d c offer b e agrees walked values fault is moves broken x k a =
       let i = opt meaning key barrier in
       let sees : History = all_made (by_lists i) y (before c) in
       let seen : Digests = all_made (by_digests i) d (before c) in
-      let found : Result Found Refusal = found_in (Lists y c offer b) c.lacks in
-      let other : Result Found Refusal = found_in (ByDigests d c offer b) c.lacks in
+      let found : Result Found Refusal = found_unless_wanting (Lists y c offer b) c.lacks in
+      let other : Result Found Refusal = found_unless_wanting (ByDigests d c offer b) c.lacks in
       let lists : steps_walk c true found b ≡ walked = is (walk c.fates 3 (changing true (is_fresh found) b)) in
       let digests : steps_walk c true other b ≡ walked = is (walk c.fates 3 (changing true (is_fresh other) b)) in
       let counts : Counts true y (steps_walk c true x b).moves = inside_counts y (steps_walk c true x b).moves offer b e a in
@@ -345,7 +345,7 @@ module _ (meaning : Meaning) (key barrier : List ℕ) (all others : List (List �
       (subst (λ x. IsSameCall all others asked i (called_by (by_lists i) y sees b found walked) (called_by (by_digests i) d seen b other x)) (sym digests) same)
 
   inside : (y : History) (d : Digests) (c : Course) (offer : List ℕ) (b : Batch) → y.is_open ≡ true → Agrees (opt meaning key barrier) y d
-      → (x : Result Found Refusal) → (found_in (ByDigests d c offer b) c.lacks ≡ found_in (Lists y c offer b) c.lacks → x ≡ found_in (Lists y c offer b) c.lacks)
+      → (x : Result Found Refusal) → (found_unless_wanting (ByDigests d c offer b) c.lacks ≡ found_unless_wanting (Lists y c offer b) c.lacks → x ≡ found_unless_wanting (Lists y c offer b) c.lacks)
       → IsAsked all others asked (opt meaning key barrier) y (steps_walk c true x b).moves offer b
       → IsSameCall all others asked (opt meaning key barrier) (ListsCall true y c offer b) (DigestsCall true d c offer b)
   inside y d c offer b e agrees x k a =
@@ -398,7 +398,7 @@ module _ (meaning : Meaning) (key barrier : List ℕ) (all others : List (List �
       )
 
   shut : (y : History) (d : Digests) (c : Course) (offer : List ℕ) (b : Batch) → y.is_open ≡ false → Agrees (opt meaning key barrier) y d
-      → (x : Result Found Refusal) → (found_in (ByDigests d c offer b) c.lacks ≡ found_in (Lists y c offer b) c.lacks → x ≡ found_in (Lists y c offer b) c.lacks)
+      → (x : Result Found Refusal) → (found_unless_wanting (ByDigests d c offer b) c.lacks ≡ found_unless_wanting (Lists y c offer b) c.lacks → x ≡ found_unless_wanting (Lists y c offer b) c.lacks)
       → IsAsked all others asked (opt meaning key barrier) y (steps_walk c false x b).moves offer b
       → IsSameCall all others asked (opt meaning key barrier) (ListsCall false y c offer b) (DigestsCall false d c offer b)
   shut y d c offer b e agrees x k a =
@@ -407,8 +407,8 @@ module _ (meaning : Meaning) (key barrier : List ℕ) (all others : List (List �
       let w = (c.fates 2).brings in
       let sees : History = all_made (by_lists i) y (before c) in
       let seen : Digests = all_made (by_digests i) d (before c) in
-      let found : Result Found Refusal = found_in (Lists y c offer b) c.lacks in
-      let other : Result Found Refusal = found_in (ByDigests d c offer b) c.lacks in
+      let found : Result Found Refusal = found_unless_wanting (Lists y c offer b) c.lacks in
+      let other : Result Found Refusal = found_unless_wanting (ByDigests d c offer b) c.lacks in
       let h = holds_shut meaning key barrier all others asked y d e agrees a.within in
       let asking : Asking all i (bare y) offer b = record {
         clear = a.clear;
@@ -423,7 +423,7 @@ module _ (meaning : Meaning) (key barrier : List ℕ) (all others : List (List �
       foreign_digests i v (map Foreign w ++ []) d ∙ foreign_digests i w [] (record d { register = fold extended_of d.register v }) in
       let digests : ByDigests d c offer b ≡ found_at i (by_digests i) (bare_digests d) b offer =
       ap (λ x. found_at i (by_digests i) x b offer) seen_is ∙ found_digests meaning key barrier d register b offer (agrees.flag ∙ e) in
-      let agree : other ≡ found = ap (λ x. found_in x c.lacks)
+      let agree : other ≡ found = ap (λ x. found_unless_wanting x c.lacks)
       (digests ∙ found_same meaning key barrier all others asked (bare y) (bare_digests d) offer b (apart_of y _ offer b a) a.is_asked h asking ∙ sym lists) in
       let placed_at : (f : Found) → found ≡ Ok f → Placed all i (bare y) b f = λ f is.
       placed meaning key barrier all (bare y) offer b asking f (sym lists ∙ unlacked (Lists y c offer b) c.lacks f is) in
@@ -447,7 +447,7 @@ module _ (meaning : Meaning) (key barrier : List ℕ) (all others : List (List �
       subst P (sym agree) same
 
   by_flag : (flag : Bool) (y : History) (d : Digests) (c : Course) (offer : List ℕ) (b : Batch) → y.is_open ≡ flag → Agrees (opt meaning key barrier) y d
-      → (x : Result Found Refusal) → (found_in (ByDigests d c offer b) c.lacks ≡ found_in (Lists y c offer b) c.lacks → x ≡ found_in (Lists y c offer b) c.lacks)
+      → (x : Result Found Refusal) → (found_unless_wanting (ByDigests d c offer b) c.lacks ≡ found_unless_wanting (Lists y c offer b) c.lacks → x ≡ found_unless_wanting (Lists y c offer b) c.lacks)
       → IsAsked all others asked (opt meaning key barrier) y (steps_walk c flag x b).moves offer b
       → IsSameCall all others asked (opt meaning key barrier) (ListsCall flag y c offer b) (DigestsCall flag d c offer b)
   by_flag true y d c offer b e agrees x k a = inside y d c offer b e agrees x k a
@@ -456,8 +456,8 @@ module _ (meaning : Meaning) (key barrier : List ℕ) (all others : List (List �
 -- the law, by the moves of the steps that follow from what is found by digests or by lists
 agree_by : (meaning : Meaning) (key barrier : List ℕ) (all others : List (List ℕ)) (asked : List Batch) (y : History) (d : Digests) (c : Course) (offer : List ℕ) (b : Batch)
     → Agrees (opt meaning key barrier) y d → (x : Result Found Refusal) (flag : Bool) → flag ≡ y.is_open
-    → (found_in (ByDigests meaning key barrier all others asked d c offer b) c.lacks ≡ found_in (Lists meaning key barrier all others asked y c offer b) c.lacks
-    → x ≡ found_in (Lists meaning key barrier all others asked y c offer b) c.lacks)
+    → (found_unless_wanting (ByDigests meaning key barrier all others asked d c offer b) c.lacks ≡ found_unless_wanting (Lists meaning key barrier all others asked y c offer b) c.lacks
+    → x ≡ found_unless_wanting (Lists meaning key barrier all others asked y c offer b) c.lacks)
     → IsAsked all others asked (opt meaning key barrier) y (walk c.fates 1 (ask_steps Opt flag (is_fresh x) b)).moves offer b
     → IsSameCall all others asked (opt meaning key barrier) (called (opt meaning key barrier) (by_lists (opt meaning key barrier)) y c offer b)
     (called (opt meaning key barrier) (by_digests (opt meaning key barrier)) d c offer b)
@@ -465,8 +465,8 @@ agree_by meaning key barrier all others asked y d c offer b agrees x flag same_f
     let i = opt meaning key barrier in
     let sees : History = all_made (by_lists i) y (before c) in
     let seen : Digests = all_made (by_digests i) d (before c) in
-    let found : Result Found Refusal = found_in (found_at i (by_lists i) sees b offer) c.lacks in
-    let other : Result Found Refusal = found_in (found_at i (by_digests i) seen b offer) c.lacks in
+    let found : Result Found Refusal = found_unless_wanting (found_at i (by_lists i) sees b offer) c.lacks in
+    let other : Result Found Refusal = found_unless_wanting (found_at i (by_digests i) seen b offer) c.lacks in
     let Listed : List Step → Called History = λ steps. called_by (by_lists i) y sees b found (walk c.fates 1 steps) in
     let Digested : List Step → Called Digests = λ steps. called_by (by_digests i) d seen b other (walk c.fates 1 steps) in
     let to : (f : Bool) (z : Result Found Refusal) → f ≡ y.is_open → ask_steps Opt f (is_fresh z) b ≡ Reads ∷ Reads ∷ changing y.is_open (is_fresh z) b =
@@ -478,7 +478,7 @@ agree_by meaning key barrier all others asked y d c offer b agrees x flag same_f
 
 pub opt_calls_agree : OptCallsAgree
 opt_calls_agree meaning key barrier all others asked y d c offer b agrees a =
-    agree_by meaning key barrier all others asked y d c offer b agrees (found_in (ByDigests meaning key barrier all others asked d c offer b) c.lacks) d.flag agrees.flag (λ e. e) a
+    agree_by meaning key barrier all others asked y d c offer b agrees (found_unless_wanting (ByDigests meaning key barrier all others asked d c offer b) c.lacks) d.flag agrees.flag (λ e. e) a
 
 -- the same, by the moves of the call by lists
 pub opt_calls_agree_by_lists : (meaning : Meaning) (key barrier : List ℕ) (all others : List (List ℕ)) (asked : List Batch) (y : History) (d : Digests) (c : Course) (offer : List ℕ) (b : Batch)
@@ -487,4 +487,4 @@ pub opt_calls_agree_by_lists : (meaning : Meaning) (key barrier : List ℕ) (all
     → IsSameCall all others asked (opt meaning key barrier) (called (opt meaning key barrier) (by_lists (opt meaning key barrier)) y c offer b)
     (called (opt meaning key barrier) (by_digests (opt meaning key barrier)) d c offer b)
 opt_calls_agree_by_lists meaning key barrier all others asked y d c offer b agrees a =
-    agree_by meaning key barrier all others asked y d c offer b agrees (found_in (Lists meaning key barrier all others asked y c offer b) c.lacks) y.is_open refl (λ e. refl) a
+    agree_by meaning key barrier all others asked y d c offer b agrees (found_unless_wanting (Lists meaning key barrier all others asked y c offer b) c.lacks) y.is_open refl (λ e. refl) a

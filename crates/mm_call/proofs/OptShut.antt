@@ -19,7 +19,7 @@ use Rattle.mm_seal.specs.Parts.{parts_of}
 use Rattle.mm_model.proofs.Moves.{sound_moved}
 use Rattle.mm_model.proofs.MovedDigests.{outside_moved}
 use Rattle.mm_call.specs.Levels.{Level, by_lists, by_digests, all_made, Agrees}
-use Rattle.mm_call.specs.Found.{Found, found_from, found_at}
+use Rattle.mm_call.specs.Found.{Found, found_by_verdict, found_at}
 use Rattle.mm_call.specs.Asked.{counted_part, IsWithin}
 use Rattle.mm_call.proofs.OptMessages.{listing_of, listed_of}
 use Rattle.mm_call.proofs.OptHolding.{Holds, opt_agrees_moved, foreign_may}
@@ -56,7 +56,7 @@ found_alive i y life b offer =
       verdict = λ z offered c. judged life (nat_eq offered.position (total_of y.batches))
           (nat_eq (offered.position + size_of c) (total_of y.batches) && is_last y.batches c);
     } in
-    if is_lost life then Err refusal.Lost else found_from i level y b (parts_of i.variant i.meaning.id offer)
+    if is_lost life then Err refusal.Lost else found_by_verdict i level y b (parts_of i.variant i.meaning.id offer)
 
 pub found_lists : (meaning : Meaning) (key barrier : List ℕ) (y : History) (items : List Entry) (b : Batch) (offer : List ℕ) → y.is_open ≡ false
     → found_at (opt meaning key barrier) (by_lists (opt meaning key barrier)) (record y { items = items }) b offer

@@ -8,19 +8,19 @@ use Rattle.mm_base.specs.Faults.{counted}
 use Rattle.mm_platform.specs.declared.fault.StepFault.{StepFault}
 use Rattle.mm_platform.specs.Standing.{Plan, Standing, plan_after, due}
 use Rattle.mm_platform.specs.Steps.{Act, Goes, will_answer, will_be_made, will_bring, fault_at, is_made_at}
-use Rattle.mm_platform.specs.Told.{plan_of}
+use Rattle.mm_platform.specs.Told.{next_plan}
 use Rattle.mm_platform.proofs.Stepping.{known_plan}
 use Rattle.mm_model.specs.Instance.{Instance}
 use Rattle.mm_model.specs.Moves.{Digests}
 use Rattle.mm_model.specs.Steps.{Step}
 use Rattle.mm_call.specs.Levels.{all_made, by_digests}
 use Rattle.mm_call.specs.Courses.{Fate, step_moves, end_of, planned, AreTold}
-use Rattle.mm_call.specs.Trails.{Makes, Stepped, Trail}
+use Rattle.mm_call.specs.Trails.{MakesStep, Stepped, Trail}
 
 -- Trails
 
 -- a device step as a step of a walk, with no room made behind it
-pub stepped : (i : Instance) (d : Digests) (act : Act) (step : Step) (old new : Standing) (fault : Option StepFault) → (g : Goes act old new fault) → Makes i d act step → Stepped i d (record { brings = g.others; ends = end_of fault g.is_made }) step old new fault
+pub stepped : (i : Instance) (d : Digests) (act : Act) (step : Step) (old new : Standing) (fault : Option StepFault) → (g : Goes act old new fault) → MakesStep i d act step → Stepped i d (record { brings = g.others; ends = end_of fault g.is_made }) step old new fault
 stepped i d act step old new fault g makes = record {
   act = act;
   after = new;
@@ -65,7 +65,7 @@ met_told [] k plan n a = refl
 met_told (fate ∷ fates) k plan n a = chosen (n == k) fate (met fates (k + 1) plan n) n k plan (eq_tells n k) a.0 (met_told fates (k + 1) plan n a.1)
 
 -- the plan that a platform tells is the one that its course takes
-pub told_by : (old : Standing) (fates : List Fate) → ((plan : Plan) → old.is_on ≡ true → old.plan ≡ Some plan → plan.at ≡ 0 → AreMet fates 1 plan) → AreTold old (met fates 1 (plan_of old))
+pub told_by : (old : Standing) (fates : List Fate) → ((plan : Plan) → old.is_on ≡ true → old.plan ≡ Some plan → plan.at ≡ 0 → AreMet fates 1 plan) → AreTold old (met fates 1 (next_plan old))
 told_by old fates h = λ (plan : Plan) (on : old.is_on ≡ true) (known : old.plan ≡ Some plan) (at : plan.at ≡ 0) (n : ℕ).
     ap (λ (p : Plan). met fates 1 p n) (known_plan old plan known) ∙ met_told fates 1 plan n (h plan on known at)
 

@@ -4,7 +4,7 @@ use Rattle.std.specs.Prelude.{if◌then◌else◌}
 use Rattle.std.proofs.lemmas.List.{append-nil, map-append}
 use Rattle.mm_digest.specs.declared.variant.Variant.TheVariants.{Opt}
 use Rattle.mm_digest.specs.Messages.{zero_bytes, extended_message}
-use Rattle.mm_platform.specs.Standing.{Item, own_item, foreign_item, values_of}
+use Rattle.mm_platform.specs.Standing.{Item, own_item, foreign_item, item_values}
 use Rattle.mm_module.specs.Meaning.{Meaning}
 use Rattle.mm_module.specs.Batch.{Batch}
 use Rattle.mm_model.specs.Chains.{after, trail, guard, register_of}
@@ -17,21 +17,21 @@ use Rattle.mm_model.proofs.Chains.{after-append, trail-append}
 use Rattle.mm_model.proofs.Histories.{values_of-append}
 use Rattle.mm_model.proofs.MovedDigests.{values_renamed}
 use Rattle.mm_call.specs.Levels.{by_lists, by_digests, all_made}
-use Rattle.mm_call.specs.Found.{found_at, found_in, is_fresh}
+use Rattle.mm_call.specs.Found.{found_at, found_unless_wanting, is_fresh}
 use Rattle.mm_call.specs.Courses.{End, Done, Fails, Fate, Walked, after_step, walk}
 use Rattle.mm_call.specs.Called.{seen_at}
 use Rattle.mm_call.specs.Standing.{shown, shown_by}
 use Rattle.mm_call.specs.Asked.{counted_moves, from_reset, moves_messages, foreign_in}
-use Rattle.mm_call.specs.Tied.{foreign_of, standing_items, Tied, shows, nothing, OptTied}
+use Rattle.mm_call.specs.Tied.{foreign_items, standing_items, Tied, shows, nothing, OptTied}
 use Rattle.mm_call.proofs.Trails.{all_made-append}
 use Rattle.mm_call.proofs.Walks.{made-append, foreign_in-append, from_reset-foreign, messages-made, changing, asks, finished}
 use Rattle.mm_call.proofs.OptShapes.{Shape, still, reset, shape, opening}
 use Rattle.mm_call.proofs.OptShut.{bare, bare_digests}
 use Rattle.mm_call.proofs.OptLaw.{reset_messages}
 
-foreign_of-append : (xs ys : List Item) → foreign_of (xs ++ ys) ≡ foreign_of xs ++ foreign_of ys
+foreign_of-append : (xs ys : List Item) → foreign_items (xs ++ ys) ≡ foreign_items xs ++ foreign_items ys
 foreign_of-append [] ys = refl
-foreign_of-append (x ∷ xs) ys = item_then x.own x.value (foreign_of xs) (foreign_of ys) (foreign_of (xs ++ ys)) (foreign_of-append xs ys) where
+foreign_of-append (x ∷ xs) ys = item_then x.own x.value (foreign_items xs) (foreign_items ys) (foreign_items (xs ++ ys)) (foreign_of-append xs ys) where
   item_then : (own : Bool) (v : List ℕ) (a b c : List (List ℕ)) → c ≡ a ++ b → (if own then c else v ∷ c) ≡ (if own then a else v ∷ a) ++ b
   item_then true v a b c e = e
   item_then false v a b c e = ap (λ w. v ∷ w) e
@@ -43,10 +43,10 @@ shown-append i d (m ∷ xs) ys items = shown-append i (made i d m) xs ys (shown_
 -- Moves push these items into the register: they are shown behind what was there, and their messages are hashed one after
 -- another from the register's value on.
 record Pushes (i : Instance) (y : History) (d : Digests) (moves : List Move) (more : List Item) : Type 0 where
-  messages : moves_messages i y moves ≡ trail extended_message (register_value_of i y) (values_of more)
-  values : foreign_in moves ≡ foreign_of more
+  messages : moves_messages i y moves ≡ trail extended_message (register_value_of i y) (item_values more)
+  values : foreign_in moves ≡ foreign_items more
   shown_are : (items : List Item) → shown i d moves items ≡ items ++ more
-  register : register_value_of i (all_made (by_lists i) y moves) ≡ after extended_message (register_value_of i y) (values_of more)
+  register : register_value_of i (all_made (by_lists i) y moves) ≡ after extended_message (register_value_of i y) (item_values more)
   flag : (all_made (by_digests i) d moves).flag ≡ (all_made (by_lists i) y moves).is_open
 
 pushes_none : (i : Instance) (y : History) (d : Digests) → d.flag ≡ y.is_open → Pushes i y d [] []
@@ -57,16 +57,16 @@ pushes_then : (i : Instance) (y : History) (d : Digests) (xs ys : List Move) (mo
 pushes_then i y d xs ys more later p q =
     let r : List ℕ = register_value_of i y in
     let z : History = all_made (by_lists i) y xs in
-    let split : values_of (more ++ later) ≡ values_of more ++ values_of later = map-append (λ (item : Item). item.value) more later in
+    let split : item_values (more ++ later) ≡ item_values more ++ item_values later = map-append (λ (item : Item). item.value) more later in
     let lists : all_made (by_lists i) y (xs ++ ys) ≡ all_made (by_lists i) z ys = made-append (by_lists i) xs ys y in
     record {
       messages = messages-made i xs ys y ∙ ap (λ v. v ++ moves_messages i z ys) p.messages
-          ∙ ap (λ v. trail extended_message r (values_of more) ++ v) (q.messages ∙ ap (λ s. trail extended_message s (values_of later)) p.register)
-          ∙ sym (trail-append extended_message r (values_of more) (values_of later)) ∙ ap (trail extended_message r) (sym split);
-      values = foreign_in-append xs ys ∙ ap (λ v. v ++ foreign_in ys) p.values ∙ ap (λ v. foreign_of more ++ v) q.values ∙ sym (foreign_of-append more later);
+          ∙ ap (λ v. trail extended_message r (item_values more) ++ v) (q.messages ∙ ap (λ s. trail extended_message s (item_values later)) p.register)
+          ∙ sym (trail-append extended_message r (item_values more) (item_values later)) ∙ ap (trail extended_message r) (sym split);
+      values = foreign_in-append xs ys ∙ ap (λ v. v ++ foreign_in ys) p.values ∙ ap (λ v. foreign_items more ++ v) q.values ∙ sym (foreign_of-append more later);
       shown_are = λ items. shown-append i d xs ys items ∙ q.shown_are (shown i d xs items) ∙ ap (λ v. v ++ later) (p.shown_are items) ∙ append_assoc items more later;
-      register = ap (register_value_of i) lists ∙ q.register ∙ ap (λ s. after extended_message s (values_of later)) p.register
-          ∙ sym (after-append extended_message r (values_of more) (values_of later)) ∙ ap (after extended_message r) (sym split);
+      register = ap (register_value_of i) lists ∙ q.register ∙ ap (λ s. after extended_message s (item_values later)) p.register
+          ∙ sym (after-append extended_message r (item_values more) (item_values later)) ∙ ap (after extended_message r) (sym split);
       flag = ap (λ (x : Digests). x.flag) (all_made-append i d xs ys) ∙ q.flag ∙ ap (λ (x : History). x.is_open) (sym lists);
     }
 
@@ -257,7 +257,7 @@ module _ (meaning : Meaning) (key barrier : List ℕ) where
   inside_tied y d moves e p =
       let i = opt meaning key barrier in
       let M : Bool → List (List ℕ) = λ g. moves_messages i (record y { items = if g then y.items else [] }) (counted_moves g moves) in
-      let T : Bool → List (List ℕ) = λ g. trail extended_message (register_value_of i (record y { items = if g then y.items else [] })) (values_of p.more) in
+      let T : Bool → List (List ℕ) = λ g. trail extended_message (register_value_of i (record y { items = if g then y.items else [] })) (item_values p.more) in
       shows p.more
       (record {
         messages = ap M e ∙ p.pushes.messages ∙ ap T (sym e);
@@ -276,7 +276,7 @@ module _ (meaning : Meaning) (key barrier : List ℕ) where
       let moves : List Move = map Foreign values ++ Reset ∷ rest in
       let begins : from_reset moves ≡ Reset ∷ rest = from_reset-foreign values (Reset ∷ rest) in
       let M : Bool → List (List ℕ) = λ g. moves_messages i (record y { items = if g then y.items else [] }) (counted_moves g moves) in
-      let T : Bool → List (List ℕ) = λ g. trail extended_message (register_value_of i (record y { items = if g then y.items else [] })) (values_of p.more) in
+      let T : Bool → List (List ℕ) = λ g. trail extended_message (register_value_of i (record y { items = if g then y.items else [] })) (item_values p.more) in
       let quiet : move_messages i (bare y) Reset ≡ [] = reset_messages meaning key barrier (bare y) y.is_open in
       shows p.more
       (record {
@@ -311,7 +311,7 @@ module _ (meaning : Meaning) (key barrier : List ℕ) where
 pub opt_tied : OptTied
 opt_tied meaning key barrier y d c offer b f =
     let i = opt meaning key barrier in
-    let fresh : Bool = is_fresh (found_in (found_at i (by_digests i) (seen_at i (by_digests i) d c) b offer) c.lacks) in
+    let fresh : Bool = is_fresh (found_unless_wanting (found_at i (by_digests i) (seen_at i (by_digests i) d c) b offer) c.lacks) in
     subst (λ s. Tied i y d (walk c.fates 1 s).moves)
     (sym (asks d.flag fresh b ∙ ap (λ g. Reads ∷ Reads ∷ changing g fresh b) f))
     (tied_by meaning key barrier y.is_open y d c.fates fresh b refl f)

@@ -9,7 +9,7 @@ use Rattle.mm_digest.specs.Messages.{zero_bytes, extended_of}
 use Rattle.mm_digest.specs.declared.variant.Variant.{Variant}
 use Rattle.mm_digest.specs.declared.variant.Variant.TheVariants.{Basic, Opt}
 use Rattle.mm_platform.specs.declared.fault.StepFault.{StepFault}
-use Rattle.mm_platform.specs.Standing.{Item, Standing, own_item, foreign_item, values_of, register_of}
+use Rattle.mm_platform.specs.Standing.{Item, Standing, own_item, foreign_item, item_values, register_after}
 use Rattle.mm_platform.specs.Steps.{Act, ReadCell, WriteCell, ReadRegister, ResetRegister, ExtendRegister, beside, cell_after, items_after, writes_after}
 use Rattle.mm_seal.specs.declared.cell.Cell.{Cell}
 use Rattle.mm_seal.specs.Cell.{IsCell, cell_spelling}
@@ -20,32 +20,32 @@ use Rattle.mm_model.specs.Steps.{Step, Reads, Changes, Writes}
 use Rattle.mm_call.specs.Levels.{all_made, by_digests}
 use Rattle.mm_call.specs.Courses.{End, Done, Fails, Fate, Walked, walk, after_step, step_moves, writes_then}
 use Rattle.mm_call.specs.Standing.{cell_at, RegisterAt, StandsAt, shown_by, shown, counted_by}
-use Rattle.mm_call.specs.Trails.{register_by, items_by, IsChange, IsWrite, Makes, Stepped, Rest, Trail, Leads, TrailsLead}
+use Rattle.mm_call.specs.Trails.{register_by, items_by, IsChange, IsWrite, MakesStep, Stepped, Rest, Trail, Leads, TrailsLead}
 
 -- the register's value, where its items are told
 abbrev pub reads_of : Option (List Item) → Option (List ℕ)
-reads_of items = option_map (λ xs. register_of (values_of xs)) items
+reads_of items = option_map (λ xs. register_after (item_values xs)) items
 
 -- where the register is read, its value goes on
 reads_then : (variant : Variant) (before now : Option (List ℕ)) (r s : List ℕ) → (before ≡ Some r → now ≡ Some s) → RegisterAt variant before r → RegisterAt variant now s
 reads_then Basic before now r s h e = tt
 reads_then Opt before now r s h e = h e
 
-foreign_values : (values : List (List ℕ)) → values_of (map foreign_item values) ≡ values
+foreign_values : (values : List (List ℕ)) → item_values (map foreign_item values) ≡ values
 foreign_values [] = refl
 foreign_values (v ∷ values) = ap (λ (vs : List (List ℕ)). v ∷ vs) (foreign_values values)
 
-read_more : (xs more : List Item) → register_of (values_of (xs ++ more)) ≡ fold extended_of (register_of (values_of xs)) (values_of more)
+read_more : (xs more : List Item) → register_after (item_values (xs ++ more)) ≡ fold extended_of (register_after (item_values xs)) (item_values more)
 read_more xs more =
-    ap (λ (vs : List (List ℕ)). register_of vs) (map-append (λ (item : Item). item.value) xs more)
-    ∙ fold-append extended_of zero_bytes (values_of xs) (values_of more)
+    ap (λ (vs : List (List ℕ)). register_after vs) (map-append (λ (item : Item). item.value) xs more)
+    ∙ fold-append extended_of zero_bytes (item_values xs) (item_values more)
 
 pub reads_beside : (items : Option (List Item)) (values : List (List ℕ)) (r : List ℕ) → reads_of items ≡ Some r → reads_of (beside values items) ≡ Some (fold extended_of r values)
 reads_beside None values r e = cc
 reads_beside (Some xs) values r e =
-    let f : register_of (values_of xs) ≡ r = cc in
+    let f : register_after (item_values xs) ≡ r = cc in
     ap (λ (v : List ℕ). Some v) (read_more xs (map foreign_item values)
-    ∙ ap (λ (vs : List (List ℕ)). fold extended_of (register_of (values_of xs)) vs) (foreign_values values)
+    ∙ ap (λ (vs : List (List ℕ)). fold extended_of (register_after (item_values xs)) vs) (foreign_values values)
     ∙ ap (λ (s : List ℕ). fold extended_of s values) f)
 
 reads_after : (act : Act) (items : Option (List Item)) (r : List ℕ) → reads_of items ≡ Some r → reads_of (items_after act true items) ≡ Some (register_by act r)
@@ -53,7 +53,7 @@ reads_after ResetRegister None r e = cc
 reads_after ResetRegister (Some xs) r e = refl
 reads_after (ExtendRegister value) None r e = cc
 reads_after (ExtendRegister value) (Some xs) r e =
-    let f : register_of (values_of xs) ≡ r = cc in
+    let f : register_after (item_values xs) ≡ r = cc in
     ap (λ (x : List ℕ). Some x) (read_more xs (own_item value ∷ []) ∙ ap (λ (s : List ℕ). extended_of s value) f)
 reads_after ReadCell items r e = e
 reads_after (WriteCell bytes) items r e = e
@@ -173,7 +173,7 @@ written i d bytes m values old new s w cell items =
     (items ∙ write_shown i d bytes m values old.items w)
 
 -- what a step leaves, by whether its effect was made
-step_leads : (act : Act) (step : Step) (is_made : Bool) (i : Instance) (d : Digests) (values : List (List ℕ)) (old new : Standing) → StandsAt i old d → Makes i d act step → new.cell ≡ cell_after act is_made old.cell → new.items ≡ items_after act is_made (beside values old.items) → StepLeads i d (step_moves step is_made values) old new
+step_leads : (act : Act) (step : Step) (is_made : Bool) (i : Instance) (d : Digests) (values : List (List ℕ)) (old new : Standing) → StandsAt i old d → MakesStep i d act step → new.cell ≡ cell_after act is_made old.cell → new.items ≡ items_after act is_made (beside values old.items) → StepLeads i d (step_moves step is_made values) old new
 step_leads ReadCell Reads is_made i d values old new s m cell items = brought i d values old new s cell items
 step_leads ReadRegister Reads is_made i d values old new s m cell items = brought i d values old new s cell items
 step_leads ResetRegister (Changes m) true i d values old new s c cell items = changed i d ResetRegister m values old new s c cell items
@@ -196,7 +196,7 @@ step_leads (WriteCell bytes) Reads is_made i d values old new s x cell items = a
 step_leads (WriteCell bytes) (Changes m) is_made i d values old new s x cell items = absurd x
 
 -- the count of writes
-act_writes : (act : Act) (step : Step) (i : Instance) (d : Digests) (count rest : ℕ) → Makes i d act step → counted_by rest (writes_after act count) ≡ counted_by (writes_then step rest) count
+act_writes : (act : Act) (step : Step) (i : Instance) (d : Digests) (count rest : ℕ) → MakesStep i d act step → counted_by rest (writes_after act count) ≡ counted_by (writes_then step rest) count
 act_writes ReadCell Reads i d count rest m = refl
 act_writes ReadRegister Reads i d count rest m = refl
 act_writes ResetRegister (Changes m) i d count rest c = refl

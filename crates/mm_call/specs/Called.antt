@@ -11,7 +11,7 @@ use Rattle.mm_model.specs.declared.answer.BatchAnswer.{BatchAnswer}
 use Rattle.mm_model.specs.declared.refusal.Refusal.{Refusal}
 use Rattle.mm_model.specs.declared.refusal.Refusal.TheVariants.{Device}
 use Rattle.mm_call.specs.Levels.{Level, all_made}
-use Rattle.mm_call.specs.Found.{Found, found_at, found_in, is_fresh}
+use Rattle.mm_call.specs.Found.{Found, found_at, found_unless_wanting, is_fresh}
 use Rattle.mm_call.specs.Courses.{Course, Walked, walk, seen_in, commits}
 
 -- answered, refused, or broken off by a fault: then with the position after the batch, if that was committed
@@ -73,10 +73,10 @@ seen_at i level s c = all_made level s (seen_in c.fates (reading_steps i.variant
 abbrev pub called : {S : Type 0} → Instance → Level S → S → Course → List ℕ → Batch → Called S
 called i level s c bytes b =
     let seen = seen_at i level s c in
-    called_with i level s seen c b (found_in (found_at i level seen b bytes) c.lacks)
+    called_with i level s seen c b (found_unless_wanting (found_at i level seen b bytes) c.lacks)
 
 -- what a core gives for an ending: a device's fault is handed on
-abbrev pub told : Ending → Result BatchAnswer Refusal
-told (Answers answer) = Ok answer
-told (Refuses why) = Err why
-told (Breaks fault kept) = Err (Device fault)
+abbrev pub given_for : Ending → Result BatchAnswer Refusal
+given_for (Answers answer) = Ok answer
+given_for (Refuses why) = Err why
+given_for (Breaks fault kept) = Err (Device fault)

@@ -13,7 +13,7 @@ use Rattle.mm_model.specs.declared.answer.BatchAnswer.{BatchAnswer}
 use Rattle.mm_model.specs.declared.refusal.Refusal.{Refusal}
 use Rattle.mm_call.specs.Levels.{by_lists, by_digests}
 use Rattle.mm_call.specs.Courses.{Course, AreTold}
-use Rattle.mm_call.specs.Called.{Called, called, told}
+use Rattle.mm_call.specs.Called.{Called, called, given_for}
 use Rattle.mm_call.specs.Standing.{instance_by, StandsAt, shown, counted_by}
 use Rattle.mm_call.specs.Asked.{IsWithin, IsAsked}
 
@@ -21,16 +21,16 @@ use Rattle.mm_call.specs.Asked.{IsWithin, IsAsked}
 -- register shows of its moves; and its steps, and those of them that write the cell.
 pub record GoesBy (i : Instance) (d : Digests) (o : Called Digests) (old new : Standing)
     (result : Result BatchAnswer Refusal) : Type 0 where
-  pub gives : result ≡ told o.ending
+  pub gives : result ≡ given_for o.ending
   pub stands : StandsAt i new o.state
   pub items : new.items ≡ option_map (shown i d o.moves) old.items
   pub steps : new.steps ≡ counted_by o.steps old.steps
   pub writes : new.writes ≡ counted_by o.writes old.writes
 
 -- The call over a platform that stood for a history was this one, and what was asked of the history holds after it.
-pub record Continues (all others : List (List ℕ)) (asked : List Batch) (i : Instance) (o : Called History) (new : Standing)
+pub record CallContinues (all others : List (List ℕ)) (asked : List Batch) (i : Instance) (o : Called History) (new : Standing)
     (result : Result BatchAnswer Refusal) : Type 0 where
-  pub gives : result ≡ told o.ending
+  pub gives : result ≡ given_for o.ending
   pub stands : StandsFor i new o.state
   pub within : IsWithin all others asked i o.state
 
@@ -51,6 +51,6 @@ pub record CallsOn (variant : Variant) (meaning : Meaning) (old new : Standing) 
       IsAsked all others asked (instance_by variant meaning key barrier) y
       (called (instance_by variant meaning key barrier) (by_digests (instance_by variant meaning key barrier))
       (digests_of (instance_by variant meaning key barrier) y) course offer (normal b)).moves offer (normal b) →
-      Continues all others asked (instance_by variant meaning key barrier)
+      CallContinues all others asked (instance_by variant meaning key barrier)
       (called (instance_by variant meaning key barrier) (by_lists (instance_by variant meaning key barrier)) y course offer (normal b))
       new result

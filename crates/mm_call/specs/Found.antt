@@ -22,22 +22,22 @@ found_with offered (Ok again) = Ok (record { offered = offered; again = again })
 found_with offered (Err why) = Err why
 
 -- the offer is read, and examined by the verdict on it
-abbrev pub found_from : {S : Type 0} → Instance → Level S → S → Batch → Result Snapshot PartsFault → Result Found Refusal
-found_from i level seen b (Ok snapshot) =
+abbrev pub found_by_verdict : {S : Type 0} → Instance → Level S → S → Batch → Result Snapshot PartsFault → Result Found Refusal
+found_by_verdict i level seen b (Ok snapshot) =
     found_with snapshot.content (examined i.meaning i.key snapshot b (level.verdict seen snapshot.content b))
-found_from i level seen b (Err Form) = Err refusal.Form
-found_from i level seen b (Err Kind) = Err refusal.Kind
+found_by_verdict i level seen b (Err Form) = Err refusal.Form
+found_by_verdict i level seen b (Err Kind) = Err refusal.Kind
 
 -- what a call finds at this state: power was lost, or the offer is refused or accepted
 abbrev pub found_at : {S : Type 0} → Instance → Level S → S → Batch → List ℕ → Result Found Refusal
 found_at i level seen b bytes =
-    if level.is_lost seen then Err refusal.Lost else found_from i level seen b (parts_of i.variant i.meaning.id bytes)
+    if level.is_lost seen then Err refusal.Lost else found_by_verdict i level seen b (parts_of i.variant i.meaning.id bytes)
 
 -- memory may be wanting when the batch is run
-abbrev pub found_in : Result Found Refusal → Bool → Result Found Refusal
-found_in (Err why) lacks = Err why
-found_in (Ok found) false = Ok found
-found_in (Ok found) true = Err refusal.Memory
+abbrev pub found_unless_wanting : Result Found Refusal → Bool → Result Found Refusal
+found_unless_wanting (Err why) lacks = Err why
+found_unless_wanting (Ok found) false = Ok found
+found_unless_wanting (Ok found) true = Err refusal.Memory
 
 -- the batch is a new one
 abbrev pub is_fresh : Result Found Refusal → Bool

@@ -1,7 +1,7 @@
 -- What counts of the moves of a call of Opt is what the register shows of them.
 use Rattle.std.specs.Prelude.{◌≡◌, ℕ, Bool, true, false, List, [], ◌∷◌, ◌++◌, if◌then◌else◌}
 use Rattle.mm_digest.specs.Messages.{extended_message}
-use Rattle.mm_platform.specs.Standing.{Item, values_of}
+use Rattle.mm_platform.specs.Standing.{Item, item_values}
 use Rattle.mm_module.specs.Meaning.{Meaning}
 use Rattle.mm_module.specs.Batch.{Batch}
 use Rattle.mm_model.specs.Chains.{trail}
@@ -15,9 +15,9 @@ use Rattle.mm_call.specs.Standing.{shown}
 use Rattle.mm_call.specs.Asked.{counted_part, counted_moves, moves_messages, foreign_in}
 
 -- the values of the items that aren't the platform's own
-abbrev pub foreign_of : List Item → List (List ℕ)
-foreign_of [] = []
-foreign_of (item ∷ items) = if item.own then foreign_of items else item.value ∷ foreign_of items
+abbrev pub foreign_items : List Item → List (List ℕ)
+foreign_items [] = []
+foreign_items (item ∷ items) = if item.own then foreign_items items else item.value ∷ foreign_items items
 
 -- the items that count when a call begins: by whether a segment is open
 abbrev pub standing_items : Bool → List Item → List Item
@@ -28,8 +28,8 @@ standing_items false items = []
 -- their values of others.
 pub record IsTied (i : Instance) (y : History) (moves : List Move) (more : List Item) : Type 0 where
   pub messages : moves_messages i (counted_part y) (counted_moves y.is_open moves)
-      ≡ trail extended_message (register_value_of i (counted_part y)) (values_of more)
-  pub values : foreign_in (counted_moves y.is_open moves) ≡ foreign_of more
+      ≡ trail extended_message (register_value_of i (counted_part y)) (item_values more)
+  pub values : foreign_in (counted_moves y.is_open moves) ≡ foreign_items more
 
 -- The register shows these items more behind those that counted; or nothing counts.
 pub data Tied (i : Instance) (y : History) (d : Digests) (moves : List Move) : Type 0 where

@@ -44,29 +44,29 @@ pub record IsWrite (i : Instance) (d : Digests) (bytes : List ℕ) (m : Move) : 
   pub shows : (items : List Item) → shown_by i.variant d.flag i m items ≡ items
 
 -- The device step makes this step of a walk, from these digests.
-abbrev pub Makes : Instance → Digests → Act → Step → Type 0
-Makes i d ReadCell Reads = Unit {0}
-Makes i d ReadRegister Reads = Unit {0}
-Makes i d ResetRegister (Changes m) = IsChange i d ResetRegister m
-Makes i d (ExtendRegister value) (Changes m) = IsChange i d (ExtendRegister value) m
-Makes i d (WriteCell bytes) (Writes m) = IsWrite i d bytes m
-Makes i d ReadCell (Changes m) = ⊥
-Makes i d ReadCell (Writes m) = ⊥
-Makes i d ReadRegister (Changes m) = ⊥
-Makes i d ReadRegister (Writes m) = ⊥
-Makes i d ResetRegister Reads = ⊥
-Makes i d ResetRegister (Writes m) = ⊥
-Makes i d (ExtendRegister value) Reads = ⊥
-Makes i d (ExtendRegister value) (Writes m) = ⊥
-Makes i d (WriteCell bytes) Reads = ⊥
-Makes i d (WriteCell bytes) (Changes m) = ⊥
+abbrev pub MakesStep : Instance → Digests → Act → Step → Type 0
+MakesStep i d ReadCell Reads = Unit {0}
+MakesStep i d ReadRegister Reads = Unit {0}
+MakesStep i d ResetRegister (Changes m) = IsChange i d ResetRegister m
+MakesStep i d (ExtendRegister value) (Changes m) = IsChange i d (ExtendRegister value) m
+MakesStep i d (WriteCell bytes) (Writes m) = IsWrite i d bytes m
+MakesStep i d ReadCell (Changes m) = ⊥
+MakesStep i d ReadCell (Writes m) = ⊥
+MakesStep i d ReadRegister (Changes m) = ⊥
+MakesStep i d ReadRegister (Writes m) = ⊥
+MakesStep i d ResetRegister Reads = ⊥
+MakesStep i d ResetRegister (Writes m) = ⊥
+MakesStep i d (ExtendRegister value) Reads = ⊥
+MakesStep i d (ExtendRegister value) (Writes m) = ⊥
+MakesStep i d (WriteCell bytes) Reads = ⊥
+MakesStep i d (WriteCell bytes) (Changes m) = ⊥
 
 -- A device step was made that makes this step of a walk. Its fate is read off it, and room may have been made after it.
 pub record Stepped (i : Instance) (d : Digests) (fate : Fate) (step : Step) (old new : Standing) (fault : Option StepFault) : Type 0 where
   pub act : Act
   pub after : Standing
   pub goes : Goes act old after fault
-  pub makes : Makes i d act step
+  pub makes : MakesStep i d act step
   pub brings : fate.brings ≡ goes.others
   pub ends : fate.ends ≡ end_of fault goes.is_made
   pub room : new ≡ record after { spare = new.spare }

@@ -18,7 +18,7 @@ use Rattle.mm_model.specs.declared.refusal.Refusal.TheVariants.{Device, Long}
 use Rattle.mm_call.specs.Called.{called, seen_at}
 use Rattle.mm_call.specs.CallsOn.{CallsOn}
 use Rattle.mm_call.specs.Courses.{End, Done, Fails as FailsAs, Fate, Walked, after_step, walk}
-use Rattle.mm_call.specs.Found.{Found, found_at, found_in, is_fresh}
+use Rattle.mm_call.specs.Found.{Found, found_at, found_unless_wanting, is_fresh}
 use Rattle.mm_call.specs.Leaving.{Blames, whole, whole_in}
 use Rattle.mm_call.specs.Levels.{by_lists, all_made}
 use Rattle.mm_call.specs.Refusals.{fault_of, fault_in}
@@ -56,7 +56,7 @@ fell_short meaning key all others asked y old new offer request why short c s a 
     let k = c.continues key key y all others asked s (is_asked meaning key all others asked y c.course offer b a) in
     let o = called i (by_lists i) y c.course offer b in
     let seen : History = seen_at i (by_lists i) y c.course in
-    let found : Result Found Refusal = found_in (found_at i (by_lists i) seen b offer) c.course.lacks in
+    let found : Result Found Refusal = found_unless_wanting (found_at i (by_lists i) seen b offer) c.course.lacks in
     let w : Walked = walk c.course.fates 1 (ask_steps Basic y.is_open (is_fresh found) b) in
     let how : Fails why found w.broken = fails w.broken i seen o.state b found w.moves why k.gives in
     let still : w.broken ≡ None → is_fresh found ≡ false → w.moves ≡ map Foreign (c.course.fates 1).brings ++ [] = λ whole fresh.

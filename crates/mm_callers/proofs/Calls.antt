@@ -25,9 +25,9 @@ use Rattle.mm_model.specs.declared.refusal.Refusal.{Refusal}
 use Rattle.mm_call.specs.Answers.{answer_on}
 use Rattle.mm_call.specs.Order.{examined}
 use Rattle.mm_call.specs.Levels.{by_lists, by_digests, all_made}
-use Rattle.mm_call.specs.Found.{Found, found_at, found_from, found_in, is_fresh}
+use Rattle.mm_call.specs.Found.{Found, found_at, found_by_verdict, found_unless_wanting, is_fresh}
 use Rattle.mm_call.specs.Courses.{End, Done, Fails, Fate, Course, Walked, after_step, step_moves, walk}
-use Rattle.mm_call.specs.Called.{called, ended_by, told}
+use Rattle.mm_call.specs.Called.{called, ended_by, given_for}
 use Rattle.mm_call.specs.Asked.{from_reset, counted_part, counted_moves, moves_messages, foreign_in, IsAsked}
 use Rattle.mm_call.proofs.BasicLaw.{AreBasic, basic-append, basic-foreign, unlacked}
 use Rattle.mm_call.proofs.Endings.{again_of, fresh_of}
@@ -100,7 +100,7 @@ pub one_content : (i : Instance) (offer : List ℕ) (x y : Content) → IsRight 
 one_content i offer x y a b = sealed_once i.key i.key x y a.formed b.formed (sym a.sealed ∙ b.sealed)
 
 -- what is found was rightly offered
-right_from : (meaning : Meaning) (key : List ℕ) (y : History) (b : Batch) (offer : List ℕ) (parts : Result Snapshot PartsFault) → parts_of Basic meaning.id offer ≡ parts → (found : Found) → found_from (basic meaning key) (by_lists (basic meaning key)) y b parts ≡ Ok found → IsRight (basic meaning key) offer found.offered
+right_from : (meaning : Meaning) (key : List ℕ) (y : History) (b : Batch) (offer : List ℕ) (parts : Result Snapshot PartsFault) → parts_of Basic meaning.id offer ≡ parts → (found : Found) → found_by_verdict (basic meaning key) (by_lists (basic meaning key)) y b parts ≡ Ok found → IsRight (basic meaning key) offer found.offered
 right_from meaning key y b offer (Err Form) e found is = absurd (cc)
 right_from meaning key y b offer (Err Kind) e found is = absurd (cc)
 right_from meaning key y b offer (Ok snapshot) e found is =
@@ -129,7 +129,7 @@ pub record Answered (i : Instance) (s : History) (b : Batch) (found : Result Fou
   pub whole : broken ≡ None
   pub answer_is : answer ≡ answer_on i s b it.again
 
-pub answered_only : (broken : Option StepFault) (i : Instance) (seen s : History) (b : Batch) (found : Result Found Refusal) (moves : List Move) (answer : BatchAnswer) → told (ended_by (by_lists i) seen s b found moves broken) ≡ Ok answer → Answered i s b found broken answer
+pub answered_only : (broken : Option StepFault) (i : Instance) (seen s : History) (b : Batch) (found : Result Found Refusal) (moves : List Move) (answer : BatchAnswer) → given_for (ended_by (by_lists i) seen s b found moves broken) ≡ Ok answer → Answered i s b found broken answer
 answered_only (Some fault) i seen s b found moves answer e = absurd (cc)
 answered_only None i seen s b (Err why) moves answer e = absurd (cc)
 answered_only None i seen s b (Ok it) moves answer e =
@@ -150,13 +150,13 @@ pub fresh_again : (found : Result Found Refusal) (it : Found) → found ≡ Ok i
 fresh_again found it is e = fresh_of it.again (subst (λ (f : Result Found Refusal). is_fresh f ≡ true) is e)
 
 comes_by : (meaning : Meaning) (key : List ℕ) (all : List (List ℕ)) (y sees : History) (lacks : Bool) (offer : List ℕ) (b : Batch) (w : Walked) (found : Result Found Refusal) → sees.batches ≡ y.batches → Asking all (basic meaning key) sees offer b
-    → found_in (found_at (basic meaning key) (by_lists (basic meaning key)) sees b offer) lacks ≡ found → Commits b (is_fresh found) w
-    → Comes (basic meaning key) y offer b (all_made (by_lists (basic meaning key)) y w.moves) (told (ended_by (by_lists (basic meaning key)) sees (all_made (by_lists (basic meaning key)) y w.moves) b found w.moves w.broken))
+    → found_unless_wanting (found_at (basic meaning key) (by_lists (basic meaning key)) sees b offer) lacks ≡ found → Commits b (is_fresh found) w
+    → Comes (basic meaning key) y offer b (all_made (by_lists (basic meaning key)) y w.moves) (given_for (ended_by (by_lists (basic meaning key)) sees (all_made (by_lists (basic meaning key)) y w.moves) b found w.moves w.broken))
 comes_by meaning key all y sees lacks offer b w found same asking is (nothing none unless) =
     let i : Instance = basic meaning key in
     let end : History = all_made (by_lists i) y w.moves in
     kept (same_batches i w.moves y none)
-    (λ (answer : BatchAnswer) (gives : told (ended_by (by_lists i) sees end b found w.moves w.broken) ≡ Ok answer).
+    (λ (answer : BatchAnswer) (gives : given_for (ended_by (by_lists i) sees end b found w.moves w.broken) ≡ Ok answer).
     let a = answered_only w.broken i sees end b found w.moves answer gives in
     let again : a.it.again ≡ true = again_found found a.it a.found_is (unless a.whole) in
     let was = unlacked (found_at i (by_lists i) sees b offer) lacks a.it (is ∙ a.found_is) in
@@ -176,19 +176,19 @@ comes_by meaning key all y sees lacks offer b w found same asking is (batch one 
     let p = placed meaning key all sees offer b asking f.0 was in
     grown f.0.offered (right_from meaning key sees b offer (parts_of Basic meaning.id offer) refl f.0 was)
     (p.position ∙ ap total_of (p.fresh f.2 ∙ same)) (more_batches i w.moves y b one)
-    (λ (answer : BatchAnswer) (gives : told (ended_by (by_lists i) sees end b found w.moves w.broken) ≡ Ok answer).
+    (λ (answer : BatchAnswer) (gives : given_for (ended_by (by_lists i) sees end b found w.moves w.broken) ≡ Ok answer).
     let a = answered_only w.broken i sees end b found w.moves answer gives in
     answer_again i end b a.it.again false answer (fresh_again found a.it a.found_is fresh) a.answer_is)
 
 -- what a call comes to by lists
 pub comes : (meaning : Meaning) (key : List ℕ) (all others : List (List ℕ)) (asked : List Batch) (y : History) (c : Course) (offer : List ℕ) (b : Batch) → AreAsked all others asked (basic meaning key) y offer b
-    → Comes (basic meaning key) y offer b (called (basic meaning key) (by_lists (basic meaning key)) y c offer b).state (told (called (basic meaning key) (by_lists (basic meaning key)) y c offer b).ending)
+    → Comes (basic meaning key) y offer b (called (basic meaning key) (by_lists (basic meaning key)) y c offer b).state (given_for (called (basic meaning key) (by_lists (basic meaning key)) y c offer b).ending)
 comes meaning key all others asked y c offer b a =
     let i : Instance = basic meaning key in
     let values : List (List ℕ) = (c.fates 1).brings in
     let sees : History = all_made (by_lists i) y (map Foreign values ++ []) in
     let same : sees.batches ≡ y.batches = same_batches i (map Foreign values ++ []) y (foreign_first values []) in
-    let found : Result Found Refusal = found_in (found_at i (by_lists i) sees b offer) c.lacks in
+    let found : Result Found Refusal = found_unless_wanting (found_at i (by_lists i) sees b offer) c.lacks in
     comes_by meaning key all y sees c.lacks offer b (walk c.fates 1 (ask_steps Basic y.is_open (is_fresh found) b)) found same
     (record { clear = a.clear; listed = a.offered; genuine = λ content right. names_made meaning key (map Foreign values ++ []) y content (a.genuine content right) })
     refl (basic_commits c.fates y.is_open (is_fresh found) b)

@@ -22,7 +22,7 @@ use Rattle.mm_model.specs.declared.verdict.Verdict.{Verdict}
 use Rattle.mm_model.specs.declared.verdict.Verdict.TheVariants.{Fresh, Again}
 use Rattle.mm_call.specs.Order.{admitted, weighed}
 use Rattle.mm_call.specs.Levels.{by_lists, all_made}
-use Rattle.mm_call.specs.Found.{Found, found_with, found_from, found_at, found_in}
+use Rattle.mm_call.specs.Found.{Found, found_with, found_by_verdict, found_at, found_unless_wanting}
 use Rattle.mm_call.specs.Courses.{End, Done, Fails, Fate, Course, Walked, after_step, walk}
 use Rattle.mm_call.specs.Called.{called_with, seen_at, ended_by}
 use Rattle.mm_call.proofs.Endings.{again_of, fresh_of}
@@ -74,8 +74,8 @@ welcome_found i y offer b again w =
     ap (parts_of i.variant i.meaning.id) w.right.sealed ∙ sealed_parts i.key w.content i.variant i.meaning.id w.right.formed w.right.variant w.right.id in
     let spelled : i.meaning.is_spelled w.content.state ≡ true = w.right.state in
     let verdict = verdict_is i.variant y w.content.position b again w.live w.offered in
-    ap (λ (l : Life). if is_lost l then Err refusal.Lost else found_from i (by_lists i) y b (parts_of i.variant i.meaning.id offer)) w.live
-    ∙ ap (found_from i (by_lists i) y b) parts
+    ap (λ (l : Life). if is_lost l then Err refusal.Lost else found_by_verdict i (by_lists i) y b (parts_of i.variant i.meaning.id offer)) w.live
+    ∙ ap (found_by_verdict i (by_lists i) y b) parts
     ∙ ap (found_with w.content) (given (i.meaning.is_spelled w.content.state) (bytes_eq (tag_of i.key w.content) (tag_of i.key w.content))
     (nat_le (w.content.position + size_of b) last_position) again (judge i.variant y w.content.position b) spelled
     ((bytes_eq-Decides (tag_of i.key w.content) (tag_of i.key w.content)).1 refl) (le-leb (w.content.position + size_of b) last_position w.fits) verdict)
@@ -108,11 +108,11 @@ answers_found i y seen c b content again done commits =
     }
 
 pub complete : (i : Instance) (y : History) (c : Course) (offer : List ℕ) (b : Batch) (again : Bool) → IsSmooth c → IsWelcome i (seen_at i (by_lists i) y c) offer b again → ((fresh : Bool) → Commits b fresh (walk c.fates 1 (ask_steps i.variant y.is_open fresh b)))
-    → IsAnswer i y b again (called_with i (by_lists i) y (seen_at i (by_lists i) y c) c b (found_in (found_at i (by_lists i) (seen_at i (by_lists i) y c) b offer) c.lacks))
+    → IsAnswer i y b again (called_with i (by_lists i) y (seen_at i (by_lists i) y c) c b (found_unless_wanting (found_at i (by_lists i) (seen_at i (by_lists i) y c) b offer) c.lacks))
 complete i y c offer b again smooth w commits =
     let seen : History = seen_at i (by_lists i) y c in
-    let found : found_in (found_at i (by_lists i) seen b offer) c.lacks ≡ Ok (accepted w.content again) =
-    ap (λ (x : Result Found Refusal). found_in x c.lacks) (welcome_found i seen offer b again w) ∙ ap (found_in (Ok (accepted w.content again))) smooth.lacks in
+    let found : found_unless_wanting (found_at i (by_lists i) seen b offer) c.lacks ≡ Ok (accepted w.content again) =
+    ap (λ (x : Result Found Refusal). found_unless_wanting x c.lacks) (welcome_found i seen offer b again w) ∙ ap (found_unless_wanting (Ok (accepted w.content again))) smooth.lacks in
     subst (λ (x : Result Found Refusal). IsAnswer i y b again (called_with i (by_lists i) y seen c b x)) (sym found)
     (answers_found i y seen c b w.content again smooth.done commits)
 

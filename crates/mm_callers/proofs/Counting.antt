@@ -16,7 +16,7 @@ use Rattle.mm_call.specs.Leaving.{Blames, whole_in}
 use Rattle.mm_call.specs.Refusals.{fault_in}
 use Rattle.mm_basic.specs.Asks.{Calls as BasicCalls, StepsBy as BasicSteps}
 use Rattle.mm_opt.specs.Asks.{Calls as OptCalls, StepsBy as OptSteps, StepsMade, one_step, two_steps, three_steps, four_steps, five_steps, StepsAnswered, StepsRefused}
-use Rattle.mm_callers.specs.Counts.{StepsOf, StepsFor, Counts, CountsAgain, again}
+use Rattle.mm_callers.specs.Counts.{StepsOf, StepsFor, CountsCall, CountsAgain, again}
 
 -- too long a batch
 record IsTooLong (old new : Standing) (result : Result BatchAnswer Refusal) : Type 0 where
@@ -34,23 +34,23 @@ blames_whole (Ok answer) old new b = b
 blames_whole (Err why) old new b = b
 
 pub basic_counts : (meaning : Meaning) (old new : Standing) (offer request : List ℕ) (result : Result Answer Refusal) → BasicCalls meaning old new offer (One request) (whole_in result)
-    → (is_long (One request) ≡ false → BasicSteps (whole_in result) old new) → Blames (fault_in result) old.faults new.faults → Counts Basic (One request) old new (whole_in result)
+    → (is_long (One request) ≡ false → BasicSteps (whole_in result) old new) → Blames (fault_in result) old.faults new.faults → CountsCall Basic (One request) old new (whole_in result)
 basic_counts meaning old new offer request result calls steps blames = record {
   steps = steps_by (is_long (One request)) Basic old new (whole_in result) (λ e. record { same = (calls.long e).0; gives = (calls.long e).1 }) steps;
   faults = blames_whole result old new blames;
 }
 
 pub opt_counts : (meaning : Meaning) (old new : Standing) (offer request : List ℕ) (result : Result Answer Refusal) → OptCalls meaning old new offer (One request) (whole_in result)
-    → (is_long (One request) ≡ false → OptSteps (whole_in result) old new) → Blames (fault_in result) old.faults new.faults → Counts Opt (One request) old new (whole_in result)
+    → (is_long (One request) ≡ false → OptSteps (whole_in result) old new) → Blames (fault_in result) old.faults new.faults → CountsCall Opt (One request) old new (whole_in result)
 opt_counts meaning old new offer request result calls steps blames = record {
   steps = steps_by (is_long (One request)) Opt old new (whole_in result) (λ e. record { same = (calls.long e).0; gives = (calls.long e).1 }) steps;
   faults = blames_whole result old new blames;
 }
 
 pub counted_again : (variant : Variant) (b : Batch) (old middle new : Standing) (first : Refusal) (fault : StepFault) (result : Result BatchAnswer Refusal) → first ≡ Device fault
-    → Counts variant b old middle (Err first) → Counts variant b middle new result → CountsAgain variant b old new result
+    → CountsCall variant b old middle (Err first) → CountsCall variant b middle new result → CountsAgain variant b old new result
 counted_again variant b old middle new first fault result is c d =
-    again middle fault (subst (λ (why : Refusal). Counts variant b old middle (Err why)) is c) d
+    again middle fault (subst (λ (why : Refusal). CountsCall variant b old middle (Err why)) is c) d
 
 -- a plan that is ended counts nothing
 
@@ -87,7 +87,7 @@ steps_ended true old new result s = s
 steps_ended false old new (Ok answer) s = answered_ended answer.again old new s
 steps_ended false old new (Err why) s = refused_ended why old new s
 
-pub counts_ended : (request : List ℕ) (old middle new : Standing) (result : Result Answer Refusal) → middle ≡ ended old → Counts Opt (One request) middle new (whole_in result) → Counts Opt (One request) old new (whole_in result)
+pub counts_ended : (request : List ℕ) (old middle new : Standing) (result : Result Answer Refusal) → middle ≡ ended old → CountsCall Opt (One request) middle new (whole_in result) → CountsCall Opt (One request) old new (whole_in result)
 counts_ended request old middle new result e c =
-    let d = subst (λ (x : Standing). Counts Opt (One request) x new (whole_in result)) e c in
+    let d = subst (λ (x : Standing). CountsCall Opt (One request) x new (whole_in result)) e c in
     record { steps = steps_ended (is_long (One request)) old new (whole_in result) d.steps; faults = d.faults }

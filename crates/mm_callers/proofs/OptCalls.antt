@@ -6,7 +6,7 @@ use Rattle.std.specs.List.{AllByRecursion, Contains}
 use Rattle.std.specs.Option.{option_map}
 use Rattle.mm_digest.specs.declared.variant.Variant.TheVariants.{Opt}
 use Rattle.mm_digest.specs.Messages.{extended_message}
-use Rattle.mm_platform.specs.Standing.{Item, Standing, values_of}
+use Rattle.mm_platform.specs.Standing.{Item, Standing, item_values}
 use Rattle.mm_module.specs.Meaning.{Meaning}
 use Rattle.mm_module.specs.Batch.{Batch, One}
 use Rattle.mm_seal.specs.declared.snapshot.PartsFault.{PartsFault}
@@ -33,14 +33,14 @@ use Rattle.mm_model.specs.declared.refusal.Refusal.{Refusal}
 use Rattle.mm_model.specs.declared.refusal.Refusal.TheVariants as refusal
 use Rattle.mm_call.specs.Order.{examined}
 use Rattle.mm_call.specs.Levels.{by_lists, by_digests, all_made}
-use Rattle.mm_call.specs.Found.{Found, found_at, found_from, found_in, is_fresh}
+use Rattle.mm_call.specs.Found.{Found, found_at, found_by_verdict, found_unless_wanting, is_fresh}
 use Rattle.mm_call.specs.Courses.{Course, Walked, walk}
-use Rattle.mm_call.specs.Called.{called, ended_by, told}
+use Rattle.mm_call.specs.Called.{called, ended_by, given_for}
 use Rattle.mm_call.specs.CallsOn.{CallsOn}
 use Rattle.mm_call.specs.Leaving.{whole}
 use Rattle.mm_call.specs.Standing.{shown}
 use Rattle.mm_call.specs.Asked.{counted_part, counted_moves, moves_messages, foreign_in, IsAsked}
-use Rattle.mm_call.specs.Tied.{foreign_of, standing_items, Tied, shows, nothing}
+use Rattle.mm_call.specs.Tied.{foreign_items, standing_items, Tied, shows, nothing}
 use Rattle.mm_call.proofs.BasicLaw.{unlacked}
 use Rattle.mm_call.proofs.Continuing.{stands_at}
 use Rattle.mm_call.proofs.Finding.{Asking, found_with_tells, weighed_tells}
@@ -89,8 +89,8 @@ asked_of meaning key barrier all others asked y moves offer b old new items more
     let i : Instance = opt meaning key barrier in
     let same : other ≡ more = shown_same old.items (shown i (digests_of i y) moves) items (standing_items y.is_open items) more other known (shown_is items) (sym goes ∙ ends) in
     asked_by i all others asked y moves offer b a
-    (subst (λ (ms : List (List ℕ)). Within ms all) (sym (tied.messages ∙ ap (λ (x : List Item). trail extended_message (register_value_of i (counted_part y)) (values_of x)) same)) s.messages)
-    (subst (λ (vs : List (List ℕ)). AllByRecursion (Contains others) vs) (sym (tied.values ∙ ap foreign_of same)) s.values)
+    (subst (λ (ms : List (List ℕ)). Within ms all) (sym (tied.messages ∙ ap (λ (x : List Item). trail extended_message (register_value_of i (counted_part y)) (item_values x)) same)) s.messages)
+    (subst (λ (vs : List (List ℕ)). AllByRecursion (Contains others) vs) (sym (tied.values ∙ ap foreign_items same)) s.values)
 asked_of meaning key barrier all others asked y moves offer b old new items more a s known goes ends (nothing is) =
     let i : Instance = opt meaning key barrier in
     asked_by i all others asked y moves offer b a
@@ -124,7 +124,7 @@ sees_names meaning key barrier v w y content sound n =
     subst (λ (z : History). Names i z content) (sym (made_then i (map Foreign v) (map Foreign w ++ []) y ∙ made_then i (map Foreign w) [] first))
     (named_then meaning key barrier w first content (sound_then meaning key barrier v y sound) (named_then meaning key barrier v y content sound n))
 
-right_from : (meaning : Meaning) (key barrier : List ℕ) (y : History) (b : Batch) (offer : List ℕ) (parts : Result Snapshot PartsFault) → parts_of Opt meaning.id offer ≡ parts → (found : Found) → found_from (opt meaning key barrier) (by_lists (opt meaning key barrier)) y b parts ≡ Ok found → IsRight (opt meaning key barrier) offer found.offered
+right_from : (meaning : Meaning) (key barrier : List ℕ) (y : History) (b : Batch) (offer : List ℕ) (parts : Result Snapshot PartsFault) → parts_of Opt meaning.id offer ≡ parts → (found : Found) → found_by_verdict (opt meaning key barrier) (by_lists (opt meaning key barrier)) y b parts ≡ Ok found → IsRight (opt meaning key barrier) offer found.offered
 right_from meaning key barrier y b offer (Err Form) e found is = absurd (cc)
 right_from meaning key barrier y b offer (Err Kind) e found is = absurd (cc)
 right_from meaning key barrier y b offer (Ok snapshot) e found is =
@@ -139,16 +139,16 @@ unless_lost false found f e = e
 pub right_at : (meaning : Meaning) (key barrier : List ℕ) (y : History) (b : Batch) (offer : List ℕ) (found : Found) → found_at (opt meaning key barrier) (by_lists (opt meaning key barrier)) y b offer ≡ Ok found → IsRight (opt meaning key barrier) offer found.offered
 right_at meaning key barrier y b offer found is =
     right_from meaning key barrier y b offer (parts_of Opt meaning.id offer) refl found
-    (unless_lost (is_lost (life_of Opt y)) (found_from (opt meaning key barrier) (by_lists (opt meaning key barrier)) y b (parts_of Opt meaning.id offer)) found is)
+    (unless_lost (is_lost (life_of Opt y)) (found_by_verdict (opt meaning key barrier) (by_lists (opt meaning key barrier)) y b (parts_of Opt meaning.id offer)) found is)
 
 comes_by : (meaning : Meaning) (key barrier : List ℕ) (all : List (List ℕ)) (y sees : History) (lacks : Bool) (offer : List ℕ) (b : Batch) (w : Walked) (found : Result Found Refusal) → sees.batches ≡ y.batches → Asking all (opt meaning key barrier) sees offer b
-    → found_in (found_at (opt meaning key barrier) (by_lists (opt meaning key barrier)) sees b offer) lacks ≡ found → Commits b (is_fresh found) w
-    → Comes (opt meaning key barrier) y offer b (all_made (by_lists (opt meaning key barrier)) y w.moves) (told (ended_by (by_lists (opt meaning key barrier)) sees (all_made (by_lists (opt meaning key barrier)) y w.moves) b found w.moves w.broken))
+    → found_unless_wanting (found_at (opt meaning key barrier) (by_lists (opt meaning key barrier)) sees b offer) lacks ≡ found → Commits b (is_fresh found) w
+    → Comes (opt meaning key barrier) y offer b (all_made (by_lists (opt meaning key barrier)) y w.moves) (given_for (ended_by (by_lists (opt meaning key barrier)) sees (all_made (by_lists (opt meaning key barrier)) y w.moves) b found w.moves w.broken))
 comes_by meaning key barrier all y sees lacks offer b w found same asking is (none empty unless) =
     let i : Instance = opt meaning key barrier in
     let end : History = all_made (by_lists i) y w.moves in
     kept (same_batches i w.moves y empty)
-    (λ (answer : BatchAnswer) (gives : told (ended_by (by_lists i) sees end b found w.moves w.broken) ≡ Ok answer).
+    (λ (answer : BatchAnswer) (gives : given_for (ended_by (by_lists i) sees end b found w.moves w.broken) ≡ Ok answer).
     let a = answered_only w.broken i sees end b found w.moves answer gives in
     let again : a.it.again ≡ true = again_found found a.it a.found_is (unless a.whole) in
     let was = unlacked (found_at i (by_lists i) sees b offer) lacks a.it (is ∙ a.found_is) in
@@ -168,7 +168,7 @@ comes_by meaning key barrier all y sees lacks offer b w found same asking is (ba
     let p = placed meaning key barrier all sees offer b asking f.0 was in
     grown f.0.offered (right_at meaning key barrier sees b offer f.0 was)
     (p.position ∙ ap total_of (p.fresh f.2 ∙ same)) (more_batches i w.moves y b one)
-    (λ (answer : BatchAnswer) (gives : told (ended_by (by_lists i) sees end b found w.moves w.broken) ≡ Ok answer).
+    (λ (answer : BatchAnswer) (gives : given_for (ended_by (by_lists i) sees end b found w.moves w.broken) ≡ Ok answer).
     let a = answered_only w.broken i sees end b found w.moves answer gives in
     answer_again i end b a.it.again false answer (fresh_again found a.it a.found_is fresh) a.answer_is)
 
@@ -183,14 +183,14 @@ seen_asking meaning key barrier all others asked y v w offer b a = record {
 
 -- what a call comes to by lists
 pub comes : (meaning : Meaning) (key barrier : List ℕ) (all others : List (List ℕ)) (asked : List Batch) (y : History) (c : Course) (offer : List ℕ) (b : Batch) → AreAsked all others asked (opt meaning key barrier) y offer b
-    → Comes (opt meaning key barrier) y offer b (called (opt meaning key barrier) (by_lists (opt meaning key barrier)) y c offer b).state (told (called (opt meaning key barrier) (by_lists (opt meaning key barrier)) y c offer b).ending)
+    → Comes (opt meaning key barrier) y offer b (called (opt meaning key barrier) (by_lists (opt meaning key barrier)) y c offer b).state (given_for (called (opt meaning key barrier) (by_lists (opt meaning key barrier)) y c offer b).ending)
 comes meaning key barrier all others asked y c offer b a =
     let i : Instance = opt meaning key barrier in
     let v : List (List ℕ) = (c.fates 1).brings in
     let w : List (List ℕ) = (c.fates 2).brings in
     let sees : History = all_made (by_lists i) y (map Foreign v ++ (map Foreign w ++ [])) in
     let same : sees.batches ≡ y.batches = same_batches i (map Foreign v ++ (map Foreign w ++ [])) y (foreign_first v (map Foreign w ++ []) ∙ foreign_first w []) in
-    let found : Result Found Refusal = found_in (found_at i (by_lists i) sees b offer) c.lacks in
+    let found : Result Found Refusal = found_unless_wanting (found_at i (by_lists i) sees b offer) c.lacks in
     comes_by meaning key barrier all y sees c.lacks offer b (walk c.fates 1 (ask_steps Opt y.is_open (is_fresh found) b)) found same
     (seen_asking meaning key barrier all others asked y v w offer b a)
     refl

@@ -6,7 +6,7 @@ use Rattle.std.proofs.lemmas.List.{append-nil, map-append}
 use Rattle.mm_digest.specs.declared.variant.Variant.TheVariants.{Opt}
 use Rattle.mm_digest.specs.Messages.{extended_message}
 use Rattle.mm_platform.specs.declared.fault.StepFault.{StepFault}
-use Rattle.mm_platform.specs.Standing.{Item, Standing, foreign_item, values_of}
+use Rattle.mm_platform.specs.Standing.{Item, Standing, foreign_item, item_values}
 use Rattle.mm_module.specs.Meaning.{Meaning}
 use Rattle.mm_module.specs.Batch.{Batch}
 use Rattle.mm_seal.specs.Snapshot.{Content}
@@ -25,7 +25,7 @@ use Rattle.mm_call.specs.Checkpoints.{closing_of, closed_by, checkpointed, IsClo
 use Rattle.mm_call.specs.Courses.{End, Done, Fails, Fate, Walked, after_step, walk, closes}
 use Rattle.mm_call.specs.Levels.{by_lists, by_digests, all_made}
 use Rattle.mm_call.specs.Standing.{shown}
-use Rattle.mm_call.specs.Tied.{foreign_of, standing_items}
+use Rattle.mm_call.specs.Tied.{foreign_items, standing_items}
 use Rattle.mm_call.proofs.Checkpoints.{read_moves}
 use Rattle.mm_call.proofs.Continuing.{stands_at}
 use Rattle.mm_call.proofs.Moving.{committed_in, same_batches}
@@ -127,13 +127,13 @@ module _ (meaning : Meaning) (key barrier : List ℕ) (all others : List (List �
       → IsClear all → IsWithin all others asked (opt meaning key barrier) y → AreShown all others (opt meaning key barrier) y more → y.is_open ≡ true → IsClosedWithin all others asked (opt meaning key barrier) y moves
   quiet_asked y more moves values is same clear within shown_so e =
       let i : Instance = opt meaning key barrier in
-      let values_are : values_of more ≡ values = ap values_of (sym same) ∙ foreign_values values in
+      let values_are : item_values more ≡ values = ap item_values (sym same) ∙ foreign_values values in
       let open_part : counted_part y ≡ y = counted_open y e in
       let messages : Within (moves_messages i (counted_part y) moves) all =
       subst (λ (ms : List (List ℕ)). Within ms all)
       (ap (trail extended_message (register_value_of i (counted_part y))) values_are ∙ sym (ap (moves_messages i (counted_part y)) is ∙ foreign_trail meaning key barrier values (counted_part y))) shown_so.messages in
       let outside : AllByRecursion (Contains others) (foreign_in moves) =
-      subst (AllByRecursion (Contains others)) (ap foreign_of (sym same) ∙ foreign_of-items values ∙ sym (ap foreign_in is ∙ foreign_in-foreign values)) shown_so.values in
+      subst (AllByRecursion (Contains others)) (ap foreign_items (sym same) ∙ foreign_of-items values ∙ sym (ap foreign_in is ∙ foreign_in-foreign values)) shown_so.values in
       record {
         clear = clear;
         within = within;

@@ -6,7 +6,7 @@ use Rattle.std.proofs.lemmas.List.{append-nil, map-append}
 use Rattle.mm_digest.specs.declared.variant.Variant.TheVariants.{Opt}
 use Rattle.mm_digest.specs.Messages.{extended_message, extended_of, anchored_message}
 use Rattle.mm_platform.specs.declared.fault.StepFault.{StepFault}
-use Rattle.mm_platform.specs.Standing.{Item, Standing, foreign_item, values_of}
+use Rattle.mm_platform.specs.Standing.{Item, Standing, foreign_item, item_values}
 use Rattle.mm_module.specs.Meaning.{Meaning}
 use Rattle.mm_module.specs.Batch.{Batch}
 use Rattle.mm_seal.specs.Snapshot.{Content}
@@ -30,7 +30,7 @@ use Rattle.mm_call.specs.Called.{seen_at}
 use Rattle.mm_call.specs.Checkpoints.{closing_of, closed_by, checkpointed, IsClosedWithin}
 use Rattle.mm_call.specs.Standing.{StandsAt, shown}
 use Rattle.mm_call.specs.Asked.{counted_part, counted_moves, moves_messages, foreign_in, IsWithin}
-use Rattle.mm_call.specs.Tied.{foreign_of, standing_items}
+use Rattle.mm_call.specs.Tied.{foreign_items, standing_items}
 use Rattle.mm_call.proofs.Checkpoints.{read_moves, opt_checkpoints_agree}
 use Rattle.mm_call.proofs.Continuing.{stands_at}
 use Rattle.mm_call.proofs.OptHolding.{is_agrees}
@@ -82,11 +82,11 @@ closed_moves fates false said e =
 
 -- What the register shows of others' values, and their messages.
 
-pub foreign_values : (values : List (List ℕ)) → values_of (map foreign_item values) ≡ values
+pub foreign_values : (values : List (List ℕ)) → item_values (map foreign_item values) ≡ values
 foreign_values [] = refl
 foreign_values (v ∷ values) = ap (λ (vs : List (List ℕ)). v ∷ vs) (foreign_values values)
 
-pub foreign_of-items : (values : List (List ℕ)) → foreign_of (map foreign_item values) ≡ values
+pub foreign_of-items : (values : List (List ℕ)) → foreign_items (map foreign_item values) ≡ values
 foreign_of-items [] = refl
 foreign_of-items (v ∷ values) = ap (λ (vs : List (List ℕ)). v ∷ vs) (foreign_of-items values)
 
@@ -117,15 +117,15 @@ closings_here all a r (v ∷ values) w = w.0
 
 pub may_close_front : (all : List (List ℕ)) (i : Instance) (y : History) (more later : List Item) → MayClose all i y (more ++ later) → MayClose all i y more
 may_close_front all i y more later w =
-    closings_front all (cell_digest_of i Opt y) (register_value_of i (counted_part y)) (values_of more) (values_of later)
+    closings_front all (cell_digest_of i Opt y) (register_value_of i (counted_part y)) (item_values more) (item_values later)
     (subst (λ (vs : List (List ℕ)). Within (closing_messages (cell_digest_of i Opt y) (register_value_of i (counted_part y)) vs) all) (map-append (λ (item : Item). item.value) more later) w)
 
-pub may_close_back : (all : List (List ℕ)) (i : Instance) (y z : History) (front later : List Item) → z.closed ≡ y.closed → register_value_of i (counted_part z) ≡ after extended_message (register_value_of i (counted_part y)) (values_of front) → MayClose all i y (front ++ later) → MayClose all i z later
+pub may_close_back : (all : List (List ℕ)) (i : Instance) (y z : History) (front later : List Item) → z.closed ≡ y.closed → register_value_of i (counted_part z) ≡ after extended_message (register_value_of i (counted_part y)) (item_values front) → MayClose all i y (front ++ later) → MayClose all i z later
 may_close_back all i y z front later closed register w =
     let digest : cell_digest_of i Opt y ≡ cell_digest_of i Opt z = ap (λ (c : List (List Entry)). cell_digest_of i Opt (record y { closed = c })) (sym closed) in
-    subst (λ (a : List ℕ). Within (closing_messages a (register_value_of i (counted_part z)) (values_of later)) all) digest
-    (subst (λ (r : List ℕ). Within (closing_messages (cell_digest_of i Opt y) r (values_of later)) all) (sym register)
-    (closings_back all (cell_digest_of i Opt y) (register_value_of i (counted_part y)) (values_of front) (values_of later)
+    subst (λ (a : List ℕ). Within (closing_messages a (register_value_of i (counted_part z)) (item_values later)) all) digest
+    (subst (λ (r : List ℕ). Within (closing_messages (cell_digest_of i Opt y) r (item_values later)) all) (sym register)
+    (closings_back all (cell_digest_of i Opt y) (register_value_of i (counted_part y)) (item_values front) (item_values later)
     (subst (λ (vs : List (List ℕ)). Within (closing_messages (cell_digest_of i Opt y) (register_value_of i (counted_part y)) vs) all) (map-append (λ (item : Item). item.value) front later) w)))
 
 module _ (meaning : Meaning) (key barrier : List ℕ) where
@@ -307,17 +307,17 @@ module _ (meaning : Meaning) (key barrier : List ℕ) where
       → IsClear all → IsWithin all others asked (opt meaning key barrier) y → AreShown all others (opt meaning key barrier) y more → MayClose all (opt meaning key barrier) y more → y.is_open ≡ true → IsClosedWithin all others asked (opt meaning key barrier) y moves
   closing_asked all others asked y more moves m same clear within shown_so may e =
       let i : Instance = opt meaning key barrier in
-      let values_are : values_of more ≡ m.values ++ m.later = ap values_of (sym same) ∙ foreign_values (m.values ++ m.later) in
+      let values_are : item_values more ≡ m.values ++ m.later = ap item_values (sym same) ∙ foreign_values (m.values ++ m.later) in
       let open_part : counted_part y ≡ y = counted_open y e in
       let r : List ℕ = register_value_of i y in
       let there : List ℕ = after extended_message r m.values in
       let trail_is : Within (trail extended_message r m.values ++ trail extended_message there m.later) all =
       subst (λ (ms : List (List ℕ)). Within ms all)
-      (ap (λ (z : History). trail extended_message (register_value_of i z) (values_of more)) open_part ∙ ap (trail extended_message r) values_are ∙ trail-append extended_message r m.values m.later) shown_so.messages in
+      (ap (λ (z : History). trail extended_message (register_value_of i z) (item_values more)) open_part ∙ ap (trail extended_message r) values_are ∙ trail-append extended_message r m.values m.later) shown_so.messages in
       let closing : Contains all (anchored_message (cell_digest_of i Opt y) there) =
       closings_here all (cell_digest_of i Opt y) there m.later (closings_back all (cell_digest_of i Opt y) r m.values m.later
       (subst (λ (vs : List (List ℕ)). Within (closing_messages (cell_digest_of i Opt y) r vs) all) values_are
-      (subst (λ (z : History). Within (closing_messages (cell_digest_of i Opt y) (register_value_of i z) (values_of more)) all) open_part may))) in
+      (subst (λ (z : History). Within (closing_messages (cell_digest_of i Opt y) (register_value_of i z) (item_values more)) all) open_part may))) in
       let messages : Within (moves_messages i y moves) all =
       subst (λ (ms : List (List ℕ)). Within ms all) (sym (ap (moves_messages i y) m.are ∙ closing_trail m.values m.later y))
       (each_append (Contains all) (trail extended_message r m.values) (anchored_message (cell_digest_of i Opt y) there ∷ trail extended_message there m.later)
@@ -326,7 +326,7 @@ module _ (meaning : Meaning) (key barrier : List ℕ) where
       let brought : foreign_in moves ≡ m.values ++ m.later =
       ap foreign_in m.are ∙ foreign_in-first m.values (Close ∷ map Foreign m.later) ∙ ap (λ (vs : List (List ℕ)). m.values ++ vs) (foreign_in-foreign m.later) in
       let outside : AllByRecursion (Contains others) (foreign_in moves) =
-      subst (AllByRecursion (Contains others)) (ap foreign_of (sym same) ∙ foreign_of-items (m.values ++ m.later) ∙ sym brought) shown_so.values in
+      subst (AllByRecursion (Contains others)) (ap foreign_items (sym same) ∙ foreign_of-items (m.values ++ m.later) ∙ sym brought) shown_so.values in
       record {
         clear = clear;
         within = within;

@@ -21,10 +21,10 @@ use Rattle.mm_model.specs.declared.answer.BatchAnswer.{BatchAnswer}
 use Rattle.mm_model.specs.declared.refusal.Refusal.{Refusal}
 use Rattle.mm_model.specs.declared.refusal.Refusal.TheVariants.{Memory, Device}
 use Rattle.mm_call.specs.Levels.{by_lists, by_digests}
-use Rattle.mm_call.specs.Found.{Found, found_at, found_in, is_fresh}
+use Rattle.mm_call.specs.Found.{Found, found_at, found_unless_wanting, is_fresh}
 use Rattle.mm_call.specs.Courses.{Done, Fate, Course, walk}
-use Rattle.mm_call.specs.Called.{Called, Refuses, called, called_by, called_with, told}
-use Rattle.mm_call.specs.CallsOn.{CallsOn, Continues}
+use Rattle.mm_call.specs.Called.{Called, Refuses, called, called_by, called_with, given_for}
+use Rattle.mm_call.specs.CallsOn.{CallsOn, CallContinues}
 use Rattle.mm_call.specs.Leaving.{whole_in}
 use Rattle.mm_call.specs.Asked.{counted_part, counted_moves, moves_messages, foreign_in, IsAsked}
 use Rattle.mm_call.proofs.OptLaw.{reset_messages}
@@ -80,7 +80,7 @@ asked_alone : (meaning : Meaning) (key barrier : List ℕ) (all others : List (L
 asked_alone meaning key barrier all others asked y offer b lacks a c =
     let i : Instance = opt meaning key barrier in
     let d : Digests = digests_of i y in
-    let fresh : Bool = is_fresh (found_in (found_at i (by_digests i) d b offer) lacks) in
+    let fresh : Bool = is_fresh (found_unless_wanting (found_at i (by_digests i) d b offer) lacks) in
     let moves : List Move = (walk still_fates 1 (ask_steps Opt y.is_open fresh b)).moves in
     let k = counts_alone meaning key barrier all y b y.is_open fresh refl c in
     asked_by i all others asked y moves offer b a k.0
@@ -98,21 +98,21 @@ lacking meaning key barrier y b true = (refl, refl)
 lacking meaning key barrier y b false = (refl, refl)
 
 answers_or_lacks : (lacks : Bool) (meaning : Meaning) (key barrier : List ℕ) (all others : List (List ℕ)) (asked : List Batch) (y : History) (new : Standing) (offer : List ℕ) (b : Batch) (again : Bool) (result : Result BatchAnswer Refusal) → IsWelcome (opt meaning key barrier) y offer b again
-    → Continues all others asked (opt meaning key barrier) (called (opt meaning key barrier) (by_lists (opt meaning key barrier)) y (still_course lacks) offer b) new result
+    → CallContinues all others asked (opt meaning key barrier) (called (opt meaning key barrier) (by_lists (opt meaning key barrier)) y (still_course lacks) offer b) new result
     → AnswersOrLacks (opt meaning key barrier) y new b again result
 answers_or_lacks false meaning key barrier all others asked y new offer b again result w k =
     let i : Instance = opt meaning key barrier in
     let o : Called History = called i (by_lists i) y (still_course false) offer b in
     let a = opt_complete meaning key barrier y (still_course false) offer b again (record { done = λ n. refl; lacks = refl }) w in
-    subst (AnswersOrLacks i y new b again) (sym (k.gives ∙ ap told a.ending))
+    subst (AnswersOrLacks i y new b again) (sym (k.gives ∙ ap given_for a.ending))
     (record { after = o.state; stands = k.stands; batches_are = a.batches; answer_is = refl })
 answers_or_lacks true meaning key barrier all others asked y new offer b again result w k =
     let i : Instance = opt meaning key barrier in
-    let found : found_in (found_at i (by_lists i) y b offer) true ≡ Err Memory = ap (λ (x : Result Found Refusal). found_in x true) (welcome_found i y offer b again w) in
+    let found : found_unless_wanting (found_at i (by_lists i) y b offer) true ≡ Err Memory = ap (λ (x : Result Found Refusal). found_unless_wanting x true) (welcome_found i y offer b again w) in
     let same : called i (by_lists i) y (still_course true) offer b ≡ called_with i (by_lists i) y y (still_course true) b (Err Memory) =
     ap (called_with i (by_lists i) y y (still_course true) b) found in
     let l = lacking meaning key barrier y b y.is_open in
-    subst (AnswersOrLacks i y new b again) (sym (k.gives ∙ ap (λ (o : Called History). told o.ending) same ∙ ap told l.1))
+    subst (AnswersOrLacks i y new b again) (sym (k.gives ∙ ap (λ (o : Called History). given_for o.ending) same ∙ ap given_for l.1))
     (refl, subst (λ (z : History). StandsFor i new z) (ap (λ (o : Called History). o.state) same ∙ l.0) k.stands)
 
 -- the course by a quiet plan
@@ -129,7 +129,7 @@ undisturbed meaning old new offer request result on plan c key barrier y all oth
     let is : c.course ≡ still_course c.course.lacks = course_is c.course (c.tells quiet_plan on plan refl) in
     let go = c.continues key barrier y all others asked s in
     let goes = subst (λ (q : Course). IsAsked all others asked i y (called i (by_digests i) (digests_of i y) q offer b).moves offer b
-    → Continues all others asked i (called i (by_lists i) y q offer b) new result) is go in
+    → CallContinues all others asked i (called i (by_lists i) y q offer b) new result) is go in
     answers_or_lacks c.course.lacks meaning key barrier all others asked y new offer b again result w
     (goes (asked_alone meaning key barrier all others asked y offer b c.course.lacks a m))
 

@@ -5,7 +5,7 @@ use Rattle.std.specs.Option.{option_map}
 use Rattle.mm_digest.specs.declared.variant.Variant.TheVariants.{Opt}
 use Rattle.mm_platform.specs.declared.fault.StepFault.{StepFault}
 use Rattle.mm_digest.specs.Messages.{extended_message}
-use Rattle.mm_platform.specs.Standing.{Item, Standing, values_of}
+use Rattle.mm_platform.specs.Standing.{Item, Standing, item_values}
 use Rattle.mm_module.specs.Meaning.{Meaning}
 use Rattle.mm_module.specs.Batch.{Batch, One}
 use Rattle.mm_model.specs.Chains as chains
@@ -19,9 +19,9 @@ use Rattle.mm_model.specs.Steps.{Step, Reads, ask_steps}
 use Rattle.mm_model.specs.declared.answer.BatchAnswer.{BatchAnswer}
 use Rattle.mm_model.specs.declared.refusal.Refusal.{Refusal}
 use Rattle.mm_call.specs.Levels.{Level, by_lists, by_digests, all_made}
-use Rattle.mm_call.specs.Found.{Found, found_at, found_in, is_fresh}
+use Rattle.mm_call.specs.Found.{Found, found_at, found_unless_wanting, is_fresh}
 use Rattle.mm_call.specs.Courses.{Course, Walked, walk, closes}
-use Rattle.mm_call.specs.Called.{called, seen_at, ended_by, told}
+use Rattle.mm_call.specs.Called.{called, seen_at, ended_by, given_for}
 use Rattle.mm_call.specs.CallsOn.{CallsOn}
 use Rattle.mm_call.specs.Standing.{StandsAt, shown}
 use Rattle.mm_call.specs.Asked.{counted_part, counted_moves, moves_messages, foreign_in, IsWithin, IsAsked}
@@ -53,7 +53,7 @@ pub record OptAfter (all others : List (List ℕ)) (asked : List Batch) (meaning
   pub clean : (answer : BatchAnswer) → result ≡ Ok answer → has_value (joined after.closed) ≡ false
 
 -- an answer comes from a walk that wasn't broken off
-pub whole_walk : {S : Type 0} (broken : Option StepFault) (level : Level S) (seen s : S) (b : Batch) (found : Result Found Refusal) (moves : List Move) (answer : BatchAnswer) → told (ended_by level seen s b found moves broken) ≡ Ok answer → broken ≡ None
+pub whole_walk : {S : Type 0} (broken : Option StepFault) (level : Level S) (seen s : S) (b : Batch) (found : Result Found Refusal) (moves : List Move) (answer : BatchAnswer) → given_for (ended_by level seen s b found moves broken) ≡ Ok answer → broken ≡ None
 whole_walk (Some fault) level seen s b found moves answer e = absurd (cc)
 whole_walk None level seen s b found moves answer e = refl
 
@@ -87,7 +87,7 @@ module _ (meaning : Meaning) (key barrier : List ℕ) (all others : List (List �
     flag : (all_made (by_digests (opt meaning key barrier)) (digests_of (opt meaning key barrier) y) (DigestMoves old new offer request result c y)).flag ≡ left.after.is_open
 
   answered_clean : (y : History) (c : Course) (offer request : List ℕ) (answer : BatchAnswer) → AreAsked all others asked (opt meaning key barrier) y offer (One request)
-      → told (called (opt meaning key barrier) (by_lists (opt meaning key barrier)) y c offer (One request)).ending ≡ Ok answer
+      → given_for (called (opt meaning key barrier) (by_lists (opt meaning key barrier)) y c offer (One request)).ending ≡ Ok answer
       → Alike meaning key barrier y (One request) (called (opt meaning key barrier) (by_lists (opt meaning key barrier)) y c offer (One request)).state
       → has_value (joined (called (opt meaning key barrier) (by_lists (opt meaning key barrier)) y c offer (One request)).state.closed) ≡ false
   answered_clean y c offer request answer a gives alike =
@@ -96,7 +96,7 @@ module _ (meaning : Meaning) (key barrier : List ℕ) (all others : List (List �
       let w : List (List ℕ) = (c.fates 2).brings in
       let before : List Move = map Foreign v ++ (map Foreign w ++ []) in
       let sees : History = all_made (by_lists i) y before in
-      let found : Result Found Refusal = found_in (found_at i (by_lists i) sees (One request) offer) c.lacks in
+      let found : Result Found Refusal = found_unless_wanting (found_at i (by_lists i) sees (One request) offer) c.lacks in
       let walked : Walked = walk c.fates 1 (ask_steps Opt y.is_open (is_fresh found) (One request)) in
       let end : History = all_made (by_lists i) y walked.moves in
       let it = answered_only walked.broken i sees end (One request) found walked.moves answer gives in
@@ -106,7 +106,7 @@ module _ (meaning : Meaning) (key barrier : List ℕ) (all others : List (List �
       clean_by meaning key barrier y sees end (One request) (ap (λ (x : History). x.closed) foreign) (lives sees p.live).clean alike
 
   answered_clean_as : (y : History) (old new : Standing) (offer request : List ℕ) (result : Result BatchAnswer Refusal) (c : CallsOn Opt meaning old new offer (One request) result) → AreAsked all others asked (opt meaning key barrier) y offer (One request) → (answer : BatchAnswer) → result ≡ Ok answer
-      → result ≡ told (called (opt meaning key barrier) (by_lists (opt meaning key barrier)) y c.course offer (One request)).ending
+      → result ≡ given_for (called (opt meaning key barrier) (by_lists (opt meaning key barrier)) y c.course offer (One request)).ending
       → Alike meaning key barrier y (One request) (called (opt meaning key barrier) (by_lists (opt meaning key barrier)) y c.course offer (One request)).state
       → has_value (joined (called (opt meaning key barrier) (by_lists (opt meaning key barrier)) y c.course offer (One request)).state.closed) ≡ false
   answered_clean_as y old new offer request result c a answer is gives alike =
@@ -121,7 +121,7 @@ module _ (meaning : Meaning) (key barrier : List ℕ) (all others : List (List �
       let o = called i (by_lists i) y c.course offer b in
       let k = c.continues key barrier y all others asked s is_asked in
       let same = opt_calls_agree meaning key barrier all others asked y (digests_of i y) c.course offer b (is_agrees i y (digests_of i y) refl) is_asked in
-      let fresh : Bool = is_fresh (found_in (found_at i (by_lists i) (seen_at i (by_lists i) y c.course) b offer) c.course.lacks) in
+      let fresh : Bool = is_fresh (found_unless_wanting (found_at i (by_lists i) (seen_at i (by_lists i) y c.course) b offer) c.course.lacks) in
       let steps = sym (asks y.is_open fresh b) in
       let alike : Alike meaning key barrier y b o.state =
       subst (λ (st : List Step). Alike meaning key barrier y b (all_made (by_lists i) y (walk c.course.fates 1 st).moves)) steps
@@ -168,7 +168,7 @@ module _ (meaning : Meaning) (key barrier : List ℕ) (all others : List (List �
   pub record Pushed (y after : History) (more later : List Item) : Type 0 where
     pub front : List Item
     pub whole : front ++ later ≡ more
-    pub register : register_value_of (opt meaning key barrier) (counted_part after) ≡ chains.after extended_message (register_value_of (opt meaning key barrier) (counted_part y)) (values_of front)
+    pub register : register_value_of (opt meaning key barrier) (counted_part after) ≡ chains.after extended_message (register_value_of (opt meaning key barrier) (counted_part y)) (item_values front)
 
   -- What a call hands on: what it leaves; and that behind the items that count then, the register shows at the very end
   -- what is asked.
@@ -273,7 +273,7 @@ module _ (meaning : Meaning) (key barrier : List ℕ) (all others : List (List �
       let moves : List Move = DigestMoves old middle offer request result c y in
       let g = c.goes key barrier d (stands_at i old y s) in
       let xs : List Item = shown i d moves items in
-      let after : History = taking (bare y) (values_of xs) in (
+      let after : History = taking (bare y) (item_values xs) in (
         record {
           after = after;
           stands = stands_with meaning key barrier y (all_made (by_digests i) d moves) middle xs g.stands (digests_still meaning key barrier moves d none quiet) (g.items ∙ ap (option_map (shown i d moves)) known);
@@ -330,7 +330,7 @@ module _ (meaning : Meaning) (key barrier : List ℕ) (all others : List (List �
       let d : Digests = digests_of i y in
       let b : Batch = One request in
       let seen : Digests = seen_at i (by_digests i) d c.course in
-      let found : Result Found Refusal = found_in (found_at i (by_digests i) seen b offer) c.course.lacks in
+      let found : Result Found Refusal = found_unless_wanting (found_at i (by_digests i) seen b offer) c.course.lacks in
       let w : Walked = walk c.course.fates 1 (ask_steps Opt y.is_open (is_fresh found) b) in
       let g = c.goes key barrier d (stands_at i old y s) in
       hands_by y.is_open (is_fresh found) y old middle new offer request result items more c goes_on s known ends a shown_so refl w

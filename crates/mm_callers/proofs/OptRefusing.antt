@@ -23,7 +23,7 @@ use Rattle.mm_call.specs.Asked.{IsAsked}
 use Rattle.mm_call.specs.Called.{called, seen_at}
 use Rattle.mm_call.specs.CallsOn.{CallsOn}
 use Rattle.mm_call.specs.Courses.{End, Done, Fails as FailsAs, Fate, Walked, walk}
-use Rattle.mm_call.specs.Found.{Found, found_at, found_in, is_fresh}
+use Rattle.mm_call.specs.Found.{Found, found_at, found_unless_wanting, is_fresh}
 use Rattle.mm_call.specs.Leaving.{Blames, whole, whole_in}
 use Rattle.mm_call.specs.Levels.{by_lists, all_made}
 use Rattle.mm_call.specs.Refusals.{fault_of, fault_in}
@@ -75,7 +75,7 @@ module _ (meaning : Meaning) (key barrier : List â„•) (all others : List (List â
       let k = c.continues key barrier y all others asked s is_asked in
       let o = called i (by_lists i) y c.course offer b in
       let seen : History = seen_at i (by_lists i) y c.course in
-      let found : Result Found Refusal = found_in (found_at i (by_lists i) seen b offer) c.course.lacks in
+      let found : Result Found Refusal = found_unless_wanting (found_at i (by_lists i) seen b offer) c.course.lacks in
       let fresh : Bool = is_fresh found in
       let w : Walked = walk c.course.fates 1 (ask_steps Opt y.is_open fresh b) in
       let how : Fails why found w.broken = fails w.broken i seen o.state b found w.moves why k.gives in

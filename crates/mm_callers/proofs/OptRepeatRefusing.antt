@@ -18,10 +18,10 @@ use Rattle.mm_model.specs.declared.answer.BatchAnswer.{BatchAnswer}
 use Rattle.mm_model.specs.declared.refusal.Refusal.{Refusal}
 use Rattle.mm_model.specs.declared.refusal.Refusal.TheVariants.{Device}
 use Rattle.mm_call.specs.Asked.{counted_part, counted_moves, moves_messages, foreign_in, IsAsked}
-use Rattle.mm_call.specs.Called.{seen_at, ended_by, told}
+use Rattle.mm_call.specs.Called.{seen_at, ended_by, given_for}
 use Rattle.mm_call.specs.CallsOn.{CallsOn}
 use Rattle.mm_call.specs.Courses.{Walked, walk}
-use Rattle.mm_call.specs.Found.{Found, found_at, found_in, is_fresh}
+use Rattle.mm_call.specs.Found.{Found, found_at, found_unless_wanting, is_fresh}
 use Rattle.mm_call.specs.Leaving.{Blames, whole}
 use Rattle.mm_call.specs.Levels.{by_digests, all_made}
 use Rattle.mm_call.specs.Refusals.{fault_of}
@@ -32,7 +32,7 @@ use Rattle.mm_opt.specs.ChecksOn.{ChecksOn}
 use Rattle.mm_opt.specs.declared.segment.Checkpointed.{Checkpointed as Said}
 use Rattle.mm_opt.specs.declared.segment.CheckpointRefusal.{CheckpointRefusal}
 use Rattle.mm_callers.specs.declared.closing.Halted.TheVariants.{Asking, Closing}
-use Rattle.mm_callers.specs.Basic.{AreAsked, finds, Says}
+use Rattle.mm_callers.specs.Basic.{AreAsked, finds, SaysUnlessFault}
 use Rattle.mm_callers.specs.Closing.{MayClose, RepeatsBehind, EndsBehind, in_first, in_closing, in_second}
 use Rattle.mm_callers.specs.Opt.{AreShown}
 use Rattle.mm_callers.proofs.Twice.{once_after}
@@ -84,7 +84,7 @@ refused_closing meaning old answered new offer request first why calls goes k ke
     x.says
 
 -- a call that is refused, and not for a device's fault, found no new batch
-not_fresh : (broken : Option StepFault) (i : Instance) (seen s : Digests) (b : Batch) (found : Result Found Refusal) (moves : List Move) (why : Refusal) → Err why ≡ told (ended_by (by_digests i) seen s b found moves broken) → fault_of why ≡ None → is_fresh found ≡ false
+not_fresh : (broken : Option StepFault) (i : Instance) (seen s : Digests) (b : Batch) (found : Result Found Refusal) (moves : List Move) (why : Refusal) → Err why ≡ given_for (ended_by (by_digests i) seen s b found moves broken) → fault_of why ≡ None → is_fresh found ≡ false
 not_fresh (Some fault) i seen s b found moves why e none =
     let is : why ≡ Device fault = cc in
     let clash : None ≡ Some fault = sym none ∙ ap fault_of is in absurd (cc)
@@ -102,11 +102,11 @@ refused_behind meaning key barrier all others asked y old answered closed new of
     let i : Instance = opt meaning key barrier in
     let b : Batch = One request in
     let at = reached meaning key barrier all others asked y old answered closed offer request first said items c k s known in
-    let quiet : (d : Digests) → (let seen : Digests = seen_at i (by_digests i) d r.course in let found : Result Found Refusal = found_in (found_at i (by_digests i) seen b offer) r.course.lacks in
+    let quiet : (d : Digests) → (let seen : Digests = seen_at i (by_digests i) d r.course in let found : Result Found Refusal = found_unless_wanting (found_at i (by_digests i) seen b offer) r.course.lacks in
     let w : Walked = walk r.course.fates 1 (ask_steps Opt d.flag (is_fresh found) b) in
-    Err why ≡ told (ended_by (by_digests i) seen (all_made (by_digests i) d w.moves) b found w.moves w.broken)) → Fresh meaning key barrier all others asked closed new offer request (Err why) r d ≡ false = λ d gives.
+    Err why ≡ given_for (ended_by (by_digests i) seen (all_made (by_digests i) d w.moves) b found w.moves w.broken)) → Fresh meaning key barrier all others asked closed new offer request (Err why) r d ≡ false = λ d gives.
     let seen : Digests = seen_at i (by_digests i) d r.course in
-    let found : Result Found Refusal = found_in (found_at i (by_digests i) seen b offer) r.course.lacks in
+    let found : Result Found Refusal = found_unless_wanting (found_at i (by_digests i) seen b offer) r.course.lacks in
     let w : Walked = walk r.course.fates 1 (ask_steps Opt d.flag (is_fresh found) b) in
     not_fresh w.broken i seen (all_made (by_digests i) d w.moves) b found w.moves why gives none in
     let g = r.goes key barrier at.at at.stands in
@@ -130,7 +130,7 @@ refused_behind meaning key barrier all others asked y old answered closed new of
         stays = fell.stays;
         once = once_then y.batches x.one.after.batches fell.stays.after.batches b (sym (calm.batches ∙ x.two.batches)) (once_after i y x.one.after offer b first x.one.comes);
       };
-      says = subst (λ (f : Option StepFault). Says f (finds i fell.stays.after offer b) why) none fell.says;
+      says = subst (λ (f : Option StepFault). SaysUnlessFault f (finds i fell.stays.after offer b) why) none fell.says;
     }
 
 ends_behind : (f : Option StepFault) (all others : List (List ℕ)) (asked : List Batch) (i : Instance) (y : History) (new : Standing) (offer : List ℕ) (b : Batch) (why : Refusal) → (f ≡ None → EndsBehind None all others asked i y new offer b why) → EndsBehind f all others asked i y new offer b why

@@ -20,9 +20,9 @@ use Rattle.mm_model.specs.declared.refusal.Refusal.{Refusal}
 use Rattle.mm_call.specs.Answers.{answer_on, last_outputs}
 use Rattle.mm_call.specs.Checkpoints.{checkpointed}
 use Rattle.mm_call.specs.Levels.{Level, by_lists, by_digests, all_made}
-use Rattle.mm_call.specs.Found.{Found, found_at, found_in, is_fresh}
+use Rattle.mm_call.specs.Found.{Found, found_at, found_unless_wanting, is_fresh}
 use Rattle.mm_call.specs.Courses.{Fate, Walked, walk, closes}
-use Rattle.mm_call.specs.Called.{called, seen_at, ended_by, told}
+use Rattle.mm_call.specs.Called.{called, seen_at, ended_by, given_for}
 use Rattle.mm_call.specs.CallsOn.{CallsOn}
 use Rattle.mm_call.specs.Standing.{StandsAt, shown}
 use Rattle.mm_call.specs.Tied.{standing_items}
@@ -47,7 +47,7 @@ use Rattle.mm_callers.proofs.OptLeaves.{Left, DigestMoves, hands, left_reading, 
 use Rattle.mm_callers.proofs.OptClosing.{may_close_front, may_close_back, shown_values, Shut, check_goes_on, shuts}
 
 -- a call whose answer is told as a repeat made its reading steps alone
-told_again : (broken : Option StepFault) (i : Instance) (seen s : Digests) (b : Batch) (found : Result Found Refusal) (moves : List Move) (answer : BatchAnswer) → told (ended_by (by_digests i) seen s b found moves broken) ≡ Ok answer → answer.again ≡ true → is_fresh found ≡ false
+told_again : (broken : Option StepFault) (i : Instance) (seen s : Digests) (b : Batch) (found : Result Found Refusal) (moves : List Move) (answer : BatchAnswer) → given_for (ended_by (by_digests i) seen s b found moves broken) ≡ Ok answer → answer.again ≡ true → is_fresh found ≡ false
 told_again (Some fault) i seen s b found moves answer e again = absurd (cc)
 told_again None i seen s b (Err why) moves answer e again = refl
 told_again None i seen s b (Ok it) moves answer e again =
@@ -153,7 +153,7 @@ module _ (meaning : Meaning) (key barrier : List ℕ) (all others : List (List �
   -- the moves of the second call, by digests
   abbrev pub Fresh : (closed new : Standing) (offer request : List ℕ) (result : Result BatchAnswer Refusal) → CallsOn Opt meaning closed new offer (One request) result → Digests → Bool
   Fresh closed new offer request result c d =
-      is_fresh (found_in (found_at (opt meaning key barrier) (by_digests (opt meaning key barrier)) (seen_at (opt meaning key barrier) (by_digests (opt meaning key barrier)) d c.course) (One request) offer) c.course.lacks)
+      is_fresh (found_unless_wanting (found_at (opt meaning key barrier) (by_digests (opt meaning key barrier)) (seen_at (opt meaning key barrier) (by_digests (opt meaning key barrier)) d c.course) (One request) offer) c.course.lacks)
 
   pub reads_alone : (closed new : Standing) (offer request : List ℕ) (result : Result BatchAnswer Refusal) (c : CallsOn Opt meaning closed new offer (One request) result) (d : Digests) → Fresh closed new offer request result c d ≡ false
       → Brought (called (opt meaning key barrier) (by_digests (opt meaning key barrier)) d c.course offer (One request)).moves
@@ -192,7 +192,7 @@ module _ (meaning : Meaning) (key barrier : List ℕ) (all others : List (List �
       let b : Batch = One request in
       let g = c.goes key barrier d s in
       let seen : Digests = seen_at i (by_digests i) d c.course in
-      let found : Result Found Refusal = found_in (found_at i (by_digests i) seen b offer) c.course.lacks in
+      let found : Result Found Refusal = found_unless_wanting (found_at i (by_digests i) seen b offer) c.course.lacks in
       let w : Walked = walk c.course.fates 1 (ask_steps Opt d.flag (is_fresh found) b) in
       reads_show closed new offer request (Ok second) c d s
       (told_again w.broken i seen (all_made (by_digests i) d w.moves) b found w.moves second (sym g.gives) again) items known
@@ -212,7 +212,7 @@ module _ (meaning : Meaning) (key barrier : List ℕ) (all others : List (List �
       let once : List ℕ = fold extended_of d.register v in
       let register : List ℕ = fold extended_of once w in
       let seen_is : seen ≡ record d { register = register } = foreign_digests i v (map Foreign w ++ []) d ∙ foreign_digests i w [] (record d { register = once }) in
-      let f = fresh_found (found_in (found_at i (by_digests i) seen b offer) c.course.lacks) e in
+      let f = fresh_found (found_unless_wanting (found_at i (by_digests i) seen b offer) c.course.lacks) e in
       let was = unlacked (found_at i (by_digests i) seen b offer) c.course.lacks f.0 f.1 in
       let asking : Asking all i (bare z) offer b = record {
         clear = asks_z.clear;
@@ -253,7 +253,7 @@ module _ (meaning : Meaning) (key barrier : List ℕ) (all others : List (List �
   kept_open y old answered offer request first c e =
       let i : Instance = opt meaning key barrier in
       let d : Digests = digests_of i y in
-      let fresh : Bool = is_fresh (found_in (found_at i (by_digests i) (seen_at i (by_digests i) d c.course) (One request) offer) c.course.lacks) in
+      let fresh : Bool = is_fresh (found_unless_wanting (found_at i (by_digests i) (seen_at i (by_digests i) d c.course) (One request) offer) c.course.lacks) in
       flag_kept meaning key barrier (DigestMoves meaning key barrier all others asked old answered offer request (Ok first) c y) d e
       (ap (λ (st : List Step). closes (walk c.course.fates 1 st).moves) (asks y.is_open fresh (One request)) ∙ opt_closes c.course.fates y.is_open fresh (One request))
 

@@ -6,7 +6,7 @@ use Rattle.std.specs.Option.{option_map}
 use Rattle.std.proofs.lemmas.List.{append-nil, map-append}
 use Rattle.mm_digest.specs.declared.variant.Variant.TheVariants.{Opt}
 use Rattle.mm_digest.specs.Messages.{zero_bytes, extended_message}
-use Rattle.mm_platform.specs.Standing.{Item, Standing, values_of}
+use Rattle.mm_platform.specs.Standing.{Item, Standing, item_values}
 use Rattle.mm_platform.specs.Standing as platform
 use Rattle.mm_module.specs.Meaning.{Meaning}
 use Rattle.mm_module.specs.Batch.{Batch}
@@ -26,7 +26,7 @@ use Rattle.mm_call.specs.Courses.{End, Done, Fails, Fate, Course, Walked, after_
 use Rattle.mm_call.specs.Called.{called}
 use Rattle.mm_call.specs.Standing.{cell_at, StandsAt, shown}
 use Rattle.mm_call.specs.Asked.{from_reset, counted_part, counted_moves, moves_messages, foreign_in}
-use Rattle.mm_call.specs.Tied.{foreign_of, standing_items, IsTied, Tied, shows, nothing}
+use Rattle.mm_call.specs.Tied.{foreign_items, standing_items, IsTied, Tied, shows, nothing}
 use Rattle.mm_call.proofs.Moving.{committed_in}
 use Rattle.mm_call.proofs.OptShapes.{Shape, still, reset}
 use Rattle.mm_call.proofs.OptShut.{bare, bare_digests, counted_open, counted_shut}
@@ -143,35 +143,35 @@ flag_set meaning key barrier (Power ∷ moves) d b c e = flag_set meaning key ba
 
 -- What is asked of items, for those in front and those behind.
 
-foreign_of-append : (xs ys : List Item) → foreign_of (xs ++ ys) ≡ foreign_of xs ++ foreign_of ys
+foreign_of-append : (xs ys : List Item) → foreign_items (xs ++ ys) ≡ foreign_items xs ++ foreign_items ys
 foreign_of-append [] ys = refl
-foreign_of-append (x ∷ xs) ys = item_then x.own x.value (foreign_of xs) (foreign_of ys) (foreign_of (xs ++ ys)) (foreign_of-append xs ys) where
+foreign_of-append (x ∷ xs) ys = item_then x.own x.value (foreign_items xs) (foreign_items ys) (foreign_items (xs ++ ys)) (foreign_of-append xs ys) where
   item_then : (own : Bool) (v : List ℕ) (a b c : List (List ℕ)) → c ≡ a ++ b → (if own then c else v ∷ c) ≡ (if own then a else v ∷ a) ++ b
   item_then true v a b c e = e
   item_then false v a b c e = ap (λ (w : List (List ℕ)). v ∷ w) e
 
-trail_split : (s : List ℕ) (m k : List Item) → trail extended_message s (values_of (m ++ k)) ≡ trail extended_message s (values_of m) ++ trail extended_message (after extended_message s (values_of m)) (values_of k)
+trail_split : (s : List ℕ) (m k : List Item) → trail extended_message s (item_values (m ++ k)) ≡ trail extended_message s (item_values m) ++ trail extended_message (after extended_message s (item_values m)) (item_values k)
 trail_split s m k =
-    ap (trail extended_message s) (map-append (λ (item : Item). item.value) m k) ∙ trail-append extended_message s (values_of m) (values_of k)
+    ap (trail extended_message s) (map-append (λ (item : Item). item.value) m k) ∙ trail-append extended_message s (item_values m) (item_values k)
 
 pub shown_front : (all others : List (List ℕ)) (i : Instance) (y : History) (m k : List Item) → AreShown all others i y (m ++ k) → AreShown all others i y m
 shown_front all others i y m k a =
     let s : List ℕ = register_value_of i (counted_part y) in
     record {
-      messages = each_left (Contains all) (trail extended_message s (values_of m)) (trail extended_message (after extended_message s (values_of m)) (values_of k))
+      messages = each_left (Contains all) (trail extended_message s (item_values m)) (trail extended_message (after extended_message s (item_values m)) (item_values k))
           (subst (λ (ms : List (List ℕ)). Within ms all) (trail_split s m k) a.messages);
-      values = each_left (Contains others) (foreign_of m) (foreign_of k) (subst (AllByRecursion (Contains others)) (foreign_of-append m k) a.values);
+      values = each_left (Contains others) (foreign_items m) (foreign_items k) (subst (AllByRecursion (Contains others)) (foreign_of-append m k) a.values);
     }
 
-pub shown_back : (all others : List (List ℕ)) (i : Instance) (y z : History) (m k : List Item) → register_value_of i (counted_part z) ≡ after extended_message (register_value_of i (counted_part y)) (values_of m) → AreShown all others i y (m ++ k) → AreShown all others i z k
+pub shown_back : (all others : List (List ℕ)) (i : Instance) (y z : History) (m k : List Item) → register_value_of i (counted_part z) ≡ after extended_message (register_value_of i (counted_part y)) (item_values m) → AreShown all others i y (m ++ k) → AreShown all others i z k
 shown_back all others i y z m k e a =
     let s : List ℕ = register_value_of i (counted_part y) in
-    let t : List ℕ = after extended_message s (values_of m) in
+    let t : List ℕ = after extended_message s (item_values m) in
     record {
-      messages = subst (λ (r : List ℕ). Within (trail extended_message r (values_of k)) all) (sym e)
-          (each_right (Contains all) (trail extended_message s (values_of m)) (trail extended_message t (values_of k))
+      messages = subst (λ (r : List ℕ). Within (trail extended_message r (item_values k)) all) (sym e)
+          (each_right (Contains all) (trail extended_message s (item_values m)) (trail extended_message t (item_values k))
           (subst (λ (ms : List (List ℕ)). Within ms all) (trail_split s m k) a.messages));
-      values = each_right (Contains others) (foreign_of m) (foreign_of k) (subst (AllByRecursion (Contains others)) (foreign_of-append m k) a.values);
+      values = each_right (Contains others) (foreign_items m) (foreign_items k) (subst (AllByRecursion (Contains others)) (foreign_of-append m k) a.values);
     }
 
 -- with no segment open the register counts as empty
@@ -180,19 +180,19 @@ shown_shut all others i y z more e f a =
     let same : register_value_of i (counted_part y) ≡ register_value_of i (counted_part z) =
     ap (register_value_of i) (counted_shut y e) ∙ sym (ap (register_value_of i) (counted_shut z f)) in
     record {
-      messages = subst (λ (r : List ℕ). Within (trail extended_message r (values_of more)) all) same a.messages;
+      messages = subst (λ (r : List ℕ). Within (trail extended_message r (item_values more)) all) same a.messages;
       values = a.values;
     }
 
 -- The register's value, by the items that a platform shows.
 
-pub reads_value : (meaning : Meaning) (key barrier : List ℕ) (standing : Standing) (y : History) (items : List Item) → StandsFor (opt meaning key barrier) standing y → standing.items ≡ Some items → platform.register_of (values_of items) ≡ register_value_of (opt meaning key barrier) y
+pub reads_value : (meaning : Meaning) (key barrier : List ℕ) (standing : Standing) (y : History) (items : List Item) → StandsFor (opt meaning key barrier) standing y → standing.items ≡ Some items → platform.register_of (item_values items) ≡ register_value_of (opt meaning key barrier) y
 reads_value meaning key barrier standing y items s known =
-    let reads : Some (platform.register_of (values_of items)) ≡ Some (register_value_of (opt meaning key barrier) y) =
-    ap (λ (x : Option (List Item)). option_map (λ xs. platform.register_of (values_of xs)) x) (sym known) ∙ s.register in
+    let reads : Some (platform.register_of (item_values items)) ≡ Some (register_value_of (opt meaning key barrier) y) =
+    ap (λ (x : Option (List Item)). option_map (λ xs. platform.register_of (item_values xs)) x) (sym known) ∙ s.register in
     cc
 
-start_value : (flag : Bool) (i : Instance) (y : History) (items : List Item) → platform.register_of (values_of items) ≡ register_value_of i y → platform.register_of (values_of (standing_items flag items)) ≡ register_value_of i (record y { items = if flag then y.items else [] })
+start_value : (flag : Bool) (i : Instance) (y : History) (items : List Item) → platform.register_of (item_values items) ≡ register_value_of i y → platform.register_of (item_values (standing_items flag items)) ≡ register_value_of i (record y { items = if flag then y.items else [] })
 start_value true i y items e = e
 start_value false i y items e = sym reads_zero
 
@@ -200,21 +200,21 @@ register-append : (xs ys : List (List ℕ)) → register_of (xs ++ ys) ≡ after
 unfolding register_of
 register-append xs ys = after-append extended_message zero_bytes xs ys
 
-more_value : (xs more : List Item) → platform.register_of (values_of (xs ++ more)) ≡ after extended_message (platform.register_of (values_of xs)) (values_of more)
+more_value : (xs more : List Item) → platform.register_of (item_values (xs ++ more)) ≡ after extended_message (platform.register_of (item_values xs)) (item_values more)
 more_value xs more =
     ap platform.register_of (map-append (λ (item : Item). item.value) xs more)
-    ∙ register_folds (values_of xs ++ values_of more)
-    ∙ register-append (values_of xs) (values_of more)
-    ∙ ap (λ (s : List ℕ). after extended_message s (values_of more)) (sym (register_folds (values_of xs)))
+    ∙ register_folds (item_values xs ++ item_values more)
+    ∙ register-append (item_values xs) (item_values more)
+    ∙ ap (λ (s : List ℕ). after extended_message s (item_values more)) (sym (register_folds (item_values xs)))
 
 pub register_then : (meaning : Meaning) (key barrier : List ℕ) (y z : History) (old new : Standing) (items more : List Item) → StandsFor (opt meaning key barrier) old y → old.items ≡ Some items → StandsFor (opt meaning key barrier) new z → new.items ≡ Some (standing_items y.is_open items ++ more) → z.is_open ≡ true
-    → register_value_of (opt meaning key barrier) (counted_part z) ≡ after extended_message (register_value_of (opt meaning key barrier) (counted_part y)) (values_of more)
+    → register_value_of (opt meaning key barrier) (counted_part z) ≡ after extended_message (register_value_of (opt meaning key barrier) (counted_part y)) (item_values more)
 register_then meaning key barrier y z old new items more s known t shown_then e =
     let i : Instance = opt meaning key barrier in
     ap (register_value_of i) (counted_open z e)
     ∙ sym (reads_value meaning key barrier new z (standing_items y.is_open items ++ more) t shown_then)
     ∙ more_value (standing_items y.is_open items) more
-    ∙ ap (λ (r : List ℕ). after extended_message r (values_of more)) (start_value y.is_open i y items (reads_value meaning key barrier old y items s known))
+    ∙ ap (λ (r : List ℕ). after extended_message r (item_values more)) (start_value y.is_open i y items (reads_value meaning key barrier old y items s known))
 
 -- A platform that shows other items while no segment is open stands for the history with these items.
 
@@ -223,13 +223,13 @@ entry_values_of barrier [] = refl
 entry_values_of barrier (v ∷ values) = ap (λ (vs : List (List ℕ)). v ∷ vs) (entry_values_of barrier values)
 
 pub stands_with : (meaning : Meaning) (key barrier : List ℕ) (y : History) (d : Digests) (standing : Standing) (items : List Item) → StandsAt (opt meaning key barrier) standing d → bare_digests d ≡ bare_digests (digests_of (opt meaning key barrier) y) → standing.items ≡ Some items
-    → StandsFor (opt meaning key barrier) standing (taking (bare y) (values_of items))
+    → StandsFor (opt meaning key barrier) standing (taking (bare y) (item_values items))
 stands_with meaning key barrier y d standing items s e known =
     let i : Instance = opt meaning key barrier in
-    let value : platform.register_of (values_of items) ≡ register_value_of i (taking (bare y) (values_of items)) =
-    register_folds (values_of items) ∙ ap register_of (sym (entry_values_of barrier (values_of items))) in
+    let value : platform.register_of (item_values items) ≡ register_value_of i (taking (bare y) (item_values items)) =
+    register_folds (item_values items) ∙ ap register_of (sym (entry_values_of barrier (item_values items))) in
     record {
       spells = subst (λ (x : Digests). IsCell (cell_at i x)) e s.spells;
       cell = s.cell ∙ ap (λ (x : Digests). Some (cell_spelling (cell_at i x))) e;
-      register = ap (λ (x : Option (List Item)). option_map (λ xs. platform.register_of (values_of xs)) x) known ∙ ap (λ (r : List ℕ). Some r) value;
+      register = ap (λ (x : Option (List Item)). option_map (λ xs. platform.register_of (item_values xs)) x) known ∙ ap (λ (r : List ℕ). Some r) value;
     }

@@ -16,15 +16,15 @@ use Rattle.mm_model.specs.declared.answer.Answer.{Answer}
 use Rattle.mm_model.specs.declared.answer.BatchAnswer.{BatchAnswer}
 use Rattle.mm_model.specs.declared.refusal.Refusal.{Refusal}
 use Rattle.mm_call.specs.Levels.{by_lists, by_digests, all_made}
-use Rattle.mm_call.specs.Found.{Found, found_at, found_in, is_fresh}
+use Rattle.mm_call.specs.Found.{Found, found_at, found_unless_wanting, is_fresh}
 use Rattle.mm_call.specs.Courses.{End, Done, Course, Walked, walk}
-use Rattle.mm_call.specs.Called.{called, ended_by, told}
+use Rattle.mm_call.specs.Called.{called, ended_by, given_for}
 use Rattle.mm_call.specs.CallsOn.{CallsOn}
 use Rattle.mm_call.specs.Leaving.{whole_in, Blames, IsAnswered}
 use Rattle.mm_call.specs.Refusals.{fault_in}
 use Rattle.mm_call.specs.Standing.{shown}
 use Rattle.mm_call.specs.Asked.{counted_moves, foreign_in, IsAsked}
-use Rattle.mm_call.specs.Tied.{standing_items, foreign_of}
+use Rattle.mm_call.specs.Tied.{standing_items, foreign_items}
 use Rattle.mm_call.proofs.Continuing.{stands_at}
 use Rattle.mm_call.proofs.Moving.{same_batches}
 use Rattle.mm_call.proofs.OptHolding.{is_agrees}
@@ -87,19 +87,19 @@ welcome_then meaning key barrier y sees offer b again same live w = record {
 }
 
 -- a call that wasn't broken off, and found a welcome offer or lacked memory
-whole_answers : (lacks : Bool) (i : Instance) (sees end : History) (b : Batch) (found : Found) (moves : List Move) (result : Result BatchAnswer Refusal) (old new : Standing) → result ≡ told (ended_by (by_lists i) sees end b (found_in (Ok found) lacks) moves None) → IsAnswered result old new
+whole_answers : (lacks : Bool) (i : Instance) (sees end : History) (b : Batch) (found : Found) (moves : List Move) (result : Result BatchAnswer Refusal) (old new : Standing) → result ≡ given_for (ended_by (by_lists i) sees end b (found_unless_wanting (Ok found) lacks) moves None) → IsAnswered result old new
 whole_answers false i sees end b found moves result old new e = subst (λ (r : Result BatchAnswer Refusal). IsAnswered r old new) (sym e) (inl refl)
 whole_answers true i sees end b found moves result old new e = subst (λ (r : Result BatchAnswer Refusal). IsAnswered r old new) (sym e) (inr (inl refl))
 
 answered_by : (broken : Option StepFault) (i : Instance) (sees end : History) (b : Batch) (found : Found) (lacks : Bool) (moves : List Move) (result : Result BatchAnswer Refusal) (old new : Standing) → Blames (fault_in result) old.faults new.faults
-    → (x : Result Found Refusal) → (broken ≡ None → x ≡ found_in (Ok found) lacks) → result ≡ told (ended_by (by_lists i) sees end b x moves broken) → IsAnswered result old new
+    → (x : Result Found Refusal) → (broken ≡ None → x ≡ found_unless_wanting (Ok found) lacks) → result ≡ given_for (ended_by (by_lists i) sees end b x moves broken) → IsAnswered result old new
 answered_by (Some fault) i sees end b found lacks moves result old new blames x is e =
     inr (inr (subst (λ (r : Result BatchAnswer Refusal). Blames (fault_in r) old.faults new.faults) e blames))
 answered_by None i sees end b found lacks moves result old new blames x is e =
-    whole_answers lacks i sees end b found moves result old new (e ∙ ap (λ (f : Result Found Refusal). told (ended_by (by_lists i) sees end b f moves None)) (is refl))
+    whole_answers lacks i sees end b found moves result old new (e ∙ ap (λ (f : Result Found Refusal). given_for (ended_by (by_lists i) sees end b f moves None)) (is refl))
 
 welcome_answers : (meaning : Meaning) (key barrier : List ℕ) (all others : List (List ℕ)) (asked : List Batch) (y : History) (old new : Standing) (offer request : List ℕ) (result : Result BatchAnswer Refusal) (items more : List Item) (again : Bool) → Blames (fault_in result) old.faults new.faults → CallsOn Opt meaning old new offer (One request) result
-    → StandsFor (opt meaning key barrier) old y → old.items ≡ Some items → new.items ≡ Some (standing_items y.is_open items ++ more) → (y.is_open ≡ true → foreign_of more ≡ [])
+    → StandsFor (opt meaning key barrier) old y → old.items ≡ Some items → new.items ≡ Some (standing_items y.is_open items ++ more) → (y.is_open ≡ true → foreign_items more ≡ [])
     → AreAsked all others asked (opt meaning key barrier) y offer (One request) → AreShown all others (opt meaning key barrier) y more → IsWelcome (opt meaning key barrier) y offer (One request) again → IsAnswered result old new
 unfolding welcome_then
 welcome_answers meaning key barrier all others asked y old new offer request result items more again blames c s known ends alone a shown_so w =
@@ -115,23 +115,23 @@ welcome_answers meaning key barrier all others asked y old new offer request res
     let v : List (List ℕ) = (c.course.fates 1).brings in
     let u : List (List ℕ) = (c.course.fates 2).brings in
     let sees : History = all_made (by_lists i) y (before c.course) in
-    let found : Result Found Refusal = found_in (found_at i (by_lists i) sees b offer) c.course.lacks in
+    let found : Result Found Refusal = found_unless_wanting (found_at i (by_lists i) sees b offer) c.course.lacks in
     let walked : Walked = walk c.course.fates 1 (ask_steps Opt y.is_open (is_fresh found) b) in
     let rest : Walked = walk c.course.fates 3 (changing y.is_open (is_fresh found) b) in
     let steps : walked ≡ two_reads v (c.course.fates 1).ends u (c.course.fates 2).ends rest = ap (walk c.course.fates 1) (asks y.is_open (is_fresh found) b) in
     let brought : walked.broken ≡ None → y.is_open ≡ true → (v ≡ []) × (u ≡ []) = λ whole e.
     let t = counts_open i y d moves e tie in
     let more_is : t.more ≡ more = shown_same old.items (shown i d moves) items (standing_items y.is_open items) more t.more known (t.are items) (sym g.items ∙ ends) in
-    let empty : foreign_in moves ≡ [] = ap (λ (f : Bool). foreign_in (counted_moves f moves)) (sym e) ∙ t.tied.values ∙ ap foreign_of more_is ∙ alone e in
+    let empty : foreign_in moves ≡ [] = ap (λ (f : Bool). foreign_in (counted_moves f moves)) (sym e) ∙ t.tied.values ∙ ap foreign_items more_is ∙ alone e in
     let done = both_done v (c.course.fates 1).ends u (c.course.fates 2).ends rest (ap (λ (x : Walked). x.broken) (sym steps) ∙ whole) in
     let there : foreign_in (two_reads v Done u Done rest).moves ≡ [] =
     ap (λ (z : End). foreign_in (two_reads v Done u z rest).moves) (sym done.1) ∙ ap (λ (z : End). foreign_in (two_reads v z u (c.course.fates 2).ends rest).moves) (sym done.0)
     ∙ ap (λ (x : Walked). foreign_in x.moves) (sym steps) ∙ ap foreign_in (sym same.moves) ∙ empty in
     no_values v u rest.moves there in
     let batches : sees.batches ≡ y.batches = same_batches i (before c.course) y (foreign_first v (map Foreign u ++ []) ∙ foreign_first u []) in
-    let finds : walked.broken ≡ None → found ≡ found_in (Ok (record { offered = w.content; again = again })) c.course.lacks = λ whole.
+    let finds : walked.broken ≡ None → found ≡ found_unless_wanting (Ok (record { offered = w.content; again = again })) c.course.lacks = λ whole.
     let live = sees_live y.is_open meaning key barrier y c.course w.live refl (brought whole) in
-    ap (λ (x : Result Found Refusal). found_in x c.course.lacks) (welcome_found i sees offer b again (welcome_then meaning key barrier y sees offer b again batches live w)) in
+    ap (λ (x : Result Found Refusal). found_unless_wanting x c.course.lacks) (welcome_found i sees offer b again (welcome_then meaning key barrier y sees offer b again batches live w)) in
     answered_by walked.broken i sees (all_made (by_lists i) y walked.moves) b (record { offered = w.content; again = again }) c.course.lacks walked.moves result old new blames found finds k.gives
 
 blames_whole : (result : Result Answer Refusal) (old new : Standing) → Blames (fault_in result) old.faults new.faults → Blames (fault_in (whole_in result)) old.faults new.faults

@@ -15,12 +15,12 @@ use Rattle.mm_model.specs.declared.answer.BatchAnswer.{BatchAnswer}
 use Rattle.mm_model.specs.declared.refusal.Refusal.{Refusal}
 use Rattle.mm_model.specs.declared.refusal.Refusal.TheVariants.{Long, Device}
 use Rattle.mm_seal.specs.Snapshot.{sealed_of}
-use Rattle.mm_call.specs.Called.{ended_by, told}
-use Rattle.mm_call.specs.Found.{Found, found_at, found_in, is_fresh}
+use Rattle.mm_call.specs.Called.{ended_by, given_for}
+use Rattle.mm_call.specs.Found.{Found, found_at, found_unless_wanting, is_fresh}
 use Rattle.mm_call.specs.Leaving.{Blames}
 use Rattle.mm_call.specs.Levels.{by_lists}
 use Rattle.mm_call.specs.Refusals.{fault_of}
-use Rattle.mm_callers.specs.Basic.{AreAsked, IsOnce, finds, SaysFound, Says, Stays, IsLeft, Refuses, RefusesNext, in_second}
+use Rattle.mm_callers.specs.Basic.{AreAsked, IsOnce, finds, SaysFound, SaysUnlessFault, Stays, IsLeft, Refuses, RefusesNext, in_second}
 use Rattle.mm_callers.proofs.Calls.{Comes, kept, grown, one_content}
 use Rattle.mm_callers.proofs.Again.{apart}
 
@@ -29,17 +29,17 @@ pub data Fails (why : Refusal) (found : Result Found Refusal) (broken : Option S
   by_fault : (fault : StepFault) → why ≡ Device fault → Fails why found broken
   by_found : broken ≡ None → found ≡ Err why → Fails why found broken
 
-pub fails : (broken : Option StepFault) (i : Instance) (seen s : History) (b : Batch) (found : Result Found Refusal) (moves : List Move) (why : Refusal) → Err why ≡ told (ended_by (by_lists i) seen s b found moves broken) → Fails why found broken
+pub fails : (broken : Option StepFault) (i : Instance) (seen s : History) (b : Batch) (found : Result Found Refusal) (moves : List Move) (why : Refusal) → Err why ≡ given_for (ended_by (by_lists i) seen s b found moves broken) → Fails why found broken
 fails (Some fault) i seen s b found moves why e = by_fault fault (cc)
 fails None i seen s b (Err is) moves why e = by_found refl (cc)
 fails None i seen s b (Ok it) moves why e = absurd (cc)
 
-pub says_found : (x : Result Found Refusal) (lacks : Bool) (why : Refusal) → found_in x lacks ≡ Err why → SaysFound x why
+pub says_found : (x : Result Found Refusal) (lacks : Bool) (why : Refusal) → found_unless_wanting x lacks ≡ Err why → SaysFound x why
 says_found (Err is) lacks why e = cc
 says_found (Ok it) false why e = absurd (cc)
 says_found (Ok it) true why e = cc
 
-pub says_by : (f : Option StepFault) (x : Result Found Refusal) (why : Refusal) → SaysFound x why → Says f x why
+pub says_by : (f : Option StepFault) (x : Result Found Refusal) (why : Refusal) → SaysFound x why → SaysUnlessFault f x why
 says_by (Some fault) x why s = tt
 says_by None x why s = s
 
@@ -56,9 +56,9 @@ pub record IsCalm (i : Instance) (y after : History) : Type 0 where
 
 -- what a call says, by how it ended
 pub said_by : (i : Instance) (seen after : History) (lacks : Bool) (offer : List ℕ) (b : Batch) (why : Refusal) (found : Result Found Refusal) (broken : Option StepFault) → is_long b ≡ false
-    → found ≡ found_in (found_at i (by_lists i) seen b offer) lacks → (broken ≡ None → is_fresh found ≡ false → after ≡ seen) → Fails why found broken → Says (fault_of why) (finds i after offer b) why
+    → found ≡ found_unless_wanting (found_at i (by_lists i) seen b offer) lacks → (broken ≡ None → is_fresh found ≡ false → after ≡ seen) → Fails why found broken → SaysUnlessFault (fault_of why) (finds i after offer b) why
 said_by i seen after lacks offer b why found broken short is there (by_fault fault e) =
-    subst (λ (w : Refusal). Says (fault_of w) (finds i after offer b) w) (sym e) tt
+    subst (λ (w : Refusal). SaysUnlessFault (fault_of w) (finds i after offer b) w) (sym e) tt
 said_by i seen after lacks offer b why found broken short is there (by_found whole e) =
     says_by (fault_of why) (finds i after offer b) why
     (subst (λ (x : Result Found Refusal). SaysFound x why) (sym (finds_short i after offer b short ∙ ap (λ (z : History). found_at i (by_lists i) z b offer) (there whole (ap is_fresh e))))
@@ -74,7 +74,7 @@ pub record Fell (all others : List (List ℕ)) (asked : List Batch) (i : Instanc
   pub stays : Stays all others asked i new offer b
   pub comes : Comes i y offer b stays.after (Err why)
   pub calm : fault_of why ≡ None → IsCalm i y stays.after
-  pub says : Says (fault_of why) (finds i stays.after offer b) why
+  pub says : SaysUnlessFault (fault_of why) (finds i stays.after offer b) why
   pub names : (content : Content) → Names i y content → Names i stays.after content
 
 -- a batch that is too long is refused as it stands
@@ -136,7 +136,7 @@ left_next f i y after old middle new offer b why same blames c calm =
     left_by f i y after old new offer b why (subst (λ (n : ℕ). Blames f n new.faults) same blames) c calm
 
 says_next : (f : Option StepFault) (i : Instance) (y after : History) (next : List ℕ) (b : Batch) (why : Refusal) → next ≡ issued_bytes i y → (f ≡ None → issued i after ≡ issued i y)
-    → Says f (finds i after next b) why → Says f (finds i after (issued_bytes i after) b) why
+    → SaysUnlessFault f (finds i after next b) why → SaysUnlessFault f (finds i after (issued_bytes i after) b) why
 says_next (Some fault) i y after next b why e issues s = tt
 says_next None i y after next b why e issues s =
     subst (λ (offer : List ℕ). SaysFound (finds i after offer b) why) (e ∙ ap (sealed_of i.key) (sym (issues refl))) s

@@ -66,9 +66,9 @@ SaysFound (Err is) why = why ≡ is
 SaysFound (Ok found) why = why ≡ Memory
 
 -- So it is unless a device's fault is handed on.
-abbrev pub Says : Option StepFault → Result Found Refusal → Refusal → Type 0
-Says (Some fault) found why = Unit {0}
-Says None found why = SaysFound found why
+abbrev pub SaysUnlessFault : Option StepFault → Result Found Refusal → Refusal → Type 0
+SaysUnlessFault (Some fault) found why = Unit {0}
+SaysUnlessFault None found why = SaysFound found why
 
 -- After an error the platform stands for a history of which the same holds as was asked, so that the call may be made
 -- again.
@@ -87,7 +87,7 @@ pub record Refuses (all others : List (List ℕ)) (asked : List Batch) (i : Inst
     (b : Batch) (why : Refusal) : Type 0 where
   pub stays : Stays all others asked i new offer b
   pub left : IsLeft y.batches b stays.after.batches old new
-  pub says : Says (fault_of why) (finds i stays.after offer b) why
+  pub says : SaysUnlessFault (fault_of why) (finds i stays.after offer b) why
 
 -- a call that is made once more after a device's fault
 abbrev pub AsksAgain : Meaning → Standing → Standing → List ℕ → List ℕ → Result Answer Refusal → Type 0
@@ -119,7 +119,7 @@ pub data RefusesNext (all others : List (List ℕ)) (asked : List Batch) (i : In
   in_first : Refuses all others asked i y old new offer first why → RefusesNext all others asked i y old new offer first second why
   in_second : (batches : List Batch) → IsOnce y.batches first batches → (stays : Stays all others asked i new offer first)
       → IsLeft batches second stays.after.batches old new
-      → Says (fault_of why) (finds i stays.after (issued_bytes i stays.after) second) why
+      → SaysUnlessFault (fault_of why) (finds i stays.after (issued_bytes i stays.after) second) why
       → RefusesNext all others asked i y old new offer first second why
 
 -- two calls, the second on the snapshot of the first answer

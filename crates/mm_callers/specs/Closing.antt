@@ -3,7 +3,7 @@ use Rattle.std.specs.Prelude.{◌≡◌, ℕ, true, List, [], ◌∷◌, ◌++�
 use Rattle.mm_digest.specs.declared.variant.Variant.TheVariants.{Opt}
 use Rattle.mm_digest.specs.Messages.{extended_of, anchored_message}
 use Rattle.mm_platform.specs.declared.fault.StepFault.{StepFault}
-use Rattle.mm_platform.specs.Standing.{Item, Standing, values_of}
+use Rattle.mm_platform.specs.Standing.{Item, Standing, item_values}
 use Rattle.mm_module.specs.Meaning.{Meaning}
 use Rattle.mm_module.specs.Batch.{Batch, One}
 use Rattle.mm_model.specs.Instance.{Instance, opt}
@@ -37,7 +37,7 @@ closing_messages anchor register (v ∷ values) = anchored_message anchor regist
 
 -- What is asked besides for a checkpoint: the messages by which it may close the segment, at any of these items.
 abbrev pub MayClose : List (List ℕ) → Instance → History → List Item → Type 0
-MayClose all i y more = Within (closing_messages (cell_digest_of i Opt y) (register_value_of i (counted_part y)) (values_of more)) all
+MayClose all i y more = Within (closing_messages (cell_digest_of i Opt y) (register_value_of i (counted_part y)) (item_values more)) all
 
 -- The second reply is the first one again: it is told as a repeat, at the first one's position and with its outputs, and
 -- the batch stands once in the run that it is of.

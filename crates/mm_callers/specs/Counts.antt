@@ -32,22 +32,22 @@ StepsFor true variant result old new = (result ≡ Err Long) × (new.steps ≡ o
 StepsFor false variant result old new = StepsOf variant result old new
 
 -- One call counts its steps, and a fault exactly where it hands one on.
-pub record Counts (variant : Variant) (b : Batch) (old new : Standing) (result : Result BatchAnswer Refusal) : Type 0 where
+pub record CountsCall (variant : Variant) (b : Batch) (old new : Standing) (result : Result BatchAnswer Refusal) : Type 0 where
   pub steps : StepsFor (is_long b) variant result old new
   pub faults : Blames (fault_in result) old.faults new.faults
 
 -- One call, which hands on no fault; or, where it handed one on, another. So a fault is told only where two were counted.
 pub data CountsAgain (variant : Variant) (b : Batch) (old new : Standing) (result : Result BatchAnswer Refusal) : Type 0 where
-  at_once : fault_in result ≡ None → Counts variant b old new result → CountsAgain variant b old new result
-  again : (middle : Standing) (fault : StepFault) → Counts variant b old middle (Err (Device fault))
-      → Counts variant b middle new result → CountsAgain variant b old new result
+  at_once : fault_in result ≡ None → CountsCall variant b old new result → CountsAgain variant b old new result
+  again : (middle : Standing) (fault : StepFault) → CountsCall variant b old middle (Err (Device fault))
+      → CountsCall variant b middle new result → CountsAgain variant b old new result
 
 -- One call, which was refused; or, where it was answered, another.
 pub data CountsNext (variant : Variant) (first second : Batch) (old new : Standing) (result : Result BatchAnswer Refusal) : Type 0 where
-  alone : (why : Refusal) → result ≡ Err why → Counts variant first old new result
+  alone : (why : Refusal) → result ≡ Err why → CountsCall variant first old new result
       → CountsNext variant first second old new result
-  both : (middle : Standing) (answer : BatchAnswer) → Counts variant first old middle (Ok answer)
-      → Counts variant second middle new result → CountsNext variant first second old new result
+  both : (middle : Standing) (answer : BatchAnswer) → CountsCall variant first old middle (Ok answer)
+      → CountsCall variant second middle new result → CountsNext variant first second old new result
 
 -- So does a checkpoint.
 pub record CountsClosing (old new : Standing) (result : Result Checkpointed CheckpointRefusal) : Type 0 where
@@ -57,13 +57,13 @@ pub record CountsClosing (old new : Standing) (result : Result Checkpointed Chec
 -- A call; where it was answered, a checkpoint; and where that was made, the call once more. An error is that of the last
 -- of these.
 pub data CountsRepeat (b : Batch) (old new : Standing) (result : Result Replies Halted) : Type 0 where
-  in_first : (why : Refusal) → result ≡ Err (Asking why) → Counts Opt b old new (Err why) → CountsRepeat b old new result
+  in_first : (why : Refusal) → result ≡ Err (Asking why) → CountsCall Opt b old new (Err why) → CountsRepeat b old new result
   in_closing : (why : CheckpointRefusal) → result ≡ Err (Closing why) → (answered : Standing) (first : BatchAnswer)
-      → Counts Opt b old answered (Ok first) → CountsClosing answered new (Err why) → CountsRepeat b old new result
+      → CountsCall Opt b old answered (Ok first) → CountsClosing answered new (Err why) → CountsRepeat b old new result
   in_second : (why : Refusal) → result ≡ Err (Asking why) → (answered closed : Standing) (first : BatchAnswer) (said : Checkpointed)
-      → Counts Opt b old answered (Ok first) → CountsClosing answered closed (Ok said) → Counts Opt b closed new (Err why)
+      → CountsCall Opt b old answered (Ok first) → CountsClosing answered closed (Ok said) → CountsCall Opt b closed new (Err why)
       → CountsRepeat b old new result
   replied : (first second : Answer) → result ≡ Ok (record { first = first; second = second })
       → (answered closed : Standing) (said : Checkpointed)
-      → Counts Opt b old answered (Ok (whole first)) → CountsClosing answered closed (Ok said)
-      → Counts Opt b closed new (Ok (whole second)) → CountsRepeat b old new result
+      → CountsCall Opt b old answered (Ok (whole first)) → CountsClosing answered closed (Ok said)
+      → CountsCall Opt b closed new (Ok (whole second)) → CountsRepeat b old new result

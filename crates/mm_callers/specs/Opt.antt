@@ -2,7 +2,7 @@
 use Rattle.std.specs.Prelude.{◌≡◌, ℕ, Bool, true, false, List, [], ◌++◌, Some, Result, Ok, Err}
 use Rattle.std.specs.List.{AllByRecursion, Contains}
 use Rattle.mm_digest.specs.Messages.{extended_message}
-use Rattle.mm_platform.specs.Standing.{Item, Standing, values_of}
+use Rattle.mm_platform.specs.Standing.{Item, Standing, item_values}
 use Rattle.mm_platform.specs.Told.{quiet_plan}
 use Rattle.mm_module.specs.Meaning.{Meaning}
 use Rattle.mm_module.specs.Batch.{Batch, One}
@@ -19,15 +19,15 @@ use Rattle.mm_model.specs.declared.refusal.Refusal.{Refusal}
 use Rattle.mm_model.specs.declared.refusal.Refusal.TheVariants.{Memory}
 use Rattle.mm_call.specs.Asked.{counted_part}
 use Rattle.mm_call.specs.Leaving.{whole, whole_in, IsAnswered}
-use Rattle.mm_call.specs.Tied.{standing_items, foreign_of}
+use Rattle.mm_call.specs.Tied.{standing_items, foreign_items}
 use Rattle.mm_callers.specs.Basic.{AreAsked, AnswersOnce, AnswersNext, IsOfRun, Refuses, RefusesNext}
 use Rattle.mm_callers.specs.Complete.{IsWelcome, batches_then}
 
 -- What is asked of the items that the register shows at exit, behind those that counted at entry: their messages, one
 -- after another, are in the clear list, and the values that aren't the platform's own are among those of others.
 pub record AreShown (all others : List (List ℕ)) (i : Instance) (y : History) (more : List Item) : Type 0 where
-  pub messages : Within (trail extended_message (register_value_of i (counted_part y)) (values_of more)) all
-  pub values : AllByRecursion (Contains others) (foreign_of more)
+  pub messages : Within (trail extended_message (register_value_of i (counted_part y)) (item_values more)) all
+  pub values : AllByRecursion (Contains others) (foreign_items more)
 
 -- One call, or one that is made again after a device's fault; inside a segment or across an opening.
 abbrev pub AsksOnce : Meaning → Standing → Standing → List ℕ → List ℕ → Result Answer Refusal → Type 0
@@ -97,6 +97,6 @@ abbrev pub AsksWelcome : Meaning → Standing → Standing → List ℕ → List
 AsksWelcome meaning old new offer request result =
     (key barrier : List ℕ) (y : History) (all others : List (List ℕ)) (asked : List Batch) (items more : List Item) (again : Bool) →
     is_long (One request) ≡ false → StandsFor (opt meaning key barrier) old y →
-    old.items ≡ Some items → new.items ≡ Some (standing_items y.is_open items ++ more) → (y.is_open ≡ true → foreign_of more ≡ []) →
+    old.items ≡ Some items → new.items ≡ Some (standing_items y.is_open items ++ more) → (y.is_open ≡ true → foreign_items more ≡ []) →
     AreAsked all others asked (opt meaning key barrier) y offer (One request) → AreShown all others (opt meaning key barrier) y more →
     IsWelcome (opt meaning key barrier) y offer (One request) again → IsAnswered (whole_in result) old new

@@ -3,7 +3,7 @@
 ghost use Rattle.mm_digest.specs.declared.variant.Variant.TheVariants.{Opt};
 ghost use Rattle.mm_module.specs.Batch.{One};
 ghost use Rattle.mm_call.specs.Leaving.{whole_in};
-ghost use Rattle.mm_callers.specs.Counts.{Counts, CountsAgain, CountsNext};
+ghost use Rattle.mm_callers.specs.Counts.{CountsCall, CountsAgain, CountsNext};
 ghost use Rattle.mm_callers.specs.Opt.{AsksOnce, AsksByQuietPlan, AsksInMemory, AsksTwice, AsksWelcome};
 
 use mm_model::{Answer, Refusal};
@@ -26,7 +26,7 @@ pub fn ask_once<M: Module, P: Platform>(
         (P.standing platform.new) offer.now request.now result }
     ensures complete { AsksByQuietPlan (M.meaning «module».now) (P.standing platform.old)
         (P.standing platform.new) offer.now request.now result }
-    ensures counts { Counts Opt (One request.now) (P.standing platform.old)
+    ensures counts { CountsCall Opt (One request.now) (P.standing platform.old)
         (P.standing platform.new) (whole_in result) }
 {
     ask(alloc, module, platform, offer, request)
@@ -43,7 +43,7 @@ pub fn ask_in_memory<M: Module>(
 ) -> Result<Answer, Refusal>
     ensures complete { AsksInMemory (M.meaning «module».now) platform.old platform.new offer.now
         request.now result }
-    ensures counts { Counts Opt (One request.now) platform.old platform.new (whole_in result) }
+    ensures counts { CountsCall Opt (One request.now) platform.old platform.new (whole_in result) }
 {
     platform.end_plan();
     ask_once(alloc, module, platform, offer, request)

@@ -16,11 +16,11 @@ use Rattle.mm_play.specs.declared.player.Refused.TheVariants.{Bad, Much}
 use Rattle.mm_play.specs.Play.{Told, told, stopped, refusal_at, answered, closed, ended, goes_on, run}
 use Rattle.mm_play.proofs.Runs.{not_ok, ok_same}
 use Rattle.mm_replay.specs.Schedule.{is_too_much}
-use Rattle.mm_check.specs.Checking.{Read, first_read, after_read, Compared, first_compared, after_compared, Stage, AtHeader, InEvents, InReplies, headed, read_event, read_line, check_answer, check_closing, most_recorded, section_line}
+use Rattle.mm_check.specs.Checking.{Read, first_read, with_event, Compared, first_compared, after_compared, Stage, AtHeader, InEvents, InReplies, headed, read_event, read_line, check_answer, check_closing, most_recorded, section_line}
 use Rattle.std.specs.Io.KnownBytes.{Appends}
 use Rattle.mm_play.specs.Plays.{ForWhole, Settles, Plays, IsBlamed, is_write_fault}
 use Rattle.mm_play.proofs.Telling.{for_whole}
-use Rattle.mm_check.specs.Checks.{IsChecked, AreTested, check_lines, check_run, JudgesBy, Judges, ChecksBy, Checks}
+use Rattle.mm_check.specs.Checks.{IsChecked, AreTested, check_lines, check_run, JudgesBy, Judges, ChecksRunBy, ChecksRun}
 use Rattle.mm_check.specs.Verdicts.{AreVerdicts, Concludes, run_lines}
 use Rattle.mm_check.specs.declared.verdicts.Verdicts.{Verdicts}
 use Rattle.mm_check.proofs.ComparingLaws.{with_end, verdicts_on}
@@ -61,7 +61,7 @@ record Behind (r : Read) (lines : List (List ℕ)) (p : Stage) : Type 0 where
   ends : EndsIn last section p
 
 event_first : (r : Read) (line : List ℕ) (lines : List (List ℕ)) (event : Event) (p : Stage) → event_at line ≡ Some event
-    → Behind (after_read r line event) lines p → Behind r (line ∷ lines) p
+    → Behind (with_event r line event) lines p → Behind r (line ∷ lines) p
 event_first r line lines event p is b = record {
   others = line ∷ b.others;
   section = b.section;
@@ -75,7 +75,7 @@ event_first r line lines event p is b = record {
 }
 
 much_ran : (much : Bool) (on : Stage → Told Stage) (n : ℕ) (r : Read) (line : List ℕ) (event : Event) (p : Stage)
-    → (answered on n (cond much (Err Much) (Ok ([], InEvents (after_read r line event))))).outcome ≡ Ok p → (on (InEvents (after_read r line event))).outcome ≡ Ok p
+    → (answered on n (cond much (Err Much) (Ok ([], InEvents (with_event r line event))))).outcome ≡ Ok p → (on (InEvents (with_event r line event))).outcome ≡ Ok p
 much_ran true on n r line event p h = absurd (not_ok (refusal_at n Much) p h)
 much_ran false on n r line event p h = h
 
@@ -89,7 +89,7 @@ found_ran : (heading : List ℕ → Option Header) (lines : List (List ℕ)) (n 
 found_ran heading lines n r line None p is on h = absurd (not_ok (refusal_at n Bad) p h)
 found_ran heading lines n r line (Some event) p is on h =
     event_first r line lines event p is
-    (on (after_read r line event) (much_ran (is_too_much r.running line) (λ next. run (check_answer heading) (n + 1) next lines) n r line event p h))
+    (on (with_event r line event) (much_ran (is_too_much r.running line) (λ next. run (check_answer heading) (n + 1) next lines) n r line event p h))
 
 section_ran : (heading : List ℕ → Option Header) (lines : List (List ℕ)) (n : ℕ) (r : Read) (line : List ℕ) (section : Bool) (p : Stage) → bytes_eq line section_line ≡ section
     → GoesOn heading lines (n + 1) p
@@ -269,7 +269,7 @@ appends_nothing : (received : Option (List ℕ)) → Appends received received [
 appends_nothing None = tt
 appends_nothing (Some bytes) = sym (append-nil bytes)
 
-checks_by : (left : Option (List ℕ)) (taken : List ℕ) (fault : ReplayFault) → JudgesBy left taken (Err fault) → ChecksBy left taken [] (Err fault)
+checks_by : (left : Option (List ℕ)) (taken : List ℕ) (fault : ReplayFault) → JudgesBy left taken (Err fault) → ChecksRunBy left taken [] (Err fault)
 checks_by left taken Memory s = refl
 checks_by left taken ReadFault s = (refl, s)
 checks_by left taken WriteFault s = absurd s
@@ -277,7 +277,7 @@ checks_by left taken (BadLine n) s = (refl, s)
 checks_by left taken (LineLong n) s = (refl, s)
 checks_by left taken TooMuch s = (refl, s)
 
-pub checked_err : (left left' received : Option (List ℕ)) (fault : ReplayFault) → Judges left left' (Err fault) → Checks left left' received received (Err fault)
+pub checked_err : (left left' received : Option (List ℕ)) (fault : ReplayFault) → Judges left left' (Err fault) → ChecksRun left left' received received (Err fault)
 checked_err left left' received fault j = record {
   taken = j.taken;
   sent = [];

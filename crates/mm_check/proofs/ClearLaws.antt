@@ -14,7 +14,7 @@ use Rattle.mm_model.specs.Messages.{IsClear, move_messages}
 use Rattle.mm_call.specs.Asked.{moves_messages}
 use Rattle.mm_call.specs.Levels.{by_lists}
 use Rattle.mm_schedule.specs.Events.{Event}
-use Rattle.mm_run.specs.Folds.{outcome_of, first_issued}
+use Rattle.mm_run.specs.Folds.{event_outcome, first_issued}
 use Rattle.mm_run.specs.Premises.{event_messages, moves_of, messages_from, run_messages}
 use Rattle.mm_expect.specs.Numbered.{messages_if, messages_where, numbered_event}
 use Rattle.mm_check.specs.Listing.{first_where, listed, message_digests, shared_with, shared_in, is_zero, zero_in}
@@ -190,7 +190,7 @@ event_in i y issued event m h =
 events_in : (i : Instance) (events : List Event) (y : History) (issued : List (List ℕ)) → IsIn (messages_from i y issued events) (numbered_from i y issued events)
 events_in i [] y issued m h = absurd (none_in m h)
 events_in i (event ∷ events) y issued m h =
-    let o = outcome_of i (by_lists i) y issued event in
+    let o = event_outcome i (by_lists i) y issued event in
     let here = event_messages i issued event ++ moves_messages i y (moves_of i y issued event) in
     elim (Contains-append_cases here (messages_from i o.state o.issued events) m h) [
       | inl now ↦ Contains-append_left (numbered_event i y issued event) (numbered_from i o.state o.issued events) m (event_in i y issued event m now)

@@ -22,10 +22,10 @@ use Rattle.mm_model.specs.History.{History, first_history, total_of}
 use Rattle.mm_schedule.specs.declared.header.Header.{Header}
 use Rattle.mm_schedule.specs.declared.reply.Reply.{Reply}
 use Rattle.mm_schedule.specs.Events.{Event, event_of}
-use Rattle.mm_schedule.specs.Replies.{lines_of, end_line}
+use Rattle.mm_schedule.specs.Replies.{lines_of_reply, end_line}
 use Rattle.mm_call.specs.Levels.{by_lists}
 use Rattle.mm_call.specs.Standing.{instance_by}
-use Rattle.mm_run.specs.Folds.{Followed, followed, outcome_of, first_issued, expected}
+use Rattle.mm_run.specs.Folds.{Followed, followed, event_outcome, first_issued, expected}
 use Rattle.mm_run.specs.Held.{world_key, world_barrier, world_of}
 use Rattle.mm_run.specs.Laws.{continued}
 use Rattle.mm_model.specs.Messages.{AreNoGuards}
@@ -48,7 +48,7 @@ use Rattle.mm_check.specs.declared.deciding.Deciding.{Deciding}
 
 -- what is heard of an event behind those that were followed so far
 pub record IsHeard (i : Instance) (before : Followed History) (event : Event) (heard : Heard) : Type 0 where
-  pub reply : heard.reply ≡ (outcome_of i (by_lists i) before.state before.issued event).reply
+  pub reply : heard.reply ≡ (event_outcome i (by_lists i) before.state before.issued event).reply
   pub messages : heard.messages.items ≡ numbered_event i before.state before.issued event
   pub genuine : IsDecided heard.is_genuine (IsGenuineEvent i before.state before.issued event)
 
@@ -79,7 +79,7 @@ from_push : (i : Instance) (es : List Event) (e : Event) (y : History) (issued :
     numbered_from i y issued (es ++ e ∷ []) ≡ numbered_from i y issued es ++ numbered_event i f.state f.issued e)
 from_push i [] e y issued = append-nil (numbered_event i y issued e)
 from_push i (x ∷ es) e y issued =
-    let o = outcome_of i (by_lists i) y issued x in
+    let o = event_outcome i (by_lists i) y issued x in
     let here = numbered_event i y issued x in
     ap (λ (l : List (List ℕ)). here ++ l) (from_push i es e o.state o.issued) ∙ sym (append_assoc here _ _)
 
@@ -93,23 +93,23 @@ numbered-push i es e =
 
 pub lines_of_all-append : (xs ys : List Reply) → lines_of_all (xs ++ ys) ≡ lines_of_all xs ++ lines_of_all ys
 lines_of_all-append [] ys = refl
-lines_of_all-append (x ∷ xs) ys = ap (λ (l : List (List ℕ)). lines_of x ++ l) (lines_of_all-append xs ys) ∙ sym (append_assoc (lines_of x) (lines_of_all xs) (lines_of_all ys))
+lines_of_all-append (x ∷ xs) ys = ap (λ (l : List (List ℕ)). lines_of_reply x ++ l) (lines_of_all-append xs ys) ∙ sym (append_assoc (lines_of_reply x) (lines_of_all xs) (lines_of_all ys))
 
 lines-push : (i : Instance) (es : List Event) (e : Event)
     → (let f : Followed History = expected i es in
-    lines_of_all (expected i (es ++ e ∷ [])).replies ≡ lines_of_all f.replies ++ lines_of (outcome_of i (by_lists i) f.state f.issued e).reply)
+    lines_of_all (expected i (es ++ e ∷ [])).replies ≡ lines_of_all f.replies ++ lines_of_reply (event_outcome i (by_lists i) f.state f.issued e).reply)
 lines-push i es e =
     let f = expected i es in
-    let said = (outcome_of i (by_lists i) f.state f.issued e).reply in
+    let said = (event_outcome i (by_lists i) f.state f.issued e).reply in
     ap (λ (g : Followed History). lines_of_all g.replies) (after_one i es e) ∙ lines_of_all-append f.replies (said ∷ [])
-    ∙ ap (λ (l : List (List ℕ)). lines_of_all f.replies ++ l) (append-nil (lines_of said))
+    ∙ ap (λ (l : List (List ℕ)). lines_of_all f.replies ++ l) (append-nil (lines_of_reply said))
 
 genuine_push : (i : Instance) (es : List Event) (e : Event) (y : History) (issued : List (List ℕ))
     → (let f : Followed History = followed i (by_lists i) y issued es in
     AreGenuine i y issued es → IsGenuineEvent i f.state f.issued e → AreGenuine i y issued (es ++ e ∷ []))
 genuine_push i [] e y issued all here = (here, tt)
 genuine_push i (x ∷ es) e y issued all here =
-    let o = outcome_of i (by_lists i) y issued x in (all.0, genuine_push i es e o.state o.issued all.1 here)
+    let o = event_outcome i (by_lists i) y issued x in (all.0, genuine_push i es e o.state o.issued all.1 here)
 
 still_forged : (i : Instance) (es : List Event) (e : Event) (n : ℕ) → IsForgedAt i es n → IsForgedAt i (es ++ e ∷ []) n
 still_forged i es e n h = record {
@@ -133,7 +133,7 @@ pub stands_next : (header : Header) (es : List Event) (e : Event) (old new : Dec
     → IsHeard (world_of header) (expected (world_of header) es) e heard → IsAfter header (es ++ e ∷ []) new.expecting
     → length new.expecting.issued ≤ length old.expecting.issued + 1
     → Lists (fold listed (numbered (world_of header) es) heard.messages.items) new.numbers
-    → new.lines.items ≡ old.lines.items ++ lines_of heard.reply → new.forged ≡ forged_then old.forged heard.is_genuine (length es + 1)
+    → new.lines.items ≡ old.lines.items ++ lines_of_reply heard.reply → new.forged ≡ forged_then old.forged heard.is_genuine (length es + 1)
     → StandsBehind header (es ++ e ∷ []) new
 stands_next header es e old new heard h hears after few lists lines forged =
     let i = world_of header in
@@ -142,8 +142,8 @@ stands_next header es e old new heard h hears after few lists lines forged =
       few = omega (arith, few, h.few, length-append es (e ∷ []));
       lists = subst (λ (l : List (List ℕ)). Lists l new.numbers)
           (ap (λ (l : List (List ℕ)). fold listed (numbered i es) l) hears.messages ∙ sym (numbered-push i es e)) lists;
-      lines = lines ∙ ap (λ (l : List (List ℕ)). l ++ lines_of heard.reply) h.lines
-          ∙ ap (λ (r : Reply). lines_of_all (expected i es).replies ++ lines_of r) hears.reply ∙ sym (lines-push i es e);
+      lines = lines ∙ ap (λ (l : List (List ℕ)). l ++ lines_of_reply heard.reply) h.lines
+          ∙ ap (λ (r : Reply). lines_of_all (expected i es).replies ++ lines_of_reply r) hears.reply ∙ sym (lines-push i es e);
       forged = subst (λ (o : Option ℕ). IsFirstForged i (es ++ e ∷ []) o) (sym forged)
           (forged-push i es e old.forged heard.is_genuine h.forged hears.genuine);
     }
@@ -269,7 +269,7 @@ pub stands_after : (header : Header) (es : List CodeEvent) (index : ℕ) (event 
     → IsAfter header (events_of (take index es) ++ event_of event ∷ []) new.expecting
     → length new.expecting.issued ≤ length old.expecting.issued + 1
     → Lists (fold listed (numbered (world_of header) (events_of (take index es))) heard.messages.items) new.numbers
-    → new.lines.items ≡ old.lines.items ++ lines_of heard.reply → new.forged ≡ forged_then old.forged heard.is_genuine (index + 1)
+    → new.lines.items ≡ old.lines.items ++ lines_of_reply heard.reply → new.forged ≡ forged_then old.forged heard.is_genuine (index + 1)
     → StandsBehind header (events_of (take (index + 1) es)) new
 stands_after header es index event old new heard within is h hears after few lists lines forged =
     let before = events_of (take index es) in

@@ -29,7 +29,7 @@ use Rattle.mm_schedule.specs.declared.event.Event.TheVariants as code
 use Rattle.mm_schedule.specs.declared.event.Meddles.{Meddles}
 use Rattle.mm_schedule.specs.Events.{Event, Ask, Checkpoint, Power, Extend, event_of, meddles_of}
 use Rattle.mm_run.specs.Offered.{offered_bytes}
-use Rattle.mm_run.specs.Folds.{course_of, outcome_of, first_issued}
+use Rattle.mm_run.specs.Folds.{course_of, event_outcome, first_issued}
 use Rattle.mm_run.specs.Premises.{ask_moves, moves_of, asking_messages, event_messages}
 use Rattle.mm_expect.specs.Numbered.{messages_if, messages_where, numbered_event}
 use Rattle.mm_check.specs.Listing.{listed}
@@ -209,7 +209,7 @@ heard_few i y issued event = event_few i y issued (event_of event) (code_few eve
 from_few : (i : Instance) (y : History) (issued : List (List ℕ)) (events : List CodeEvent) → length (numbered_from i y issued (events_of events)) ≤ 96 * length events
 from_few i y issued [] = omega arith
 from_few i y issued (event ∷ events) =
-    let o = outcome_of i (by_lists i) y issued (event_of event) in
+    let o = event_outcome i (by_lists i) y issued (event_of event) in
     omega (
       arith,
       heard_few i y issued event,

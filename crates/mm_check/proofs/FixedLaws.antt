@@ -18,7 +18,7 @@ use Rattle.mm_model.specs.Messages.{IsClear, move_messages}
 use Rattle.mm_call.specs.Asked.{moves_messages}
 use Rattle.mm_call.specs.Levels.{by_lists}
 use Rattle.mm_schedule.specs.Events.{Event}
-use Rattle.mm_run.specs.Folds.{Followed, followed, outcome_of, first_issued}
+use Rattle.mm_run.specs.Folds.{Followed, followed, event_outcome, first_issued}
 use Rattle.mm_run.specs.Premises.{event_messages, moves_of, messages_from, run_messages, foreign_of, foreign_values, asked_batches, AreApart, IsGenuineEvent, AreGenuine, IsGenuineRun}
 use Rattle.mm_expect.specs.Numbered.{messages_where, numbered_event}
 use Rattle.mm_check.specs.Listing.{first_where, listed, message_digests, shared_with, shared_in, is_zero, zero_in}
@@ -147,7 +147,7 @@ event_back i y issued event m h =
 events_back : (i : Instance) (events : List Event) (y : History) (issued : List (List ℕ)) → IsIn (numbered_from i y issued events) (messages_from i y issued events)
 events_back i [] y issued m h = absurd (none_in m h)
 events_back i (event ∷ events) y issued m h =
-    let o = outcome_of i (by_lists i) y issued event in
+    let o = event_outcome i (by_lists i) y issued event in
     let here = event_messages i issued event ++ moves_messages i y (moves_of i y issued event) in
     elim (Contains-append_cases (numbered_event i y issued event) (numbered_from i o.state o.issued events) m h) [
       | inl now ↦ Contains-append_left here (messages_from i o.state o.issued events) m (event_back i y issued event m now)
@@ -234,7 +234,7 @@ genuine_at : (i : Instance) (before : List Event) (e : Event) (after : List Even
     → (let f : Followed History = followed i (by_lists i) y issued before in IsGenuineEvent i f.state f.issued e)
 genuine_at i [] e after y issued h = h.0
 genuine_at i (x ∷ before) e after y issued h =
-    let o = outcome_of i (by_lists i) y issued x in genuine_at i before e after o.state o.issued h.1
+    let o = event_outcome i (by_lists i) y issued x in genuine_at i before e after o.state o.issued h.1
 
 not_forged : (i : Instance) (es : List Event) (n : ℕ) → IsGenuineRun i es → IsForgedAt i es n → ⊥
 not_forged i es n genuine h =

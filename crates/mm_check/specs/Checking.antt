@@ -6,11 +6,11 @@ use Rattle.mm_base.specs.Limits.{most_events}
 use Rattle.mm_schedule.specs.declared.header.Header.{Header}
 use Rattle.mm_schedule.specs.Events.{Event}
 use Rattle.mm_schedule.specs.Grammar.{event_at}
-use Rattle.mm_schedule.specs.Replies.{lines_of}
+use Rattle.mm_schedule.specs.Replies.{lines_of_reply}
 use Rattle.mm_run.specs.Held.{world_of}
 use Rattle.mm_play.specs.declared.player.Refused.{Refused}
 use Rattle.mm_play.specs.declared.player.Refused.TheVariants.{Bad, Much}
-use Rattle.mm_replay.specs.Schedule.{Running, begun, is_too_much, outcome_in, after_event}
+use Rattle.mm_replay.specs.Schedule.{Running, begun, is_too_much, running_outcome, after_event}
 use Rattle.mm_check.specs.Numbering.{expected_lines}
 
 -- the line between the events and the recorded lines
@@ -31,12 +31,12 @@ pub record Read : Type 0 where
 abbrev pub first_read : Header → Read
 first_read header = record { header = header; running = begun header; events = []; told = [] }
 
-abbrev pub after_read : Read → List ℕ → Event → Read
-after_read r line event = record {
+abbrev pub with_event : Read → List ℕ → Event → Read
+with_event r line event = record {
   header = r.header;
   running = after_event r.running line event;
   events = r.events ++ event ∷ [];
-  told = r.told ++ lines_of (outcome_in r.running event).reply;
+  told = r.told ++ lines_of_reply (running_outcome r.running event).reply;
 }
 
 -- the header and the events, how many recorded lines were compared, and the number of the first that differs
@@ -80,7 +80,7 @@ headed (Some header) = Ok ([], InEvents (first_read header))
 
 abbrev pub read_event : Read → List ℕ → Option Event → Result (List ℕ × Stage) Refused
 read_event r line None = Err Bad
-read_event r line (Some event) = if is_too_much r.running line then Err Much else Ok ([], InEvents (after_read r line event))
+read_event r line (Some event) = if is_too_much r.running line then Err Much else Ok ([], InEvents (with_event r line event))
 
 -- a line among the events
 abbrev pub read_line : Read → List ℕ → Result (List ℕ × Stage) Refused

@@ -63,22 +63,22 @@ pub record Judges (left left' : Option (List ℕ)) (result : Result Verdicts Rep
 
 -- How the answer fits the bytes that were taken and those that were written: only after Ok, and where the output failed,
 -- is anything written.
-abbrev pub ChecksBy : Option (List ℕ) → List ℕ → List ℕ → Result Verdicts ReplayFault → Type 0
-ChecksBy left taken sent (Ok verdicts) = IsAtEnd left × IsChecked (lines_of taken) verdicts × (sent ≡ verdicts_text verdicts)
-ChecksBy left taken sent (Err WriteFault) =
+abbrev pub ChecksRunBy : Option (List ℕ) → List ℕ → List ℕ → Result Verdicts ReplayFault → Type 0
+ChecksRunBy left taken sent (Ok verdicts) = IsAtEnd left × IsChecked (lines_of taken) verdicts × (sent ≡ verdicts_text verdicts)
+ChecksRunBy left taken sent (Err WriteFault) =
     (verdicts : Verdicts) × IsAtEnd left × IsChecked (lines_of taken) verdicts × IsFrontOf sent (verdicts_text verdicts)
-ChecksBy left taken sent (Err ReadFault) = (sent ≡ []) × ((after : Stage) × ((check_lines (lines_of taken)).outcome ≡ Ok after))
-ChecksBy left taken sent (Err Memory) = sent ≡ []
-ChecksBy left taken sent (Err (BadLine number)) = (sent ≡ [])
+ChecksRunBy left taken sent (Err ReadFault) = (sent ≡ []) × ((after : Stage) × ((check_lines (lines_of taken)).outcome ≡ Ok after))
+ChecksRunBy left taken sent (Err Memory) = sent ≡ []
+ChecksRunBy left taken sent (Err (BadLine number)) = (sent ≡ [])
     × ForWhole left taken (λ input. (check_run input).outcome ≡ Err (BadLine number))
-ChecksBy left taken sent (Err (LineLong number)) = (sent ≡ [])
+ChecksRunBy left taken sent (Err (LineLong number)) = (sent ≡ [])
     × ForWhole left taken (λ input. (check_run input).outcome ≡ Err (LineLong number))
-ChecksBy left taken sent (Err TooMuch) = (sent ≡ []) × ForWhole left taken (λ input. (check_run input).outcome ≡ Err TooMuch)
+ChecksRunBy left taken sent (Err TooMuch) = (sent ≡ []) × ForWhole left taken (λ input. (check_run input).outcome ≡ Err TooMuch)
 
 -- A check took these bytes of the input and wrote those.
-pub record Checks (left left' received received' : Option (List ℕ)) (result : Result Verdicts ReplayFault) : Type 0 where
+pub record ChecksRun (left left' received received' : Option (List ℕ)) (result : Result Verdicts ReplayFault) : Type 0 where
   pub taken : List ℕ
   pub sent : List ℕ
   pub consumed : Consumes left left' taken
   pub appended : Appends received received' sent
-  pub settled : ChecksBy left' taken sent result
+  pub settled : ChecksRunBy left' taken sent result

@@ -12,7 +12,7 @@ use Rattle.mm_play.specs.declared.player.Refused.TheVariants.{Bad, Much}
 use Rattle.mm_play.specs.Counting.{no_answer, same_next}
 use Rattle.mm_replay.specs.Schedule.{is_too_much}
 use Rattle.mm_replay.specs.Counting.{few_events}
-use Rattle.mm_check.specs.Checking.{Read, first_read, after_read, Compared, first_compared, after_compared, Stage, AtHeader, InEvents, InReplies, headed, read_event, check_answer, check_left, most_recorded, section_line}
+use Rattle.mm_check.specs.Checking.{Read, first_read, with_event, Compared, first_compared, after_compared, Stage, AtHeader, InEvents, InReplies, headed, read_event, check_answer, check_left, most_recorded, section_line}
 
 fewer : (bound : ℕ) (reply said : List ℕ) (next stage : Stage)
     → (let r : Result (List ℕ × Stage) Refused = Ok (said, stage) in r ≡ Ok (reply, next))
@@ -26,12 +26,12 @@ header_fewer (Some header) reply next h =
     fewer (most_events + most_recorded + 2) reply [] next (InEvents (first_read header)) h (omega arith)
 
 event_fewer : (r : Read) (line : List ℕ) (event : Event) (much : Bool) (reply : List ℕ) (next : Stage) → is_too_much r.running line ≡ much
-    → (let a : Result (List ℕ × Stage) Refused = if much then Err Much else Ok ([], InEvents (after_read r line event)) in
+    → (let a : Result (List ℕ × Stage) Refused = if much then Err Much else Ok ([], InEvents (with_event r line event)) in
     a ≡ Ok (reply, next))
     → check_left next < check_left (InEvents r)
 event_fewer r line event true reply next is h = absurd (no_answer Much reply next h)
 event_fewer r line event false reply next is h =
-    fewer (check_left (InEvents r)) reply [] next (InEvents (after_read r line event)) h (omega (arith, few_events r.running line is))
+    fewer (check_left (InEvents r)) reply [] next (InEvents (with_event r line event)) h (omega (arith, few_events r.running line is))
 
 found_fewer : (r : Read) (line : List ℕ) (found : Option Event) (reply : List ℕ) (next : Stage) → read_event r line found ≡ Ok (reply, next)
     → check_left next < check_left (InEvents r)

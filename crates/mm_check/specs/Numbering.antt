@@ -9,11 +9,11 @@ use Rattle.mm_model.specs.Instance.{Instance}
 use Rattle.mm_model.specs.History.{History, first_history}
 use Rattle.mm_model.specs.Messages.{IsClear}
 use Rattle.mm_schedule.specs.Events.{Event}
-use Rattle.mm_schedule.specs.Replies.{lines_of, end_line}
+use Rattle.mm_schedule.specs.Replies.{lines_of_reply, end_line}
 use Rattle.mm_schedule.specs.declared.reply.Reply.{Reply}
 use Rattle.mm_call.specs.Levels.{by_lists}
 use Rattle.mm_model.specs.History.{total_of}
-use Rattle.mm_run.specs.Folds.{Followed, outcome_of, first_issued, expected}
+use Rattle.mm_run.specs.Folds.{Followed, event_outcome, first_issued, expected}
 use Rattle.mm_run.specs.Premises.{foreign_of, asked_batches, run_messages, IsClearRun, IsGenuineEvent, IsGenuineRun}
 use Rattle.mm_expect.specs.Numbered.{numbered_event}
 use Rattle.mm_check.specs.Listing.{first_where, listed, message_digests, shared_in, zero_in}
@@ -24,7 +24,7 @@ use Rattle.mm_check.specs.declared.verdicts.Premise.TheVariants.{Held, Shared, Z
 abbrev pub numbered_from : Instance → History → List (List ℕ) → List Event → List (List ℕ)
 numbered_from i y issued [] = []
 numbered_from i y issued (event ∷ events) =
-    let o = outcome_of i (by_lists i) y issued event in
+    let o = event_outcome i (by_lists i) y issued event in
     numbered_event i y issued event ++ numbered_from i o.state o.issued events
 
 -- the messages of a run, each once: a message has the number of its place, from 1
@@ -63,7 +63,7 @@ Decides i events (Forged event) = IsClearRun i events × IsForgedAt i events eve
 -- the lines of replies, each with its LF
 abbrev pub lines_of_all : List Reply → List (List ℕ)
 lines_of_all [] = []
-lines_of_all (reply ∷ replies) = lines_of reply ++ lines_of_all replies
+lines_of_all (reply ∷ replies) = lines_of_reply reply ++ lines_of_all replies
 
 -- the lines of a run that was followed, with its last line, by how many requests were committed
 abbrev pub lines_with : {S : Type 0} → Followed S → ℕ → List (List ℕ)

@@ -2,8 +2,8 @@
 use Rattle.std.specs.Prelude.{◌≡◌, ℕ, List, [], Option, None, Some, Result, Ok, Err}
 use Rattle.mm_play.specs.declared.player.Refused.{Refused}
 use Rattle.mm_play.specs.declared.player.Refused.TheVariants.{Bad, Much}
-use Rattle.mm_play.specs.declared.player.TakeFault.{TakeFault}
-use Rattle.mm_play.specs.declared.player.TakeFault.TheVariants as fault
+use Rattle.mm_play.specs.declared.player.ReplyFault.{ReplyFault}
+use Rattle.mm_play.specs.declared.player.ReplyFault.TheVariants as fault
 use Rattle.mm_schedule.specs.Events.{Event, event_of}
 use Rattle.mm_schedule.specs.declared.event.Event.{Event as CodeEvent}
 use Rattle.mm_check.specs.Checking.{Read, Compared, Stage, AtHeader, InEvents, InReplies}
@@ -20,22 +20,22 @@ stage_of None = AtHeader
 stage_of (Some phase) = phase_of phase
 
 -- What a line came to: what stands behind it, or why it is refused; want of memory says nothing. Nothing is written.
-abbrev pub StepsBy : {A : Type 0} → (A → Stage) → Result (List ℕ × Stage) Refused → Result A TakeFault → Type 0
-StepsBy stage answer (Ok next) = answer ≡ Ok ([], stage next)
-StepsBy stage answer (Err fault.Memory) = Unit {0}
-StepsBy stage answer (Err (fault.Refused why)) = answer ≡ Err why
+abbrev pub LineComesTo : {A : Type 0} → (A → Stage) → Result (List ℕ × Stage) Refused → Result A ReplyFault → Type 0
+LineComesTo stage answer (Ok next) = answer ≡ Ok ([], stage next)
+LineComesTo stage answer (Err fault.Memory) = Unit {0}
+LineComesTo stage answer (Err (fault.Refused why)) = answer ≡ Err why
 
-abbrev pub Steps : Result (List ℕ × Stage) Refused → Result Phase TakeFault → Type 0
-Steps answer result = StepsBy phase_of answer result
+abbrev pub StepsPhase : Result (List ℕ × Stage) Refused → Result Phase ReplyFault → Type 0
+StepsPhase answer result = LineComesTo phase_of answer result
 
-abbrev pub ReadsEvent : Result (List ℕ × Stage) Refused → Result Read TakeFault → Type 0
-ReadsEvent answer result = StepsBy InEvents answer result
+abbrev pub ReadsEvent : Result (List ℕ × Stage) Refused → Result Read ReplyFault → Type 0
+ReadsEvent answer result = LineComesTo InEvents answer result
 
-abbrev pub ComparesLine : Result (List ℕ × Stage) Refused → Result Compared TakeFault → Type 0
-ComparesLine answer result = StepsBy InReplies answer result
+abbrev pub ComparesLine : Result (List ℕ × Stage) Refused → Result Compared ReplyFault → Type 0
+ComparesLine answer result = LineComesTo InReplies answer result
 
 -- the event of a line, if it has one
-abbrev pub IsEventOf : Option Event → Result CodeEvent TakeFault → Type 0
+abbrev pub IsEventOf : Option Event → Result CodeEvent ReplyFault → Type 0
 IsEventOf found (Ok event) = found ≡ Some (event_of event)
 IsEventOf found (Err fault.Memory) = Unit {0}
 IsEventOf found (Err (fault.Refused Bad)) = found ≡ None

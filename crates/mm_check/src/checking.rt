@@ -5,7 +5,7 @@ ghost use Rattle.mm_play.specs.Play.{run_of};
 ghost use Rattle.mm_play.specs.Plays.{IsBlamed, IsUnrefused, is_read_fault, is_write_fault};
 ghost use Rattle.mm_schedule.specs.Headers.{header_at};
 ghost use Rattle.mm_check.specs.Checking.{Stage, AtHeader, check_answer, check_closing};
-ghost use Rattle.mm_check.specs.Checks.{Checks, Judges};
+ghost use Rattle.mm_check.specs.Checks.{ChecksRun, Judges};
 
 use crate::nowhere::Nowhere;
 use crate::player::CheckPlayer;
@@ -51,7 +51,7 @@ pub fn check<S: Source, K: Sink>(
     input: &mut S,
     out: &mut K,
 ) -> Result<Verdicts, ReplayFault>
-    ensures checks { Checks (S.left input.old) (S.left input.new) (K.received out.old)
+    ensures checks { ChecksRun (S.left input.old) (S.left input.new) (K.received out.old)
         (K.received out.new) result }
     ensures read { IsBlamed (is_read_fault result) (S.faults input.old) (S.faults input.new) }
     ensures wrote { IsBlamed (is_write_fault result) (K.faults out.old) (K.faults out.new) }

@@ -8,7 +8,7 @@ ghost use Rattle.mm_check.specs.Steps.{ComparesLine};
 use crate::reading::Reading;
 use crate::verdicts::{Agreement, Premise, Verdicts};
 use mm_base::{Bytes, Memory};
-use mm_play::{Refused, TakeFault};
+use mm_play::{Refused, ReplyFault};
 use mm_schedule::{Event, Header};
 use std::alloc::Global;
 use std::marker::Model;
@@ -98,15 +98,15 @@ impl Comparing {
     }
 
     /// Behind a recorded line.
-    pub fn compare_line(mut self, alloc: Global, line: &[u8]) -> Result<Comparing, TakeFault>
+    pub fn compare_line(mut self, alloc: Global, line: &[u8]) -> Result<Comparing, ReplyFault>
         ensures { ComparesLine (compare_line self line.now) result }
     {
         if self.count >= MOST_RECORDED {
-            return Err(TakeFault::Refused(Refused::Much));
+            return Err(ReplyFault::Refused(Refused::Much));
         }
         let same = match is_same(alloc, line, self.expected.get(self.count as usize)) {
             Ok(same) => same,
-            Err(_) => return Err(TakeFault::Memory),
+            Err(_) => return Err(ReplyFault::Memory),
         };
         self.differs = differs_then(self.differs, same, self.count + 1);
         self.count += 1;

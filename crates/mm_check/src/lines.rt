@@ -1,7 +1,7 @@
 //! The lines of replies.
 
 ghost use Rattle.std.specs.Prelude.{◌≡◌, ◌<◌, ◌++◌, ◌∷◌, [], Some, OnOk, IfOk, length, slice_get};
-ghost use Rattle.mm_schedule.specs.Replies.{IsPrintable, end_line, lines_of};
+ghost use Rattle.mm_schedule.specs.Replies.{IsPrintable, end_line, lines_of_reply};
 
 use mm_base::{Bytes, Memory};
 use mm_schedule::{Reply, put_end, put_line, reply_lines};
@@ -9,9 +9,9 @@ use std::alloc::Global;
 
 /// The line of a reply with this index, its LF included.
 fn line_of(alloc: Global, reply: &Reply, index: usize) -> Result<Bytes, Memory>
-    requires index { index < length (lines_of reply.now) }
+    requires index { index < length (lines_of_reply reply.now) }
     requires printable { IsPrintable reply.now }
-    ensures { IfOk result (λ line. slice_get (lines_of reply.now) index ≡ Some line) }
+    ensures { IfOk result (λ line. slice_get (lines_of_reply reply.now) index ≡ Some line) }
 {
     let mut line = Bytes::new(alloc);
     put_line(reply, index, &mut line)?;
@@ -29,7 +29,7 @@ fn put(lines: &mut Vec<Bytes>, line: Bytes) -> Result<(), Memory>
 /// Puts the lines of a reply at the end.
 pub(crate) fn put_reply(alloc: Global, lines: &mut Vec<Bytes>, reply: &Reply) -> Result<(), Memory>
     requires { IsPrintable reply.now }
-    ensures { OnOk result (lines.new.items ≡ lines.old.items ++ lines_of reply.now) }
+    ensures { OnOk result (lines.new.items ≡ lines.old.items ++ lines_of_reply reply.now) }
 {
     'lines: for index in 0..reply_lines(reply) {
         let line = line_of(alloc, reply, index)?;

@@ -5,14 +5,14 @@ ghost use Rattle.mm_base.specs.Limits.{longest_line};
 ghost use Rattle.mm_schedule.specs.Headers.{header_at};
 ghost use Rattle.mm_check.specs.Checking.{Stage, AtHeader, check_answer, check_closing, check_left, headed, read_line};
 ghost use Rattle.mm_check.specs.Counting.{check_counts_down, check_is_short};
-ghost use Rattle.mm_check.specs.Steps.{phase_of, stage_of, Steps};
+ghost use Rattle.mm_check.specs.Steps.{phase_of, stage_of, StepsPhase};
 ghost use Rattle.mm_check.specs.Verdicts.{Concludes};
 
 use crate::comparing::Comparing;
 use crate::reading::Reading;
 use crate::verdicts::Verdicts;
 use mm_base::{Bytes, Memory};
-use mm_play::{Player, Refused, TakeFault};
+use mm_play::{Player, Refused, ReplyFault};
 use mm_schedule::read_header;
 use std::alloc::Global;
 use std::marker::Model;
@@ -39,28 +39,28 @@ impl Model for CheckPlayer {
 }
 
 /// Behind the header of this line.
-fn first_phase(alloc: Global, line: &[u8]) -> Result<Phase, TakeFault>
-    ensures { Steps (headed (header_at line.now)) result }
+fn first_phase(alloc: Global, line: &[u8]) -> Result<Phase, ReplyFault>
+    ensures { StepsPhase (headed (header_at line.now)) result }
 {
     let header = match read_header(line) {
         Some(header) => header,
-        None => return Err(TakeFault::Refused(Refused::Bad)),
+        None => return Err(ReplyFault::Refused(Refused::Bad)),
     };
     match Reading::new(alloc, &header) {
         Ok(reading) => Ok(Phase::Events(reading)),
-        Err(_) => Err(TakeFault::Memory),
+        Err(_) => Err(ReplyFault::Memory),
     }
 }
 
 /// Behind a line among the events.
-fn read_line(alloc: Global, reading: Reading, line: &[u8]) -> Result<Phase, TakeFault>
+fn read_line(alloc: Global, reading: Reading, line: &[u8]) -> Result<Phase, ReplyFault>
     requires { length line.now ≤ longest_line }
-    ensures { Steps (read_line reading line.now) result }
+    ensures { StepsPhase (read_line reading line.now) result }
 {
     if line == b"replies".as_slice() {
         return match Comparing::new(alloc, reading) {
             Ok(comparing) => Ok(Phase::Replies(comparing)),
-            Err(_) => Err(TakeFault::Memory),
+            Err(_) => Err(ReplyFault::Memory),
         };
     }
     match reading.add_event(alloc, line) {
@@ -70,9 +70,9 @@ fn read_line(alloc: Global, reading: Reading, line: &[u8]) -> Result<Phase, Take
 }
 
 /// Behind the next line.
-fn next_phase(alloc: Global, phase: Option<Phase>, line: &[u8]) -> Result<Phase, TakeFault>
+fn next_phase(alloc: Global, phase: Option<Phase>, line: &[u8]) -> Result<Phase, ReplyFault>
     requires { length line.now ≤ longest_line }
-    ensures { Steps (check_answer header_at (stage_of phase) line.now) result }
+    ensures { StepsPhase (check_answer header_at (stage_of phase) line.now) result }
 {
     match phase {
         None => first_phase(alloc, line),
@@ -91,7 +91,7 @@ impl Player for CheckPlayer {
 
     ghost lines_left = { check_left };
 
-    fn reply(&mut self, alloc: Global, line: &[u8]) -> Result<Bytes, TakeFault> {
+    fn reply(&mut self, alloc: Global, line: &[u8]) -> Result<Bytes, ReplyFault> {
         let phase = next_phase(alloc, self.phase.take(), line)?;
         self.phase = Some(phase);
         Ok(Bytes::new(alloc))

@@ -3,7 +3,7 @@
 ghost use Rattle.std.specs.Prelude.{◌≡◌, ◌≤◌, ◌++◌, ◌∷◌, [], length, IfOk, OnOk};
 ghost use Rattle.mm_base.specs.Limits.{longest_line};
 ghost use Rattle.mm_schedule.specs.Grammar.{event_at};
-ghost use Rattle.mm_schedule.specs.Replies.{IsPrintable, lines_of};
+ghost use Rattle.mm_schedule.specs.Replies.{IsPrintable, lines_of_reply};
 ghost use Rattle.mm_run.specs.Held.{world_of};
 ghost use Rattle.mm_check.specs.Checking.{Read, first_read, read_event};
 ghost use Rattle.mm_check.specs.Verdicts.{AreVerdicts, run_lines};
@@ -16,7 +16,7 @@ use crate::difference::difference;
 use crate::lines::{put_last, put_reply};
 use crate::verdicts::Verdicts;
 use mm_base::{Bytes, Memory};
-use mm_play::{Refused, TakeFault};
+use mm_play::{Refused, ReplyFault};
 use mm_replay::Progress;
 use mm_schedule::{Event, EventFault, Header, Reply, read_event};
 use std::alloc::Global;
@@ -51,13 +51,13 @@ impl Model for Reading {
 }
 
 /// The event of a line.
-fn event_in(alloc: Global, line: &[u8]) -> Result<Event, TakeFault>
+fn event_in(alloc: Global, line: &[u8]) -> Result<Event, ReplyFault>
     ensures { IsEventOf (event_at line.now) result }
 {
     match read_event(alloc, line) {
         Ok(event) => Ok(event),
-        Err(EventFault::Memory) => Err(TakeFault::Memory),
-        Err(EventFault::Bad) => Err(TakeFault::Refused(Refused::Bad)),
+        Err(EventFault::Memory) => Err(ReplyFault::Memory),
+        Err(EventFault::Bad) => Err(ReplyFault::Refused(Refused::Bad)),
     }
 }
 
@@ -71,7 +71,7 @@ fn remember(
 ) -> Result<(), Memory>
     requires { IsPrintable reply.now }
     ensures events { OnOk result (events.new.items ≡ events.old.items ++ event ∷ []) }
-    ensures told { OnOk result (told.new.items ≡ told.old.items ++ lines_of reply.now) }
+    ensures told { OnOk result (told.new.items ≡ told.old.items ++ lines_of_reply reply.now) }
 {
     put_reply(alloc, told, reply)?;
     events.push(event)?;
@@ -93,7 +93,7 @@ impl Reading {
     }
 
     /// Behind the event of a line.
-    pub fn add_event(mut self, alloc: Global, line: &[u8]) -> Result<Reading, TakeFault>
+    pub fn add_event(mut self, alloc: Global, line: &[u8]) -> Result<Reading, ReplyFault>
         requires { length line.now ≤ longest_line }
         ensures { ReadsEvent (read_event self line.now (event_at line.now)) result }
     {
@@ -101,7 +101,7 @@ impl Reading {
         let reply = self.progress.reply_to_event(line, &event)?;
         match remember(alloc, &mut self.events, &mut self.told, event, &reply) {
             Ok(()) => Ok(self),
-            Err(_) => Err(TakeFault::Memory),
+            Err(_) => Err(ReplyFault::Memory),
         }
     }
 

@@ -9,7 +9,7 @@ use Rattle.std.proofs.lemmas.Bool.Decides.{nat_tests}
 use Rattle.std.proofs.lemmas.Fmt.{digits_decimal}
 use Rattle.std.proofs.lemmas.List.Splits.{slice_split_none, slice_split_at}
 use Rattle.std.proofs.lemmas.Str.Parse.{numerals_by_value, tells_all_ascii_digits}
-use Rattle.mm_base.specs.Decimals.{number_of}
+use Rattle.mm_base.specs.Decimals.{decimal_number}
 use Rattle.mm_base.proofs.DecimalLemmas.{read_by_spelling}
 use Rattle.mm_base.specs.Limits.{last_position}
 use Rattle.mm_module.specs.LineLaws.{and-true, list_all-get_or}
@@ -19,7 +19,7 @@ use Rattle.mm_module.specs.Words.{is_space, words_of}
 use Rattle.mm_dispenser.specs.Draws.{word_of, word_text, words_text, drawn_text}
 use Rattle.mm_dispenser.specs.Table.{request_of, outcome_of, text_of, spelling_of, stepped, dispenser}
 use Rattle.mm_dispenser.specs.DispenserLaws.{IsDispenserState, request_of-IsDispenserRequest, outcome_of-IsOutcome, state_of-spelling_of, digits_at}
-use Rattle.mm_dispenser.specs.Places.{Places, places_in, places_told, places_at, RisesByPlaces, PlacesAreToldOnce}
+use Rattle.mm_dispenser.specs.Places.{PlacesFrom, places_in, places_told, places_at, RisesByPlaces, PlacesAreToldOnce}
 use Rattle.mm_dispenser.specs.declared.dispenser.State.{State}
 use Rattle.mm_dispenser.specs.declared.dispenser.State.TheVariants.{Unset, Seeded}
 use Rattle.mm_dispenser.specs.declared.dispenser.Request.{Request}
@@ -121,36 +121,36 @@ next_place (Seeded seed place) = place
 
 -- places that an outcome tells are those between the place before and the place after
 abbrev Tells : ℕ → State × Says → Type 0
-Tells place outcome = (p : Places) → places_told (text_of outcome.1) ≡ Some p → (p.from ≡ place) × (next_place outcome.0 ≡ p.from + p.size)
+Tells place outcome = (p : PlacesFrom) → places_told (text_of outcome.1) ≡ Some p → (p.from ≡ place) × (next_place outcome.0 ≡ p.from + p.size)
 
 record Moves (place : ℕ) (outcome : State × Says) : Type 0 where
   rises : place ≤ next_place outcome.0
   tells : Tells place outcome
 
-tells_none : (p : Places) → (let o : Option Places = None in o ≡ Some p) → ⊥
+tells_none : (p : PlacesFrom) → (let o : Option PlacesFrom = None in o ≡ Some p) → ⊥
 tells_none p h = cc
 
-some_places : (p q : Places) → (let o : Option Places = Some p in o ≡ Some q) → p ≡ q
+some_places : (p q : PlacesFrom) → (let o : Option PlacesFrom = Some p in o ≡ Some q) → p ≡ q
 some_places p q h = cc
 
 seeded-none : places_told (codes "seeded") ≡ None
-unfolding number_of
+unfolding decimal_number
 seeded-none = refl
 
 taken-none : places_told (codes "taken") ≡ None
-unfolding number_of
+unfolding decimal_number
 taken-none = refl
 
 unset-none : places_told (codes "unset") ≡ None
-unfolding number_of
+unfolding decimal_number
 unset-none = refl
 
 full-none : places_told (codes "full") ≡ None
-unfolding number_of
+unfolding decimal_number
 full-none = refl
 
 bad-none : places_told (codes "bad") ≡ None
-unfolding number_of
+unfolding decimal_number
 bad-none = refl
 
 drawn-moves : (seed : List ℕ) (place count : ℕ) (flag : Bool) → place ≤ last_position
@@ -158,7 +158,7 @@ drawn-moves : (seed : List ℕ) (place count : ℕ) (flag : Bool) → place ≤ 
 drawn-moves seed place count true small = record {
   rises = omega arith;
   tells = λ p is. let e = some_places (record { from = place; size = count }) p (sym (drawn-tells seed place count (omega (arith, small))) ∙ is) in
-      (sym (ap (λ (q : Places). q.from) e), ap (λ (q : Places). q.from + q.size) e);
+      (sym (ap (λ (q : PlacesFrom). q.from) e), ap (λ (q : PlacesFrom). q.from + q.size) e);
 }
 drawn-moves seed place count false small = record { rises = omega arith; tells = λ p is. absurd (tells_none p (sym full-none ∙ is)) }
 
@@ -171,7 +171,7 @@ moves Unset None good = record { rises = omega arith; tells = λ p is. absurd (t
 moves (Seeded seed place) None good = record { rises = omega arith; tells = λ p is. absurd (tells_none p (sym bad-none ∙ is)) }
 
 -- places that are told later begin at or behind the place of now
-from_here : (j : ℕ) (state : State) (requests : List (List ℕ)) → IsDispenserState state → (q : Places) → places_at (outputs_by state requests) j ≡ Some q → next_place state ≤ q.from
+from_here : (j : ℕ) (state : State) (requests : List (List ℕ)) → IsDispenserState state → (q : PlacesFrom) → places_at (outputs_by state requests) j ≡ Some q → next_place state ≤ q.from
 from_here j state [] good q is = absurd (tells_none q is)
 from_here zero state (request ∷ requests) good q is =
     let m = moves state (request_of (words_of request)) good in omega (arith, (m.tells q is).0)
@@ -179,7 +179,7 @@ from_here (suc j) state (request ∷ requests) good q is =
     let m = moves state (request_of (words_of request)) good in
     omega (arith, m.rises, from_here j (after state request).0 requests (after-good state request good) q is)
 
-rises-by : (i j : ℕ) (state : State) (requests : List (List ℕ)) → IsDispenserState state → (p q : Places) → i < j
+rises-by : (i j : ℕ) (state : State) (requests : List (List ℕ)) → IsDispenserState state → (p q : PlacesFrom) → i < j
     → places_at (outputs_by state requests) i ≡ Some p → places_at (outputs_by state requests) j ≡ Some q → p.from + p.size ≤ q.from
 rises-by i j state [] good p q before one two = absurd (tells_none p one)
 rises-by i zero state (request ∷ requests) good p q before one two = absurd (omega arith)

@@ -9,7 +9,7 @@ use Rattle.std.proofs.lemmas.List.{length-take-le}
 use Rattle.std.proofs.lemmas.List.Folds.{list_all-append}
 use Rattle.hex.specs.Hex.{encode_lower, lower_digits}
 use Rattle.hex.proofs.HexLemmas.{length-encode_with}
-use Rattle.mm_base.specs.Decimals.{number_of}
+use Rattle.mm_base.specs.Decimals.{decimal_number}
 use Rattle.mm_base.specs.Fields.{eight_bytes}
 use Rattle.mm_base.specs.Limits.{last_position}
 use Rattle.mm_module.specs.Bytes.{is_byte, are_bytes}
@@ -61,9 +61,9 @@ seed_asked (Some value) is = is
 
 asked_by : (seeds draws : Bool) (argument : List ℕ)
     → IsDispenserRequest (if seeds then option_map (λ seed. Seed seed) (value_at argument)
-    else (if draws then option_and_then drawing_of (number_of argument) else None))
+    else (if draws then option_and_then drawing_of (decimal_number argument) else None))
 asked_by true draws argument = seed_asked (value_at argument) (value_at-value argument)
-asked_by false true argument = number_asked (number_of argument)
+asked_by false true argument = number_asked (decimal_number argument)
 asked_by false false argument = tt
 
 pub request_of-IsDispenserRequest : (words : List (List ℕ)) → IsDispenserRequest (request_of words)

@@ -1,32 +1,32 @@
 -- What a dispenser promises of a whole run: no place is told by two draws.
 use Rattle.std.specs.Prelude.{◌≡◌, ℕ, ◌+◌, ◌<◌, ◌≤◌, List, [], ◌∷◌, length, slice_get, Option, Some, None, option_map, option_and_then}
-use Rattle.mm_base.specs.Decimals.{number_of}
+use Rattle.mm_base.specs.Decimals.{decimal_number}
 use Rattle.mm_module.specs.Meaning.{outputs_from}
 use Rattle.mm_module.specs.Words.{words_of}
 use Rattle.mm_dispenser.specs.Table.{dispenser}
 
 -- so many places from one on
-pub record Places : Type 0 where
+pub record PlacesFrom : Type 0 where
   pub from : ℕ
   pub size : ℕ
 
 -- a number, and so many words behind it
-abbrev pub places_in : List (List ℕ) → Option Places
+abbrev pub places_in : List (List ℕ) → Option PlacesFrom
 places_in [] = None
-places_in (word ∷ words) = option_map (λ (n : ℕ). record { from = n; size = length words }) (number_of word)
+places_in (word ∷ words) = option_map (λ (n : ℕ). record { from = n; size = length words }) (decimal_number word)
 
 -- The places that an output tells: those from the number on that it begins with, as many as there are words behind.
 -- An output that begins with no number tells none.
-abbrev pub places_told : List ℕ → Option Places
+abbrev pub places_told : List ℕ → Option PlacesFrom
 places_told output = places_in (words_of output)
 
 -- the places that the output behind so many tells
-abbrev pub places_at : List (List ℕ) → ℕ → Option Places
+abbrev pub places_at : List (List ℕ) → ℕ → Option PlacesFrom
 places_at outputs i = option_and_then places_told (slice_get outputs i)
 
 -- Of two outputs that tell places, the later one's begin at or behind the end of the earlier one's.
 abbrev pub RisesByPlaces : List (List ℕ) → Type 0
-RisesByPlaces outputs = (i j : ℕ) (p q : Places) → i < j → places_at outputs i ≡ Some p → places_at outputs j ≡ Some q
+RisesByPlaces outputs = (i j : ℕ) (p q : PlacesFrom) → i < j → places_at outputs i ≡ Some p → places_at outputs j ≡ Some q
     → p.from + p.size ≤ q.from
 
 -- so it is in every run

@@ -1,7 +1,7 @@
 -- The dispenser: a seed that is set once, and the place of the next word.
 use Rattle.std.specs.Prelude.{ℕ, ◌+◌, ◌≤◌, ◌==◌, ◌&&◌, Bool, nat_le, List, [], ◌∷◌, ◌++◌, length, take, drop, codes, Option, Some, None, is_some, unwrap_or, option_map, option_and_then, if◌then◌else◌}
 use Rattle.std.specs.Str.{bytes_eq}
-use Rattle.mm_base.specs.Decimals.{number_of}
+use Rattle.mm_base.specs.Decimals.{decimal_number}
 use Rattle.mm_base.specs.Fields.{eight_bytes}
 use Rattle.mm_base.specs.Limits.{last_position}
 use Rattle.mm_module.specs.Bytes.{are_bytes}
@@ -25,7 +25,7 @@ drawing_of number = if nat_le 1 number && nat_le number 16 then Some (Draw numbe
 unfoldable pub request_of : List (List ℕ) → Option Request
 request_of (word ∷ argument ∷ []) =
     if bytes_eq word (codes "seed") then option_map (λ seed. Seed seed) (value_at argument)
-    else (if bytes_eq word (codes "draw") then option_and_then drawing_of (number_of argument) else None)
+    else (if bytes_eq word (codes "draw") then option_and_then drawing_of (decimal_number argument) else None)
 request_of _ = None
 
 -- what a draw does to a seed and a place: there are 2^48 places

@@ -11,7 +11,7 @@ use Rattle.mm_call.specs.Levels.{by_lists}
 use Rattle.mm_call.specs.Standing.{instance_by}
 use Rattle.mm_schedule.specs.declared.header.Header.{Header}
 use Rattle.mm_schedule.specs.Events.{Event}
-use Rattle.mm_run.specs.Folds.{Outcome, outcome_of, Followed, expected, first_issued}
+use Rattle.mm_run.specs.Folds.{Outcome, event_outcome, Followed, expected, first_issued}
 use Rattle.mm_run.specs.Held.{world_key, world_barrier, world_of}
 use Rattle.mm_run.proofs.GoingOn.{goes_on}
 use Rattle.mm_expect.specs.declared.replies.Said.{Said}
@@ -42,8 +42,8 @@ goes_after header events event old new at is =
     let i = world_of header in
     let run : Followed History = expected i events in
     let whole = goes_on i (by_lists i) events (event ∷ []) first_history (first_issued i) in
-    let same : outcome_traced old event ≡ outcome_of i (by_lists i) run.state run.issued event =
-    (λ j. outcome_of (world_of (at.header_is j)) (by_lists (world_of (at.header_is j))) (at.history_is j) (at.issued_is j) event) in
+    let same : outcome_traced old event ≡ event_outcome i (by_lists i) run.state run.issued event =
+    (λ j. event_outcome (world_of (at.header_is j)) (by_lists (world_of (at.header_is j))) (at.history_is j) (at.issued_is j) event) in
     record {
       header_is = ap (λ (t : Traced). t.header) is ∙ at.header_is;
       history_is = ap (λ (t : Traced). t.history) is ∙ ap (λ (o : Outcome History). o.state) same ∙ sym (ap (λ (f : Followed History). f.state) whole);
@@ -54,7 +54,7 @@ pub event_state : (old new : Recorded) (issued later : List (List ℕ)) (event :
     → WentByEvent old new issued event front back said → later ≡ issued ++ option_to_list said.snapshot
     → traced new later ≡ after_traced (traced old issued) event
 event_state old new issued later event front back said comes kept =
-    let same = ap (λ (i : Instance). outcome_of i (by_lists i) old.history issued event) (instance_is (header_of old)) in
+    let same = ap (λ (i : Instance). event_outcome i (by_lists i) old.history issued event) (instance_is (header_of old)) in
     λ j. record {
       header = record { variant = comes.variant j; «module» = comes.«module» j };
       history = (comes.state ∙ ap (λ (o : Outcome History). o.state) same) j;

@@ -20,7 +20,7 @@ use Rattle.mm_model.proofs.Batches.{is_last_of}
 use Rattle.mm_model.proofs.MovedDigests.{total-push}
 use Rattle.mm_call.specs.Answers.{answer_on}
 use Rattle.mm_call.specs.Levels.{by_lists, all_made}
-use Rattle.mm_call.specs.Found.{Found, found_in, found_at, is_fresh}
+use Rattle.mm_call.specs.Found.{Found, found_unless_wanting, found_at, is_fresh}
 use Rattle.mm_call.specs.Courses.{End, Done, Fails, Fate, Walked, step_moves, after_step, walk, seen_in, commits, planned}
 use Rattle.mm_call.specs.Called.{Answers, Breaks, Called, reading_steps, kept_at, position_of, ended_by, called, called_with, seen_at}
 use Rattle.mm_call.specs.declared.ended.Ended.{Ended}
@@ -28,7 +28,7 @@ use Rattle.mm_call.specs.declared.ended.Ended.TheVariants.{Answered, Refused, Br
 use Rattle.mm_call.proofs.Moving.{committed_in, same_batches, more_batches}
 use Rattle.mm_call.proofs.Walks.{Commits, nothing, batch, finished, committed-append, committed-foreign, foreign_first, commits-none}
 use Rattle.mm_run.specs.Folds.{plan_of, course_of}
-use Rattle.mm_expect.specs.Recorded.{Recorded, Went, instance_of, instance_with}
+use Rattle.mm_expect.specs.Recorded.{Recorded, Went, recorded_instance, instance_with}
 use Rattle.mm_expect.specs.Walking.{Walks}
 use Rattle.mm_expect.specs.Calls.{again_in, Admits, changing_steps, changing_from, changes_on, ChangesBy, ending_of, new_ending, GoesOnNew, CallsBy}
 use Rattle.mm_expect.proofs.Walking.{went_then, not_true}
@@ -103,7 +103,7 @@ whole_batches : (old new : Recorded) (walked : Walked) (b : Batch) → Commits b
     → new.history.batches ≡ old.history.batches ++ b ∷ []
 whole_batches old new walked b (nothing none unless) whole went = let no : true ≡ false = unless whole in cc
 whole_batches old new walked b (batch one is) whole went =
-    ap (λ (y : History). y.batches) went.history ∙ more_batches (instance_of old) walked.moves old.history b one
+    ap (λ (y : History). y.batches) went.history ∙ more_batches (recorded_instance old) walked.moves old.history b one
 
 pub new_last : (old new : Recorded) (stop : Stop) (meddles : List Meddle) (b : Batch) → ChangesBy old new stop meddles b None
     → is_last new.history.batches b ≡ true
@@ -132,13 +132,13 @@ kept_by : (old new : Recorded) (walked : Walked) (b : Batch) → Commits b true 
     → (if nat_eq (total_of new.history.batches) (total_of old.history.batches) then None else Some (total_of new.history.batches))
     ≡ kept_at (commits walked.moves) (total_of new.history.batches)
 kept_by old new walked b (nothing none unless) went =
-    let i = instance_of old in
+    let i = recorded_instance old in
     let same : total_of new.history.batches ≡ total_of old.history.batches =
     ap (λ (y : History). total_of y.batches) went.history ∙ ap total_of (same_batches i walked.moves old.history none) in
     kept_when _ (total_of old.history.batches) (total_of new.history.batches) (size_of b) (commits walked.moves) refl
     (λ e. let no : commits walked.moves ≡ false = commits-none walked.moves none in cc) (size_of-pos b) (λ e. same)
 kept_by old new walked b (batch one is) went =
-    let i = instance_of old in
+    let i = recorded_instance old in
     let more : total_of new.history.batches ≡ total_of old.history.batches + size_of b =
     ap (λ (y : History). total_of y.batches) went.history ∙ ap total_of (more_batches i walked.moves old.history b one)
     ∙ total-push old.history.batches b in
@@ -146,7 +146,7 @@ kept_by old new walked b (batch one is) went =
     (λ e. more) (size_of-pos b) (λ e. let yes : commits walked.moves ≡ true = commits-some walked.moves b one in cc)
 
 pub new_answered : (old new : Recorded) (stop : Stop) (meddles : List Meddle) (b : Batch) (ended : Ended) → ChangesBy old new stop meddles b None
-    → ended ≡ Answered (answer_on (instance_of new) new.history b false) → GoesOnNew old new stop meddles b ended
+    → ended ≡ Answered (answer_on (recorded_instance new) new.history b false) → GoesOnNew old new stop meddles b ended
 new_answered old new stop meddles b ended w is = record {
   went = w.went;
   ends = ap ending_of is ∙ ap (new_ending new b (changes_on old stop meddles b).moves) w.broken;
@@ -234,7 +234,7 @@ steps_are Opt false true b = refl
 steps_are Opt true false b = refl
 steps_are Opt false false b = refl
 
-unlack : (found : Result Found Refusal) → found_in found false ≡ found
+unlack : (found : Result Found Refusal) → found_unless_wanting found false ≡ found
 unlack (Ok f) = refl
 unlack (Err why) = refl
 
@@ -248,7 +248,7 @@ again_ok (Err w) again e = cc
 
 module _ (a : Recorded) (stop : Stop) (meddles : List Meddle) (bytes : List ℕ) (b : Batch) where
   abbrev at : Instance
-  at = instance_of a
+  at = recorded_instance a
 
   abbrev fates : ℕ → Fate
   fates = planned (plan_of stop meddles)
@@ -268,7 +268,7 @@ module _ (a : Recorded) (stop : Stop) (meddles : List Meddle) (bytes : List ℕ)
   abbrev all : Called History
   all = called at (by_lists at) a.history (course_of stop meddles) bytes b
 
-  by_parts : (n : Recorded) (ended : Ended) (f : Result Found Refusal) (moves : List Move) (broken : Option StepFault) → found_in found false ≡ f
+  by_parts : (n : Recorded) (ended : Ended) (f : Result Found Refusal) (moves : List Move) (broken : Option StepFault) → found_unless_wanting found false ≡ f
       → (walked f).moves ≡ moves → (walked f).broken ≡ broken → Went a n moves
       → ending_of ended ≡ ended_by (by_lists at) seen (all_made (by_lists at) a.history moves) b f moves broken → CallsBy a n all ended
   by_parts n ended f moves broken is m br went ends =
@@ -283,7 +283,7 @@ module _ (a : Recorded) (stop : Stop) (meddles : List Meddle) (bytes : List ℕ)
 
   pub ask_broken : (n : Recorded) (fault : StepFault) → Walks a n reading (Some fault) → CallsBy a n all (Broken fault None)
   ask_broken n fault w =
-      let f = found_in found false in
+      let f = found_unless_wanting found false in
       let rest : List Step = (if is_fresh f then changing_steps a.variant a.history.is_open b else []) in
       let same : walked f ≡ reading = ap (walk fates 1) (steps_are a.variant a.history.is_open (is_fresh f) b)
       ∙ read_broken fates a.variant rest fault (sym w.broken) in
@@ -293,9 +293,9 @@ module _ (a : Recorded) (stop : Stop) (meddles : List Meddle) (bytes : List ℕ)
       (sym (commits-none reading.moves (read_quiet fates a.variant))))
 
   -- what is found where the chronicle stands is what the call finds
-  found_there : (n : Recorded) → Walks a n reading None → found_at (instance_of n) (by_lists (instance_of n)) n.history b bytes ≡ found
+  found_there : (n : Recorded) → Walks a n reading None → found_at (recorded_instance n) (by_lists (recorded_instance n)) n.history b bytes ≡ found
   found_there n w =
-      let same : instance_of n ≡ at = λ j. instance_with (w.went.variant j) (w.went.«module» j) in
+      let same : recorded_instance n ≡ at = λ j. instance_with (w.went.variant j) (w.went.«module» j) in
       ap (λ (k : Instance). found_at k (by_lists k) n.history b bytes) same
       ∙ ap (λ (h : History). found_at at (by_lists at) h b bytes)
       (w.went.history ∙ ap (all_made (by_lists at) a.history) (read_seen fates a.variant (sym w.broken)))
@@ -309,21 +309,21 @@ module _ (a : Recorded) (stop : Stop) (meddles : List Meddle) (bytes : List ℕ)
       (read_whole fates a.variant [] whole)
 
   pub ask_refused : (n : Recorded) (why : Refusal) → Walks a n reading None
-      → Err why ≡ again_in (found_at (instance_of n) (by_lists (instance_of n)) n.history b bytes) → CallsBy a n all (Refused why)
+      → Err why ≡ again_in (found_at (recorded_instance n) (by_lists (recorded_instance n)) n.history b bytes) → CallsBy a n all (Refused why)
   ask_refused n why w e =
       let is : found ≡ Err why = again_err found why (e ∙ ap again_in (found_there n w)) in
       let t = read_only (Err why) (sym w.broken) refl in
       by_parts n (Refused why) (Err why) reading.moves None (unlack found ∙ is) (t.moves ∙ append-nil reading.moves) t.broken w.went refl
 
   answered_with : (n : Recorded) (again : Bool) → Walks a n reading None
-      → answer_on (instance_of n) n.history b again ≡ answer_on at (all_made (by_lists at) a.history reading.moves) b again
+      → answer_on (recorded_instance n) n.history b again ≡ answer_on at (all_made (by_lists at) a.history reading.moves) b again
   answered_with n again w =
-      let same : instance_of n ≡ at = λ j. instance_with (w.went.variant j) (w.went.«module» j) in
+      let same : recorded_instance n ≡ at = λ j. instance_with (w.went.variant j) (w.went.«module» j) in
       ap (λ (k : Instance). answer_on k n.history b again) same ∙ ap (λ (h : History). answer_on at h b again) w.went.history
 
   pub ask_again : (n : Recorded) (ended : Ended) → Walks a n reading None
-      → Ok true ≡ again_in (found_at (instance_of n) (by_lists (instance_of n)) n.history b bytes)
-      → ended ≡ Answered (answer_on (instance_of n) n.history b true) → CallsBy a n all ended
+      → Ok true ≡ again_in (found_at (recorded_instance n) (by_lists (recorded_instance n)) n.history b bytes)
+      → ended ≡ Answered (answer_on (recorded_instance n) n.history b true) → CallsBy a n all ended
   ask_again n ended w e is_answer =
       let f = again_ok found true (e ∙ ap again_in (found_there n w)) in
       let t = read_only (Ok f.0) (sym w.broken) (ap (λ (k : Bool). if k then false else true) f.2) in
@@ -338,7 +338,7 @@ module _ (a : Recorded) (stop : Stop) (meddles : List Meddle) (bytes : List ℕ)
       ≡ ended_by (by_lists at) seen (all_made (by_lists at) a.history (reading.moves ++ moves)) b (Ok f) (reading.moves ++ moves) broken
   ends_new n m f moves None new w went =
       let both = went_then a n m reading.moves moves w.went went in
-      let same : instance_of m ≡ at = λ j. instance_with (both.variant j) (both.«module» j) in
+      let same : recorded_instance m ≡ at = λ j. instance_with (both.variant j) (both.«module» j) in
       ap Answers (ap (λ (k : Instance). answer_on k m.history b false) same ∙ ap (λ (h : History). answer_on at h b false) both.history
       ∙ ap (answer_on at (all_made (by_lists at) a.history (reading.moves ++ moves)) b) (sym new))
   ends_new n m f moves (Some fault) new w went =
@@ -367,7 +367,7 @@ module _ (a : Recorded) (stop : Stop) (meddles : List Meddle) (bytes : List ℕ)
       (λ z e. step_open (fates 2).brings (fates 2).ends finished z (λ u f. f) ∙ e)
 
   pub ask_new : (n m : Recorded) (ended : Ended) → Walks a n reading None
-      → Ok false ≡ again_in (found_at (instance_of n) (by_lists (instance_of n)) n.history b bytes)
+      → Ok false ≡ again_in (found_at (recorded_instance n) (by_lists (recorded_instance n)) n.history b bytes)
       → GoesOnNew n m stop meddles b ended → CallsBy a m all ended
   ask_new n m ended w e goes =
       let f = again_ok found false (e ∙ ap again_in (found_there n w)) in
@@ -388,7 +388,7 @@ module _ (a : Recorded) (stop : Stop) (meddles : List Meddle) (bytes : List ℕ)
       (went_then a n m reading.moves more.moves w.went went) (ends ∙ ends_new n m f.0 more.moves more.broken f.2 w went)
 
   pub ask_new_in : {E : Type 0} (n m : Recorded) (r : Result Ended E) → Walks a n reading None
-      → Ok false ≡ again_in (found_at (instance_of n) (by_lists (instance_of n)) n.history b bytes)
+      → Ok false ≡ again_in (found_at (recorded_instance n) (by_lists (recorded_instance n)) n.history b bytes)
       → IfOk r (GoesOnNew n m stop meddles b) → IfOk r (CallsBy a m all)
   ask_new_in n m (Ok ended) w e goes = ask_new n m ended w e goes
   ask_new_in n m (Err why) w e goes = tt

@@ -22,7 +22,7 @@ use Rattle.mm_run.proofs.Naming.{closes-foreign, last_steps}
 use Rattle.mm_expect.specs.declared.calls.Closing.{Closing}
 use Rattle.mm_expect.specs.declared.calls.Closing.TheVariants.{Closes, LostPower, Stops}
 use Rattle.mm_expect.specs.Closings.{closing_as, WentByCheckpoint, ShutBy}
-use Rattle.mm_expect.specs.Recorded.{Recorded, Went, instance_of}
+use Rattle.mm_expect.specs.Recorded.{Recorded, Went, recorded_instance}
 use Rattle.mm_expect.specs.Walking.{Walks}
 use Rattle.mm_expect.proofs.Asking.{Then, read_broken, read_whole, read_seen}
 use Rattle.mm_expect.proofs.Walking.{went_then}
@@ -54,10 +54,10 @@ pub shut_is : {E : Type 0} (a n : Recorded) (stop : Stop) (meddles : List Meddle
     → ((lost : Bool) → checkpoint_steps variant is_open lost ≡ Reads ∷ [])
     → ((lost : Bool) → ghost_closing.closing_of variant is_open lost ≡ closing_as unless)
     → IfOk r (ShutBy a n (walk (planned (plan_of stop meddles)) 1 (Reads ∷ [])) unless)
-    → IfOk r (WentByCheckpoint a n (ghost_closing.checkpointed (instance_of a) (by_lists (instance_of a)) a.history (course_of stop meddles)))
+    → IfOk r (WentByCheckpoint a n (ghost_closing.checkpointed (recorded_instance a) (by_lists (recorded_instance a)) a.history (course_of stop meddles)))
 shut_is a n stop meddles unless variant is_open (Err e) va op steps ends shut = tt
 shut_is a n stop meddles unless variant is_open (Ok closing) va op steps ends shut =
-    let i = instance_of a in
+    let i = recorded_instance a in
     let fates = planned (plan_of stop meddles) in
     let lost = is_lost (life_of a.variant (seen_at i (by_lists i) a.history (course_of stop meddles))) in
     let here = ap (λ (v : Variant). checkpoint_steps v a.history.is_open lost) va ∙ ap (λ (o : Bool). checkpoint_steps variant o lost) op ∙ steps lost in
@@ -80,7 +80,7 @@ last_is false = refl
 
 module _ (a : Recorded) (stop : Stop) (meddles : List Meddle) (va : a.variant ≡ Opt) (op : a.history.is_open ≡ true) where
   abbrev at : Instance
-  at = instance_of a
+  at = recorded_instance a
 
   abbrev fates : ℕ → Fate
   fates = planned (plan_of stop meddles)

@@ -17,7 +17,7 @@ use Rattle.mm_model.proofs.MovedDigests.{total-push}
 use Rattle.mm_call.specs.Called.{Ending, Answers, Refuses, Breaks, reading_steps, called, seen_at}
 use Rattle.mm_call.specs.Checkpoints.{Closing, Closes, HasNone, NoSegment, LostPower, Stops, checkpointed}
 use Rattle.mm_call.specs.Courses.{End, Done, Fails, Fate, Course, Walked, step_moves, after_step, walk}
-use Rattle.mm_call.specs.Found.{Found, found_at, found_in, is_fresh}
+use Rattle.mm_call.specs.Found.{Found, found_at, found_unless_wanting, is_fresh}
 use Rattle.mm_call.specs.Levels.{by_lists, all_made}
 use Rattle.mm_call.proofs.BasicLaw.{unlacked}
 use Rattle.mm_call.proofs.Moving.{committed_in, same_batches, more_batches}
@@ -26,7 +26,7 @@ use Rattle.mm_schedule.specs.declared.reply.Cause.TheVariants as cause
 use Rattle.mm_schedule.specs.declared.reply.Reply.TheVariants as reply
 use Rattle.mm_schedule.specs.Events.{Event, Ask, Checkpoint, Power, Extend}
 use Rattle.mm_run.specs.Offered.{offered_bytes}
-use Rattle.mm_run.specs.Folds.{course_of, after_stop, moves_then, closing_then, uncalled, outcome_by, asked, outcome_of, followed, first_issued, expected}
+use Rattle.mm_run.specs.Folds.{course_of, after_stop, moves_then, closing_then, uncalled, outcome_by, asked, event_outcome, followed, first_issued, expected}
 use Rattle.mm_expect.specs.Calls.{Admits}
 use Rattle.mm_expect.proofs.Asking.{foreign_batches}
 use Rattle.mm_expect.proofs.FindLaws.{admits_found}
@@ -59,7 +59,7 @@ walked_few i y seen b found walked same admits (batch one is) few =
 called_few : (i : Instance) (y : History) (course : Course) (bytes : List ℕ) (b : Batch) → IsFew y → IsFew (called i (by_lists i) y course bytes b).state
 called_few i y course bytes b few =
     let seen = seen_at i (by_lists i) y course in
-    let found = found_in (found_at i (by_lists i) seen b bytes) course.lacks in
+    let found = found_unless_wanting (found_at i (by_lists i) seen b bytes) course.lacks in
     walked_few i y seen b found (walk course.fates 1 (ask_steps i.variant y.is_open (is_fresh found) b)) (foreign_batches i course.fates (reading_steps i.variant) 1 y)
     (λ f is. admits_found i seen b bytes f (unlacked (found_at i (by_lists i) seen b bytes) course.lacks f is))
     (commits_any i.variant course y.is_open (is_fresh found) b) few
@@ -120,7 +120,7 @@ checks_quiet fates Opt true false =
     (reads_quiet (fates 2).brings (fates 2).ends (after_step (Writes Close) (fates 3).brings (fates 3).ends finished)
     (quiet_step (Writes Close) (fates 3).brings (fates 3).ends finished (close_quiet (fates 3).brings) refl))
 
-few_event : (i : Instance) (y : History) (issued : List (List ℕ)) (event : Event) → IsFew y → IsFew (outcome_of i (by_lists i) y issued event).state
+few_event : (i : Instance) (y : History) (issued : List (List ℕ)) (event : Event) → IsFew y → IsFew (event_outcome i (by_lists i) y issued event).state
 few_event i y issued (Ask meddles stop offer b) few = bytes_few i y issued meddles stop (offered_bytes issued offer) b few
 few_event i y issued (Checkpoint meddles stop) few =
     let o = checkpointed i (by_lists i) y (course_of stop meddles) in
@@ -132,7 +132,7 @@ few_event i y issued (Extend value) few = few
 few_followed : (i : Instance) (y : History) (issued : List (List ℕ)) (events : List Event) → IsFew y → IsFew (followed i (by_lists i) y issued events).state
 few_followed i y issued [] few = few
 few_followed i y issued (event ∷ events) few =
-    let o = outcome_of i (by_lists i) y issued event in few_followed i o.state o.issued events (few_event i y issued event few)
+    let o = event_outcome i (by_lists i) y issued event in few_followed i o.state o.issued events (few_event i y issued event few)
 
 pub few_expected : (i : Instance) (events : List Event) → IsFew (expected i events).state
 few_expected i events = few_followed i first_history (first_issued i) events (omega arith)

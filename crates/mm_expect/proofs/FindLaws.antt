@@ -18,7 +18,7 @@ use Rattle.mm_model.specs.declared.verdict.Verdict.{Verdict}
 use Rattle.mm_model.specs.declared.verdict.Verdict.TheVariants.{Fresh, Again, Lost, Stale}
 use Rattle.mm_call.specs.Order.{admitted, examined}
 use Rattle.mm_call.specs.Levels.{by_lists}
-use Rattle.mm_call.specs.Found.{Found, found_from, found_at}
+use Rattle.mm_call.specs.Found.{Found, found_by_verdict, found_at}
 use Rattle.mm_call.proofs.Finding.{admitted_tells, weighed_tells, found_with_tells}
 use Rattle.mm_run.proofs.Naming.{unless_lost}
 use Rattle.mm_expect.specs.Calls.{reached, Admits}
@@ -73,7 +73,7 @@ admitted_fits v n again e = leb-true n last_position (admitted_yes v (nat_le n l
 
 -- what is found admits the batch
 from_admits : (i : Instance) (y : History) (b : Batch) (parts : Result Snapshot PartsFault) (f : Found)
-    → found_from i (by_lists i) y b parts ≡ Ok f → Admits y b f.again
+    → found_by_verdict i (by_lists i) y b parts ≡ Ok f → Admits y b f.again
 from_admits i y b (Err Form) f e = cc
 from_admits i y b (Err Kind) f e = cc
 from_admits i y b (Ok snapshot) f e =

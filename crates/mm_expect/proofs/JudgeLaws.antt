@@ -28,7 +28,7 @@ use Rattle.mm_run.proofs.Naming.{basic_issued_named, opt_issued_named}
 use Rattle.mm_expect.specs.Genuine.{IssuedAreGenuine}
 use Rattle.mm_expect.specs.Judged.{AreIssued, DecidesOffer, DecidesEvent}
 use Rattle.mm_expect.specs.Naming.{IsDecided}
-use Rattle.mm_expect.specs.Recorded.{Recorded, instance_with, instance_of}
+use Rattle.mm_expect.specs.Recorded.{Recorded, instance_with, recorded_instance}
 use Rattle.mm_expect.specs.Traced.{Traced, IsAfter}
 use Rattle.mm_expect.proofs.AfterLaws.{header_of, traced, instance_is}
 use Rattle.mm_expect.proofs.FewLaws.{few_expected}
@@ -64,10 +64,10 @@ are_issued header events it at =
     (subst T (sym at.issued_is) (record { few = few_expected i events; names = named_by header.variant (meaning_of header.«module») events }))
 
 pub event_decided : (old : Recorded) (issued : List (List ℕ)) (event : Event) (true_or_not : Bool) (header : Header) (events : List Event)
-    → DecidesEvent (instance_of old) old.history issued event true_or_not → IsAfter header events (traced old issued)
+    → DecidesEvent (recorded_instance old) old.history issued event true_or_not → IsAfter header events (traced old issued)
     → IsDecided true_or_not (IsGenuineEvent (world_of header) old.history issued event)
 event_decided old issued event true_or_not header events decides at =
-    let same : instance_of old ≡ world_of header = instance_is (header_of old) ∙ ap world_of at.header_is in
+    let same : recorded_instance old ≡ world_of header = instance_is (header_of old) ∙ ap world_of at.header_is in
     subst (λ (i : Instance). IsDecided true_or_not (IsGenuineEvent i old.history issued event)) same
     (decides (subst (λ (i : Instance). AreIssued i old.history issued) (sym same) (are_issued header events (traced old issued) at)))
 
@@ -100,8 +100,8 @@ decided_some (Err why) i y issued offer bytes given e same d = tt
 pub names_there : {E : Type 0} (r : Result Bool E) (variant : Variant) («module» : AnyModule) (lists : History) (seen : Recorded) → variant ≡ seen.variant
     → «module» ≡ seen.«module» → lists ≡ seen.history → (content : Content)
     → IfOk r (λ b. IsDecided b (Names (instance_with variant «module») lists content))
-    → IfOk r (λ b. IsDecided b (Names (instance_of seen) seen.history content))
+    → IfOk r (λ b. IsDecided b (Names (recorded_instance seen) seen.history content))
 names_there (Ok b) variant «module» lists seen v m h content d =
-    subst (λ (y : History). IsDecided b (Names (instance_of seen) y content)) h
+    subst (λ (y : History). IsDecided b (Names (recorded_instance seen) y content)) h
     (subst (λ (i : Instance). IsDecided b (Names i lists content)) (λ j. instance_with (v j) (m j)) d)
 names_there (Err why) variant «module» lists seen v m h content d = tt

@@ -23,7 +23,7 @@ use Rattle.mm_call.specs.Answers.{last_outputs, answer_on}
 use Rattle.mm_call.specs.Called.{reading_steps, kept_at, ended_by, called, seen_at}
 use Rattle.mm_call.specs.Checkpoints as ghost_closing
 use Rattle.mm_call.specs.Courses.{Course, Walked, walk}
-use Rattle.mm_call.specs.Found.{Found, found_at, found_in, is_fresh}
+use Rattle.mm_call.specs.Found.{Found, found_at, found_unless_wanting, is_fresh}
 use Rattle.mm_call.specs.Levels.{by_lists, all_made}
 use Rattle.mm_call.proofs.BasicLaw.{unlacked}
 use Rattle.mm_call.proofs.Calling.{said_last}
@@ -35,7 +35,7 @@ use Rattle.mm_schedule.specs.declared.reply.Reply.TheVariants as reply
 use Rattle.mm_schedule.specs.Events.{Event, Ask, Checkpoint, Power, Extend}
 use Rattle.mm_schedule.specs.Replies.{IsPrintable}
 use Rattle.mm_run.specs.Offered.{offered_bytes}
-use Rattle.mm_run.specs.Folds.{course_of, way_of, told_reply, broken_reply, reply_of, closing_reply, uncalled, outcome_by, asked, outcome_of}
+use Rattle.mm_run.specs.Folds.{course_of, way_of, told_reply, broken_reply, reply_of, closing_reply, uncalled, outcome_by, asked, event_outcome}
 use Rattle.mm_expect.specs.Calls.{Admits}
 use Rattle.mm_expect.proofs.Asking.{foreign_batches, last_pushed}
 use Rattle.mm_expect.proofs.FindLaws.{admits_found}
@@ -106,7 +106,7 @@ called_printable : (i : Instance) → IsLawful i.meaning → (y : History) (way 
     → IsPrintable (reply_of way (called i (by_lists i) y course bytes b).ending)
 called_printable i lawful y way course bytes b =
     let seen = seen_at i (by_lists i) y course in
-    let found = found_in (found_at i (by_lists i) seen b bytes) course.lacks in
+    let found = found_unless_wanting (found_at i (by_lists i) seen b bytes) course.lacks in
     let walked = walk course.fates 1 (ask_steps i.variant y.is_open (is_fresh found) b) in
     ended_printable i lawful way y seen b found walked (foreign_batches i course.fates (reading_steps i.variant) 1 y)
     (λ f is. admits_found i seen b bytes f (unlacked (found_at i (by_lists i) seen b bytes) course.lacks f is))
@@ -131,7 +131,7 @@ closing_printable way (ghost_closing.Stops fault true) = tt
 closing_printable way (ghost_closing.Stops fault false) = tt
 
 pub printable : (i : Instance) → IsLawful i.meaning → (y : History) (issued : List (List ℕ)) (event : Event)
-    → IsPrintable (outcome_of i (by_lists i) y issued event).reply
+    → IsPrintable (event_outcome i (by_lists i) y issued event).reply
 printable i lawful y issued (Ask meddles stop offer b) = bytes_printable i lawful y issued meddles stop (offered_bytes issued offer) b
 printable i lawful y issued (Checkpoint meddles stop) =
     closing_printable (way_of stop) (ghost_closing.checkpointed i (by_lists i) y (course_of stop meddles)).ending

@@ -30,7 +30,7 @@ use Rattle.mm_model.specs.Life.{is_empty, has_value}
 use Rattle.mm_call.proofs.Calling.{requests-push, said_last}
 use Rattle.mm_expect.specs.declared.marks.Marks.{Marks}
 use Rattle.mm_expect.specs.Marks.{marks_of, with_value, emptied, closed_marks, linked_marks, grown, opened_marks}
-use Rattle.mm_expect.specs.Recorded.{Recorded, barrier_of, instance_with, instance_of}
+use Rattle.mm_expect.specs.Recorded.{Recorded, barrier_of, instance_with, recorded_instance}
 use Rattle.mm_expect.specs.Settled.{IsSettled}
 use Rattle.mm_expect.proofs.MarkLaws.{marks_value, marks_emptied, marks_shut, marks_linked, marks_grown, marks_opened}
 
@@ -190,8 +190,8 @@ outputs_last variant «module» barrier y marks state before b s last =
 
 pub answered_is : (r : Recorded) (again : Bool) (b : Batch) (position : ℕ) (outputs : List (List ℕ)) (snapshot : List ℕ)
     → position ≡ total_of r.history.batches → outputs ≡ last_outputs (meaning_of r.«module») r.history (size_of b)
-    → snapshot ≡ issued_bytes (instance_of r) r.history
-    → Answered (record { again = again; position = position; outputs = outputs; snapshot = snapshot }) ≡ Answered (answer_on (instance_of r) r.history b again)
+    → snapshot ≡ issued_bytes (recorded_instance r) r.history
+    → Answered (record { again = again; position = position; outputs = outputs; snapshot = snapshot }) ≡ Answered (answer_on (recorded_instance r) r.history b again)
 answered_is r again b position outputs snapshot p o s = λ j. Answered (record { again = again; position = p j; outputs = o j; snapshot = s j })
 
 -- a batch that isn't too long, as a list

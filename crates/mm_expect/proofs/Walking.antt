@@ -19,7 +19,7 @@ use Rattle.mm_call.specs.Courses.{Fate, made_move, step_moves, after_step, walk,
 use Rattle.mm_call.proofs.Walks.{made-append}
 use Rattle.mm_run.specs.Folds.{plan_of}
 use Rattle.mm_expect.specs.Numbered.{messages_if, messages_where}
-use Rattle.mm_expect.specs.Recorded.{Recorded, Went, instance_of, instance_with}
+use Rattle.mm_expect.specs.Recorded.{Recorded, Went, recorded_instance, instance_with}
 use Rattle.mm_expect.specs.declared.course.Move as code
 use Rattle.mm_expect.specs.declared.course.Step as code_step
 use Rattle.mm_expect.specs.declared.course.Step.TheVariants.{Changes}
@@ -41,7 +41,7 @@ went_none r = record {
   closing = sym (append-nil r.closing);
 }
 
-same_instance : (a b : Recorded) (moves : List Move) → Went a b moves → instance_of b ≡ instance_of a
+same_instance : (a b : Recorded) (moves : List Move) → Went a b moves → recorded_instance b ≡ recorded_instance a
 same_instance a b moves w = λ j. instance_with (w.variant j) (w.«module» j)
 
 -- what was listed by the first moves, and then by more
@@ -61,11 +61,11 @@ went_then a b c xs ys first second =
       variant = second.variant ∙ first.variant;
       «module» = second.«module» ∙ first.«module»;
       history = second.history ∙ ap (λ (i : Instance). all_made (by_lists i) b.history ys) same
-          ∙ ap (λ (y : History). all_made (by_lists (instance_of a)) y ys) first.history
-          ∙ sym (made-append (by_lists (instance_of a)) xs ys a.history);
-      extending = then_listed false (instance_of a) (instance_of b) a.history b.history xs ys a.extending b.extending c.extending same
+          ∙ ap (λ (y : History). all_made (by_lists (recorded_instance a)) y ys) first.history
+          ∙ sym (made-append (by_lists (recorded_instance a)) xs ys a.history);
+      extending = then_listed false (recorded_instance a) (recorded_instance b) a.history b.history xs ys a.extending b.extending c.extending same
           first.history first.extending second.extending;
-      closing = then_listed true (instance_of a) (instance_of b) a.history b.history xs ys a.closing b.closing c.closing same
+      closing = then_listed true (recorded_instance a) (recorded_instance b) a.history b.history xs ys a.closing b.closing c.closing same
           first.history first.closing second.closing;
     }
 

@@ -18,7 +18,7 @@ use Rattle.mm_call.specs.Found.{Found}
 use Rattle.mm_call.specs.declared.ended.Ended.{Ended}
 use Rattle.mm_call.specs.declared.ended.Ended.TheVariants.{Answered, Refused, Broken}
 use Rattle.mm_run.specs.Folds.{plan_of}
-use Rattle.mm_expect.specs.Recorded.{Recorded, Went, instance_of}
+use Rattle.mm_expect.specs.Recorded.{Recorded, Went, recorded_instance}
 use Rattle.mm_expect.specs.Walking.{Walks}
 
 -- a refusal, or whether the batch is a repeat
@@ -62,7 +62,7 @@ ending_of (Broken fault commits) = Breaks fault commits
 
 -- how a call of a new batch ends, once its steps behind the reading ones were walked
 abbrev pub new_ending : Recorded → Batch → List Move → Option StepFault → Ending
-new_ending new b moves None = Answers (answer_on (instance_of new) new.history b false)
+new_ending new b moves None = Answers (answer_on (recorded_instance new) new.history b false)
 new_ending new b moves (Some fault) = Breaks fault (kept_at (commits moves) (total_of new.history.batches))
 
 -- The rest of a call of a new batch.

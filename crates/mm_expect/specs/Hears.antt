@@ -4,12 +4,12 @@ use Rattle.mm_model.specs.Instance.{Instance}
 use Rattle.mm_model.specs.History.{History}
 use Rattle.mm_call.specs.Levels.{by_lists}
 use Rattle.mm_schedule.specs.Events.{Event}
-use Rattle.mm_run.specs.Folds.{outcome_of}
+use Rattle.mm_run.specs.Folds.{event_outcome}
 use Rattle.mm_expect.specs.declared.expecting.Heard.{Heard}
 use Rattle.mm_expect.specs.Numbered.{numbered_event}
 
 -- What is heard of an event, from a history and the issued snapshots: the reply that is expected, and the messages in the
 -- order of their numbers.
 pub record Hears (i : Instance) (history : History) (issued : List (List ℕ)) (event : Event) (heard : Heard) : Type 0 where
-  pub reply : heard.reply ≡ (outcome_of i (by_lists i) history issued event).reply
+  pub reply : heard.reply ≡ (event_outcome i (by_lists i) history issued event).reply
   pub messages : heard.messages.items ≡ numbered_event i history issued event

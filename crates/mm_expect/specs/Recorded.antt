@@ -36,8 +36,8 @@ instance_with variant «module» = record {
   barrier = barrier_of variant;
 }
 
-abbrev pub instance_of : Recorded → Instance
-instance_of r = instance_with r.variant r.«module»
+abbrev pub recorded_instance : Recorded → Instance
+recorded_instance r = instance_with r.variant r.«module»
 
 -- the first one of a variant and a module
 abbrev pub first_recorded : Variant → AnyModule → Recorded
@@ -53,9 +53,9 @@ first_recorded variant «module» = record {
 pub record Went (old new : Recorded) (moves : List Move) : Type 0 where
   pub variant : new.variant ≡ old.variant
   pub «module» : new.«module» ≡ old.«module»
-  pub history : new.history ≡ all_made (by_lists (instance_of old)) old.history moves
-  pub extending : new.extending ≡ old.extending ++ messages_where false (instance_of old) old.history moves
-  pub closing : new.closing ≡ old.closing ++ messages_where true (instance_of old) old.history moves
+  pub history : new.history ≡ all_made (by_lists (recorded_instance old)) old.history moves
+  pub extending : new.extending ≡ old.extending ++ messages_where false (recorded_instance old) old.history moves
+  pub closing : new.closing ≡ old.closing ++ messages_where true (recorded_instance old) old.history moves
 
 -- the messages by which the register takes in a value: none in Basic, which has no register
 abbrev pub extension_messages : Variant → List ℕ → List ℕ → List (List ℕ)

@@ -4,7 +4,7 @@ use Rattle.mm_model.specs.History.{History, first_history}
 use Rattle.mm_schedule.specs.declared.header.Header.{Header}
 use Rattle.mm_schedule.specs.Events.{Event}
 use Rattle.mm_call.specs.Levels.{by_lists}
-use Rattle.mm_run.specs.Folds.{Outcome, outcome_of, expected, first_issued}
+use Rattle.mm_run.specs.Folds.{Outcome, event_outcome, expected, first_issued}
 use Rattle.mm_run.specs.Held.{world_of}
 
 -- the header; the history; and the issued snapshots by their numbers
@@ -15,7 +15,7 @@ pub record Traced : Type 0 where
 
 -- what an event comes to
 abbrev pub outcome_traced : Traced → Event → Outcome History
-outcome_traced it event = outcome_of (world_of it.header) (by_lists (world_of it.header)) it.history it.issued event
+outcome_traced it event = event_outcome (world_of it.header) (by_lists (world_of it.header)) it.history it.issued event
 
 -- It stands at the start.
 abbrev pub first_traced : Header → Traced

@@ -22,12 +22,12 @@ impl Chronicle {
     ghost use Rattle.mm_call.specs.Answers.{answer_on};
     ghost use Rattle.mm_call.specs.declared.ended.Ended.TheVariants.{Answered};
     ghost use Rattle.mm_run.specs.Held.{world_key};
-    ghost use Rattle.mm_expect.specs.Recorded.{instance_of};
+    ghost use Rattle.mm_expect.specs.Recorded.{recorded_instance};
 
     // Where the snapshot of an answer stands.
     fn place_now(&self) -> Place
         ensures { result ≡ issued_place self.now.variant self.now.history.is_open
-            (instance_of self.now) self.now.history }
+            (recorded_instance self.now) self.now.history }
     {
         match self.variant {
             Variant::Basic => Place::Basic(self.marks.cell),
@@ -48,7 +48,7 @@ impl Chronicle {
         requires key { key.now ≡ world_key }
         requires few { total_of self.now.history.batches ≤ last_position }
         ensures { IfOk result
-            (λ bytes. bytes ≡ issued_bytes (instance_of self.now) self.now.history) }
+            (λ bytes. bytes ≡ issued_bytes (recorded_instance self.now) self.now.history) }
     {
         let body = Body {
             module: self.module.id(),
@@ -72,7 +72,7 @@ impl Chronicle {
         requires last { is_last self.now.history.batches (batch_of batch) ≡ true }
         ensures { IfOk result
             (λ ended. ended ≡ Answered
-            (answer_on (instance_of self.now) self.now.history (batch_of batch.entry) again)) }
+            (answer_on (recorded_instance self.now) self.now.history (batch_of batch.entry) again)) }
     {
         let Ran { outputs, .. } = run_batch(
             self.alloc,

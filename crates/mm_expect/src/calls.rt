@@ -22,7 +22,7 @@ impl Chronicle {
     ghost use Rattle.mm_call.specs.Levels.{by_lists};
     ghost use Rattle.mm_run.specs.Folds.{plan_of, course_of};
     ghost use Rattle.mm_run.specs.Held.{world_key};
-    ghost use Rattle.mm_expect.specs.Recorded.{instance_of};
+    ghost use Rattle.mm_expect.specs.Recorded.{recorded_instance};
     ghost use Rattle.mm_expect.specs.Walking.{Walks};
     ghost use Rattle.mm_expect.specs.Calls.{Admits, CallsBy, GoesOnNew, ChangesBy};
     ghost use Rattle.mm_expect.specs.Closings.{WentByCheckpoint, ShutBy};
@@ -77,7 +77,7 @@ impl Chronicle {
         requires short { is_long (batch_of batch) ≡ false }
         ensures { IfOk result
             (CallsBy self.old self.new
-            (called (instance_of self.old) (by_lists (instance_of self.old)) self.old.history
+            (called (recorded_instance self.old) (by_lists (recorded_instance self.old)) self.old.history
             (course_of course.now.stop course.now.meddles.now) bytes.now (batch_of batch.entry))) }
     {
         if let Some(fault) = self.read(course)? {
@@ -121,7 +121,7 @@ impl Chronicle {
     pub(crate) fn checkpoint(&mut self, course: &Course<'_>) -> Result<Closing, Memory>
         ensures { IfOk result
             (WentByCheckpoint self.old self.new
-            (checkpointed (instance_of self.old) (by_lists (instance_of self.old))
+            (checkpointed (recorded_instance self.old) (by_lists (recorded_instance self.old))
             self.old.history
             (course_of course.now.stop course.now.meddles.now))) }
     {
@@ -159,7 +159,7 @@ impl Chronicle {
         requires inside { self.old.history.is_open ≡ true }
         ensures { IfOk result
             (WentByCheckpoint self.old self.new
-            (checkpointed (instance_of self.old) (by_lists (instance_of self.old))
+            (checkpointed (recorded_instance self.old) (by_lists (recorded_instance self.old))
             self.old.history
             (course_of course.now.stop course.now.meddles.now))) }
     {

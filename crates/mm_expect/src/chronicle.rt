@@ -59,7 +59,7 @@ impl Chronicle {
     ghost use Rattle.mm_model.specs.Chains.{guard};
     ghost use Rattle.mm_model.specs.Long.{is_long};
     ghost use Rattle.mm_model.specs.History.{Move, Commit, Foreign, Placed, Reset, Close, Power, committed, register_value_of, cell_digest_of, total_of};
-    ghost use Rattle.mm_expect.specs.Recorded.{first_recorded, Went, instance_of, extension_messages, closing_listed, state_after_batch};
+    ghost use Rattle.mm_expect.specs.Recorded.{first_recorded, Went, recorded_instance, extension_messages, closing_listed, state_after_batch};
 
     /// The first history of a variant and a module.
     pub(crate) fn new(
@@ -115,7 +115,7 @@ impl Chronicle {
         ensures { OnOk result (self.new ≡ record self.old {
           extending = self.old.extending
               ++ extension_messages self.old.variant
-              (register_value_of (instance_of self.old) self.old.history) value.now.bytes;
+              (register_value_of (recorded_instance self.old) self.old.history) value.now.bytes;
         }) }
     {
         if let Variant::Opt = self.variant {
@@ -157,8 +157,8 @@ impl Chronicle {
         ensures { OnOk result (self.new ≡ record self.old {
           closing = self.old.closing
               ++ closing_listed self.old.variant
-              (cell_digest_of (instance_of self.old) self.old.variant self.old.history)
-              (register_value_of (instance_of self.old) self.old.history);
+              (cell_digest_of (recorded_instance self.old) self.old.variant self.old.history)
+              (register_value_of (recorded_instance self.old) self.old.history);
         }) }
     {
         if let Variant::Opt = self.variant {
@@ -245,7 +245,7 @@ impl Chronicle {
         requires size { size ≡ size_of (batch_of batch) }
         requires fits { total_of self.old.history.batches + size < 2 ^ 64 }
         requires state { state ≡ state_after_batch self.old (batch_of batch) }
-        requires guards { value.now.bytes ≡ guard (instance_of self.old).barrier (batch_of batch) }
+        requires guards { value.now.bytes ≡ guard (recorded_instance self.old).barrier (batch_of batch) }
         ensures { OnOk result
             (self.new ≡ record self.old {
               history = committed Opt true self.old.history (batch_of batch.entry);

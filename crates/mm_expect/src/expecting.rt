@@ -10,7 +10,7 @@ ghost use Rattle.mm_schedule.specs.Events.{Ask, Checkpoint, Power, Extend, meddl
 ghost use Rattle.mm_run.specs.Folds.{after_stop};
 ghost use Rattle.mm_run.specs.Held.{world_key};
 ghost use Rattle.mm_expect.specs.Coming.{WentByCall, WentByEvent, moves_if};
-ghost use Rattle.mm_expect.specs.Recorded.{Went, instance_of};
+ghost use Rattle.mm_expect.specs.Recorded.{Went, recorded_instance};
 
 use crate::calls::Closing;
 use crate::chronicle::Chronicle;
@@ -83,8 +83,8 @@ fn list_asked(
 ) -> Result<(), Memory>
     requires { key.now ≡ world_key }
     ensures { OnOk result (messages.new.items
-        ≡ messages.old.items ++ right_messages (instance_of chronicle.now) (batch_of batch.entry)
-        (right_content (instance_of chronicle.now) bytes.now)) }
+        ≡ messages.old.items ++ right_messages (recorded_instance chronicle.now) (batch_of batch.entry)
+        (right_content (recorded_instance chronicle.now) bytes.now)) }
 {
     match right_body(chronicle, key, bytes) {
         None => Ok(()),

@@ -20,7 +20,7 @@ impl Chronicle {
     ghost use Rattle.mm_call.specs.Found.{found_at};
     ghost use Rattle.mm_call.specs.Levels.{by_lists};
     ghost use Rattle.mm_run.specs.Held.{world_key};
-    ghost use Rattle.mm_expect.specs.Recorded.{instance_of};
+    ghost use Rattle.mm_expect.specs.Recorded.{recorded_instance};
     ghost use Rattle.mm_expect.specs.Calls.{again_in, Admits};
 
     /// How many requests are committed.
@@ -114,7 +114,7 @@ impl Chronicle {
         requires key { key.now ≡ world_key }
         requires short { is_long (batch_of batch) ≡ false }
         ensures found { result ≡ again_in
-            (found_at (instance_of self.now) (by_lists (instance_of self.now)) self.now.history
+            (found_at (recorded_instance self.now) (by_lists (recorded_instance self.now)) self.now.history
             (batch_of batch.entry) bytes.now) }
         ensures admits { IfOk result (Admits self.now.history (batch_of batch.entry)) }
     {

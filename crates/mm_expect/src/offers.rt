@@ -8,7 +8,7 @@ ghost use Rattle.mm_schedule.specs.Events.{event_of};
 ghost use Rattle.mm_run.specs.Held.{world_key};
 ghost use Rattle.mm_expect.specs.Naming.{IsDecided};
 ghost use Rattle.mm_expect.specs.Judged.{DecidesOffer, DecidesEvent};
-ghost use Rattle.mm_expect.specs.Recorded.{instance_of};
+ghost use Rattle.mm_expect.specs.Recorded.{recorded_instance};
 
 use crate::chronicle::Chronicle;
 use crate::naming::is_named;
@@ -26,7 +26,7 @@ pub(crate) fn right_body<'a>(
     bytes: &'a [u8],
 ) -> Option<Body<'a>>
     requires { key.now ≡ world_key }
-    ensures { option_map content_of result ≡ right_content (instance_of chronicle.now) bytes.now }
+    ensures { option_map content_of result ≡ right_content (recorded_instance chronicle.now) bytes.now }
 {
     let Ok(offered) = parts(bytes, chronicle.variant, chronicle.module.id()) else {
         return None;
@@ -44,7 +44,7 @@ fn are_genuine(chronicle: &Chronicle, key: &HmacKey, bytes: &[u8]) -> Result<boo
     requires { key.now ≡ world_key }
     ensures { IfOk result
         (λ yes. IsDecided yes
-        (IsGenuine (instance_of chronicle.now) chronicle.now.history bytes.now)) }
+        (IsGenuine (recorded_instance chronicle.now) chronicle.now.history bytes.now)) }
 {
     match right_body(chronicle, key, bytes) {
         None => Ok(true),
@@ -68,7 +68,7 @@ fn is_genuine_offer(
 ) -> Result<bool, Memory>
     requires { key.now ≡ world_key }
     ensures { IfOk result
-        (DecidesOffer (instance_of chronicle.now) chronicle.now.history issued.now offer.now) }
+        (DecidesOffer (recorded_instance chronicle.now) chronicle.now.history issued.now offer.now) }
 {
     match offer {
         Offer::Number(_) => Ok(true),
@@ -88,7 +88,7 @@ pub(crate) fn is_genuine(
     event: &Event,
 ) -> Result<bool, Memory>
     requires { key.now ≡ world_key }
-    ensures { IfOk result (DecidesEvent (instance_of chronicle.now) chronicle.now.history issued.now
+    ensures { IfOk result (DecidesEvent (recorded_instance chronicle.now) chronicle.now.history issued.now
         (event_of event.now)) }
 {
     match event {

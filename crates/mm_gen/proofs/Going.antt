@@ -3,7 +3,7 @@ use Rattle.std.proofs.Common.{◌≡◌, ◌<◌, ◌≤◌, ℕ, zero, suc, ◌
 use Rattle.std.specs.Prelude.{min}
 use Rattle.std.proofs.lemmas.Bool.{cases_lt}
 use Rattle.std.proofs.lemmas.List.{length-take}
-use Rattle.mm_base.specs.Input.{joined}
+use Rattle.mm_base.specs.Input.{lines_joined}
 use Rattle.mm_base.proofs.Input.{joined-append}
 use Rattle.mm_schedule.specs.declared.header.Header.{Header}
 use Rattle.mm_gen.specs.Schedules.{lines_from, schedule_text, words_at}
@@ -16,7 +16,7 @@ pub record Going (number count : ℕ) (header : Header) (text key : List ℕ) (p
   pub drawn : place ≤ 4 * done
   pub turns : ℕ
   pub enough : count - done ≤ turns
-  pub whole : text ++ joined (take (count - done) (lines_from header key place (done + 1) turns)) ≡ schedule_text number count header
+  pub whole : text ++ lines_joined (take (count - done) (lines_from header key place (done + 1) turns)) ≡ schedule_text number count header
 
 take_of_two : (n : ℕ) (xs ys : List (List ℕ)) → take n (xs ++ ys) ≡ take n xs ++ take (n - length xs) ys
 take_of_two zero [] ys = refl
@@ -47,9 +47,9 @@ behind header key place turns left done shown size is =
 -- one turn is put, with at most as many lines as are left
 stepped : (number count : ℕ) (header : Header) (text key : List ℕ) (place done shown turns : ℕ)
     → done < count → place ≤ 4 * done → count - done ≤ turns
-    → text ++ joined (take (count - done) (lines_from header key place (done + 1) turns)) ≡ schedule_text number count header
+    → text ++ lines_joined (take (count - done) (lines_from header key place (done + 1) turns)) ≡ schedule_text number count header
     → shown ≡ length (take (count - done) (turn_lines header (done + 1) (words_at key place)))
-    → Going number count header (text ++ joined (take (count - done) (turn_lines header (done + 1) (words_at key place)))) key (place + 4) (done + shown)
+    → Going number count header (text ++ lines_joined (take (count - done) (turn_lines header (done + 1) (words_at key place)))) key (place + 4) (done + shown)
 stepped number count header text key place done shown zero more drawn enough whole is = absurd (omega arith)
 stepped number count header text key place done shown (suc turns) more drawn enough whole is =
     let lines : List (List ℕ) = turn_lines header (done + 1) (words_at key place) in
@@ -69,14 +69,14 @@ stepped number count header text key place done shown (suc turns) more drawn eno
       drawn = omega (arith, size, more, some, drawn);
       turns = turns;
       enough = omega (arith, size, more, some, enough);
-      whole = append_assoc text (joined (take left lines)) (joined later)
+      whole = append_assoc text (lines_joined (take left lines)) (lines_joined later)
           ∙ ap (λ (more : List ℕ). text ++ more) (sym (joined-append (take left lines) later))
-          ∙ ap (λ (more : List (List ℕ)). text ++ joined more) (sym parts) ∙ whole;
+          ∙ ap (λ (more : List (List ℕ)). text ++ lines_joined more) (sym parts) ∙ whole;
     }
 
 pub goes_on : (number count : ℕ) (header : Header) (text key : List ℕ) (place done shown : ℕ)
     → Going number count header text key place done → done < count
     → shown ≡ length (take (count - done) (turn_lines header (done + 1) (words_at key place)))
-    → Going number count header (text ++ joined (take (count - done) (turn_lines header (done + 1) (words_at key place)))) key (place + 4) (done + shown)
+    → Going number count header (text ++ lines_joined (take (count - done) (turn_lines header (done + 1) (words_at key place)))) key (place + 4) (done + shown)
 goes_on number count header text key place done shown going more is =
     stepped number count header text key place done shown going.turns more going.drawn going.enough going.whole is

@@ -5,7 +5,7 @@ use Rattle.std.specs.List.{AllByRecursion}
 use Rattle.std.proofs.lemmas.List.{append-nil, length-append, length-take-le}
 use Rattle.std.proofs.lemmas.List.Elements.{All-append, All-from_recursion, All-nil, All-take, All-weaker, recursion_from_All}
 use Rattle.rand_chacha.specs.ChaCha.{key_of}
-use Rattle.mm_base.specs.Input.{IsUnbroken, joined, lines_of, tail_of}
+use Rattle.mm_base.specs.Input.{IsUnbroken, lines_joined, lines_of, tail_of}
 use Rattle.mm_base.proofs.Input.{lines_of-joined, tail_of-joined}
 use Rattle.mm_base.specs.Limits.{most_events}
 use Rattle.mm_digest.specs.declared.variant.Variant.{Variant}
@@ -67,8 +67,8 @@ is_schedule number count header few =
     ) in
     let lines : List (List ℕ) = header_text header ∷ schedule_lines number count header in
     record {
-      lines = ap lines_of (sym (append-nil (joined lines))) ∙ lines_of-joined lines [] unbroken ∙ append-nil lines;
-      ends = ap tail_of (sym (append-nil (joined lines))) ∙ tail_of-joined lines [] unbroken;
+      lines = ap lines_of (sym (append-nil (lines_joined lines))) ∙ lines_of-joined lines [] unbroken ∙ append-nil lines;
+      ends = ap tail_of (sym (append-nil (lines_joined lines))) ∙ tail_of-joined lines [] unbroken;
       counted = length-take-le count all from.0;
       events = events;
     }

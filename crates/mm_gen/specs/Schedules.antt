@@ -2,7 +2,7 @@
 use Rattle.std.specs.Prelude.{ℕ, zero, suc, ◌+◌, List, [], ◌∷◌, ◌++◌, length, replicate, take}
 use Rattle.std.specs.Int.{w64, to_le_bytes}
 use Rattle.rand_chacha.specs.ChaCha.{key_of, word_at}
-use Rattle.mm_base.specs.Input.{joined}
+use Rattle.mm_base.specs.Input.{lines_joined}
 use Rattle.mm_schedule.specs.declared.header.Header.{Header}
 use Rattle.mm_schedule.specs.Headers.{header_text}
 use Rattle.mm_gen.specs.declared.words.Words.{Words}
@@ -34,4 +34,4 @@ schedule_lines number count header = take count (lines_from header (key_of (seed
 
 -- the schedule: its header line and its event lines
 abbrev pub schedule_text : ℕ → ℕ → Header → List ℕ
-schedule_text number count header = joined (header_text header ∷ schedule_lines number count header)
+schedule_text number count header = lines_joined (header_text header ∷ schedule_lines number count header)

@@ -2,7 +2,7 @@
 
 ghost use Rattle.std.specs.Prelude.{◌≡◌, ◌<◌, ℕ, List, [], ◌∷◌, ◌++◌, length, take, OnOk, IfOk};
 ghost use Rattle.std.specs.Fmt.{decimal};
-ghost use Rattle.mm_base.specs.Input.{joined};
+ghost use Rattle.mm_base.specs.Input.{lines_joined};
 ghost use Rattle.mm_platform.specs.declared.plan.Stop.TheVariants.{Quiet};
 ghost use Rattle.mm_gen.specs.Lines.{lines_of_turn, stop_text};
 ghost use Rattle.mm_gen.specs.Requests.{request_chosen};
@@ -114,7 +114,7 @@ pub fn put_turn(
     requires first { 0 < first }
     requires left { 0 < left }
     ensures lines { OnOk result
-        (into.new ≡ into.old ++ joined (take left (turn_lines header.now first words.now))) }
+        (into.new ≡ into.old ++ lines_joined (take left (turn_lines header.now first words.now))) }
     ensures count { IfOk result
         (λ count. count ≡ length (take left (turn_lines header.now first words.now))) }
     ensures some { IfOk result (λ count. 0 < count) }

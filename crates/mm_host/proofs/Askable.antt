@@ -4,7 +4,7 @@ use Rattle.std.specs.Prelude.{nat_lt}
 use Rattle.std.specs.List.{list_any}
 use Rattle.std.proofs.lemmas.List.Folds.{list_any_none}
 use Rattle.std.proofs.lemmas.Bool.Decides.{nat_tests}
-use Rattle.mm_base.specs.Lines.{IsWithin}
+use Rattle.mm_base.specs.Lines.{MayGrow}
 use Rattle.mm_base.specs.Limits.{longest_request}
 use Rattle.mm_module.specs.Batch.{One}
 use Rattle.mm_model.specs.Long.{is_lf, is_long}
@@ -20,7 +20,7 @@ none_of_three true b e f = e
 none_of_three false true e f = f
 none_of_three false false e f = refl
 
-pub askable : (request : List ℕ) → IsWithin longest_request request → is_long (One request) ≡ false
+pub askable : (request : List ℕ) → MayGrow longest_request request → is_long (One request) ≡ false
 askable request w =
     none_of_three (nat_lt longest_request (length request)) (list_any is_lf request) (not_over (length request) w.short)
     (list_any_none is_lf request (λ k d h. not_lf _ (w.unbroken k d h)))

@@ -6,22 +6,22 @@ use Rattle.mm_platform.specs.Standing.{Standing}
 use Rattle.mm_module.specs.Meaning.{Meaning}
 use Rattle.mm_store.specs.declared.fault.StoreFault.TheVariants as fault
 use Rattle.mm_store.specs.Calls.{ReadsSlot}
-use Rattle.mm_store.specs.Kept.{Kept}
+use Rattle.mm_store.specs.Kept.{StoreStanding}
 use Rattle.mm_host.specs.declared.fault.HostFault.{HostFault}
 use Rattle.mm_host.specs.declared.fault.HostFault.TheVariants as host
 use Rattle.mm_host.specs.declared.fault.SessionFault.{SessionFault}
 use Rattle.mm_host.specs.declared.fault.SessionFault.TheVariants.{Memory}
 use Rattle.mm_host.specs.declared.resuming.Resumed.{Resumed}
 use Rattle.mm_host.specs.Resumes.{Resumes}
-use Rattle.mm_host.specs.Saying.{Says, Tells, comes_as, text_of}
+use Rattle.mm_host.specs.Saying.{SendsReply, TellsReply, comes_as, reply_text}
 use Rattle.mm_host.specs.Sessions.{Sessions}
 use Rattle.mm_host.specs.Turns.{ServesInput}
 
-reads_nothing : (slot : ℕ) (kept : Kept) → ReadsSlot slot kept kept (Err fault.Memory)
+reads_nothing : (slot : ℕ) (kept : StoreStanding) → ReadsSlot slot kept kept (Err fault.Memory)
 reads_nothing slot kept = record { slots = refl; honest = refl; counted = refl; gives = tt; short = tt }
 
 -- want of memory at once is that of a first read
-resumes_nothing : (variant : Variant) (meaning : Meaning) (before : Standing) (old : Kept) → Resumes variant meaning before before old old (Err host.Memory)
+resumes_nothing : (variant : Variant) (meaning : Meaning) (before : Standing) (old : StoreStanding) → Resumes variant meaning before before old old (Err host.Memory)
 resumes_nothing variant meaning before old = record {
   middle = old;
   waiting = Err fault.Memory;
@@ -29,7 +29,7 @@ resumes_nothing variant meaning before old = record {
   goes = (refl, refl, refl);
 }
 
-pub lacks_memory : (variant : Variant) (meaning : Meaning) (before : Standing) (old : Kept) (left received : Option (List ℕ)) → Sessions variant meaning before before old old left left received received (Err Memory)
+pub lacks_memory : (variant : Variant) (meaning : Meaning) (before : Standing) (old : StoreStanding) (left received : Option (List ℕ)) → Sessions variant meaning before before old old left left received received (Err Memory)
 lacks_memory variant meaning before old left received = record {
   taken = [];
   sent = [];
@@ -42,8 +42,8 @@ lacks_memory variant meaning before old left received = record {
   goes = inl (refl, refl, record { fault = Memory; says = inl (refl, refl); stops = refl; nothing = refl });
 }
 
-pub stops_at_once : (variant : Variant) (meaning : Meaning) (before after : Standing) (old new : Kept) (left received received' : Option (List ℕ)) (begun : Result Resumed HostFault) (told : Result Resumed SessionFault) (fault : SessionFault)
-    → Resumes variant meaning before after old new begun → Tells begun received received' told → told ≡ Err fault
+pub stops_at_once : (variant : Variant) (meaning : Meaning) (before after : Standing) (old new : StoreStanding) (left received received' : Option (List ℕ)) (begun : Result Resumed HostFault) (told : Result Resumed SessionFault) (fault : SessionFault)
+    → Resumes variant meaning before after old new begun → TellsReply begun received received' told → told ≡ Err fault
     → Sessions variant meaning before after old new left left received received' (Err fault)
 stops_at_once variant meaning before after old new left received received' begun told fault r t e = record {
   taken = [];
@@ -59,7 +59,7 @@ stops_at_once variant meaning before after old new left received received' begun
     refl,
     record {
       fault = fault;
-      says = subst (λ (x : Result Resumed SessionFault). Says begun t.sent x) e t.says;
+      says = subst (λ (x : Result Resumed SessionFault). SendsReply begun t.sent x) e t.says;
       stops = refl;
       nothing = refl;
     },
@@ -75,18 +75,18 @@ came_on (Err fault) first e = absurd (cc)
 
 record IsTold (begun : Result Resumed HostFault) (sent : List ℕ) (first : Resumed) : Type 0 where
   begins : begun ≡ Ok first
-  text : sent ≡ text_of begun
+  text : sent ≡ reply_text begun
 
-told_on : (begun : Result Resumed HostFault) (sent : List ℕ) (first : Resumed) → Says begun sent (Ok first) → IsTold begun sent first
+told_on : (begun : Result Resumed HostFault) (sent : List ℕ) (first : Resumed) → SendsReply begun sent (Ok first) → IsTold begun sent first
 told_on begun sent first (inl s) = record { begins = came_on begun first s.1; text = s.0 }
 told_on begun sent first (inr s) = let e = s.0 in absurd (cc)
 
-pub goes_on : (variant : Variant) (meaning : Meaning) (before platform after : Standing) (old store new : Kept) (left left' received received' received'' : Option (List ℕ)) (begun : Result Resumed HostFault) (told : Result Resumed SessionFault) (first : Resumed) (result : Result Unit SessionFault)
-    → Resumes variant meaning before platform old store begun → Tells begun received received' told → told ≡ Ok first
+pub goes_on : (variant : Variant) (meaning : Meaning) (before platform after : Standing) (old store new : StoreStanding) (left left' received received' received'' : Option (List ℕ)) (begun : Result Resumed HostFault) (told : Result Resumed SessionFault) (first : Resumed) (result : Result Unit SessionFault)
+    → Resumes variant meaning before platform old store begun → TellsReply begun received received' told → told ≡ Ok first
     → ServesInput variant meaning (record { platform = platform; store = store; last = first }) after new left left' received' received'' result
     → Sessions variant meaning before after old new left left' received received'' result
 goes_on variant meaning before platform after old store new left left' received received' received'' begun told first result r t e s =
-    let o = told_on begun t.sent first (subst (λ (x : Result Resumed SessionFault). Says begun t.sent x) e t.says) in
+    let o = told_on begun t.sent first (subst (λ (x : Result Resumed SessionFault). SendsReply begun t.sent x) e t.says) in
     record {
       taken = s.taken;
       sent = t.sent ++ s.sent;

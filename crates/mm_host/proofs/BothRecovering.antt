@@ -16,7 +16,7 @@ use Rattle.mm_model.specs.Standing.{StandsFor}
 use Rattle.mm_model.specs.declared.answer.BatchAnswer.{BatchAnswer}
 use Rattle.mm_model.specs.declared.refusal.Refusal.{Refusal}
 use Rattle.mm_call.specs.Asked.{IsAsked, IsWithin}
-use Rattle.mm_call.specs.Called.{called, told}
+use Rattle.mm_call.specs.Called.{called, given_for}
 use Rattle.mm_call.specs.CallsOn.{CallsOn}
 use Rattle.mm_call.specs.Levels.{by_lists, by_digests, all_made}
 use Rattle.mm_call.specs.Leaving.{whole_in}
@@ -33,9 +33,9 @@ use Rattle.mm_callers.specs.Opt.{AreShown}
 use Rattle.mm_callers.proofs.Calls.{is_asked as basic_asked, names_made, Comes, comes as basic_comes}
 use Rattle.mm_callers.proofs.OptAlike.{Alike, still, grown_by}
 use Rattle.mm_callers.proofs.OptCalls.{asked_of as asked_by_items, comes}
-use Rattle.mm_store.specs.Kept.{Kept}
+use Rattle.mm_store.specs.Kept.{StoreStanding}
 use Rattle.mm_store.specs.Pending.{Pending}
-use Rattle.mm_store.specs.Slots.{Slots, seen_in}
+use Rattle.mm_store.specs.Slots.{Slots, slot_read}
 use Rattle.mm_host.specs.declared.fault.HostFault.{HostFault}
 use Rattle.mm_host.specs.declared.resuming.Resumed.{Resumed}
 use Rattle.mm_host.specs.Fitting.{offer_slot, FitsBy}
@@ -101,7 +101,7 @@ basic_called meaning lawful key all others asked y old new offer p gives c s a f
           (offered_then i y (all_made (by_lists i) y (map Foreign values ++ [])) p offer
           (same_batches i (map Foreign values ++ []) y (foreign_first values [])) f) (sym k.gives ∙ e);
       issues = λ (answer : BatchAnswer) (e : gives ≡ Ok answer). issued_in_basic meaning lawful key o.state;
-      grown = basic_grown meaning key y o.state p (grows i y p offer o.state (told o.ending) (basic_comes meaning key all others asked y c.course offer (One p.request) a));
+      grown = basic_grown meaning key y o.state p (grows i y p offer o.state (given_for o.ending) (basic_comes meaning key all others asked y c.course offer (One p.request) a));
       powered = λ h e. cc;
     }
 
@@ -140,12 +140,12 @@ opt_called meaning lawful key barrier all others asked y old new offer p gives i
     }
 
 -- it leads on from slots that fit
-module _ (all others : List (List ℕ)) (asked : List Batch) (i : Instance) (y : History) (slots : Slots) (before : Standing) (old : Kept) (can : CanRecover all others asked i y slots before old) where
+module _ (all others : List (List ℕ)) (asked : List Batch) (i : Instance) (y : History) (slots : Slots) (before : Standing) (old : StoreStanding) (can : CanRecover all others asked i y slots before old) where
   pub fits_at : (p : Pending) → can.fits.waiting ≡ Some p → FitsBy i slots y (Some p)
   fits_at p e = subst (λ (w : Option Pending). FitsBy i slots y w) e can.fits.fits
 
   pub left_by : (More : History → Type 0) (after : Standing) (p : Pending) (gives : Result BatchAnswer Refusal) → can.fits.waiting ≡ Some p
-      → (o : Called all others asked i y after (seen_in slots (offer_slot p)) p gives) → More o.after
+      → (o : Called all others asked i y after (slot_read slots (offer_slot p)) p gives) → More o.after
       → (l : Left all others asked i y slots can.fits.waiting p after gives) × More l.after
   left_by More after p gives e o m = (
     record {
@@ -166,7 +166,7 @@ module _ (all others : List (List ℕ)) (asked : List Batch) (i : Instance) (y :
     m,
   )
 
-  pub offered_at : (p : Pending) → can.fits.waiting ≡ Some p → IsOffered i y p (seen_in slots (offer_slot p))
+  pub offered_at : (p : Pending) → can.fits.waiting ≡ Some p → IsOffered i y p (slot_read slots (offer_slot p))
   offered_at p e =
       let f = fits_at p e in
       record {
@@ -174,34 +174,34 @@ module _ (all others : List (List ℕ)) (asked : List Batch) (i : Instance) (y :
         right = f.1.right;
         at = f.1.at;
         awaited = f.0;
-        most = waiting_most (seen_in slots 2) (seen_in slots 3) can.fits.waiting p can.fits.is_waiting e;
+        most = waiting_most (slot_read slots 2) (slot_read slots 3) can.fits.waiting p can.fits.is_waiting e;
       }
 
-  pub asked_at : (p : Pending) → can.fits.waiting ≡ Some p → AreAsked all others asked i y (seen_in slots (offer_slot p)) (One p.request)
+  pub asked_at : (p : Pending) → can.fits.waiting ≡ Some p → AreAsked all others asked i y (slot_read slots (offer_slot p)) (One p.request)
   asked_at p e = asked_of all others asked i y slots before old p can e (fits_at p e).1
 
 -- Nothing more is asked to be known.
 abbrev pub NoMore : History → Type 0
 NoMore after = Unit {0}
 
-basic_leads : (meaning : Meaning) → IsLawful meaning → (key : List ℕ) (all others : List (List ℕ)) (asked : List Batch) (y : History) (slots : Slots) (before after : Standing) (old : Kept) (result : Result Resumed HostFault) (can : CanRecover all others asked (basic meaning key) y slots before old)
+basic_leads : (meaning : Meaning) → IsLawful meaning → (key : List ℕ) (all others : List (List ℕ)) (asked : List Batch) (y : History) (slots : Slots) (before after : Standing) (old : StoreStanding) (result : Result Resumed HostFault) (can : CanRecover all others asked (basic meaning key) y slots before old)
     → LeadsOn NoMore all others asked Basic (basic meaning key) y slots can.fits.waiting before after result
-basic_leads meaning lawful key all others asked y slots before after old result can = λ p call e told c.
+basic_leads meaning lawful key all others asked y slots before after old result can = λ p call e given_for c.
     let i : Instance = basic meaning key in
     left_by all others asked i y slots before old can NoMore after p (whole_in call) e
-    (basic_called meaning lawful key all others asked y before after (seen_in slots (offer_slot p)) p (whole_in call) c.goes can.stands
+    (basic_called meaning lawful key all others asked y before after (slot_read slots (offer_slot p)) p (whole_in call) c.goes can.stands
     (asked_at all others asked i y slots before old can p e) (offered_at all others asked i y slots before old can p e)) tt
 
-opt_leads : (meaning : Meaning) → IsLawful meaning → (key barrier : List ℕ) (all others : List (List ℕ)) (asked : List Batch) (y : History) (slots : Slots) (before after : Standing) (old : Kept) (items more : List Item) (result : Result Resumed HostFault) (can : CanRecover all others asked (opt meaning key barrier) y slots before old)
+opt_leads : (meaning : Meaning) → IsLawful meaning → (key barrier : List ℕ) (all others : List (List ℕ)) (asked : List Batch) (y : History) (slots : Slots) (before after : Standing) (old : StoreStanding) (items more : List Item) (result : Result Resumed HostFault) (can : CanRecover all others asked (opt meaning key barrier) y slots before old)
     → before.items ≡ Some items → after.items ≡ Some (standing_items y.is_open items ++ more) → AreShown all others (opt meaning key barrier) y more
     → LeadsOn NoMore all others asked Opt (opt meaning key barrier) y slots can.fits.waiting before after result
-opt_leads meaning lawful key barrier all others asked y slots before after old items more result can known ends shown_so = λ p call e told c.
+opt_leads meaning lawful key barrier all others asked y slots before after old items more result can known ends shown_so = λ p call e given_for c.
     let i : Instance = opt meaning key barrier in
     left_by all others asked i y slots before old can NoMore after p (whole_in call) e
-    (opt_called meaning lawful key barrier all others asked y before after (seen_in slots (offer_slot p)) p (whole_in call) items more c.goes can.stands
+    (opt_called meaning lawful key barrier all others asked y before after (slot_read slots (offer_slot p)) p (whole_in call) items more c.goes can.stands
     (asked_at all others asked i y slots before old can p e) known ends shown_so (offered_at all others asked i y slots before old can p e)) tt
 
-pub recovers : (variant : Variant) (meaning : Meaning) → IsLawful meaning → (before after : Standing) (old new : Kept) (result : Result Resumed HostFault) → Resumes variant meaning before after old new result → Recovers variant meaning before after old new result
+pub recovers : (variant : Variant) (meaning : Meaning) → IsLawful meaning → (before after : Standing) (old new : StoreStanding) (result : Result Resumed HostFault) → Resumes variant meaning before after old new result → Recovers variant meaning before after old new result
 recovers Basic meaning lawful before after old new result r = λ key y slots all others asked can.
     (recovers_by NoMore Basic all others asked (basic meaning key) lawful y slots before after old can new result (λ e. tt)
     (basic_leads meaning lawful key all others asked y slots before after old result can) r).0

@@ -21,12 +21,12 @@ use Rattle.mm_call.specs.Asked.{IsWithin}
 use Rattle.mm_call.specs.Standing.{instance_by}
 use Rattle.mm_call.proofs.Moving.{anchor-nil, summary-nil}
 use Rattle.mm_store.specs.Pending.{ReadsPending}
-use Rattle.mm_store.specs.Slots.{longest_slot, seen_in}
+use Rattle.mm_store.specs.Slots.{longest_slot, slot_read}
 use Rattle.mm_store.proofs.PendingLaws.{reads_none-short}
 use Rattle.mm_store.proofs.SlotLaws.{longest_slot-is}
 use Rattle.mm_host.specs.Waiting.{IsWaiting}
 use Rattle.mm_host.specs.Fitting.{Holds}
-use Rattle.mm_host.specs.Begins.{first_on, first_slots, IsFirst}
+use Rattle.mm_host.specs.Begins.{first_on, first_slots, IsFirstStore}
 
 -- the first snapshot has a spelling
 first_formed : (variant : Variant) (meaning : Meaning) (key barrier : List ℕ) → IsLawful meaning → IsContent (issued (instance_by variant meaning key barrier) first_history)
@@ -84,7 +84,7 @@ first_names Basic meaning key barrier values = basic_issued meaning key (first_o
 first_names Opt meaning key barrier values = opt_issued meaning key barrier (first_on values) (sound_first values) refl
 
 -- the slot of the first snapshot holds it
-first_holds : (variant : Variant) (meaning : Meaning) (key barrier : List ℕ) (values : List (List ℕ)) → IsLawful meaning → Holds (instance_by variant meaning key barrier) (first_on values) (seen_in (first_slots (instance_by variant meaning key barrier)) 0) 0
+first_holds : (variant : Variant) (meaning : Meaning) (key barrier : List ℕ) (values : List (List ℕ)) → IsLawful meaning → Holds (instance_by variant meaning key barrier) (first_on values) (slot_read (first_slots (instance_by variant meaning key barrier)) 0) 0
 first_holds variant meaning key barrier values lawful =
     let i : Instance = instance_by variant meaning key barrier in
     let whole : take longest_slot (issued_bytes i first_history) ≡ issued_bytes i first_history =
@@ -123,7 +123,7 @@ within_first Opt meaning key barrier values all others asked h = record {
   batches = tt;
 }
 
-pub is_first : (variant : Variant) (meaning : Meaning) (key barrier : List ℕ) (values : List (List ℕ)) → IsLawful meaning → IsFirst (instance_by variant meaning key barrier) (first_on values)
+pub is_first : (variant : Variant) (meaning : Meaning) (key barrier : List ℕ) (values : List (List ℕ)) → IsLawful meaning → IsFirstStore (instance_by variant meaning key barrier) (first_on values)
 is_first variant meaning key barrier values lawful = record {
   fits = record {
     waiting = None;

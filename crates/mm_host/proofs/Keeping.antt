@@ -16,10 +16,10 @@ use Rattle.mm_call.specs.Courses.{commits}
 use Rattle.mm_call.specs.Standing.{instance_by}
 use Rattle.mm_callers.specs.Basic.{EndsWith}
 use Rattle.mm_store.specs.Pending.{Pending}
-use Rattle.mm_store.specs.Slots.{Slots, seen_in}
+use Rattle.mm_store.specs.Slots.{Slots, slot_read}
 use Rattle.mm_host.specs.Fitting.{offer_slot, Holds, FitsBy}
 use Rattle.mm_host.specs.Init.{instance_from}
-use Rattle.mm_host.specs.Begins.{first_on, first_slots, IsFirst}
+use Rattle.mm_host.specs.Begins.{first_on, first_slots, IsFirstStore}
 use Rattle.mm_host.specs.Recovery.{IsAskedFor}
 use Rattle.mm_host.specs.SlotLaws.{FitsWith, BasicKeepsFitting, OptKeepsFitting, FirstStartsCanGoOn}
 
@@ -35,10 +35,10 @@ holds_on : (i : Instance) (y z : History) (bytes : List ℕ) (position : ℕ) �
 holds_on i y z bytes position names h = record { content = h.content; right = h.right; names = names h.content h.names; at = h.at }
 
 fits_on : (i : Instance) (slots : Slots) (y z : History) (waiting : Option Pending) → z.batches ≡ y.batches → ((content : Content) → Names i y content → Names i z content) → FitsBy i slots y waiting → FitsBy i slots z waiting
-fits_on i slots y z None same names f = (ap total_of same ∙ f.0, holds_on i y z (seen_in slots 0) 0 names f.1)
+fits_on i slots y z None same names f = (ap total_of same ∙ f.0, holds_on i y z (slot_read slots 0) 0 names f.1)
 fits_on i slots y z (Some p) same names f = (
   subst (λ (bs : List Batch). (p.position ≡ total_of bs + 1) ⊎ ((p.position ≡ total_of bs) × EndsWith bs (One p.request))) (sym same) f.0,
-  holds_on i y z (seen_in slots (offer_slot p)) _ names f.1,
+  holds_on i y z (slot_read slots (offer_slot p)) _ names f.1,
 )
 
 fits_with : (i : Instance) (slots : Slots) (y z : History) (waiting : Option Pending) → z.batches ≡ y.batches → ((content : Content) → Names i y content → Names i z content) → FitsWith i slots y waiting → FitsWith i slots z waiting
@@ -69,7 +69,7 @@ nothing_asked all asked i slots waiting e = subst (λ (w : Option Pending). IsAs
 pub first_starts_can_go_on : FirstStartsCanGoOn
 first_starts_can_go_on variant meaning before after begun cell slots values all others asked told shows honest holds clear apart start =
     let i : Instance = instance_from variant meaning begun.secrets in
-    let f : IsFirst i (first_on values) = begun.first values in
+    let f : IsFirstStore i (first_on values) = begun.first values in
     record {
       can = record {
         honest = begun.honest ∙ honest;

@@ -7,7 +7,7 @@ use Rattle.mm_base.specs.Limits.{last_position}
 use Rattle.mm_digest.specs.Messages.{extended_message, zero_bytes}
 use Rattle.mm_digest.specs.declared.variant.Variant.{Variant}
 use Rattle.mm_digest.specs.declared.variant.Variant.TheVariants.{Basic, Opt}
-use Rattle.mm_platform.specs.Standing.{Item, Standing, values_of}
+use Rattle.mm_platform.specs.Standing.{Item, Standing, item_values}
 use Rattle.mm_module.specs.Meaning.{Meaning, IsLawful}
 use Rattle.mm_module.specs.Batch.{Batch, One}
 use Rattle.mm_seal.specs.declared.snapshot.Place.{Place}
@@ -32,7 +32,7 @@ use Rattle.mm_call.specs.Asked.{IsLedTo, counted_part}
 use Rattle.mm_call.specs.Called.{called, seen_at}
 use Rattle.mm_call.specs.CallsOn.{CallsOn}
 use Rattle.mm_call.specs.Courses.{walk, closes}
-use Rattle.mm_call.specs.Found.{found_at, found_in, is_fresh}
+use Rattle.mm_call.specs.Found.{found_at, found_unless_wanting, is_fresh}
 use Rattle.mm_call.specs.Levels.{by_digests, all_made}
 use Rattle.mm_call.specs.Standing.{StandsAt, shown}
 use Rattle.mm_call.specs.Tied.{standing_items}
@@ -105,7 +105,7 @@ opt_reach meaning key barrier old new offer request gives c = λ d s f items kno
     let o = called i (by_digests i) d c.course offer b in
     let g = c.goes key barrier d s in
     let p = pushed_open meaning key barrier d c.course offer b f in
-    let fresh : Bool = is_fresh (found_in (found_at i (by_digests i) (seen_at i (by_digests i) d c.course) b offer) c.course.lacks) in
+    let fresh : Bool = is_fresh (found_unless_wanting (found_at i (by_digests i) (seen_at i (by_digests i) d c.course) b offer) c.course.lacks) in
     let quiet : closes o.moves ≡ false = ap (λ (st : List Step). closes (walk c.course.fates 1 st).moves) (asks d.flag fresh b) ∙ opt_closes c.course.fates d.flag fresh b in
     record {
       digests = all_made (by_digests i) d o.moves;
@@ -354,7 +354,7 @@ module _ (meaning : Meaning) (lawful : IsLawful meaning) (key barrier : List ℕ
             more = h.more;
             ends = h.ends ∙ ap (λ (flag : Bool). Some (standing_items flag h.items ++ h.more)) (e ∙ sym is_open);
             shown_are = record {
-              messages = subst (λ (r : List ℕ). Within (trail extended_message r (values_of h.more)) all) register h.shown_are.messages;
+              messages = subst (λ (r : List ℕ). Within (trail extended_message r (item_values h.more)) all) register h.shown_are.messages;
               values = h.shown_are.values;
             };
           },

@@ -4,7 +4,7 @@ use Rattle.std.specs.Prelude.{◌⊎◌, nat_eq}
 use Rattle.std.specs.List.{Contains}
 use Rattle.std.proofs.lemmas.List.{take_all}
 use Rattle.std.proofs.lemmas.Bool.Decides.{nat_tests}
-use Rattle.mm_base.specs.Lines.{IsWithin}
+use Rattle.mm_base.specs.Lines.{MayGrow}
 use Rattle.mm_base.specs.Limits.{last_position, longest_request}
 use Rattle.mm_platform.specs.Standing.{Standing}
 use Rattle.mm_module.specs.Meaning.{IsLawful}
@@ -31,19 +31,19 @@ use Rattle.mm_schedule.specs.Machine.{StepsOn}
 use Rattle.mm_store.specs.declared.fault.StoreFault.{StoreFault}
 use Rattle.mm_store.specs.declared.fault.StoreFault.TheVariants as fault
 use Rattle.mm_store.specs.Calls.{WritesSlot, putting}
-use Rattle.mm_store.specs.Kept.{Kept}
+use Rattle.mm_store.specs.Kept.{StoreStanding}
 use Rattle.mm_store.specs.Pending.{Pending, pending_spelling}
-use Rattle.mm_store.specs.Slots.{Slots, longest_slot, seen_in, with_slot}
+use Rattle.mm_store.specs.Slots.{Slots, longest_slot, slot_read, with_slot}
 use Rattle.mm_store.proofs.SlotLaws.{longest_slot-is}
 use Rattle.mm_host.specs.declared.fault.HostFault.{HostFault}
 use Rattle.mm_host.specs.declared.fault.HostFault.TheVariants as host
 use Rattle.mm_host.specs.declared.resuming.Resumed.{Resumed}
 use Rattle.mm_host.specs.declared.resuming.Resumed.TheVariants.{Start, Answered}
 use Rattle.mm_host.specs.Asking.{IsCall}
-use Rattle.mm_host.specs.Continuing.{IsNotBeyond, position_of, reply_of}
-use Rattle.mm_host.specs.Faults.{refused_as}
-use Rattle.mm_host.specs.Fitting.{Fits, FitsBy, Holds, offer_slot}
-use Rattle.mm_host.specs.Recovery.{AnswersAt, CanRecover, ComesTo, MayCommit, RecoversTo, IsRefusedAs}
+use Rattle.mm_host.specs.Continuing.{IsNotBeyond, waiting_position, answer_reply}
+use Rattle.mm_host.specs.Faults.{refusal_fault}
+use Rattle.mm_host.specs.Fitting.{FitsHistory, FitsBy, Holds, offer_slot}
+use Rattle.mm_host.specs.Recovery.{AnswersAt, CanRecover, ComesTo, MayHaveCommitted, RecoversTo, IsRefusedAs}
 use Rattle.mm_host.specs.Saying.{position_at, snapshot_at}
 use Rattle.mm_host.specs.Waiting.{IsWaiting}
 use Rattle.mm_host.specs.Serving.{AfterRecord, AsksLine, Place, record_for}
@@ -57,10 +57,10 @@ use Rattle.mm_host.proofs.Refusing.{IsOffered}
 
 -- Between two lines: the slots fit, the last answer is that of the history's end, and its snapshot is in its slot.
 pub record Settled (i : Instance) (y : History) (slots : Slots) (last : Resumed) : Type 0 where
-  pub fits : Fits i slots y
-  pub recorded : position_of fits.waiting ≡ position_at last
+  pub fits : FitsHistory i slots y
+  pub recorded : waiting_position fits.waiting ≡ position_at last
   pub at_end : position_at last ≡ total_of y.batches
-  pub newest : seen_in slots (position_at last % 2) ≡ snapshot_at last
+  pub newest : slot_read slots (position_at last % 2) ≡ snapshot_at last
   pub holds : Holds i y (snapshot_at last) (position_at last)
 
 pub record IsSettledAt (all others : List (List ℕ)) (asked : List Batch) (i : Instance) (y : History) (at : Place) : Type 0 where
@@ -89,24 +89,24 @@ pub record LineGoes (i : Instance) (y after : History) (slots : Slots) (line : L
   pub settled : Settled i after slots (Answered answer)
   pub more : after.batches ≡ y.batches ++ One line ∷ []
   pub issued_is : answer.snapshot ≡ issued_bytes i after
-  pub step : StepsOn i.meaning (requests_of y.batches) (One line) (reply_of answer) (requests_of after.batches)
+  pub step : StepsOn i.meaning (requests_of y.batches) (One line) (answer_reply answer) (requests_of after.batches)
 
 abbrev pub LineGoesBy : Instance → History → History → Slots → List ℕ → Result Resumed HostFault → Type 0
 LineGoesBy i y after slots line (Ok (Start first)) = ⊥
 LineGoesBy i y after slots line (Ok (Answered answer)) = LineGoes i y after slots line answer
 LineGoesBy i y after slots line (Err why) = Unit {0}
 
-pub record LineComes (all others : List (List ℕ)) (asked : List Batch) (i : Instance) (y : History) (line : List ℕ) (standing : Standing) (kept : Kept) (came : Result Resumed HostFault) : Type 0 where
+pub record LineComes (all others : List (List ℕ)) (asked : List Batch) (i : Instance) (y : History) (line : List ℕ) (standing : Standing) (kept : StoreStanding) (came : Result Resumed HostFault) : Type 0 where
   pub after : History
   pub stands : StandsFor i standing after
   pub within : IsWithinAll all others asked i after
   pub slots_after : Slots
   pub honest : kept.is_honest ≡ true
   pub told : kept.slots ≡ Some slots_after
-  pub fits : IsNotBeyond slots_after (total_of after.batches + 1) → Fits i slots_after after
-  pub whole : came ≢ Err host.Store → Fits i slots_after after
+  pub fits : IsNotBeyond slots_after (total_of after.batches + 1) → FitsHistory i slots_after after
+  pub whole : came ≢ Err host.Store → FitsHistory i slots_after after
   pub grown : (after.batches ≡ y.batches) ⊎ (after.batches ≡ y.batches ++ One line ∷ [])
-  pub only : (after.batches ≡ y.batches) ⊎ MayCommit came
+  pub only : (after.batches ≡ y.batches) ⊎ MayHaveCommitted came
   pub refuses : IsRefusedBy came (life_of i.variant after)
   pub powered : life_of i.variant y ≢ LostLife → life_of i.variant after ≢ LostLife
   pub goes : LineGoesBy i y after slots_after line came
@@ -123,7 +123,7 @@ offer_listed i y offer place b all placed listed =
 record_seen : (p : Pending) (n : ℕ) → length p.request ≤ longest_request → n ≡ 1100000 → take n (pending_spelling p) ≡ pending_spelling p
 record_seen p n h e = take_all n (pending_spelling p) (omega (arith, h, e, length-pending_spelling p))
 
-next_of : (last : Resumed) (line : List ℕ) → position_at last < last_position → IsWithin longest_request line → IsNext (position_at last) (record_for last line) (pending_spelling (record_for last line))
+next_of : (last : Resumed) (line : List ℕ) → position_at last < last_position → MayGrow longest_request line → IsNext (position_at last) (record_for last line) (pending_spelling (record_for last line))
 next_of last line room within = record {
   follows = refl;
   most = omega (arith, room);
@@ -131,14 +131,14 @@ next_of last line room within = record {
   spelled = record_seen (record_for last line) longest_slot within.short longest_slot-is;
 }
 
-newest_holds : (i : Instance) (y : History) (slots : Slots) (last : Resumed) → Settled i y slots last → Holds i y (seen_in slots (position_at last % 2)) (position_at last)
+newest_holds : (i : Instance) (y : History) (slots : Slots) (last : Resumed) → Settled i y slots last → Holds i y (slot_read slots (position_at last % 2)) (position_at last)
 newest_holds i y slots last s = subst (λ (x : List ℕ). Holds i y x (position_at last)) (sym s.newest) s.holds
 
 le_same : (a b : ℕ) → a ≡ b → a ≤ b
 le_same a b e = omega (arith, e)
 
 record WaitsAndFits (i : Instance) (y : History) (slots : Slots) (next : Pending) : Type 0 where
-  is_waiting : IsWaiting (seen_in slots 2) (seen_in slots 3) (Some next)
+  is_waiting : IsWaiting (slot_read slots 2) (slot_read slots 3) (Some next)
   fits : FitsBy i slots y (Some next)
 
 waiting_fits : (i : Instance) (y : History) (slots other : Slots) (last : Resumed) (line : List ℕ) → Settled i y slots last → IsNext (position_at last) (record_for last line) (pending_spelling (record_for last line)) → IsPut slots other (position_at last) (pending_spelling (record_for last line))
@@ -161,7 +161,7 @@ not_before n m e = grind (arith, nat_tests, e)
 pub same_pending : (p q : Pending) → Some p ≡ Some q → q ≡ p
 same_pending p q e = cc
 
-goes_by : (all others : List (List ℕ)) (asked : List Batch) (i : Instance) (y : History) (slots : Slots) (next : Pending) (standing : Standing) (kept : Kept) (came : Result Resumed HostFault) → next.position ≡ total_of y.batches + 1 → (r : RecoversTo all others asked i y slots (Some next) standing kept came) → LineGoesBy i y r.after r.slots_after next.request came
+goes_by : (all others : List (List ℕ)) (asked : List Batch) (i : Instance) (y : History) (slots : Slots) (next : Pending) (standing : Standing) (kept : StoreStanding) (came : Result Resumed HostFault) → next.position ≡ total_of y.batches + 1 → (r : RecoversTo all others asked i y slots (Some next) standing kept came) → LineGoesBy i y r.after r.slots_after next.request came
 goes_by all others asked i y slots next standing kept (Err why) e r = tt
 goes_by all others asked i y slots next standing kept (Ok (Start first)) e r = let none : Some next ≡ None = r.comes.0 in absurd (cc)
 goes_by all others asked i y slots next standing kept (Ok (Answered answer)) e r =
@@ -176,7 +176,7 @@ goes_by all others asked i y slots next standing kept (Ok (Answered answer)) e r
     record {
       settled = record {
         fits = r.fits;
-        recorded = ap position_of r.same_wait ∙ here ∙ sym at;
+        recorded = ap waiting_position r.same_wait ∙ here ∙ sym at;
         at_end = at;
         newest = r.newest;
         holds = r.holds;
@@ -186,7 +186,7 @@ goes_by all others asked i y slots next standing kept (Ok (Answered answer)) e r
       step = steps_fresh i y r.after next.request answer answers more;
     }
 
-by_recovery : (all others : List (List ℕ)) (asked : List Batch) (i : Instance) (y : History) (slots : Slots) (next : Pending) (standing : Standing) (kept : Kept) (came : Result Resumed HostFault) → next.position ≡ total_of y.batches + 1 → RecoversTo all others asked i y slots (Some next) standing kept came → LineComes all others asked i y next.request standing kept came
+by_recovery : (all others : List (List ℕ)) (asked : List Batch) (i : Instance) (y : History) (slots : Slots) (next : Pending) (standing : Standing) (kept : StoreStanding) (came : Result Resumed HostFault) → next.position ≡ total_of y.batches + 1 → RecoversTo all others asked i y slots (Some next) standing kept came → LineComes all others asked i y next.request standing kept came
 by_recovery all others asked i y slots next standing kept came e r = record {
   after = r.after;
   stands = r.stands;
@@ -208,23 +208,23 @@ pub record MayFollow (all : List (List ℕ)) (asked : List Batch) (i : Instance)
   pub is_asked : Contains asked (One line)
   pub listed : Within (offer_messages i (issued i z).place (One line)) all
   pub room : total_of y.batches < last_position
-  pub within : IsWithin longest_request line
+  pub within : MayGrow longest_request line
 
 -- What a line came to, with more that is known of the history where it is gone on with.
-abbrev pub LineCame : (More : History → Type 0) (all others : List (List ℕ)) (asked : List Batch) (i : Instance) (y : History) (line : List ℕ) (standing : Standing) (kept : Kept) (came : Result Resumed HostFault) → Type 0
+abbrev pub LineCame : (More : History → Type 0) (all others : List (List ℕ)) (asked : List Batch) (i : Instance) (y : History) (line : List ℕ) (standing : Standing) (kept : StoreStanding) (came : Result Resumed HostFault) → Type 0
 LineCame More all others asked i y line standing kept came =
     (l : LineComes all others asked i y line standing kept came) × IfOk came (λ (resumed : Resumed). More l.after)
 
 -- the call of a line leads on
 abbrev pub LeadsLine : (More : History → Type 0) (all others : List (List ℕ)) (asked : List Batch) (i : Instance) (y : History) (p : Pending) (before after : Standing) (came : Result Resumed HostFault) → Type 0
 LeadsLine More all others asked i y p before after came =
-    (offer : List ℕ) (call : Result Answer Refusal) → ((why : Refusal) → call ≡ Err why → came ≡ Err (refused_as why))
+    (offer : List ℕ) (call : Result Answer Refusal) → ((why : Refusal) → call ≡ Err why → came ≡ Err (refusal_fault why))
     → IsCall i.variant i.meaning before after offer p.request call → AreAsked all others asked i y offer (One p.request) → IsOffered i y p offer
     → (o : Called all others asked i y after offer p (whole_in call)) × More o.after
 
 module _ (More : History → Type 0) (all others : List (List ℕ)) (asked : List Batch) (i : Instance) (lawful : IsLawful i.meaning) (y : History) (at : Place) where
   -- the record isn't written whole
-  unwritten : (after : Standing) (new : Kept) (line : List ℕ) (slots : Slots) (why : HostFault) → IsSettledAt all others asked i y at → after ≡ at.platform → new.is_honest ≡ true → new.slots ≡ Some slots → (IsNotBeyond slots (total_of y.batches + 1) → Fits i slots y) → (why ≢ host.Store → Fits i slots y) → IsRefusedBy (Err why) (life_of i.variant y) → LineCame More all others asked i y line after new (Err why)
+  unwritten : (after : Standing) (new : StoreStanding) (line : List ℕ) (slots : Slots) (why : HostFault) → IsSettledAt all others asked i y at → after ≡ at.platform → new.is_honest ≡ true → new.slots ≡ Some slots → (IsNotBeyond slots (total_of y.batches + 1) → FitsHistory i slots y) → (why ≢ host.Store → FitsHistory i slots y) → IsRefusedBy (Err why) (life_of i.variant y) → LineCame More all others asked i y line after new (Err why)
   unwritten after new line slots why s same honest told fits whole u = (
     record {
       after = y;
@@ -244,7 +244,7 @@ module _ (More : History → Type 0) (all others : List (List ℕ)) (asked : Lis
     tt,
   )
 
-  after_record : (z : History) (recorded : Result Unit StoreFault) (after : Standing) (middle new : Kept) (line : List ℕ) (came : Result Resumed HostFault)
+  after_record : (z : History) (recorded : Result Unit StoreFault) (after : Standing) (middle new : StoreStanding) (line : List ℕ) (came : Result Resumed HostFault)
       → IsClear all → AreNoGuards i.barrier others asked → IsSettledAt all others asked i y at → ((content : Content) → IsRight i (snapshot_at at.last) content → content.place ≡ (issued i z).place) → MayFollow all asked i y z line
       → LeadsLine More all others asked i y (record_for at.last line) at.platform after came
       → WritesSlot (2 + (position_at at.last + 1) % 2) (pending_spelling (record_for at.last line)) at.store middle recorded → AfterRecord i.variant i.meaning at.platform after recorded middle new at.last line came
@@ -252,15 +252,15 @@ module _ (More : History → Type 0) (all others : List (List ℕ)) (asked : Lis
   unfolding by_recovery
   after_record z (Err fault.Memory) after middle new line came clear apart s placed f leads w g =
       subst (λ (r : Result Resumed HostFault). LineCame More all others asked i y line after new r) (sym g.2)
-      (unwritten after new line s.slots host.Memory s g.0 (ap (λ (k : Kept). k.is_honest) g.1 ∙ w.honest ∙ s.honest)
-      (ap (λ (k : Kept). k.slots) g.1 ∙ w.leaves s.honest ∙ s.told) (λ n. s.settled.fits) (λ n. s.settled.fits) tt)
+      (unwritten after new line s.slots host.Memory s g.0 (ap (λ (k : StoreStanding). k.is_honest) g.1 ∙ w.honest ∙ s.honest)
+      (ap (λ (k : StoreStanding). k.slots) g.1 ∙ w.leaves s.honest ∙ s.told) (λ n. s.settled.fits) (λ n. s.settled.fits) tt)
   after_record z (Err fault.Failed) after middle new line came clear apart s placed f leads w g =
       let left = w.leaves s.honest in
       let position : ℕ = position_at at.last in
       let slots : Slots = with_slot s.slots (2 + (position + 1) % 2) left.0 in
       subst (λ (r : Result Resumed HostFault). LineCame More all others asked i y line after new r) (sym g.2)
-      (unwritten after new line slots host.Store s g.0 (ap (λ (k : Kept). k.is_honest) g.1 ∙ w.honest ∙ s.honest)
-      (ap (λ (k : Kept). k.slots) g.1 ∙ left.1 ∙ ap (λ (x : Option Slots). putting (2 + (position + 1) % 2) left.0 x) s.told)
+      (unwritten after new line slots host.Store s g.0 (ap (λ (k : StoreStanding). k.is_honest) g.1 ∙ w.honest ∙ s.honest)
+      (ap (λ (k : StoreStanding). k.slots) g.1 ∙ left.1 ∙ ap (λ (x : Option Slots). putting (2 + (position + 1) % 2) left.0 x) s.told)
       (torn_fits i y s.slots slots position left.0 s.settled.fits s.settled.recorded s.settled.at_end (newest_holds i y s.slots at.last s.settled) (put_next s.slots position left.0))
       (λ (n : host.Store ≢ host.Store). absurd (n refl)) tt)
   after_record z (Ok it) after middle new line came clear apart s placed f leads w g =
@@ -272,9 +272,9 @@ module _ (More : History → Type 0) (all others : List (List ℕ)) (asked : Lis
       let put : IsPut s.slots slots position bytes = put_next s.slots position bytes in
       let n : IsNext position next bytes = next_of at.last line (omega (arith, f.room, s.settled.at_end)) f.within in
       let waits = waiting_fits i y s.slots slots at.last line s.settled n put in
-      let offer : List ℕ = seen_in slots (offer_slot next) in
+      let offer : List ℕ = slot_read slots (offer_slot next) in
       let offers : offer ≡ snapshot_at at.last =
-      ap (λ (m : ℕ). seen_in slots (m % 2)) (one_back position) ∙ snapshot_same s.slots slots position position bytes put ∙ s.settled.newest in
+      ap (λ (m : ℕ). slot_read slots (m % 2)) (one_back position) ∙ snapshot_same s.slots slots position position bytes put ∙ s.settled.newest in
       let can : CanRecover all others asked i y slots at.platform middle = record {
         honest = w.honest ∙ s.honest;
         told = told;
@@ -307,12 +307,12 @@ pub record IsReady (all others : List (List ℕ)) (asked : List Batch) (i : Inst
   pub placed : (content : Content) → IsRight i (snapshot_at at.last) content → content.place ≡ (issued i z).place
   pub shows : Shows i.variant all others i y at.platform final
 
-pub no_refusal : (call : Result Answer Refusal) (resumed : Resumed) → ((why : Refusal) → call ≡ Err why → Ok resumed ≡ Err (refused_as why)) → (why : Refusal) → whole_in call ≡ Err why → ⊥
+pub no_refusal : (call : Result Answer Refusal) (resumed : Resumed) → ((why : Refusal) → call ≡ Err why → Ok resumed ≡ Err (refusal_fault why)) → (why : Refusal) → whole_in call ≡ Err why → ⊥
 no_refusal (Ok answer) resumed h why e = absurd (cc)
 no_refusal (Err w) resumed h why e = let clash = h w refl in absurd (cc)
 
 -- a line that was answered, with others behind it
-pub line_between : (all others : List (List ℕ)) (asked : List Batch) (i : Instance) (final : Standing) → Laws all others asked i final → (y z : History) (at : Place) (after : Standing) (new : Kept) (line : List ℕ) (answer : Answer)
+pub line_between : (all others : List (List ℕ)) (asked : List Batch) (i : Instance) (final : Standing) → Laws all others asked i final → (y z : History) (at : Place) (after : Standing) (new : StoreStanding) (line : List ℕ) (answer : Answer)
     → IsClear all → AreNoGuards i.barrier others asked → IsReady all others asked i y z at final → MayFollow all asked i y z line → Reaches i.variant i after final
     → AsksLine i.variant i.meaning at.platform after at.store new at.last line (Ok (Answered answer))
     → (l : LineComes all others asked i y line after new (Ok (Answered answer))) × IsBetween all others i y (Some (record_for at.last line)) after final l.after
@@ -322,7 +322,7 @@ line_between all others asked i final laws y z at after new line answer clear ap
     (λ offer call told c asks offered. laws.between y at.platform after offer next (whole_in call) c.goes s.settled.stands asks offered s.shows reaches (no_refusal call (Answered answer) told)) a.records a.goes
 
 -- the last line
-pub line_last : (all others : List (List ℕ)) (asked : List Batch) (i : Instance) (final : Standing) → Laws all others asked i final → (y z : History) (at : Place) (new : Kept) (line : List ℕ) (came : Result Resumed HostFault)
+pub line_last : (all others : List (List ℕ)) (asked : List Batch) (i : Instance) (final : Standing) → Laws all others asked i final → (y z : History) (at : Place) (new : StoreStanding) (line : List ℕ) (came : Result Resumed HostFault)
     → IsClear all → AreNoGuards i.barrier others asked → IsReady all others asked i y z at final → MayFollow all asked i y z line
     → AsksLine i.variant i.meaning at.platform final at.store new at.last line came
     → LineComes all others asked i y line final new came

@@ -2,20 +2,20 @@
 use Rattle.std.proofs.Common.{lit≤, ◌≡◌, ◌∙◌, ◌+◌, ◌≤◌, ℕ, List, [], ◌∷◌, ◌++◌, length, Option, None, Some, Result, Ok, Err, refl, sym, ap, subst, append_assoc, append-nil, arith, length-append}
 use Rattle.std.specs.Io.KnownBytes.{Appends, Consumes}
 use Rattle.std.proofs.KnownBytes.{Appends-nil, Appends-trans, Consumes-nil, Consumes-trans}
-use Rattle.mm_base.specs.Input.{joined}
+use Rattle.mm_base.specs.Input.{lines_joined}
 use Rattle.mm_base.proofs.Input.{joined-append}
 use Rattle.mm_digest.specs.declared.variant.Variant.{Variant}
 use Rattle.mm_platform.specs.Standing.{Standing}
 use Rattle.mm_module.specs.Meaning.{Meaning}
 use Rattle.mm_schedule.specs.Replies.{told_line}
-use Rattle.mm_store.specs.Kept.{Kept}
+use Rattle.mm_store.specs.Kept.{StoreStanding}
 use Rattle.mm_host.specs.declared.fault.SessionFault.{SessionFault}
 use Rattle.mm_host.specs.declared.resuming.Resumed.{Resumed}
 use Rattle.mm_host.specs.declared.resuming.Resumed.TheVariants.{Answered}
-use Rattle.mm_host.specs.Saying.{text_of}
+use Rattle.mm_host.specs.Saying.{reply_text}
 use Rattle.mm_host.specs.Serving.{Place, Served, Serves, ServesFirst, lines_served, replies_to}
-use Rattle.mm_host.specs.Sessions.{Ends, most_lines}
-use Rattle.mm_host.specs.Turns.{ServesInput, ServesLine, Turns, Went}
+use Rattle.mm_host.specs.Sessions.{EndsSession, most_lines}
+use Rattle.mm_host.specs.Turns.{ServesInput, ServesLine, ServesNext, ServedOn}
 
 -- These lines were served, and some bytes are held.
 pub record Stands (variant : Variant) (meaning : Meaning) (from at : Place) (number : ℕ) (left left' received received' : Option (List ℕ)) (held : List ℕ) : Type 0 where
@@ -24,7 +24,7 @@ pub record Stands (variant : Variant) (meaning : Meaning) (from at : Place) (num
   pub calls : List Served
   pub consumed : Consumes left left' taken
   pub appended : Appends received received' sent
-  pub cut : taken ≡ joined (lines_served calls) ++ held
+  pub cut : taken ≡ lines_joined (lines_served calls) ++ held
   pub wrote : sent ≡ replies_to calls
   pub counted : number ≡ length calls + 1
   pub few : length calls ≤ most_lines
@@ -67,13 +67,13 @@ replies_to-append (c ∷ calls) more =
     ∙ sym (append_assoc (told_line c.answer.again c.answer.position c.answer.output) (replies_to calls) (replies_to more))
 
 -- a turn took this of the input behind what was taken before
-taken_on : (lines : List (List ℕ)) (before held taken : List ℕ) → before ≡ joined lines ++ held → before ++ taken ≡ joined lines ++ (held ++ taken)
-taken_on lines before held taken cut = ap (λ (b : List ℕ). b ++ taken) cut ∙ append_assoc (joined lines) held taken
+taken_on : (lines : List (List ℕ)) (before held taken : List ℕ) → before ≡ lines_joined lines ++ held → before ++ taken ≡ lines_joined lines ++ (held ++ taken)
+taken_on lines before held taken cut = ap (λ (b : List ℕ). b ++ taken) cut ∙ append_assoc (lines_joined lines) held taken
 
-regrouped : (lines : List (List ℕ)) (line rest : List ℕ) → joined lines ++ (line ++ 10 ∷ rest) ≡ joined (lines ++ line ∷ []) ++ rest
+regrouped : (lines : List (List ℕ)) (line rest : List ℕ) → lines_joined lines ++ (line ++ 10 ∷ rest) ≡ lines_joined (lines ++ line ∷ []) ++ rest
 regrouped lines line rest =
-    ap (λ (b : List ℕ). joined lines ++ b) (sym (append_assoc line (10 ∷ []) rest))
-    ∙ sym (append_assoc (joined lines) (line ++ 10 ∷ []) rest)
+    ap (λ (b : List ℕ). lines_joined lines ++ b) (sym (append_assoc line (10 ∷ []) rest))
+    ∙ sym (append_assoc (lines_joined lines) (line ++ 10 ∷ []) rest)
     ∙ ap (λ (b : List ℕ). b ++ rest) (sym (joined-append lines (line ∷ [])))
 
 counts : (calls : List Served) (c : Served) (n : ℕ) → n ≡ length calls + 1 → n + 1 ≡ length (calls ++ c ∷ []) + 1
@@ -83,14 +83,14 @@ few_more : (calls : List Served) (c : Served) (n : ℕ) → n ≡ length calls +
 few_more calls c n h k = omega (arith, length-append calls (c ∷ []))
 
 -- one more line was served
-pub stands_on : (variant : Variant) (meaning : Meaning) (from at : Place) (number : ℕ) (after : Standing) (new : Kept) (next : Resumed) (left left' left'' received received' received'' : Option (List ℕ)) (held held' : List ℕ) (result : Result (Option Resumed) SessionFault)
+pub stands_on : (variant : Variant) (meaning : Meaning) (from at : Place) (number : ℕ) (after : Standing) (new : StoreStanding) (next : Resumed) (left left' left'' received received' received'' : Option (List ℕ)) (held held' : List ℕ) (result : Result (Option Resumed) SessionFault)
     → Stands variant meaning from at number left left' received received' held
-    → Turns variant meaning number at after new left' left'' held held' received' received'' result
+    → ServesNext variant meaning number at after new left' left'' held held' received' received'' result
     → result ≡ Ok (Some next)
     → Stands variant meaning from (record { platform = after; store = new; last = next }) (number + 1) left left'' received received'' held'
 stands_on variant meaning from at number after new next left left' left'' received received' received'' held held' result s t went =
     let w : ServesLine variant meaning number at after new (held ++ t.taken) held' t.sent next =
-    subst (λ (r : Result (Option Resumed) SessionFault). Went variant meaning number at after new left'' (held ++ t.taken) held' t.sent r) went t.went in
+    subst (λ (r : Result (Option Resumed) SessionFault). ServedOn variant meaning number at after new left'' (held ++ t.taken) held' t.sent r) went t.went in
     let c : Served = record { line = w.line; answer = w.answer } in
     record {
       taken = s.taken ++ t.taken;
@@ -99,11 +99,11 @@ stands_on variant meaning from at number after new next left left' left'' receiv
       consumed = Consumes-trans left left' left'' s.taken t.taken s.consumed t.consumed;
       appended = Appends-trans received received' received'' s.sent t.sent s.appended t.appended;
       cut = taken_on (lines_served s.calls) s.taken held t.taken s.cut
-          ∙ ap (λ (b : List ℕ). joined (lines_served s.calls) ++ b) w.begins.cut
+          ∙ ap (λ (b : List ℕ). lines_joined (lines_served s.calls) ++ b) w.begins.cut
           ∙ regrouped (lines_served s.calls) w.line held'
-          ∙ ap (λ (lines : List (List ℕ)). joined lines ++ held') (sym (lines_served-append s.calls (c ∷ [])));
+          ∙ ap (λ (lines : List (List ℕ)). lines_joined lines ++ held') (sym (lines_served-append s.calls (c ∷ [])));
       wrote = ap (λ (b : List ℕ). b ++ t.sent) s.wrote
-          ∙ ap (λ (b : List ℕ). replies_to s.calls ++ b) (w.told ∙ sym (append-nil (text_of (Ok (Answered w.answer)))))
+          ∙ ap (λ (b : List ℕ). replies_to s.calls ++ b) (w.told ∙ sym (append-nil (reply_text (Ok (Answered w.answer)))))
           ∙ sym (replies_to-append s.calls (c ∷ []));
       counted = counts s.calls c number s.counted;
       few = few_more s.calls c number s.counted w.few;
@@ -121,10 +121,10 @@ pub few_served : (variant : Variant) (meaning : Meaning) (from at : Place) (numb
 few_served variant meaning from at number left left' received received' held s = omega (arith, s.counted, s.few)
 
 -- and there it ends
-pub serves_all : (variant : Variant) (meaning : Meaning) (from at : Place) (number : ℕ) (after : Standing) (new : Kept) (left left' left'' received received' received'' : Option (List ℕ)) (held held' : List ℕ) (result : Result (Option Resumed) SessionFault) (ended : Result Unit SessionFault)
+pub serves_all : (variant : Variant) (meaning : Meaning) (from at : Place) (number : ℕ) (after : Standing) (new : StoreStanding) (left left' left'' received received' received'' : Option (List ℕ)) (held held' : List ℕ) (result : Result (Option Resumed) SessionFault) (ended : Result Unit SessionFault)
     → Stands variant meaning from at number left left' received received' held
-    → (t : Turns variant meaning number at after new left' left'' held held' received' received'' result)
-    → Ends variant meaning number at after new left'' (held ++ t.taken) t.sent ended
+    → (t : ServesNext variant meaning number at after new left' left'' held held' received' received'' result)
+    → EndsSession variant meaning number at after new left'' (held ++ t.taken) t.sent ended
     → ServesInput variant meaning from after new left left'' received received'' ended
 serves_all variant meaning from at number after new left left' left'' received received' received'' held held' result ended s t e = record {
   taken = s.taken ++ t.taken;
@@ -140,24 +140,24 @@ serves_all variant meaning from at number after new left left' left'' received r
     last = t.sent;
     took = taken_on (lines_served s.calls) s.taken held t.taken s.cut;
     wrote = ap (λ (b : List ℕ). b ++ t.sent) s.wrote;
-    ends = subst (λ (n : ℕ). Ends variant meaning n at after new left'' (held ++ t.taken) t.sent ended) s.counted e;
+    ends = subst (λ (n : ℕ). EndsSession variant meaning n at after new left'' (held ++ t.taken) t.sent ended) s.counted e;
   };
 }
 
-pub serves_ended : (variant : Variant) (meaning : Meaning) (from at : Place) (number : ℕ) (after : Standing) (new : Kept) (left left' left'' received received' received'' : Option (List ℕ)) (held held' : List ℕ) (result : Result (Option Resumed) SessionFault) (it : Unit)
+pub serves_ended : (variant : Variant) (meaning : Meaning) (from at : Place) (number : ℕ) (after : Standing) (new : StoreStanding) (left left' left'' received received' received'' : Option (List ℕ)) (held held' : List ℕ) (result : Result (Option Resumed) SessionFault) (it : Unit)
     → Stands variant meaning from at number left left' received received' held
-    → Turns variant meaning number at after new left' left'' held held' received' received'' result
+    → ServesNext variant meaning number at after new left' left'' held held' received' received'' result
     → result ≡ Ok None
     → ServesInput variant meaning from after new left left'' received received'' (Ok it)
 serves_ended variant meaning from at number after new left left' left'' received received' received'' held held' result it s t went =
     serves_all variant meaning from at number after new left left' left'' received received' received'' held held' result (Ok it) s t
-    (subst (λ (r : Result (Option Resumed) SessionFault). Went variant meaning number at after new left'' (held ++ t.taken) held' t.sent r) went t.went)
+    (subst (λ (r : Result (Option Resumed) SessionFault). ServedOn variant meaning number at after new left'' (held ++ t.taken) held' t.sent r) went t.went)
 
-pub serves_stopped : (variant : Variant) (meaning : Meaning) (from at : Place) (number : ℕ) (after : Standing) (new : Kept) (left left' left'' received received' received'' : Option (List ℕ)) (held held' : List ℕ) (result : Result (Option Resumed) SessionFault) (fault : SessionFault)
+pub serves_stopped : (variant : Variant) (meaning : Meaning) (from at : Place) (number : ℕ) (after : Standing) (new : StoreStanding) (left left' left'' received received' received'' : Option (List ℕ)) (held held' : List ℕ) (result : Result (Option Resumed) SessionFault) (fault : SessionFault)
     → Stands variant meaning from at number left left' received received' held
-    → Turns variant meaning number at after new left' left'' held held' received' received'' result
+    → ServesNext variant meaning number at after new left' left'' held held' received' received'' result
     → result ≡ Err fault
     → ServesInput variant meaning from after new left left'' received received'' (Err fault)
 serves_stopped variant meaning from at number after new left left' left'' received received' received'' held held' result fault s t went =
     serves_all variant meaning from at number after new left left' left'' received received' received'' held held' result (Err fault) s t
-    (subst (λ (r : Result (Option Resumed) SessionFault). Went variant meaning number at after new left'' (held ++ t.taken) held' t.sent r) went t.went)
+    (subst (λ (r : Result (Option Resumed) SessionFault). ServedOn variant meaning number at after new left'' (held ++ t.taken) held' t.sent r) went t.went)

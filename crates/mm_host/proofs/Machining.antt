@@ -27,7 +27,7 @@ use Rattle.mm_call.proofs.Calling.{requests-push, said_last}
 use Rattle.mm_callers.proofs.OptAsking.{issued_content as opt_content}
 use Rattle.mm_schedule.specs.Machine.{StepsOn}
 use Rattle.mm_schedule.specs.declared.reply.Reply.TheVariants.{Told}
-use Rattle.mm_host.specs.Continuing.{RunsOver, reply_of}
+use Rattle.mm_host.specs.Continuing.{RunsOver, answer_reply}
 use Rattle.mm_host.specs.Fitting.{Holds}
 use Rattle.mm_host.specs.Serving.{Served}
 
@@ -92,7 +92,7 @@ before_last i after front request answer again e more =
     omega (arith, at, total)
 
 pub steps_fresh : (i : Instance) (y after : History) (request : List ℕ) (answer : Answer) → whole answer ≡ answer_on i after (One request) false → after.batches ≡ y.batches ++ One request ∷ []
-    → StepsOn i.meaning (requests_of y.batches) (One request) (reply_of answer) (requests_of after.batches)
+    → StepsOn i.meaning (requests_of y.batches) (One request) (answer_reply answer) (requests_of after.batches)
 steps_fresh i y after request answer e more =
     let fresh : answer.again ≡ false = ap (λ (a : BatchAnswer). a.again) e in
     subst (λ (flag : Bool). StepsOn i.meaning (requests_of y.batches) (One request) (Told flag (answer.position - 1) (answer.output ∷ [])) (requests_of after.batches)) (sym fresh) (record {
@@ -102,7 +102,7 @@ steps_fresh i y after request answer e more =
     })
 
 pub steps_again : (i : Instance) (y after : History) (front : List Batch) (request : List ℕ) (answer : Answer) → whole answer ≡ answer_on i after (One request) true → after.batches ≡ y.batches → front ++ One request ∷ [] ≡ y.batches
-    → StepsOn i.meaning (requests_of y.batches) (One request) (reply_of answer) (requests_of after.batches)
+    → StepsOn i.meaning (requests_of y.batches) (One request) (answer_reply answer) (requests_of after.batches)
 steps_again i y after front request answer e same ends =
     let again : answer.again ≡ true = ap (λ (a : BatchAnswer). a.again) e in
     let more : after.batches ≡ front ++ One request ∷ [] = same ∙ sym ends in

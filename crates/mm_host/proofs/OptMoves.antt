@@ -29,9 +29,9 @@ use Rattle.mm_model.specs.declared.refusal.Refusal.TheVariants as refusal
 use Rattle.mm_model.proofs.Moves.{sound_moved}
 use Rattle.mm_model.proofs.Named.{opt_names}
 use Rattle.mm_call.specs.Asked.{foreign_in}
-use Rattle.mm_call.specs.Called.{called, told}
+use Rattle.mm_call.specs.Called.{called, given_for}
 use Rattle.mm_call.specs.Courses.{End, Done, Fails, Fate, Course, Walked, after_step, step_moves, walk, closes}
-use Rattle.mm_call.specs.Found.{Found, found_from, found_at, found_in, is_fresh}
+use Rattle.mm_call.specs.Found.{Found, found_by_verdict, found_at, found_unless_wanting, is_fresh}
 use Rattle.mm_call.specs.Levels.{by_lists, all_made}
 use Rattle.mm_call.specs.Order.{admitted, examined}
 use Rattle.mm_call.proofs.BasicLaw.{unlacked}
@@ -76,7 +76,7 @@ unless_lost true found f e = cc
 unless_lost false found f e = e
 
 live_from : (meaning : Meaning) (key barrier : List ℕ) (y : History) (b : Batch) (parts : Result Snapshot PartsFault) (found : Found)
-    → found_from (opt meaning key barrier) (by_lists (opt meaning key barrier)) y b parts ≡ Ok found → life_of Opt y ≡ Live
+    → found_by_verdict (opt meaning key barrier) (by_lists (opt meaning key barrier)) y b parts ≡ Ok found → life_of Opt y ≡ Live
 live_from meaning key barrier y b (Err Form) found is = cc
 live_from meaning key barrier y b (Err Kind) found is = cc
 live_from meaning key barrier y b (Ok snapshot) found is =
@@ -137,12 +137,12 @@ each_self {A} front (x ∷ xs) =
 
 ask_may : (meaning : Meaning) (key barrier : List ℕ) (y : History) (c : Course) (bytes : List ℕ) (b : Batch)
     → (let i = opt meaning key barrier in
-    let found = found_in (found_at i (by_lists i) (all_made (by_lists i) y (before c)) b bytes) c.lacks in
+    let found = found_unless_wanting (found_at i (by_lists i) (all_made (by_lists i) y (before c)) b bytes) c.lacks in
     AllMay i y (walk c.fates 1 (ask_steps Opt y.is_open (is_fresh found) b)).moves)
 ask_may meaning key barrier y c bytes b =
     let i = opt meaning key barrier in
     let seen : History = all_made (by_lists i) y (before c) in
-    let found = found_in (found_at i (by_lists i) seen b bytes) c.lacks in
+    let found = found_unless_wanting (found_at i (by_lists i) seen b bytes) c.lacks in
     let taken : History = sight y c in
     let run : List ℕ = extended_message (register_of (own_values barrier taken.current)) (guard barrier b) in
     let all : List (List ℕ) = guard_message barrier b ∷ run ∷ [] in
@@ -168,7 +168,7 @@ pub named_after : (meaning : Meaning) (key barrier : List ℕ) (y : History) (c 
     → Names (opt meaning key barrier) (called (opt meaning key barrier) (by_lists (opt meaning key barrier)) y c offer b).state content
 named_after meaning key barrier y c offer b content sound n =
     let i : Instance = opt meaning key barrier in
-    let found : Result Found Refusal = found_in (found_at i (by_lists i) (all_made (by_lists i) y (before c)) b offer) c.lacks in
+    let found : Result Found Refusal = found_unless_wanting (found_at i (by_lists i) (all_made (by_lists i) y (before c)) b offer) c.lacks in
     names_made meaning key barrier (walk c.fates 1 (ask_steps Opt y.is_open (is_fresh found) b)).moves y content sound (ask_may meaning key barrier y c offer b) n
 
 commit_keeps : (variant : Variant) (flag : Bool) (y : History) (b : Batch) → (committed variant flag y b).closed ≡ y.closed
@@ -188,7 +188,7 @@ closed_same i (Close ∷ moves) y e = absurd (cc)
 closed_same i (Power ∷ moves) y e = closed_same i moves (moved i y Power) e
 
 pub answered_clean : (meaning : Meaning) (key barrier : List ℕ) (y : History) (c : Course) (offer : List ℕ) (b : Batch) (answer : BatchAnswer)
-    → told (called (opt meaning key barrier) (by_lists (opt meaning key barrier)) y c offer b).ending ≡ Ok answer
+    → given_for (called (opt meaning key barrier) (by_lists (opt meaning key barrier)) y c offer b).ending ≡ Ok answer
     → has_value (joined (called (opt meaning key barrier) (by_lists (opt meaning key barrier)) y c offer b).state.closed) ≡ false
 answered_clean meaning key barrier y c offer b answer gives =
     let i : Instance = opt meaning key barrier in
@@ -196,7 +196,7 @@ answered_clean meaning key barrier y c offer b answer gives =
     let w : List (List ℕ) = (c.fates 2).brings in
     let first : List Move = map Foreign v ++ (map Foreign w ++ []) in
     let sees : History = all_made (by_lists i) y first in
-    let found : Result Found Refusal = found_in (found_at i (by_lists i) sees b offer) c.lacks in
+    let found : Result Found Refusal = found_unless_wanting (found_at i (by_lists i) sees b offer) c.lacks in
     let walked : Walked = walk c.fates 1 (ask_steps Opt y.is_open (is_fresh found) b) in
     let end : History = all_made (by_lists i) y walked.moves in
     let it = answered_only walked.broken i sees end b found walked.moves answer gives in
@@ -309,7 +309,7 @@ pub stays_powered : (meaning : Meaning) (key barrier : List ℕ) (y : History) (
     → life_of Opt (called (opt meaning key barrier) (by_lists (opt meaning key barrier)) y c offer b).state ≢ LostLife
 stays_powered meaning key barrier y c offer b h =
     let i : Instance = opt meaning key barrier in
-    let found : Result Found Refusal = found_in (found_at i (by_lists i) (all_made (by_lists i) y (before c)) b offer) c.lacks in
+    let found : Result Found Refusal = found_unless_wanting (found_at i (by_lists i) (all_made (by_lists i) y (before c)) b offer) c.lacks in
     let moves : List Move = (walk c.fates 1 (ask_steps Opt y.is_open (is_fresh found) b)).moves in
     let end : History = all_made (by_lists i) y moves in
     let powered : IsPowered end = powered_made meaning key barrier moves y (loses_walk c.fates (ask_steps Opt y.is_open (is_fresh found) b) 1 (asks_powered y.is_open (is_fresh found) b))
@@ -324,6 +324,6 @@ alike_by meaning key barrier y b fresh w (batch one is) e = grown_by (alike_one 
 pub alike_after : (meaning : Meaning) (key barrier : List ℕ) (y : History) (c : Course) (offer : List ℕ) (b : Batch) → Alike meaning key barrier y b (called (opt meaning key barrier) (by_lists (opt meaning key barrier)) y c offer b).state
 alike_after meaning key barrier y c offer b =
     let i : Instance = opt meaning key barrier in
-    let fresh : Bool = is_fresh (found_in (found_at i (by_lists i) (all_made (by_lists i) y (before c)) b offer) c.lacks) in
+    let fresh : Bool = is_fresh (found_unless_wanting (found_at i (by_lists i) (all_made (by_lists i) y (before c)) b offer) c.lacks) in
     subst (λ (steps : List Step). Alike meaning key barrier y b (all_made (by_lists i) y (walk c.fates 1 steps).moves)) (sym (asks y.is_open fresh b))
     (alike_by meaning key barrier y b fresh (walk c.fates 1 (Reads ∷ Reads ∷ changing y.is_open fresh b)) (opt_commits c.fates y.is_open fresh b) (opt_closes c.fates y.is_open fresh b))

@@ -3,15 +3,15 @@ use Rattle.std.proofs.Common.{◌≡◌, ◌∙◌, ◌+◌, ◌-◌, ◌%◌, �
 use Rattle.std.specs.Prelude.{◌⊎◌, nat_le, if◌then◌else◌}
 use Rattle.std.proofs.lemmas.Bool.{cases_lt}
 use Rattle.std.proofs.lemmas.Bool.Decides.{nat_tests}
-use Rattle.mm_base.specs.Lines.{IsWithin}
+use Rattle.mm_base.specs.Lines.{MayGrow}
 use Rattle.mm_base.specs.Limits.{last_position, longest_request}
 use Rattle.mm_model.specs.Instance.{Instance}
 use Rattle.mm_model.specs.History.{History, total_of}
 use Rattle.mm_store.specs.Pending.{Pending, IsPending, ReadsPending, pending_spelling}
-use Rattle.mm_store.specs.Slots.{Slots, longest_slot, seen_in, with_slot}
+use Rattle.mm_store.specs.Slots.{Slots, longest_slot, slot_read, with_slot}
 use Rattle.mm_store.proofs.PendingLaws.{one_reading}
-use Rattle.mm_host.specs.Continuing.{IsNotBeyond, position_of}
-use Rattle.mm_host.specs.Fitting.{Fits, FitsBy, Holds, offer_slot}
+use Rattle.mm_host.specs.Continuing.{IsNotBeyond, waiting_position}
+use Rattle.mm_host.specs.Fitting.{FitsHistory, FitsBy, Holds, offer_slot}
 use Rattle.mm_host.specs.Waiting.{IsWaiting, later}
 
 parity : (n : ℕ) → (n % 2 ≡ 0) ⊎ (n % 2 ≡ 1)
@@ -25,10 +25,10 @@ after_odd n h = omega arith
 
 -- The slot of the next record was written: of slots 2 and 3 the other one is as before, and so are the snapshots.
 pub record IsPut (slots other : Slots) (position : ℕ) (bytes : List ℕ) : Type 0 where
-  pub zero : seen_in other 0 ≡ seen_in slots 0
-  pub one : seen_in other 1 ≡ seen_in slots 1
-  pub turn : ((position % 2 ≡ 0) × (seen_in other 2 ≡ seen_in slots 2) × (seen_in other 3 ≡ take longest_slot bytes))
-      ⊎ ((position % 2 ≡ 1) × (seen_in other 3 ≡ seen_in slots 3) × (seen_in other 2 ≡ take longest_slot bytes))
+  pub zero : slot_read other 0 ≡ slot_read slots 0
+  pub one : slot_read other 1 ≡ slot_read slots 1
+  pub turn : ((position % 2 ≡ 0) × (slot_read other 2 ≡ slot_read slots 2) × (slot_read other 3 ≡ take longest_slot bytes))
+      ⊎ ((position % 2 ≡ 1) × (slot_read other 3 ≡ slot_read slots 3) × (slot_read other 2 ≡ take longest_slot bytes))
 
 put_by_parity : (slots : Slots) (position : ℕ) (bytes : List ℕ) → (position % 2 ≡ 0) ⊎ (position % 2 ≡ 1) → IsPut slots (with_slot slots (2 + (position + 1) % 2) bytes) position bytes
 put_by_parity slots position bytes (inl h) =
@@ -41,11 +41,11 @@ put_by_parity slots position bytes (inr h) =
 pub put_next : (slots : Slots) (position : ℕ) (bytes : List ℕ) → IsPut slots (with_slot slots (2 + (position + 1) % 2) bytes) position bytes
 put_next slots position bytes = put_by_parity slots position bytes (parity position)
 
-snapshot_by_parity : (slots other : Slots) (position n : ℕ) (bytes : List ℕ) → IsPut slots other position bytes → (n % 2 ≡ 0) ⊎ (n % 2 ≡ 1) → seen_in other (n % 2) ≡ seen_in slots (n % 2)
-snapshot_by_parity slots other position n bytes p (inl e) = subst (λ (m : ℕ). seen_in other m ≡ seen_in slots m) (sym e) p.zero
-snapshot_by_parity slots other position n bytes p (inr e) = subst (λ (m : ℕ). seen_in other m ≡ seen_in slots m) (sym e) p.one
+snapshot_by_parity : (slots other : Slots) (position n : ℕ) (bytes : List ℕ) → IsPut slots other position bytes → (n % 2 ≡ 0) ⊎ (n % 2 ≡ 1) → slot_read other (n % 2) ≡ slot_read slots (n % 2)
+snapshot_by_parity slots other position n bytes p (inl e) = subst (λ (m : ℕ). slot_read other m ≡ slot_read slots m) (sym e) p.zero
+snapshot_by_parity slots other position n bytes p (inr e) = subst (λ (m : ℕ). slot_read other m ≡ slot_read slots m) (sym e) p.one
 
-pub snapshot_same : (slots other : Slots) (position n : ℕ) (bytes : List ℕ) → IsPut slots other position bytes → seen_in other (n % 2) ≡ seen_in slots (n % 2)
+pub snapshot_same : (slots other : Slots) (position n : ℕ) (bytes : List ℕ) → IsPut slots other position bytes → slot_read other (n % 2) ≡ slot_read slots (n % 2)
 snapshot_same slots other position n bytes p = snapshot_by_parity slots other position n bytes p (parity n)
 
 -- the later of two records
@@ -62,28 +62,28 @@ le_is a b h = grind (arith, nat_tests, h)
 le_not : (a b : ℕ) → nat_le a b ≡ false → b < a
 le_not a b h = grind (arith, nat_tests, h)
 
-later_right : (a : Option Pending) (q : Pending) → position_of a < q.position → later a (Some q) ≡ Some q
+later_right : (a : Option Pending) (q : Pending) → waiting_position a < q.position → later a (Some q) ≡ Some q
 later_right None q h = refl
 later_right (Some p) q h = ap (λ (t : Bool). if t then Some p else Some q) (not_le q.position p.position h)
 
-later_left : (b : Option Pending) (q : Pending) → position_of b < q.position → later (Some q) b ≡ Some q
+later_left : (b : Option Pending) (q : Pending) → waiting_position b < q.position → later (Some q) b ≡ Some q
 later_left None q h = refl
 later_left (Some p) q h = ap (λ (t : Bool). if t then Some q else Some p) (is_le p.position q.position (omega (arith, h)))
 
-two_by_test : (t : Bool) (p q : Pending) → nat_le q.position p.position ≡ t → p.position ≤ position_of (if t then Some p else Some q)
+two_by_test : (t : Bool) (p q : Pending) → nat_le q.position p.position ≡ t → p.position ≤ waiting_position (if t then Some p else Some q)
 two_by_test true p q e = omega arith
 two_by_test false p q e = omega (arith, le_not q.position p.position e)
 
-three_by_test : (t : Bool) (p q : Pending) → nat_le q.position p.position ≡ t → q.position ≤ position_of (if t then Some p else Some q)
+three_by_test : (t : Bool) (p q : Pending) → nat_le q.position p.position ≡ t → q.position ≤ waiting_position (if t then Some p else Some q)
 three_by_test true p q e = le_is q.position p.position e
 three_by_test false p q e = omega arith
 
-most_two : (a b : Option Pending) → position_of a ≤ position_of (later a b)
+most_two : (a b : Option Pending) → waiting_position a ≤ waiting_position (later a b)
 most_two None b = omega arith
 most_two (Some p) None = omega arith
 most_two (Some p) (Some q) = two_by_test (nat_le q.position p.position) p q refl
 
-most_three : (a b : Option Pending) → position_of b ≤ position_of (later a b)
+most_three : (a b : Option Pending) → waiting_position b ≤ waiting_position (later a b)
 most_three None b = omega arith
 most_three (Some p) None = omega arith
 most_three (Some p) (Some q) = three_by_test (nat_le q.position p.position) p q refl
@@ -93,7 +93,7 @@ most_three (Some p) (Some q) = three_by_test (nat_le q.position p.position) p q 
 pub record IsNext (position : ℕ) (next : Pending) (bytes : List ℕ) : Type 0 where
   pub follows : next.position ≡ position + 1
   pub most : next.position ≤ last_position
-  pub line : IsWithin longest_request next.request
+  pub line : MayGrow longest_request next.request
   pub spelled : take longest_slot bytes ≡ pending_spelling next
 
 pending_at : (slot position : ℕ) (next : Pending) (bytes : List ℕ) → IsNext position next bytes → slot ≡ 2 + (position + 1) % 2 → IsPending slot next
@@ -104,10 +104,10 @@ pending_at slot position next bytes n e = record {
   parity = e ∙ ap (λ (m : ℕ). 2 + m % 2) (sym n.follows);
 }
 
-waits_three : (two three seen : List ℕ) (w : Option Pending) (next : Pending) (position : ℕ) → IsWaiting two three w → position_of w ≤ position → next.position ≡ position + 1 → ReadsPending 3 seen (Some next) → IsWaiting two seen (Some next)
+waits_three : (two three seen : List ℕ) (w : Option Pending) (next : Pending) (position : ℕ) → IsWaiting two three w → waiting_position w ≤ position → next.position ≡ position + 1 → ReadsPending 3 seen (Some next) → IsWaiting two seen (Some next)
 waits_three two three seen w next position a h e r =
-    let most : position_of a.in_two ≤ position_of (later a.in_two a.in_three) = most_two a.in_two a.in_three in
-    let same : position_of w ≡ position_of (later a.in_two a.in_three) = ap position_of a.is in
+    let most : waiting_position a.in_two ≤ waiting_position (later a.in_two a.in_three) = most_two a.in_two a.in_three in
+    let same : waiting_position w ≡ waiting_position (later a.in_two a.in_three) = ap waiting_position a.is in
     record {
       in_two = a.in_two;
       in_three = Some next;
@@ -116,10 +116,10 @@ waits_three two three seen w next position a h e r =
       is = sym (later_right a.in_two next (omega (arith, most, same, h, e)));
     }
 
-waits_two : (two three seen : List ℕ) (w : Option Pending) (next : Pending) (position : ℕ) → IsWaiting two three w → position_of w ≤ position → next.position ≡ position + 1 → ReadsPending 2 seen (Some next) → IsWaiting seen three (Some next)
+waits_two : (two three seen : List ℕ) (w : Option Pending) (next : Pending) (position : ℕ) → IsWaiting two three w → waiting_position w ≤ position → next.position ≡ position + 1 → ReadsPending 2 seen (Some next) → IsWaiting seen three (Some next)
 waits_two two three seen w next position a h e r =
-    let most : position_of a.in_three ≤ position_of (later a.in_two a.in_three) = most_three a.in_two a.in_three in
-    let same : position_of w ≡ position_of (later a.in_two a.in_three) = ap position_of a.is in
+    let most : waiting_position a.in_three ≤ waiting_position (later a.in_two a.in_three) = most_three a.in_two a.in_three in
+    let same : waiting_position w ≡ waiting_position (later a.in_two a.in_three) = ap waiting_position a.is in
     record {
       in_two = Some next;
       in_three = a.in_three;
@@ -128,19 +128,19 @@ waits_two two three seen w next position a h e r =
       is = sym (later_left a.in_three next (omega (arith, most, same, h, e)));
     }
 
-waits_by_turn : (slots other : Slots) (position : ℕ) (bytes : List ℕ) (w : Option Pending) (next : Pending) → IsWaiting (seen_in slots 2) (seen_in slots 3) w → position_of w ≤ position → IsNext position next bytes
-    → ((position % 2 ≡ 0) × (seen_in other 2 ≡ seen_in slots 2) × (seen_in other 3 ≡ take longest_slot bytes)) ⊎ ((position % 2 ≡ 1) × (seen_in other 3 ≡ seen_in slots 3) × (seen_in other 2 ≡ take longest_slot bytes))
-    → IsWaiting (seen_in other 2) (seen_in other 3) (Some next)
+waits_by_turn : (slots other : Slots) (position : ℕ) (bytes : List ℕ) (w : Option Pending) (next : Pending) → IsWaiting (slot_read slots 2) (slot_read slots 3) w → waiting_position w ≤ position → IsNext position next bytes
+    → ((position % 2 ≡ 0) × (slot_read other 2 ≡ slot_read slots 2) × (slot_read other 3 ≡ take longest_slot bytes)) ⊎ ((position % 2 ≡ 1) × (slot_read other 3 ≡ slot_read slots 3) × (slot_read other 2 ≡ take longest_slot bytes))
+    → IsWaiting (slot_read other 2) (slot_read other 3) (Some next)
 waits_by_turn slots other position bytes w next a h n (inl t) =
-    subst (λ (two : List ℕ). IsWaiting two (seen_in other 3) (Some next)) (sym t.1)
-    (waits_three (seen_in slots 2) (seen_in slots 3) (seen_in other 3) w next position a h n.follows
+    subst (λ (two : List ℕ). IsWaiting two (slot_read other 3) (Some next)) (sym t.1)
+    (waits_three (slot_read slots 2) (slot_read slots 3) (slot_read other 3) w next position a h n.follows
     (pending_at 3 position next bytes n (sym (after_even position t.0)), t.2 ∙ n.spelled))
 waits_by_turn slots other position bytes w next a h n (inr t) =
-    subst (λ (three : List ℕ). IsWaiting (seen_in other 2) three (Some next)) (sym t.1)
-    (waits_two (seen_in slots 2) (seen_in slots 3) (seen_in other 2) w next position a h n.follows
+    subst (λ (three : List ℕ). IsWaiting (slot_read other 2) three (Some next)) (sym t.1)
+    (waits_two (slot_read slots 2) (slot_read slots 3) (slot_read other 2) w next position a h n.follows
     (pending_at 2 position next bytes n (sym (after_odd position t.0)), t.2 ∙ n.spelled))
 
-pub waits_next : (slots other : Slots) (position : ℕ) (bytes : List ℕ) (w : Option Pending) (next : Pending) → IsWaiting (seen_in slots 2) (seen_in slots 3) w → position_of w ≤ position → IsNext position next bytes → IsPut slots other position bytes → IsWaiting (seen_in other 2) (seen_in other 3) (Some next)
+pub waits_next : (slots other : Slots) (position : ℕ) (bytes : List ℕ) (w : Option Pending) (next : Pending) → IsWaiting (slot_read slots 2) (slot_read slots 3) w → waiting_position w ≤ position → IsNext position next bytes → IsPut slots other position bytes → IsWaiting (slot_read other 2) (slot_read other 3) (Some next)
 waits_next slots other position bytes w next a h n p = waits_by_turn slots other position bytes w next a h n p.turn
 
 -- a torn record
@@ -154,13 +154,13 @@ valid slot bytes None r = tt
 valid slot bytes (Some p) r = r.0
 
 -- a record of the other parity doesn't wait
-two_waits_test : (t : Bool) (x p : Pending) (position : ℕ) → nat_le p.position x.position ≡ t → position % 2 ≡ 0 → IsPending 3 p → position_of (if t then Some x else Some p) ≡ position → (if t then Some x else Some p) ≡ Some x
+two_waits_test : (t : Bool) (x p : Pending) (position : ℕ) → nat_le p.position x.position ≡ t → position % 2 ≡ 0 → IsPending 3 p → waiting_position (if t then Some x else Some p) ≡ position → (if t then Some x else Some p) ≡ Some x
 two_waits_test true x p position e even v h = refl
 two_waits_test false x p position e even v h =
     let odd : p.position % 2 ≡ position % 2 = ap (λ (n : ℕ). n % 2) h in
     absurd (omega (arith, odd, even, v.parity))
 
-two_waits : (x a : Option Pending) (position : ℕ) → position % 2 ≡ 0 → IsValid 3 a → position_of (later x a) ≡ position → later x a ≡ x
+two_waits : (x a : Option Pending) (position : ℕ) → position % 2 ≡ 0 → IsValid 3 a → waiting_position (later x a) ≡ position → later x a ≡ x
 two_waits None None position even v h = refl
 two_waits None (Some p) position even v h =
     let odd : p.position % 2 ≡ position % 2 = ap (λ (n : ℕ). n % 2) h in
@@ -168,13 +168,13 @@ two_waits None (Some p) position even v h =
 two_waits (Some x) None position even v h = refl
 two_waits (Some x) (Some p) position even v h = two_waits_test (nat_le p.position x.position) x p position refl even v h
 
-three_waits_test : (t : Bool) (p x : Pending) (position : ℕ) → nat_le x.position p.position ≡ t → position % 2 ≡ 1 → IsPending 2 p → position_of (if t then Some p else Some x) ≡ position → (if t then Some p else Some x) ≡ Some x
+three_waits_test : (t : Bool) (p x : Pending) (position : ℕ) → nat_le x.position p.position ≡ t → position % 2 ≡ 1 → IsPending 2 p → waiting_position (if t then Some p else Some x) ≡ position → (if t then Some p else Some x) ≡ Some x
 three_waits_test true p x position e odd v h =
     let even : p.position % 2 ≡ position % 2 = ap (λ (n : ℕ). n % 2) h in
     absurd (omega (arith, even, odd, v.parity))
 three_waits_test false p x position e odd v h = refl
 
-three_waits : (a x : Option Pending) (position : ℕ) → position % 2 ≡ 1 → IsValid 2 a → position_of (later a x) ≡ position → later a x ≡ x
+three_waits : (a x : Option Pending) (position : ℕ) → position % 2 ≡ 1 → IsValid 2 a → waiting_position (later a x) ≡ position → later a x ≡ x
 three_waits None x position odd v h = refl
 three_waits (Some p) None position odd v h =
     let even : p.position % 2 ≡ position % 2 = ap (λ (n : ℕ). n % 2) h in
@@ -182,57 +182,57 @@ three_waits (Some p) None position odd v h =
 three_waits (Some p) (Some x) position odd v h = three_waits_test (nat_le x.position p.position) p x position refl odd v h
 
 -- beside a record of this position, one of no later position than the next waits only as the next
-beside_two_test : (t : Bool) (x q : Pending) (position : ℕ) → nat_le q.position x.position ≡ t → x.position ≡ position → position_of (if t then Some x else Some q) ≤ position + 1 → ((if t then Some x else Some q) ≡ Some x) ⊎ (position_of (if t then Some x else Some q) ≡ position + 1)
+beside_two_test : (t : Bool) (x q : Pending) (position : ℕ) → nat_le q.position x.position ≡ t → x.position ≡ position → waiting_position (if t then Some x else Some q) ≤ position + 1 → ((if t then Some x else Some q) ≡ Some x) ⊎ (waiting_position (if t then Some x else Some q) ≡ position + 1)
 beside_two_test true x q position e h k = inl refl
 beside_two_test false x q position e h k = inr (omega (arith, le_not q.position x.position e, h, k))
 
-beside_two : (x b : Option Pending) (position : ℕ) → IsValid 3 b → position_of x ≡ position → position_of (later x b) ≤ position + 1 → (later x b ≡ x) ⊎ (position_of (later x b) ≡ position + 1)
+beside_two : (x b : Option Pending) (position : ℕ) → IsValid 3 b → waiting_position x ≡ position → waiting_position (later x b) ≤ position + 1 → (later x b ≡ x) ⊎ (waiting_position (later x b) ≡ position + 1)
 beside_two None None position v h k = inl refl
 beside_two None (Some q) position v h k = inr (omega (arith, v.least, h, k))
 beside_two (Some x) None position v h k = inl refl
 beside_two (Some x) (Some q) position v h k = beside_two_test (nat_le q.position x.position) x q position refl h k
 
-beside_three_test : (t : Bool) (q x : Pending) (position : ℕ) → nat_le x.position q.position ≡ t → position % 2 ≡ 1 → IsPending 2 q → x.position ≡ position → position_of (if t then Some q else Some x) ≤ position + 1 → ((if t then Some q else Some x) ≡ Some x) ⊎ (position_of (if t then Some q else Some x) ≡ position + 1)
+beside_three_test : (t : Bool) (q x : Pending) (position : ℕ) → nat_le x.position q.position ≡ t → position % 2 ≡ 1 → IsPending 2 q → x.position ≡ position → waiting_position (if t then Some q else Some x) ≤ position + 1 → ((if t then Some q else Some x) ≡ Some x) ⊎ (waiting_position (if t then Some q else Some x) ≡ position + 1)
 beside_three_test true q x position e odd v h k =
     inr (omega (arith, le_is x.position q.position e, odd, v.parity, h, k))
 beside_three_test false q x position e odd v h k = inl refl
 
-beside_three : (b x : Option Pending) (position : ℕ) → position % 2 ≡ 1 → IsValid 2 b → position_of x ≡ position → position_of (later b x) ≤ position + 1 → (later b x ≡ x) ⊎ (position_of (later b x) ≡ position + 1)
+beside_three : (b x : Option Pending) (position : ℕ) → position % 2 ≡ 1 → IsValid 2 b → waiting_position x ≡ position → waiting_position (later b x) ≤ position + 1 → (later b x ≡ x) ⊎ (waiting_position (later b x) ≡ position + 1)
 beside_three None x position odd v h k = inl refl
 beside_three (Some q) None position odd v h k =
     let none : position % 2 ≡ 0 = sym (ap (λ (n : ℕ). n % 2) h) in
     absurd (omega (arith, odd, none))
 beside_three (Some q) (Some x) position odd v h k = beside_three_test (nat_le x.position q.position) q x position refl odd v h k
 
-torn_two : (two three seen : List ℕ) (w v : Option Pending) (position : ℕ) → position % 2 ≡ 0 → IsWaiting two three w → position_of w ≡ position → IsWaiting two seen v → position_of v ≤ position + 1 → (v ≡ w) ⊎ (position_of v ≡ position + 1)
+torn_two : (two three seen : List ℕ) (w v : Option Pending) (position : ℕ) → position % 2 ≡ 0 → IsWaiting two three w → waiting_position w ≡ position → IsWaiting two seen v → waiting_position v ≤ position + 1 → (v ≡ w) ⊎ (waiting_position v ≡ position + 1)
 torn_two two three seen w v position even a h b k =
     let same : b.in_two ≡ a.in_two = one_reading 2 two b.in_two a.in_two b.reads_two a.reads_two in
-    let waits : w ≡ a.in_two = a.is ∙ two_waits a.in_two a.in_three position even (valid 3 three a.in_three a.reads_three) (sym (ap position_of a.is) ∙ h) in
-    let at : position_of b.in_two ≡ position = ap position_of (same ∙ sym waits) ∙ h in
-    elim (beside_two b.in_two b.in_three position (valid 3 seen b.in_three b.reads_three) at (subst (λ (x : Option Pending). position_of x ≤ position + 1) b.is k)) [
+    let waits : w ≡ a.in_two = a.is ∙ two_waits a.in_two a.in_three position even (valid 3 three a.in_three a.reads_three) (sym (ap waiting_position a.is) ∙ h) in
+    let at : waiting_position b.in_two ≡ position = ap waiting_position (same ∙ sym waits) ∙ h in
+    elim (beside_two b.in_two b.in_three position (valid 3 seen b.in_three b.reads_three) at (subst (λ (x : Option Pending). waiting_position x ≤ position + 1) b.is k)) [
       | inl e ↦ inl (b.is ∙ e ∙ same ∙ sym waits)
-      | inr e ↦ inr (ap position_of b.is ∙ e)
+      | inr e ↦ inr (ap waiting_position b.is ∙ e)
     ]
 
-torn_three : (two three seen : List ℕ) (w v : Option Pending) (position : ℕ) → position % 2 ≡ 1 → IsWaiting two three w → position_of w ≡ position → IsWaiting seen three v → position_of v ≤ position + 1 → (v ≡ w) ⊎ (position_of v ≡ position + 1)
+torn_three : (two three seen : List ℕ) (w v : Option Pending) (position : ℕ) → position % 2 ≡ 1 → IsWaiting two three w → waiting_position w ≡ position → IsWaiting seen three v → waiting_position v ≤ position + 1 → (v ≡ w) ⊎ (waiting_position v ≡ position + 1)
 torn_three two three seen w v position odd a h b k =
     let same : b.in_three ≡ a.in_three = one_reading 3 three b.in_three a.in_three b.reads_three a.reads_three in
-    let waits : w ≡ a.in_three = a.is ∙ three_waits a.in_two a.in_three position odd (valid 2 two a.in_two a.reads_two) (sym (ap position_of a.is) ∙ h) in
-    let at : position_of b.in_three ≡ position = ap position_of (same ∙ sym waits) ∙ h in
-    elim (beside_three b.in_two b.in_three position odd (valid 2 seen b.in_two b.reads_two) at (subst (λ (x : Option Pending). position_of x ≤ position + 1) b.is k)) [
+    let waits : w ≡ a.in_three = a.is ∙ three_waits a.in_two a.in_three position odd (valid 2 two a.in_two a.reads_two) (sym (ap waiting_position a.is) ∙ h) in
+    let at : waiting_position b.in_three ≡ position = ap waiting_position (same ∙ sym waits) ∙ h in
+    elim (beside_three b.in_two b.in_three position odd (valid 2 seen b.in_two b.reads_two) at (subst (λ (x : Option Pending). waiting_position x ≤ position + 1) b.is k)) [
       | inl e ↦ inl (b.is ∙ e ∙ same ∙ sym waits)
-      | inr e ↦ inr (ap position_of b.is ∙ e)
+      | inr e ↦ inr (ap waiting_position b.is ∙ e)
     ]
 
-torn_by_turn : (slots other : Slots) (position : ℕ) (bytes : List ℕ) (w v : Option Pending) → IsWaiting (seen_in slots 2) (seen_in slots 3) w → position_of w ≡ position → IsWaiting (seen_in other 2) (seen_in other 3) v → position_of v ≤ position + 1
-    → ((position % 2 ≡ 0) × (seen_in other 2 ≡ seen_in slots 2) × (seen_in other 3 ≡ take longest_slot bytes)) ⊎ ((position % 2 ≡ 1) × (seen_in other 3 ≡ seen_in slots 3) × (seen_in other 2 ≡ take longest_slot bytes))
-    → (v ≡ w) ⊎ (position_of v ≡ position + 1)
+torn_by_turn : (slots other : Slots) (position : ℕ) (bytes : List ℕ) (w v : Option Pending) → IsWaiting (slot_read slots 2) (slot_read slots 3) w → waiting_position w ≡ position → IsWaiting (slot_read other 2) (slot_read other 3) v → waiting_position v ≤ position + 1
+    → ((position % 2 ≡ 0) × (slot_read other 2 ≡ slot_read slots 2) × (slot_read other 3 ≡ take longest_slot bytes)) ⊎ ((position % 2 ≡ 1) × (slot_read other 3 ≡ slot_read slots 3) × (slot_read other 2 ≡ take longest_slot bytes))
+    → (v ≡ w) ⊎ (waiting_position v ≡ position + 1)
 torn_by_turn slots other position bytes w v a h b k (inl t) =
-    torn_two (seen_in slots 2) (seen_in slots 3) (seen_in other 3) w v position t.0 a h
-    (subst (λ (two : List ℕ). IsWaiting two (seen_in other 3) v) t.1 b) k
+    torn_two (slot_read slots 2) (slot_read slots 3) (slot_read other 3) w v position t.0 a h
+    (subst (λ (two : List ℕ). IsWaiting two (slot_read other 3) v) t.1 b) k
 torn_by_turn slots other position bytes w v a h b k (inr t) =
-    torn_three (seen_in slots 2) (seen_in slots 3) (seen_in other 2) w v position t.0 a h
-    (subst (λ (three : List ℕ). IsWaiting (seen_in other 2) three v) t.1 b) k
+    torn_three (slot_read slots 2) (slot_read slots 3) (slot_read other 2) w v position t.0 a h
+    (subst (λ (three : List ℕ). IsWaiting (slot_read other 2) three v) t.1 b) k
 
 -- and what fits
 
@@ -243,18 +243,18 @@ fits_moved i y slots other position bytes (Some q) p f = (
   subst (λ (x : List ℕ). Holds i y x (q.position - 1)) (sym (snapshot_same slots other position (q.position - 1) bytes p)) f.1,
 )
 
-holds_before : (i : Instance) (y : History) (slots : Slots) (position : ℕ) (q : Pending) → q.position ≡ position + 1 → Holds i y (seen_in slots (position % 2)) position → Holds i y (seen_in slots (offer_slot q)) (q.position - 1)
+holds_before : (i : Instance) (y : History) (slots : Slots) (position : ℕ) (q : Pending) → q.position ≡ position + 1 → Holds i y (slot_read slots (position % 2)) position → Holds i y (slot_read slots (offer_slot q)) (q.position - 1)
 holds_before i y slots position q e h =
     let before : position ≡ q.position - 1 = omega (arith, e) in
-    subst (λ (n : ℕ). Holds i y (seen_in slots (n % 2)) n) before h
+    subst (λ (n : ℕ). Holds i y (slot_read slots (n % 2)) n) before h
 
-pub fits_next : (i : Instance) (y : History) (slots : Slots) (position : ℕ) (v : Option Pending) → position_of v ≡ position + 1 → position ≡ total_of y.batches → Holds i y (seen_in slots (position % 2)) position → FitsBy i slots y v
+pub fits_next : (i : Instance) (y : History) (slots : Slots) (position : ℕ) (v : Option Pending) → waiting_position v ≡ position + 1 → position ≡ total_of y.batches → Holds i y (slot_read slots (position % 2)) position → FitsBy i slots y v
 fits_next i y slots position None e at h = absurd (omega (arith, e))
 fits_next i y slots position (Some q) e at h = (inl (e ∙ ap (λ (n : ℕ). n + 1) at), holds_before i y slots position q e h)
 
-pub torn_fits : (i : Instance) (y : History) (slots other : Slots) (position : ℕ) (bytes : List ℕ) (f : Fits i slots y) → position_of f.waiting ≡ position → position ≡ total_of y.batches → Holds i y (seen_in slots (position % 2)) position → IsPut slots other position bytes → IsNotBeyond other (total_of y.batches + 1) → Fits i other y
+pub torn_fits : (i : Instance) (y : History) (slots other : Slots) (position : ℕ) (bytes : List ℕ) (f : FitsHistory i slots y) → waiting_position f.waiting ≡ position → position ≡ total_of y.batches → Holds i y (slot_read slots (position % 2)) position → IsPut slots other position bytes → IsNotBeyond other (total_of y.batches + 1) → FitsHistory i other y
 torn_fits i y slots other position bytes f h at holds p n =
-    let few : position_of n.waiting ≤ position + 1 = subst (λ (m : ℕ). position_of n.waiting ≤ m + 1) (sym at) n.most in
+    let few : waiting_position n.waiting ≤ position + 1 = subst (λ (m : ℕ). waiting_position n.waiting ≤ m + 1) (sym at) n.most in
     record {
       waiting = n.waiting;
       is_waiting = n.is_waiting;

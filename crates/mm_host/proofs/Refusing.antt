@@ -24,9 +24,9 @@ use Rattle.mm_model.specs.declared.refusal.Refusal.{Refusal}
 use Rattle.mm_model.specs.declared.refusal.Refusal.TheVariants.{Memory, Device, Lost, Stale}
 use Rattle.mm_model.specs.declared.verdict.Verdict.{Verdict}
 use Rattle.mm_model.proofs.Batches.{before_the_last}
-use Rattle.mm_call.specs.Called.{ended_by, told, called}
+use Rattle.mm_call.specs.Called.{ended_by, given_for, called}
 use Rattle.mm_call.specs.Courses.{Course, Fate, Walked, walk}
-use Rattle.mm_call.specs.Found.{Found, found_with, found_from, found_at, found_in, is_fresh}
+use Rattle.mm_call.specs.Found.{Found, found_with, found_by_verdict, found_at, found_unless_wanting, is_fresh}
 use Rattle.mm_call.specs.Levels.{by_lists, all_made}
 use Rattle.mm_call.specs.Order.{admitted, weighed, examined}
 use Rattle.mm_call.proofs.OptLaw.{before, sight_is}
@@ -164,20 +164,20 @@ found_refused : (i : Instance) (s : History) (p : Pending) (offer : List ℕ) (o
 found_refused i s p offer o why e =
     let parts : parts_of i.variant i.meaning.id offer ≡ Ok (offered_of i.key o.content) =
     ap (λ (bytes : List ℕ). parts_of i.variant i.meaning.id bytes) o.right.sealed ∙ sealed_parts i.key o.content i.variant i.meaning.id o.right.formed o.right.variant o.right.id in
-    unless_lost (life_of i.variant s) (found_from i (by_lists i) s (One p.request) (parts_of i.variant i.meaning.id offer)) why
-    (λ (f : found_from i (by_lists i) s (One p.request) (parts_of i.variant i.meaning.id offer) ≡ Err why).
+    unless_lost (life_of i.variant s) (found_by_verdict i (by_lists i) s (One p.request) (parts_of i.variant i.meaning.id offer)) why
+    (λ (f : found_by_verdict i (by_lists i) s (One p.request) (parts_of i.variant i.meaning.id offer) ≡ Err why).
     found_by (life_of i.variant s) o.content _ why (examined_here i s p offer o)
-    (sym (ap (λ (x : Result Snapshot PartsFault). found_from i (by_lists i) s (One p.request) x) parts) ∙ f)) e
+    (sym (ap (λ (x : Result Snapshot PartsFault). found_by_verdict i (by_lists i) s (One p.request) x) parts) ∙ f)) e
 
 -- memory may be wanting besides
-lacking : (found : Result Found Refusal) (lacks : Bool) (why : Refusal) (life : Life) → ((w : Refusal) → found ≡ Err w → IsRefusedAs w life) → found_in found lacks ≡ Err why → MayRefuse why life
+lacking : (found : Result Found Refusal) (lacks : Bool) (why : Refusal) (life : Life) → ((w : Refusal) → found ≡ Err w → IsRefusedAs w life) → found_unless_wanting found lacks ≡ Err why → MayRefuse why life
 lacking (Err w) lacks why life h e = let same : w ≡ why = cc in inr (subst (λ (x : Refusal). IsRefusedAs x life) same (h w refl))
 lacking (Ok found) false why _ h e = absurd (cc)
 lacking (Ok found) true why _ h e = let same : Memory ≡ why = cc in inl (sym same)
 
 -- how the call ends
 ended_refused : (i : Instance) (seen end : History) (b : Batch) (found : Result Found Refusal) (moves : List Move) (broken : Option StepFault) (why : Refusal) (life : Life)
-    → (broken ≡ None → found ≡ Err why → MayRefuse why life) → told (ended_by (by_lists i) seen end b found moves broken) ≡ Err why → MayRefuse why life
+    → (broken ≡ None → found ≡ Err why → MayRefuse why life) → given_for (ended_by (by_lists i) seen end b found moves broken) ≡ Err why → MayRefuse why life
 ended_refused i seen end b found moves (Some fault) why life h e =
     let same : Device fault ≡ why = cc in inr (subst (λ (w : Refusal). IsRefusedAs w life) same tt)
 ended_refused i seen end b (Err w) moves None why _ h e = let same : w ≡ why = cc in h refl (ap (λ (x : Refusal). Err x) same)
@@ -185,7 +185,7 @@ ended_refused i seen end b (Ok found) moves None why _ h e = absurd (cc)
 
 -- a refusal that hands on no device's fault comes where nothing was found, and the walk commits nothing then
 ended_whole : (i : Instance) (seen end : History) (b : Batch) (found : Result Found Refusal) (moves : List Move) (broken : Option StepFault) (why : Refusal)
-    → told (ended_by (by_lists i) seen end b found moves broken) ≡ Err why → fault_of why ≡ None → (w : Refusal) × (found ≡ Err w)
+    → given_for (ended_by (by_lists i) seen end b found moves broken) ≡ Err why → fault_of why ≡ None → (w : Refusal) × (found ≡ Err w)
 ended_whole i seen end b found moves (Some fault) why e none =
     let same : Device fault ≡ why = cc in
     let some : fault_of (Device fault) ≡ None = subst (λ (w : Refusal). fault_of w ≡ None) (sym same) none in absurd (cc)
@@ -202,23 +202,23 @@ keeps_by i b y w found why e (nothing none unless) = same_batches i w.moves y no
 keeps_by i b y w found why e (batch one fresh) = absurd (not_fresh found why e fresh)
 
 pub basic_keeps : (meaning : Meaning) (key : List ℕ) (y : History) (c : Course) (b : Batch) (offer : List ℕ) (why : Refusal)
-    → told (called (basic meaning key) (by_lists (basic meaning key)) y c offer b).ending ≡ Err why → fault_of why ≡ None
+    → given_for (called (basic meaning key) (by_lists (basic meaning key)) y c offer b).ending ≡ Err why → fault_of why ≡ None
     → (called (basic meaning key) (by_lists (basic meaning key)) y c offer b).state.batches ≡ y.batches
 basic_keeps meaning key y c b offer why e none =
     let i : Instance = basic meaning key in
     let seen : History = all_made (by_lists i) y (map Foreign (c.fates 1).brings ++ []) in
-    let found : Result Found Refusal = found_in (found_at i (by_lists i) seen b offer) c.lacks in
+    let found : Result Found Refusal = found_unless_wanting (found_at i (by_lists i) seen b offer) c.lacks in
     let w : Walked = walk c.fates 1 (ask_steps Basic y.is_open (is_fresh found) b) in
     let f = ended_whole i seen (all_made (by_lists i) y w.moves) b found w.moves w.broken why e none in
     keeps_by i b y w found f.0 f.1 (basic_commits c.fates y.is_open (is_fresh found) b)
 
 pub opt_keeps : (meaning : Meaning) (key barrier : List ℕ) (y : History) (c : Course) (b : Batch) (offer : List ℕ) (why : Refusal)
-    → told (called (opt meaning key barrier) (by_lists (opt meaning key barrier)) y c offer b).ending ≡ Err why → fault_of why ≡ None
+    → given_for (called (opt meaning key barrier) (by_lists (opt meaning key barrier)) y c offer b).ending ≡ Err why → fault_of why ≡ None
     → (called (opt meaning key barrier) (by_lists (opt meaning key barrier)) y c offer b).state.batches ≡ y.batches
 opt_keeps meaning key barrier y c b offer why e none =
     let i : Instance = opt meaning key barrier in
     let seen : History = all_made (by_lists i) y (before c) in
-    let found : Result Found Refusal = found_in (found_at i (by_lists i) seen b offer) c.lacks in
+    let found : Result Found Refusal = found_unless_wanting (found_at i (by_lists i) seen b offer) c.lacks in
     let w : Walked = walk c.fates 1 (ask_steps Opt y.is_open (is_fresh found) b) in
     let f = ended_whole i seen (all_made (by_lists i) y w.moves) b found w.moves w.broken why e none in
     keeps_by i b y w found f.0 f.1
@@ -227,11 +227,11 @@ opt_keeps meaning key barrier y c b offer why e none =
 -- Basic: its life never ends
 pub basic_refused : (meaning : Meaning) (key : List ℕ) (y : History) (c : Course) (p : Pending) (offer : List ℕ) (why : Refusal)
     → IsOffered (basic meaning key) (all_made (by_lists (basic meaning key)) y (map Foreign (c.fates 1).brings ++ [])) p offer
-    → told (called (basic meaning key) (by_lists (basic meaning key)) y c offer (One p.request)).ending ≡ Err why → MayRefuse why Live
+    → given_for (called (basic meaning key) (by_lists (basic meaning key)) y c offer (One p.request)).ending ≡ Err why → MayRefuse why Live
 basic_refused meaning key y c p offer why o e =
     let i : Instance = basic meaning key in
     let seen : History = all_made (by_lists i) y (map Foreign (c.fates 1).brings ++ []) in
-    let found : Result Found Refusal = found_in (found_at i (by_lists i) seen (One p.request) offer) c.lacks in
+    let found : Result Found Refusal = found_unless_wanting (found_at i (by_lists i) seen (One p.request) offer) c.lacks in
     let w : Walked = walk c.fates 1 (ask_steps Basic y.is_open (is_fresh found) (One p.request)) in
     ended_refused i seen (all_made (by_lists i) y w.moves) (One p.request) found w.moves w.broken why Live
     (λ whole f. lacking (found_at i (by_lists i) seen (One p.request) offer) c.lacks why Live (λ x g. found_refused i seen p offer o x g) f) e
@@ -248,12 +248,12 @@ read_alone i fates y flag false b e whole = path_is i fates (ask_steps Opt flag 
 
 pub opt_refused : (meaning : Meaning) (key barrier : List ℕ) (y : History) (c : Course) (p : Pending) (offer : List ℕ) (why : Refusal)
     → IsOffered (opt meaning key barrier) (all_made (by_lists (opt meaning key barrier)) y (before c)) p offer
-    → told (called (opt meaning key barrier) (by_lists (opt meaning key barrier)) y c offer (One p.request)).ending ≡ Err why
+    → given_for (called (opt meaning key barrier) (by_lists (opt meaning key barrier)) y c offer (One p.request)).ending ≡ Err why
     → MayRefuse why (life_of Opt (called (opt meaning key barrier) (by_lists (opt meaning key barrier)) y c offer (One p.request)).state)
 opt_refused meaning key barrier y c p offer why o e =
     let i : Instance = opt meaning key barrier in
     let seen : History = all_made (by_lists i) y (before c) in
-    let found : Result Found Refusal = found_in (found_at i (by_lists i) seen (One p.request) offer) c.lacks in
+    let found : Result Found Refusal = found_unless_wanting (found_at i (by_lists i) seen (One p.request) offer) c.lacks in
     let w : Walked = walk c.fates 1 (ask_steps Opt y.is_open (is_fresh found) (One p.request)) in
     let end : History = all_made (by_lists i) y w.moves in
     ended_refused i seen end (One p.request) found w.moves w.broken why (life_of Opt end)

@@ -4,9 +4,9 @@ use Rattle.std.specs.Prelude.{◌⊎◌, if◌then◌else◌, nat_eq}
 use Rattle.std.specs.Io.KnownBytes.{Consumes}
 use Rattle.std.specs.List.{AllByRecursion}
 use Rattle.std.proofs.lemmas.Bool.Decides.{nat_tests}
-use Rattle.mm_base.specs.Input.{IsUnbroken, joined, lines_of}
+use Rattle.mm_base.specs.Input.{IsUnbroken, lines_joined, lines_of}
 use Rattle.mm_base.proofs.Input.{lines_of-joined, lines_of-line}
-use Rattle.mm_base.specs.Lines.{IsWithin}
+use Rattle.mm_base.specs.Lines.{MayGrow}
 use Rattle.mm_base.specs.Limits.{last_position, longest_request}
 use Rattle.mm_digest.specs.declared.variant.Variant.{Variant}
 use Rattle.mm_digest.specs.declared.variant.Variant.TheVariants.{Basic, Opt}
@@ -30,23 +30,23 @@ use Rattle.mm_call.specs.Leaving.{whole, whole_in}
 use Rattle.mm_call.proofs.Calling.{requests-push}
 use Rattle.mm_callers.proofs.Calls.{one_content}
 use Rattle.mm_store.specs.declared.fault.StoreFault.{StoreFault}
-use Rattle.mm_store.specs.Kept.{Kept}
+use Rattle.mm_store.specs.Kept.{StoreStanding}
 use Rattle.mm_store.specs.Pending.{Pending}
-use Rattle.mm_store.specs.Slots.{Slots, seen_in}
+use Rattle.mm_store.specs.Slots.{Slots, slot_read}
 use Rattle.mm_host.specs.declared.fault.HostFault.{HostFault}
 use Rattle.mm_host.specs.declared.fault.HostFault.TheVariants as host
 use Rattle.mm_host.specs.declared.fault.SessionFault.{SessionFault}
 use Rattle.mm_host.specs.declared.fault.SessionFault.TheVariants.{Memory, Store, Refused, ReadFault, WriteFault, LineLong, BadLine, TooMuch}
 use Rattle.mm_host.specs.declared.resuming.Resumed.{Resumed}
 use Rattle.mm_host.specs.declared.resuming.Resumed.TheVariants.{Start, Answered}
-use Rattle.mm_host.specs.Continuing.{AreToFollow, CanServe, Continues, ContinuesTo, HasUntold, IsInHand, MayBeUntold, RefusesAs, RunsOver, history_then, position_of, told_first, told_in}
-use Rattle.mm_host.specs.Faults.{told_as}
-use Rattle.mm_host.specs.Fitting.{Fits, FitsBy, Holds, IsAwaited, offer_slot}
-use Rattle.mm_host.specs.Recovery.{CanRecover, IsGrown, MayCommit, RecoversTo}
+use Rattle.mm_host.specs.Continuing.{AreToFollow, CanServe, SessionContinues, ContinuesTo, HasUntold, IsInHand, MayBeUntold, RefusesAs, RunsOver, history_then, waiting_position, told_first, told_in}
+use Rattle.mm_host.specs.Faults.{as_session_fault}
+use Rattle.mm_host.specs.Fitting.{FitsHistory, FitsBy, Holds, IsAwaited, offer_slot}
+use Rattle.mm_host.specs.Recovery.{CanRecover, IsGrown, MayHaveCommitted, RecoversTo}
 use Rattle.mm_host.specs.Resumes.{Resumes}
-use Rattle.mm_host.specs.Saying.{Says, comes_as, snapshot_at, text_of}
+use Rattle.mm_host.specs.Saying.{SendsReply, comes_as, snapshot_at, reply_text}
 use Rattle.mm_host.specs.Serving.{AfterRecord, AsksLine, Place, Served, Serves, lines_served, record_for}
-use Rattle.mm_host.specs.Sessions.{AfterResume, BeginsWith, Ends, GoesOn, IsAtRest, Stops, StopsAtOnce, StopsInLine}
+use Rattle.mm_host.specs.Sessions.{AfterResume, BeginsWith, EndsSession, GoesOn, IsAtRest, Stops, StopsAtOnce, StopsInLine}
 use Rattle.mm_host.proofs.Awaited.{one_more}
 use Rattle.mm_host.proofs.BothRecovering.{IsGrownBy, IsSame, NoMore, asked_at, left_by, offered_at}
 use Rattle.mm_host.proofs.Leading.{IsBetween, IsLike, Laws, Reaches, Shows, basic_laws, opt_laws, reach_same, reach_then}
@@ -85,7 +85,7 @@ answered_first : (i : Instance) (y after : History) (p : Pending) (answer : Answ
 answered_first i y after p answer w at is (inl same) = answered_same i y after p answer w at is same
 answered_first i y after p answer w at is (inr more) = answered_more i y after p answer at is more
 
-fits_none : (i : Instance) (y : History) (slots : Slots) (f : Fits i slots y) → f.waiting ≡ None → FitsBy i slots y None
+fits_none : (i : Instance) (y : History) (slots : Slots) (f : FitsHistory i slots y) → f.waiting ≡ None → FitsBy i slots y None
 fits_none i y slots f e = subst (λ (w : Option Pending). FitsBy i slots y w) e f.fits
 
 -- what a batch adds to the batches
@@ -106,7 +106,7 @@ same_self Opt y = refl
 
 -- the ends
 
-untold_by : (f : HostFault) → MayCommit {T = Resumed} (Err f) → MayBeUntold {T = Unit} (Err (told_as f))
+untold_by : (f : HostFault) → MayHaveCommitted {T = Resumed} (Err f) → MayBeUntold {T = Unit} (Err (as_session_fault f))
 untold_by host.Memory m = m
 untold_by host.Store m = m
 untold_by (host.Refused why) m = m
@@ -114,17 +114,17 @@ untold_by (host.Refused why) m = m
 same_fault : (f g : SessionFault) (r : Result Resumed SessionFault) → r ≡ Err f → r ≡ Err g → g ≡ f
 same_fault f g r h k = cc
 
-untold_came : (came : Result Resumed HostFault) (fault : SessionFault) → Err fault ≡ comes_as came → MayCommit came → MayBeUntold {T = Unit} (Err fault)
+untold_came : (came : Result Resumed HostFault) (fault : SessionFault) → Err fault ≡ comes_as came → MayHaveCommitted came → MayBeUntold {T = Unit} (Err fault)
 untold_came (Ok it) fault e m = absurd (cc)
 untold_came (Err f) fault e m =
-    subst (λ (x : SessionFault). MayBeUntold {T = Unit} (Err x)) (same_fault fault (told_as f) (Err fault) refl e) (untold_by f m)
+    subst (λ (x : SessionFault). MayBeUntold {T = Unit} (Err x)) (same_fault fault (as_session_fault f) (Err fault) refl e) (untold_by f m)
 
-untold : (came : Result Resumed HostFault) (sent : List ℕ) (fault : SessionFault) → Says came sent (Err fault) → MayCommit came → MayBeUntold {T = Unit} (Err fault)
+untold : (came : Result Resumed HostFault) (sent : List ℕ) (fault : SessionFault) → SendsReply came sent (Err fault) → MayHaveCommitted came → MayBeUntold {T = Unit} (Err fault)
 untold came sent fault (inl s) m = untold_came came fault s.1 m
 untold came sent fault (inr s) m =
     subst (λ (x : SessionFault). MayBeUntold {T = Unit} (Err x)) (same_fault fault WriteFault (Err fault) refl s.0) tt
 
-refuses_by : (f : HostFault) (life : Life) → IsRefusedBy (Err f) life → RefusesAs {T = Unit} (Err (told_as f)) life
+refuses_by : (f : HostFault) (life : Life) → IsRefusedBy (Err f) life → RefusesAs {T = Unit} (Err (as_session_fault f)) life
 refuses_by host.Memory how m = m
 refuses_by host.Store how m = m
 refuses_by (host.Refused why) how m = m
@@ -132,19 +132,19 @@ refuses_by (host.Refused why) how m = m
 refuses_came : (came : Result Resumed HostFault) (fault : SessionFault) (life : Life) → Err fault ≡ comes_as came → IsRefusedBy came life → RefusesAs {T = Unit} (Err fault) life
 refuses_came (Ok it) fault how e m = absurd (cc)
 refuses_came (Err f) fault how e m =
-    subst (λ (x : SessionFault). RefusesAs {T = Unit} (Err x) how) (same_fault fault (told_as f) (Err fault) refl e) (refuses_by f how m)
+    subst (λ (x : SessionFault). RefusesAs {T = Unit} (Err x) how) (same_fault fault (as_session_fault f) (Err fault) refl e) (refuses_by f how m)
 
-refuses_says : (came : Result Resumed HostFault) (sent : List ℕ) (fault : SessionFault) (life : Life) → Says came sent (Err fault) → IsRefusedBy came life → RefusesAs {T = Unit} (Err fault) life
+refuses_says : (came : Result Resumed HostFault) (sent : List ℕ) (fault : SessionFault) (life : Life) → SendsReply came sent (Err fault) → IsRefusedBy came life → RefusesAs {T = Unit} (Err fault) life
 refuses_says came sent fault how (inl s) m = refuses_came came fault how s.1 m
 refuses_says came sent fault how (inr s) m =
     subst (λ (x : SessionFault). RefusesAs {T = Unit} (Err x) how) (same_fault fault WriteFault (Err fault) refl s.0) tt
 
-store_came : (came : Result Resumed HostFault) (sent : List ℕ) (fault : SessionFault) → Says came sent (Err fault) → came ≡ Err host.Store → fault ≡ Store
+store_came : (came : Result Resumed HostFault) (sent : List ℕ) (fault : SessionFault) → SendsReply came sent (Err fault) → came ≡ Err host.Store → fault ≡ Store
 store_came came sent fault (inl s) e =
     sym (same_fault fault Store (Err fault) refl (s.1 ∙ ap comes_as e))
-store_came came sent fault (inr s) e = absurd (s.1 (ap text_of e))
+store_came came sent fault (inr s) e = absurd (s.1 (ap reply_text e))
 
-line_committed : (z after : History) (line : List ℕ) (came : Result Resumed HostFault) (sent : List ℕ) (fault : SessionFault) (hand : List ℕ → Type 0) → hand line → Says came sent (Err fault) → (after.batches ≡ z.batches) ⊎ MayCommit came → (after.batches ≡ z.batches) ⊎ (after.batches ≡ z.batches ++ One line ∷ [])
+line_committed : (z after : History) (line : List ℕ) (came : Result Resumed HostFault) (sent : List ℕ) (fault : SessionFault) (hand : List ℕ → Type 0) → hand line → SendsReply came sent (Err fault) → (after.batches ≡ z.batches) ⊎ MayHaveCommitted came → (after.batches ≡ z.batches) ⊎ (after.batches ≡ z.batches ++ One line ∷ [])
     → (requests_of after.batches ≡ requests_of z.batches) ⊎ HasUntold hand (Err fault) (requests_of z.batches) (requests_of after.batches)
 line_committed z after line came sent fault hand h s (inl same) g = inl (ap requests_of same)
 line_committed z after line came sent fault hand h s (inr may) (inl same) = inl (ap requests_of same)
@@ -156,7 +156,7 @@ line_committed z after line came sent fault hand h s (inr may) (inr more) = inr 
 })
 
 -- what waited, where the session stops at once
-waiting_committed : (y after : History) (waiting : Option Pending) (begun : Result Resumed HostFault) (sent : List ℕ) (fault : SessionFault) (hand : List ℕ → Type 0) → ((p : Pending) → waiting ≡ Some p → hand p.request) → Says begun sent (Err fault) → (after.batches ≡ y.batches) ⊎ MayCommit begun → IsGrown y waiting after
+waiting_committed : (y after : History) (waiting : Option Pending) (begun : Result Resumed HostFault) (sent : List ℕ) (fault : SessionFault) (hand : List ℕ → Type 0) → ((p : Pending) → waiting ≡ Some p → hand p.request) → SendsReply begun sent (Err fault) → (after.batches ≡ y.batches) ⊎ MayHaveCommitted begun → IsGrown y waiting after
     → (requests_of after.batches ≡ requests_of y.batches) ⊎ HasUntold hand (Err fault) (requests_of y.batches) (requests_of after.batches)
 waiting_committed y after None begun sent fault hand h s o g = inl (ap requests_of g)
 waiting_committed y after (Some p) begun sent fault hand h s o g = line_committed y after p.request begun sent fault hand (h p refl) s o g
@@ -189,11 +189,11 @@ module _ (all others : List (List ℕ)) (asked : List Batch) (i : Instance) (fin
   most_of y bytes position h e = subst (λ (n : ℕ). n ≤ last_position) (h.at ∙ e) h.right.formed.position
 
   -- what is shown goes on to the end
-  recorded_reach : (recorded : Result Unit StoreFault) (before after : Standing) (old new : Kept) (last : Resumed) (line : List ℕ) (came : Result Resumed HostFault) → AfterRecord i.variant i.meaning before after recorded old new last line came → Reaches i.variant i before after
+  recorded_reach : (recorded : Result Unit StoreFault) (before after : Standing) (old new : StoreStanding) (last : Resumed) (line : List ℕ) (came : Result Resumed HostFault) → AfterRecord i.variant i.meaning before after recorded old new last line came → Reaches i.variant i before after
   recorded_reach (Err why) before after old new last line came g = reach_same i.variant i before after g.0
   recorded_reach (Ok it) before after old new last line came g = laws.reach before after (snapshot_at last) line (whole_in g.asked) g.asks.goes
 
-  line_reach : (before after : Standing) (old new : Kept) (last : Resumed) (line : List ℕ) (came : Result Resumed HostFault) → AsksLine i.variant i.meaning before after old new last line came → Reaches i.variant i before after
+  line_reach : (before after : Standing) (old new : StoreStanding) (last : Resumed) (line : List ℕ) (came : Result Resumed HostFault) → AsksLine i.variant i.meaning before after old new last line came → Reaches i.variant i before after
   line_reach before after old new last line came a = recorded_reach a.recorded before after a.middle new last line came a.goes
 
   serves_reach : (from to : Place) (calls : List Served) → Serves i.variant i.meaning from calls to → Reaches i.variant i to.platform final → Reaches i.variant i from.platform final
@@ -202,7 +202,7 @@ module _ (all others : List (List ℕ)) (asked : List Batch) (i : Instance) (fin
       reach_then i.variant i from.platform h.platform final (line_reach from.platform h.platform from.store h.store from.last c.line (Ok (Answered c.answer)) h.asks)
       (serves_reach (record { platform = h.platform; store = h.store; last = Answered c.answer }) to calls h.rest r)
 
-  stops_reach : (number : ℕ) (at : Place) (new : Kept) (left : Option (List ℕ)) (more sent : List ℕ) (fault : SessionFault) → Stops i.variant i.meaning number at final new left more sent fault → Reaches i.variant i at.platform final
+  stops_reach : (number : ℕ) (at : Place) (new : StoreStanding) (left : Option (List ℕ)) (more sent : List ℕ) (fault : SessionFault) → Stops i.variant i.meaning number at final new left more sent fault → Reaches i.variant i at.platform final
   stops_reach number at new left more sent Memory e = line_reach at.platform final at.store new at.last e.line e.came e.asks
   stops_reach number at new left more sent Store e = line_reach at.platform final at.store new at.last e.line e.came e.asks
   stops_reach number at new left more sent (Refused why) e = line_reach at.platform final at.store new at.last e.line e.came e.asks
@@ -212,7 +212,7 @@ module _ (all others : List (List ℕ)) (asked : List Batch) (i : Instance) (fin
   stops_reach number at new left more sent (LineLong line) e = reach_same i.variant i at.platform final e.0.platform
   stops_reach number at new left more sent TooMuch e = reach_same i.variant i at.platform final e.0.platform
 
-  ends_reach : (number : ℕ) (at : Place) (new : Kept) (left : Option (List ℕ)) (more sent : List ℕ) (result : Result Unit SessionFault) → Ends i.variant i.meaning number at final new left more sent result → Reaches i.variant i at.platform final
+  ends_reach : (number : ℕ) (at : Place) (new : StoreStanding) (left : Option (List ℕ)) (more sent : List ℕ) (result : Result Unit SessionFault) → EndsSession i.variant i.meaning number at final new left more sent result → Reaches i.variant i at.platform final
   ends_reach number at new left more sent (Ok it) e = reach_same i.variant i at.platform final e.0.platform
   ends_reach number at new left more sent (Err fault) e = stops_reach number at new left more sent fault e
 
@@ -235,7 +235,7 @@ module _ (all others : List (List ℕ)) (asked : List Batch) (i : Instance) (fin
       let same : g.0.request ≡ line = ap (λ (p : Pending). p.request) (same_pending next g.0 g.1) ∙ is in
       laws.grow y z after (One line) sound like (subst (λ (r : List ℕ). IsSame i.variant after (moved i y (Commit (One r)))) same g.2)
 
-  follows_on : (y z : History) (line : List ℕ) (lines : List (List ℕ)) → y.batches ≡ z.batches → IsWithin longest_request line → AreToFollow all asked i z (line ∷ lines) → MayFollow all asked i y z line
+  follows_on : (y z : History) (line : List ℕ) (lines : List (List ℕ)) → y.batches ≡ z.batches → MayGrow longest_request line → AreToFollow all asked i z (line ∷ lines) → MayFollow all asked i y z line
   follows_on y z line lines same within f = record {
     is_asked = f.0;
     listed = f.1;
@@ -295,7 +295,7 @@ module _ (all others : List (List ℕ)) (asked : List Batch) (i : Instance) (fin
     powered : life_of i.variant y ≢ LostLife → life_of i.variant after ≢ LostLife
 
   -- a recovery that the session goes on from
-  abbrev Began : History → Slots → Option Pending → Standing → Kept → Resumed → Type 0
+  abbrev Began : History → Slots → Option Pending → Standing → StoreStanding → Resumed → Type 0
   Began y slots waiting standing kept first =
       (r : RecoversTo all others asked i y slots waiting standing kept (Ok first)) × IsBetween all others i y waiting standing final r.after
 
@@ -310,7 +310,7 @@ module _ (all others : List (List ℕ)) (asked : List Batch) (i : Instance) (fin
       let flag : nat_eq p.position (total_of y.batches) ≡ false = not_there p.position (total_of y.batches) (at ∙ ap total_of more ∙ one_more y.batches p.request) in
       subst (λ (h : History). IsSame i.variant after h) (sym (then_more i y p false flag refl)) same
 
-  begins_start : (y : History) (slots : Slots) (waiting : Option Pending) (standing : Standing) (kept : Kept) (first : List ℕ) → waiting ≡ None → Began y slots waiting standing kept (Start first) → BeginsAt y waiting (record { platform = standing; store = kept; last = Start first })
+  begins_start : (y : History) (slots : Slots) (waiting : Option Pending) (standing : Standing) (kept : StoreStanding) (first : List ℕ) → waiting ≡ None → Began y slots waiting standing kept (Start first) → BeginsAt y waiting (record { platform = standing; store = kept; last = Start first })
   begins_start y slots None standing kept first none m =
       let r = m.0 in
       let f = fits_none i r.after r.slots_after r.fits r.same_wait in
@@ -326,7 +326,7 @@ module _ (all others : List (List ℕ)) (asked : List Batch) (i : Instance) (fin
             within = r.within;
             settled = record {
               fits = r.fits;
-              recorded = ap position_of r.same_wait;
+              recorded = ap waiting_position r.same_wait;
               at_end = sym f.0;
               newest = r.newest;
               holds = r.holds;
@@ -343,7 +343,7 @@ module _ (all others : List (List ℕ)) (asked : List Batch) (i : Instance) (fin
       }
   begins_start y slots (Some p) standing kept first none m = absurd (cc)
 
-  begins_answered : (y : History) (slots : Slots) (waiting : Option Pending) (standing : Standing) (kept : Kept) (answer : Answer) (p : Pending) → waiting ≡ Some p → FitsBy i slots y waiting → (m : Began y slots waiting standing kept (Answered answer))
+  begins_answered : (y : History) (slots : Slots) (waiting : Option Pending) (standing : Standing) (kept : StoreStanding) (answer : Answer) (p : Pending) → waiting ≡ Some p → FitsBy i slots y waiting → (m : Began y slots waiting standing kept (Answered answer))
       → p.position ≡ total_of m.0.after.batches → whole answer ≡ answer_on i m.0.after (One p.request) (nat_eq p.position (total_of y.batches))
       → BeginsAt y waiting (record { platform = standing; store = kept; last = Answered answer })
   begins_answered y slots None standing kept answer p e f m at is = absurd (cc)
@@ -366,7 +366,7 @@ module _ (all others : List (List ℕ)) (asked : List Batch) (i : Instance) (fin
             within = r.within;
             settled = record {
               fits = r.fits;
-              recorded = ap position_of r.same_wait ∙ here ∙ sym end;
+              recorded = ap waiting_position r.same_wait ∙ here ∙ sym end;
               at_end = end;
               newest = r.newest;
               holds = r.holds;
@@ -381,21 +381,21 @@ module _ (all others : List (List ℕ)) (asked : List Batch) (i : Instance) (fin
         powered = r.powered;
       }
 
-  begins : (y : History) (slots : Slots) (before : Standing) (old : Kept) (can : CanRecover all others asked i y slots before old) (standing : Standing) (kept : Kept) (first : Resumed) → Began y slots can.fits.waiting standing kept first → BeginsAt y can.fits.waiting (record { platform = standing; store = kept; last = first })
+  begins : (y : History) (slots : Slots) (before : Standing) (old : StoreStanding) (can : CanRecover all others asked i y slots before old) (standing : Standing) (kept : StoreStanding) (first : Resumed) → Began y slots can.fits.waiting standing kept first → BeginsAt y can.fits.waiting (record { platform = standing; store = kept; last = first })
   begins y slots before old can standing kept (Start first) m =
       begins_start y slots can.fits.waiting standing kept first m.0.comes.0 m
   begins y slots before old can standing kept (Answered answer) m =
       begins_answered y slots can.fits.waiting standing kept answer m.0.comes.p m.0.comes.waits can.fits.fits m m.0.comes.position m.0.comes.answer_is
 
   -- it rests where it stands
-  rests_at : (y z : History) (at : Place) (new : Kept) (sent : List ℕ) (told : List Served) (hand : List ℕ → Type 0) (result : Result Unit SessionFault) → IsSettledAt all others asked i z at → RunsOver i.meaning (requests_of y.batches) told (requests_of z.batches) → (life_of i.variant y ≢ LostLife → life_of i.variant z ≢ LostLife) → IsAtRest at final new sent → RefusesAs result (life_of i.variant z) → ContinuesTo all others asked i y final new told hand result
+  rests_at : (y z : History) (at : Place) (new : StoreStanding) (sent : List ℕ) (told : List Served) (hand : List ℕ → Type 0) (result : Result Unit SessionFault) → IsSettledAt all others asked i z at → RunsOver i.meaning (requests_of y.batches) told (requests_of z.batches) → (life_of i.variant y ≢ LostLife → life_of i.variant z ≢ LostLife) → IsAtRest at final new sent → RefusesAs result (life_of i.variant z) → ContinuesTo all others asked i y final new told hand result
   rests_at y z at new sent told hand result s r p e u = record {
     after = z;
     stands = subst (λ (x : Standing). StandsFor i x z) (sym e.platform) s.stands;
     within = s.within;
     slots_after = s.slots;
-    honest = ap (λ (k : Kept). k.is_honest) e.store ∙ s.honest;
-    slots_told = ap (λ (k : Kept). k.slots) e.store ∙ s.told;
+    honest = ap (λ (k : StoreStanding). k.is_honest) e.store ∙ s.honest;
+    slots_told = ap (λ (k : StoreStanding). k.slots) e.store ∙ s.told;
     fits = λ n. s.settled.fits;
     whole = λ n. s.settled.fits;
     requests = requests_of z.batches;
@@ -406,7 +406,7 @@ module _ (all others : List (List ℕ)) (asked : List Batch) (i : Instance) (fin
     powered = p;
   }
 
-  stops_in : (y z zz : History) (number : ℕ) (at : Place) (new : Kept) (more rest sent : List ℕ) (told : List Served) (hand : List ℕ → Type 0) (fault : SessionFault)
+  stops_in : (y z zz : History) (number : ℕ) (at : Place) (new : StoreStanding) (more rest sent : List ℕ) (told : List Served) (hand : List ℕ → Type 0) (fault : SessionFault)
       → IsClear all → AreNoGuards i.barrier others asked → IsReady all others asked i z zz at final → RunsOver i.meaning (requests_of y.batches) told (requests_of z.batches) → (life_of i.variant y ≢ LostLife → life_of i.variant z ≢ LostLife)
       → AreToFollow all asked i zz (lines_of (more ++ rest)) → ((line held : List ℕ) → BeginsWith more line held → hand line)
       → StopsInLine i.variant i.meaning number at final new more sent fault → ContinuesTo all others asked i y final new told hand (Err fault)
@@ -433,7 +433,7 @@ module _ (all others : List (List ℕ)) (asked : List Batch) (i : Instance) (fin
         powered = λ k. l.powered (p k);
       }
 
-  stops_by : (y z zz : History) (number : ℕ) (at : Place) (new : Kept) (left : Option (List ℕ)) (more rest sent : List ℕ) (told : List Served) (hand : List ℕ → Type 0) (fault : SessionFault)
+  stops_by : (y z zz : History) (number : ℕ) (at : Place) (new : StoreStanding) (left : Option (List ℕ)) (more rest sent : List ℕ) (told : List Served) (hand : List ℕ → Type 0) (fault : SessionFault)
       → IsClear all → AreNoGuards i.barrier others asked → IsReady all others asked i z zz at final → RunsOver i.meaning (requests_of y.batches) told (requests_of z.batches) → (life_of i.variant y ≢ LostLife → life_of i.variant z ≢ LostLife)
       → AreToFollow all asked i zz (lines_of (more ++ rest)) → ((line held : List ℕ) → BeginsWith more line held → hand line)
       → Stops i.variant i.meaning number at final new left more sent fault → ContinuesTo all others asked i y final new told hand (Err fault)
@@ -446,16 +446,16 @@ module _ (all others : List (List ℕ)) (asked : List Batch) (i : Instance) (fin
   stops_by y z zz number at new left more rest sent told hand (LineLong line) clear apart s r p f h e = rests_at y z at new sent told hand (Err (LineLong line)) s.settled r p e.0 tt
   stops_by y z zz number at new left more rest sent told hand TooMuch clear apart s r p f h e = rests_at y z at new sent told hand (Err TooMuch) s.settled r p e.0 tt
 
-  ends_by : (y z zz : History) (number : ℕ) (at : Place) (new : Kept) (left : Option (List ℕ)) (more rest sent : List ℕ) (told : List Served) (hand : List ℕ → Type 0) (result : Result Unit SessionFault)
+  ends_by : (y z zz : History) (number : ℕ) (at : Place) (new : StoreStanding) (left : Option (List ℕ)) (more rest sent : List ℕ) (told : List Served) (hand : List ℕ → Type 0) (result : Result Unit SessionFault)
       → IsClear all → AreNoGuards i.barrier others asked → IsReady all others asked i z zz at final → RunsOver i.meaning (requests_of y.batches) told (requests_of z.batches) → (life_of i.variant y ≢ LostLife → life_of i.variant z ≢ LostLife)
       → AreToFollow all asked i zz (lines_of (more ++ rest)) → ((line held : List ℕ) → BeginsWith more line held → hand line)
-      → Ends i.variant i.meaning number at final new left more sent result → ContinuesTo all others asked i y final new told hand result
+      → EndsSession i.variant i.meaning number at final new left more sent result → ContinuesTo all others asked i y final new told hand result
   ends_by y z zz number at new left more rest sent told hand (Ok it) clear apart s r p f h e = rests_at y z at new sent told hand (Ok it) s.settled r p e.0 tt
   ends_by y z zz number at new left more rest sent told hand (Err fault) clear apart s r p f h e = stops_by y z zz number at new left more rest sent told hand fault clear apart s r p f h e
 
   -- from where it began
 
-  serves_on : (y : History) (slots : Slots) (before : Standing) (old new : Kept) (input taken sent : List ℕ) (left : Option (List ℕ)) (begun : Result Resumed HostFault) (platform : Standing) (store : Kept) (result : Result Unit SessionFault)
+  serves_on : (y : History) (slots : Slots) (before : Standing) (old new : StoreStanding) (input taken sent : List ℕ) (left : Option (List ℕ)) (begun : Result Resumed HostFault) (platform : Standing) (store : StoreStanding) (result : Result Unit SessionFault)
       → IsRead input taken → (can : CanServe all others asked i y slots before old (lines_of input))
       → (g : GoesOn i.variant i.meaning begun platform final store new left taken sent result)
       → Began y slots can.can.fits.waiting platform store g.first
@@ -465,8 +465,8 @@ module _ (all others : List (List ℕ)) (asked : List Batch) (i : Instance) (fin
       let from : Place = record { platform = platform; store = store; last = g.first } in
       let start : History = history_then i y can.can.fits.waiting in
       let b = begins y slots before old can.can platform store g.first m in
-      let bytes : input ≡ joined (lines_served l.calls) ++ (l.more ++ input_is.rest) =
-      input_is.is ∙ ap (λ (x : List ℕ). x ++ input_is.rest) l.took ∙ append_assoc (joined (lines_served l.calls)) l.more input_is.rest in
+      let bytes : input ≡ lines_joined (lines_served l.calls) ++ (l.more ++ input_is.rest) =
+      input_is.is ∙ ap (λ (x : List ℕ). x ++ input_is.rest) l.took ∙ append_assoc (lines_joined (lines_served l.calls)) l.more input_is.rest in
       let lines : lines_of input ≡ lines_served l.calls ++ lines_of (l.more ++ input_is.rest) =
       ap lines_of bytes ∙ lines_of-joined (lines_served l.calls) (l.more ++ input_is.rest) (unbroken_served i.variant i.meaning from l.at l.calls l.serves) in
       let f : AreToFollow all asked i start (lines_served l.calls ++ lines_of (l.more ++ input_is.rest)) =
@@ -478,8 +478,8 @@ module _ (all others : List (List ℕ)) (asked : List Batch) (i : Instance) (fin
       (RunsOver-append i.meaning (requests_of y.batches) (requests_of b.after.batches) (requests_of a.after.batches) (told_first can.can.fits.waiting g.first) l.calls b.run a.run)
       (λ p. a.powered (b.powered p)) a.follow (λ (line held : List ℕ) (w : BeginsWith l.more line held). (held, w)) l.ends
 
-  stops_first : (y : History) (slots : Slots) (waiting : Option Pending) (kept : Kept) (begun : Result Resumed HostFault) (sent : List ℕ) (fault : SessionFault) (hand : List ℕ → Type 0) → ((p : Pending) → waiting ≡ Some p → hand p.request)
-      → RecoversTo all others asked i y slots waiting final kept begun → Says begun sent (Err fault)
+  stops_first : (y : History) (slots : Slots) (waiting : Option Pending) (kept : StoreStanding) (begun : Result Resumed HostFault) (sent : List ℕ) (fault : SessionFault) (hand : List ℕ → Type 0) → ((p : Pending) → waiting ≡ Some p → hand p.request)
+      → RecoversTo all others asked i y slots waiting final kept begun → SendsReply begun sent (Err fault)
       → ContinuesTo all others asked i y final kept [] hand (Err fault)
   stops_first y slots waiting kept begun sent fault hand h r s = record {
     after = r.after;
@@ -498,35 +498,35 @@ module _ (all others : List (List ℕ)) (asked : List Batch) (i : Instance) (fin
     powered = r.powered;
   }
 
-  stops_at_once : (y : History) (slots : Slots) (waiting : Option Pending) (store new : Kept) (begun : Result Resumed HostFault) (taken sent : List ℕ) (result : Result Unit SessionFault) (hand : List ℕ → Type 0) → ((p : Pending) → waiting ≡ Some p → hand p.request)
+  stops_at_once : (y : History) (slots : Slots) (waiting : Option Pending) (store new : StoreStanding) (begun : Result Resumed HostFault) (taken sent : List ℕ) (result : Result Unit SessionFault) (hand : List ℕ → Type 0) → ((p : Pending) → waiting ≡ Some p → hand p.request)
       → RecoversTo all others asked i y slots waiting final store begun → new ≡ store → StopsAtOnce begun taken sent result
       → ContinuesTo all others asked i y final new [] hand result
   stops_at_once y slots waiting store new begun taken sent result hand h r s e =
       subst (λ (x : Result Unit SessionFault). ContinuesTo all others asked i y final new [] hand x) (sym e.stops)
-      (subst (λ (k : Kept). ContinuesTo all others asked i y final k [] hand (Err e.fault)) (sym s)
+      (subst (λ (k : StoreStanding). ContinuesTo all others asked i y final k [] hand (Err e.fault)) (sym s)
       (stops_first y slots waiting store begun sent e.fault hand h r e.says))
 
   -- the recovery: it is all, or lines come behind it
 
-  recovers_last : (y : History) (slots : Slots) (before : Standing) (old new : Kept) (result : Result Resumed HostFault) (can : CanRecover all others asked i y slots before old) → Shows i.variant all others i y before final → Resumes i.variant i.meaning before final old new result → RecoversTo all others asked i y slots can.fits.waiting final new result
+  recovers_last : (y : History) (slots : Slots) (before : Standing) (old new : StoreStanding) (result : Result Resumed HostFault) (can : CanRecover all others asked i y slots before old) → Shows i.variant all others i y before final → Resumes i.variant i.meaning before final old new result → RecoversTo all others asked i y slots can.fits.waiting final new result
   recovers_last y slots before old new result can shows r =
       let leads : LeadsOn NoMore all others asked i.variant i y slots can.fits.waiting before final result = λ p call e told c.
       left_by all others asked i y slots before old can NoMore final p (whole_in call) e
-      (laws.last y before (seen_in slots (offer_slot p)) p (whole_in call) c.goes can.stands
+      (laws.last y before (slot_read slots (offer_slot p)) p (whole_in call) c.goes can.stands
       (asked_at all others asked i y slots before old can p e) (offered_at all others asked i y slots before old can p e) shows) tt in
       (recovers_by NoMore i.variant all others asked i laws.lawful y slots before final old can new result (λ e. tt) leads r).0
 
-  recovers_between : (y : History) (slots : Slots) (before platform : Standing) (old new : Kept) (first : Resumed) (can : CanRecover all others asked i y slots before old) → Shows i.variant all others i y before final → Reaches i.variant i platform final → Resumes i.variant i.meaning before platform old new (Ok first) → Began y slots can.fits.waiting platform new first
+  recovers_between : (y : History) (slots : Slots) (before platform : Standing) (old new : StoreStanding) (first : Resumed) (can : CanRecover all others asked i y slots before old) → Shows i.variant all others i y before final → Reaches i.variant i platform final → Resumes i.variant i.meaning before platform old new (Ok first) → Began y slots can.fits.waiting platform new first
   recovers_between y slots before platform old new first can shows reaches r =
       let leads : LeadsOn (IsBetween all others i y can.fits.waiting platform final) all others asked i.variant i y slots can.fits.waiting before platform (Ok first) = λ p call e told c.
-      let o = laws.between y before platform (seen_in slots (offer_slot p)) p (whole_in call) c.goes can.stands
+      let o = laws.between y before platform (slot_read slots (offer_slot p)) p (whole_in call) c.goes can.stands
       (asked_at all others asked i y slots before old can p e) (offered_at all others asked i y slots before old can p e) shows reaches (no_refusal call first told) in
       left_by all others asked i y slots before old can (IsBetween all others i y can.fits.waiting platform final) platform p (whole_in call) e o.0
       (subst (λ (w : Option Pending). IsBetween all others i y w platform final o.0.after) (sym e) o.1) in
       recovers_by (IsBetween all others i y can.fits.waiting platform final) i.variant all others asked i laws.lawful y slots before platform old can new (Ok first)
       (λ e. (subst (λ (x : Standing). Shows i.variant all others i y x final) (sym e) shows, inl (same_self i.variant y))) leads r
 
-  by_start : (y : History) (slots : Slots) (before : Standing) (old new : Kept) (input taken sent : List ℕ) (left : Option (List ℕ)) (begun : Result Resumed HostFault) (platform : Standing) (store : Kept) (result : Result Unit SessionFault)
+  by_start : (y : History) (slots : Slots) (before : Standing) (old new : StoreStanding) (input taken sent : List ℕ) (left : Option (List ℕ)) (begun : Result Resumed HostFault) (platform : Standing) (store : StoreStanding) (result : Result Unit SessionFault)
       → IsRead input taken → (can : CanServe all others asked i y slots before old (lines_of input)) → Shows i.variant all others i y before final
       → Resumes i.variant i.meaning before platform old store begun
       → (goes : AfterResume i.variant i.meaning begun platform final store new left taken sent result)
@@ -543,7 +543,7 @@ module _ (all others : List (List ℕ)) (asked : List Batch) (i : Instance) (fin
       serves_on y slots before old new input taken sent left begun platform store result input_is can g
       (recovers_between y slots before platform old store g.first can.can shows reaches (subst (λ (x : Result Resumed HostFault). Resumes i.variant i.meaning before platform old store x) g.begins r))
 
-pub continues : (variant : Variant) (meaning : Meaning) → IsLawful meaning → (before after : Standing) (old new : Kept) (left left' received received' : Option (List ℕ)) (result : Result Unit SessionFault) → Continues variant meaning before after old new left left' received received' result
+pub continues : (variant : Variant) (meaning : Meaning) → IsLawful meaning → (before after : Standing) (old new : StoreStanding) (left left' received received' : Option (List ℕ)) (result : Result Unit SessionFault) → SessionContinues variant meaning before after old new left left' received received' result
 continues Basic meaning lawful before after old new left left' received received' result = λ s key y slots all others asked input e can.
     by_start all others asked (basic meaning key) after (basic_laws meaning lawful key all others asked after) y slots before old new input s.taken s.sent left' s.begun s.platform s.store result
     (read_of left left' input s.taken e s.consumed) can tt s.resumes s.goes

@@ -12,7 +12,7 @@ use Rattle.mm_module.specs.Meaning.{Meaning, IsLawful}
 use Rattle.mm_seal.specs.Cell.{blank_cell, cell_spelling}
 use Rattle.mm_platform.specs.declared.fault.StepFault.{StepFault}
 use Rattle.mm_platform.specs.declared.fault.StepFault.TheVariants as step
-use Rattle.mm_platform.specs.Standing.{Item, Standing, values_of, register_of as folded_of}
+use Rattle.mm_platform.specs.Standing.{Item, Standing, item_values, register_after as folded_of}
 use Rattle.mm_platform.specs.Steps.{WriteCell, EndsBy, cell_after}
 use Rattle.mm_model.specs.Chains.{register_of}
 use Rattle.mm_model.specs.History.{Value, first_history, values_of as entry_values}
@@ -22,7 +22,7 @@ use Rattle.mm_call.specs.Standing.{instance_by}
 use Rattle.mm_call.proofs.Moving.{anchor-nil, summary-nil}
 use Rattle.mm_store.specs.declared.fault.StoreFault.{StoreFault}
 use Rattle.mm_store.specs.declared.fault.StoreFault.TheVariants as fault
-use Rattle.mm_store.specs.Kept.{Kept}
+use Rattle.mm_store.specs.Kept.{StoreStanding}
 use Rattle.mm_store.specs.Slots.{Slots, with_slot}
 use Rattle.mm_store.specs.Calls.{CountsFailures, WritesSlot, putting}
 use Rattle.mm_host.specs.declared.init_fault.InitFault.{InitFault}
@@ -50,27 +50,27 @@ rose step.Failed old new made e = e.faults
 rose step.Off old new made e = e.faults
 
 -- the store: its count, and its slots
-after_count : (written stored : Result Unit StoreFault) (old middle new : Kept) (Rest : Type 0) → (Rest → CountsFailures middle.faults new.faults stored)
+after_count : (written stored : Result Unit StoreFault) (old middle new : StoreStanding) (Rest : Type 0) → (Rest → CountsFailures middle.faults new.faults stored)
     → CountsFailures old.faults middle.faults written → AfterPut written middle new stored Rest → CountsFailures old.faults new.faults stored
 after_count (Ok it) stored old middle new Rest more c rest =
     subst (λ (n : ℕ). CountsFailures n new.faults stored) c (more rest)
 after_count (Err why) stored old middle new Rest more c rest =
     subst (λ (r : Result Unit StoreFault). CountsFailures old.faults new.faults r) (sym rest.1)
-    (subst (λ (k : Kept). CountsFailures {T = Unit {0}} old.faults k.faults (Err why)) (sym rest.0) c)
+    (subst (λ (k : StoreStanding). CountsFailures {T = Unit {0}} old.faults k.faults (Err why)) (sym rest.0) c)
 
-puts_count : (puts : List Put) (old new : Kept) (stored : Result Unit StoreFault) → PutsAll puts old new stored → CountsFailures old.faults new.faults stored
+puts_count : (puts : List Put) (old new : StoreStanding) (stored : Result Unit StoreFault) → PutsAll puts old new stored → CountsFailures old.faults new.faults stored
 puts_count [] old new stored p =
-    subst (λ (r : Result Unit StoreFault). CountsFailures old.faults new.faults r) (sym p.1) (ap (λ (k : Kept). k.faults) p.0)
+    subst (λ (r : Result Unit StoreFault). CountsFailures old.faults new.faults r) (sym p.1) (ap (λ (k : StoreStanding). k.faults) p.0)
 puts_count (put ∷ puts) old new stored p =
     after_count p.1 stored old p.0 new (PutsAll puts p.0 new stored) (λ rest. puts_count puts p.0 new stored rest) p.2.counted p.3
 
-after_honest : (written stored : Result Unit StoreFault) (old middle new : Kept) (Rest : Type 0) → (Rest → new.is_honest ≡ middle.is_honest)
+after_honest : (written stored : Result Unit StoreFault) (old middle new : StoreStanding) (Rest : Type 0) → (Rest → new.is_honest ≡ middle.is_honest)
     → middle.is_honest ≡ old.is_honest → AfterPut written middle new stored Rest → new.is_honest ≡ old.is_honest
 after_honest (Ok it) stored old middle new Rest more h rest = more rest ∙ h
-after_honest (Err why) stored old middle new Rest more h rest = ap (λ (k : Kept). k.is_honest) rest.0 ∙ h
+after_honest (Err why) stored old middle new Rest more h rest = ap (λ (k : StoreStanding). k.is_honest) rest.0 ∙ h
 
-puts_honest : (puts : List Put) (old new : Kept) (stored : Result Unit StoreFault) → PutsAll puts old new stored → new.is_honest ≡ old.is_honest
-puts_honest [] old new stored p = ap (λ (k : Kept). k.is_honest) p.0
+puts_honest : (puts : List Put) (old new : StoreStanding) (stored : Result Unit StoreFault) → PutsAll puts old new stored → new.is_honest ≡ old.is_honest
+puts_honest [] old new stored p = ap (λ (k : StoreStanding). k.is_honest) p.0
 puts_honest (put ∷ puts) old new stored p =
     after_honest p.1 stored old p.0 new (PutsAll puts p.0 new stored) (λ rest. puts_honest puts p.0 new stored rest) p.2.honest p.3
 
@@ -78,7 +78,7 @@ all_put : Slots → List Put → Slots
 all_put slots [] = slots
 all_put slots (put ∷ puts) = all_put (with_slot slots put.slot put.bytes) puts
 
-after_told : (written stored : Result Unit StoreFault) (put : Put) (puts : List Put) (slots : Slots) (old middle new : Kept) (Rest : Type 0)
+after_told : (written stored : Result Unit StoreFault) (put : Put) (puts : List Put) (slots : Slots) (old middle new : StoreStanding) (Rest : Type 0)
     → (middle.is_honest ≡ true → middle.slots ≡ Some (with_slot slots put.slot put.bytes) → Rest → new.slots ≡ Some (all_put (with_slot slots put.slot put.bytes) puts))
     → old.is_honest ≡ true → old.slots ≡ Some slots → WritesSlot put.slot put.bytes old middle written → stored ≡ Ok tt
     → AfterPut written middle new stored Rest → new.slots ≡ Some (all_put (with_slot slots put.slot put.bytes) puts)
@@ -87,10 +87,10 @@ after_told (Ok it) stored put puts slots old middle new Rest more h t w e rest =
 after_told (Err why) stored put puts slots old middle new Rest more h t w e rest =
     let other : stored ≡ Err why = rest.1 in absurd (cc)
 
-puts_told : (puts : List Put) (slots : Slots) (old new : Kept) (stored : Result Unit StoreFault) → old.is_honest ≡ true → old.slots ≡ Some slots
+puts_told : (puts : List Put) (slots : Slots) (old new : StoreStanding) (stored : Result Unit StoreFault) → old.is_honest ≡ true → old.slots ≡ Some slots
     → stored ≡ Ok tt → PutsAll puts old new stored → new.slots ≡ Some (all_put slots puts)
 unfolding all_put
-puts_told [] slots old new stored h t e p = ap (λ (k : Kept). k.slots) p.0 ∙ t
+puts_told [] slots old new stored h t e p = ap (λ (k : StoreStanding). k.slots) p.0 ∙ t
 puts_told (put ∷ puts) slots old new stored h t e p =
     after_told p.1 stored put puts slots old p.0 new (PutsAll puts p.0 new stored)
     (λ honest told rest. puts_told puts (with_slot slots put.slot put.bytes) p.0 new stored honest told e rest) h t p.2 e p.3
@@ -100,10 +100,10 @@ entries_values : (barrier : List ℕ) (values : List (List ℕ)) → entry_value
 entries_values barrier [] = refl
 entries_values barrier (v ∷ values) = ap (λ (vs : List (List ℕ)). v ∷ vs) (entries_values barrier values)
 
-reads_values : (items : Option (List Item)) (values : List (List ℕ)) → option_map values_of items ≡ Some values
-    → option_map (λ (xs : List Item). folded_of (values_of xs)) items ≡ Some (folded_of values)
+reads_values : (items : Option (List Item)) (values : List (List ℕ)) → option_map item_values items ≡ Some values
+    → option_map (λ (xs : List Item). folded_of (item_values xs)) items ≡ Some (folded_of values)
 reads_values None values e = absurd (cc)
-reads_values (Some items) values e = let same : values_of items ≡ values = cc in ap (λ (vs : List (List ℕ)). Some (folded_of vs)) same
+reads_values (Some items) values e = let same : item_values items ≡ values = cc in ap (λ (vs : List (List ℕ)). Some (folded_of vs)) same
 
 stands_first : (variant : Variant) (meaning : Meaning) (key barrier : List ℕ) (standing : Standing) (values : List (List ℕ)) → length key ≡ 32 → length barrier ≡ 32
     → standing.cell ≡ Some (cell_spelling (cell_of (instance_by variant meaning key barrier) first_history)) → ShowsValues variant standing values
@@ -231,7 +231,7 @@ set_up_exit : (variant : Variant) (meaning : Meaning) (before after : Devices) (
     → Comes variant meaning before after result
 set_up_exit variant meaning before after middle secrets result lawful f size taken source (inl none) =
     told_as variant meaning before after (Err Memory) result none.2
-    (store_exit variant meaning before after middle fault.Memory f none.0 source (ap (λ (k : Kept). k.faults) none.1))
+    (store_exit variant meaning before after middle fault.Memory f none.0 source (ap (λ (k : StoreStanding). k.faults) none.1))
 set_up_exit variant meaning before after middle secrets result lawful f size taken source (inr both) =
     puts_exit variant meaning before after middle secrets both.stored result lawful f size taken source both.puts both.goes
 

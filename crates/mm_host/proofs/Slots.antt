@@ -2,14 +2,14 @@
 use Rattle.std.proofs.Common.{◌≡◌, ℕ, ◌-◌, ◌%◌, ◌≤◌, List, refl, sym, subst, arith, inl, inr}
 use Rattle.std.specs.Prelude.{◌⊎◌}
 use Rattle.mm_store.specs.Pending.{Pending}
-use Rattle.mm_store.specs.Slots.{Slots, with_slot, seen_in}
+use Rattle.mm_store.specs.Slots.{Slots, with_slot, slot_read}
 use Rattle.mm_host.specs.Fitting.{offer_slot}
 
 -- the slots of records, and that of the offer, are as before
 pub record IsElsewhere (slots other : Slots) (p : Pending) : Type 0 where
-  pub two : seen_in other 2 ≡ seen_in slots 2
-  pub three : seen_in other 3 ≡ seen_in slots 3
-  pub offer : seen_in other (offer_slot p) ≡ seen_in slots (offer_slot p)
+  pub two : slot_read other 2 ≡ slot_read slots 2
+  pub three : slot_read other 3 ≡ slot_read slots 3
+  pub offer : slot_read other (offer_slot p) ≡ slot_read slots (offer_slot p)
 
 pub elsewhere_same : (slots : Slots) (p : Pending) → IsElsewhere slots slots p
 elsewhere_same slots p = record { two = refl; three = refl; offer = refl }
@@ -19,13 +19,13 @@ turns : (n : ℕ) → 1 ≤ n → ((n % 2 ≡ 0) × ((n - 1) % 2 ≡ 1)) ⊎ ((n
 turns n h = grind (arith, h)
 
 by_turn : (slots : Slots) (p : Pending) (bytes : List ℕ) (here there : ℕ) → p.position % 2 ≡ here → offer_slot p ≡ there
-    → seen_in (with_slot slots here bytes) 2 ≡ seen_in slots 2 → seen_in (with_slot slots here bytes) 3 ≡ seen_in slots 3 → seen_in (with_slot slots here bytes) there ≡ seen_in slots there
+    → slot_read (with_slot slots here bytes) 2 ≡ slot_read slots 2 → slot_read (with_slot slots here bytes) 3 ≡ slot_read slots 3 → slot_read (with_slot slots here bytes) there ≡ slot_read slots there
     → IsElsewhere slots (with_slot slots (p.position % 2) bytes) p
 by_turn slots p bytes here there h t two three offer = record {
-  two = subst (λ (n : ℕ). seen_in (with_slot slots n bytes) 2 ≡ seen_in slots 2) (sym h) two;
-  three = subst (λ (n : ℕ). seen_in (with_slot slots n bytes) 3 ≡ seen_in slots 3) (sym h) three;
-  offer = subst (λ (n : ℕ). seen_in (with_slot slots n bytes) (offer_slot p) ≡ seen_in slots (offer_slot p)) (sym h)
-      (subst (λ (m : ℕ). seen_in (with_slot slots here bytes) m ≡ seen_in slots m) (sym t) offer);
+  two = subst (λ (n : ℕ). slot_read (with_slot slots n bytes) 2 ≡ slot_read slots 2) (sym h) two;
+  three = subst (λ (n : ℕ). slot_read (with_slot slots n bytes) 3 ≡ slot_read slots 3) (sym h) three;
+  offer = subst (λ (n : ℕ). slot_read (with_slot slots n bytes) (offer_slot p) ≡ slot_read slots (offer_slot p)) (sym h)
+      (subst (λ (m : ℕ). slot_read (with_slot slots here bytes) m ≡ slot_read slots m) (sym t) offer);
 }
 
 by_cases : (slots : Slots) (p : Pending) (bytes : List ℕ) → ((p.position % 2 ≡ 0) × ((p.position - 1) % 2 ≡ 1)) ⊎ ((p.position % 2 ≡ 1) × ((p.position - 1) % 2 ≡ 0)) → IsElsewhere slots (with_slot slots (p.position % 2) bytes) p

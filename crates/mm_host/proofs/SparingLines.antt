@@ -2,25 +2,25 @@
 use Rattle.std.proofs.Common.{◌≡◌, ◌∙◌, ◌+◌, ◌<◌, ◌≤◌, ℕ, List, [], ◌∷◌, ◌++◌, length, take, drop, Option, None, Some, Result, Ok, Err, refl, sym, ap, subst, inl, inr, arith, append_assoc, length-append, length-take, take-append-drop, append-nil, suc}
 use Rattle.std.specs.Io.KnownBytes.{Consumes, IsAtEnd}
 use Rattle.std.specs.List.{AllByRecursion}
-use Rattle.mm_base.specs.Input.{IsUnbroken, joined, lines_of, tail_of, onto_first, onto_tail}
-use Rattle.mm_base.specs.Lines.{IsLong, IsWithin}
+use Rattle.mm_base.specs.Input.{IsUnbroken, lines_joined, lines_of, tail_of, onto_first, onto_tail}
+use Rattle.mm_base.specs.Lines.{IsLong, MayGrow}
 use Rattle.mm_base.proofs.Input.{lines_of-append, lines_of-joined, lines_of-line, tail_of-append, tail_of-joined, tail_of-unbroken}
 use Rattle.mm_base.specs.Limits.{longest_request}
 use Rattle.mm_digest.specs.declared.variant.Variant.{Variant}
 use Rattle.mm_platform.specs.Standing.{Standing}
 use Rattle.mm_module.specs.Meaning.{Meaning}
-use Rattle.mm_store.specs.Kept.{Kept}
+use Rattle.mm_store.specs.Kept.{StoreStanding}
 use Rattle.mm_host.specs.declared.fault.HostFault.{HostFault}
 use Rattle.mm_host.specs.declared.fault.HostFault.TheVariants as host
 use Rattle.mm_host.specs.declared.fault.SessionFault.{SessionFault}
 use Rattle.mm_host.specs.declared.fault.SessionFault.TheVariants.{Memory, Store, Refused, ReadFault, WriteFault, LineLong, BadLine, TooMuch}
 use Rattle.mm_host.specs.declared.resuming.Resumed.{Resumed}
 use Rattle.mm_host.specs.declared.resuming.Resumed.TheVariants.{Answered}
-use Rattle.mm_host.specs.Faults.{told_as}
-use Rattle.mm_host.specs.Saying.{Says, comes_as}
+use Rattle.mm_host.specs.Faults.{as_session_fault}
+use Rattle.mm_host.specs.Saying.{SendsReply, comes_as}
 use Rattle.mm_host.specs.Serving.{Place, Served, Serves, lines_served}
 use Rattle.mm_host.specs.SessionLines.{AreWithin, IsNoLines, SparesLines}
-use Rattle.mm_host.specs.Sessions.{AfterResume, BeginsWith, Ends, Sessions, Stops, most_lines}
+use Rattle.mm_host.specs.Sessions.{AfterResume, BeginsWith, EndsSession, Sessions, Stops, most_lines}
 
 -- what is left of an input behind what was taken
 record IsRead (input taken : List ℕ) (left : Option (List ℕ)) : Type 0 where
@@ -56,10 +56,10 @@ record IsRest (count : ℕ) (bytes : List ℕ) : Type 0 where
   short : AreShort (lines_of bytes)
   few : count + length (lines_of bytes) ≤ most_lines
 
-rest_of : (variant : Variant) (meaning : Meaning) (from to : Place) (calls : List Served) (input taken more rest : List ℕ) → Serves variant meaning from calls to → input ≡ taken ++ rest → taken ≡ joined (lines_served calls) ++ more → AreWithin input → IsRest (length calls) (more ++ rest)
+rest_of : (variant : Variant) (meaning : Meaning) (from to : Place) (calls : List Served) (input taken more rest : List ℕ) → Serves variant meaning from calls to → input ≡ taken ++ rest → taken ≡ lines_joined (lines_served calls) ++ more → AreWithin input → IsRest (length calls) (more ++ rest)
 rest_of variant meaning from to calls input taken more rest s is took w =
-    let bytes : input ≡ joined (lines_served calls) ++ (more ++ rest) =
-    is ∙ ap (λ (x : List ℕ). x ++ rest) took ∙ append_assoc (joined (lines_served calls)) more rest in
+    let bytes : input ≡ lines_joined (lines_served calls) ++ (more ++ rest) =
+    is ∙ ap (λ (x : List ℕ). x ++ rest) took ∙ append_assoc (lines_joined (lines_served calls)) more rest in
     let unbroken = unbroken_served variant meaning from to calls s in
     let lines : lines_of input ≡ lines_served calls ++ lines_of (more ++ rest) = ap lines_of bytes ∙ lines_of-joined (lines_served calls) (more ++ rest) unbroken in
     record {
@@ -90,7 +90,7 @@ not_long count more rest r l =
     long bytes h = omega (arith, length-take (longest_request + 1) bytes)
 
 -- none is without its LF
-not_cut : (count : ℕ) (more rest : List ℕ) → IsRest count (more ++ rest) → rest ≡ [] → IsWithin longest_request more → 0 < length more → ⊥
+not_cut : (count : ℕ) (more rest : List ℕ) → IsRest count (more ++ rest) → rest ≡ [] → MayGrow longest_request more → 0 < length more → ⊥
 not_cut count more rest r e w h =
     let all : more ++ rest ≡ more = ap (λ (x : List ℕ). more ++ x) e ∙ append-nil more in
     let none : more ≡ [] = sym (ap tail_of all ∙ tail_of-unbroken more w.unbroken) ∙ r.whole in
@@ -106,7 +106,7 @@ not_many count more rest line held r e b =
     counted : (n : ℕ) (a b : List (List ℕ)) → length a ≡ suc (length b) → n + 1 ≡ most_lines + 1 → n + length a ≤ most_lines → ⊥
     counted n a b h e k = absurd (omega (arith, h, e, k))
 
-spares_stop : (variant : Variant) (meaning : Meaning) (count : ℕ) (at : Place) (after : Standing) (new : Kept) (left : Option (List ℕ)) (more rest sent : List ℕ) (fault : SessionFault) → IsRest count (more ++ rest) → (IsAtEnd left → rest ≡ []) → Stops variant meaning (count + 1) at after new left more sent fault → IsNoLines {T = Unit} (Err fault)
+spares_stop : (variant : Variant) (meaning : Meaning) (count : ℕ) (at : Place) (after : Standing) (new : StoreStanding) (left : Option (List ℕ)) (more rest sent : List ℕ) (fault : SessionFault) → IsRest count (more ++ rest) → (IsAtEnd left → rest ≡ []) → Stops variant meaning (count + 1) at after new left more sent fault → IsNoLines {T = Unit} (Err fault)
 spares_stop variant meaning count at after new left more rest sent Memory r h s = tt
 spares_stop variant meaning count at after new left more rest sent Store r h s = tt
 spares_stop variant meaning count at after new left more rest sent (Refused why) r h s = tt
@@ -116,11 +116,11 @@ spares_stop variant meaning count at after new left more rest sent (LineLong lin
 spares_stop variant meaning count at after new left more rest sent (BadLine line) r h s = not_cut count more rest r (h s.4) s.2 s.3
 spares_stop variant meaning count at after new left more rest sent TooMuch r h s = not_many count more rest s.2 s.3 r s.1 s.4
 
-spares_end : (variant : Variant) (meaning : Meaning) (count : ℕ) (at : Place) (after : Standing) (new : Kept) (left : Option (List ℕ)) (more rest sent : List ℕ) (result : Result Unit SessionFault) → IsRest count (more ++ rest) → (IsAtEnd left → rest ≡ []) → Ends variant meaning (count + 1) at after new left more sent result → IsNoLines result
+spares_end : (variant : Variant) (meaning : Meaning) (count : ℕ) (at : Place) (after : Standing) (new : StoreStanding) (left : Option (List ℕ)) (more rest sent : List ℕ) (result : Result Unit SessionFault) → IsRest count (more ++ rest) → (IsAtEnd left → rest ≡ []) → EndsSession variant meaning (count + 1) at after new left more sent result → IsNoLines result
 spares_end variant meaning count at after new left more rest sent (Ok it) r h e = tt
 spares_end variant meaning count at after new left more rest sent (Err fault) r h e = spares_stop variant meaning count at after new left more rest sent fault r h e
 
-told_no_lines : (fault : HostFault) → IsNoLines {T = Unit} (Err (told_as fault))
+told_no_lines : (fault : HostFault) → IsNoLines {T = Unit} (Err (as_session_fault fault))
 told_no_lines host.Memory = tt
 told_no_lines host.Store = tt
 told_no_lines (host.Refused why) = tt
@@ -130,13 +130,13 @@ same_fault f g r h k = cc
 
 came_no_lines : (came : Result Resumed HostFault) (fault : SessionFault) → Err fault ≡ comes_as came → IsNoLines {T = Unit} (Err fault)
 came_no_lines (Ok it) fault e = absurd (cc)
-came_no_lines (Err f) fault e = subst (λ (x : SessionFault). IsNoLines {T = Unit} (Err x)) (same_fault fault (told_as f) (Err fault) refl e) (told_no_lines f)
+came_no_lines (Err f) fault e = subst (λ (x : SessionFault). IsNoLines {T = Unit} (Err x)) (same_fault fault (as_session_fault f) (Err fault) refl e) (told_no_lines f)
 
-says_no_lines : (came : Result Resumed HostFault) (sent : List ℕ) (fault : SessionFault) → Says came sent (Err fault) → IsNoLines {T = Unit} (Err fault)
+says_no_lines : (came : Result Resumed HostFault) (sent : List ℕ) (fault : SessionFault) → SendsReply came sent (Err fault) → IsNoLines {T = Unit} (Err fault)
 says_no_lines came sent fault (inl s) = came_no_lines came fault s.1
 says_no_lines came sent fault (inr s) = subst (λ (x : SessionFault). IsNoLines {T = Unit} (Err x)) (same_fault fault WriteFault (Err fault) refl s.0) tt
 
-spares_by : (variant : Variant) (meaning : Meaning) (begun : Result Resumed HostFault) (platform after : Standing) (store new : Kept) (left : Option (List ℕ)) (input taken sent : List ℕ) (result : Result Unit SessionFault) → IsRead input taken left → AreWithin input → AfterResume variant meaning begun platform after store new left taken sent result → IsNoLines result
+spares_by : (variant : Variant) (meaning : Meaning) (begun : Result Resumed HostFault) (platform after : Standing) (store new : StoreStanding) (left : Option (List ℕ)) (input taken sent : List ℕ) (result : Result Unit SessionFault) → IsRead input taken left → AreWithin input → AfterResume variant meaning begun platform after store new left taken sent result → IsNoLines result
 spares_by variant meaning begun platform after store new left input taken sent result r w (inl e) =
     subst (λ (x : Result Unit SessionFault). IsNoLines x) (sym e.2.stops) (says_no_lines begun sent e.2.fault e.2.says)
 spares_by variant meaning begun platform after store new left input taken sent result r w (inr g) =
@@ -144,6 +144,6 @@ spares_by variant meaning begun platform after store new left input taken sent r
     spares_end variant meaning (length l.calls) l.at after new left l.more r.rest l.last result
     (rest_of variant meaning (record { platform = platform; store = store; last = g.first }) l.at l.calls input taken l.more r.rest l.serves r.is l.took w) r.at_end l.ends
 
-pub spares_lines : (variant : Variant) (meaning : Meaning) (before after : Standing) (old new : Kept) (left left' received received' : Option (List ℕ)) (result : Result Unit SessionFault) → Sessions variant meaning before after old new left left' received received' result → SparesLines left result
+pub spares_lines : (variant : Variant) (meaning : Meaning) (before after : Standing) (old new : StoreStanding) (left left' received received' : Option (List ℕ)) (result : Result Unit SessionFault) → Sessions variant meaning before after old new left left' received received' result → SparesLines left result
 spares_lines variant meaning before after old new left left' received received' result s = λ input e w.
     spares_by variant meaning s.begun s.platform after s.store new left' input s.taken s.sent result (read_of left left' input s.taken e s.consumed) w s.goes

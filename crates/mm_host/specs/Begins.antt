@@ -8,7 +8,7 @@ use Rattle.mm_digest.specs.declared.variant.Variant.{Variant}
 use Rattle.mm_digest.specs.declared.variant.Variant.TheVariants.{Basic, Opt}
 use Rattle.mm_digest.specs.Messages.{start_message}
 use Rattle.mm_seal.specs.Cell.{blank_cell}
-use Rattle.mm_platform.specs.Standing.{Standing, values_of}
+use Rattle.mm_platform.specs.Standing.{Standing, item_values}
 use Rattle.mm_module.specs.Meaning.{Meaning}
 use Rattle.mm_module.specs.Batch.{Batch}
 use Rattle.mm_model.specs.Instance.{Instance}
@@ -18,7 +18,7 @@ use Rattle.mm_call.specs.Asked.{IsWithin}
 use Rattle.mm_store.specs.Slots.{Slots}
 use Rattle.mm_host.specs.declared.init_fault.InitFault.{InitFault}
 use Rattle.mm_host.specs.declared.init_fault.InitFault.TheVariants.{Memory, Platform, Already, ReadFault, Short, Store}
-use Rattle.mm_host.specs.Fitting.{Fits}
+use Rattle.mm_host.specs.Fitting.{FitsHistory}
 use Rattle.mm_host.specs.Init.{Devices, instance_from}
 
 -- the first history, on a register that others extended by these values
@@ -28,15 +28,15 @@ first_on values = record first_history { items = map Value values }
 -- the values that the register shows; in Basic it isn't read
 abbrev pub ShowsValues : Variant → Standing → List (List ℕ) → Type 0
 ShowsValues Basic standing values = values ≡ []
-ShowsValues Opt standing values = option_map values_of standing.items ≡ Some values
+ShowsValues Opt standing values = option_map item_values standing.items ≡ Some values
 
 -- what a new store holds
 abbrev pub first_slots : Instance → Slots
 first_slots i = record { zero = issued_bytes i first_history; one = []; two = []; three = [] }
 
 -- Nothing waits in a new store, and its slots fit the first history, of which holds what is asked of each.
-pub record IsFirst (i : Instance) (y : History) : Type 0 where
-  pub fits : Fits i (first_slots i) y
+pub record IsFirstStore (i : Instance) (y : History) : Type 0 where
+  pub fits : FitsHistory i (first_slots i) y
   pub nothing_waits : fits.waiting ≡ None
   pub within : (all others : List (List ℕ)) (asked : List Batch) → Contains all (start_message i.variant i.meaning.id) →
       IsWithin all others asked i y
@@ -52,7 +52,7 @@ pub record Begins (variant : Variant) (meaning : Meaning) (before after : Device
   pub honest : after.store.is_honest ≡ before.store.is_honest
   pub stores : (slots : Slots) → before.store.is_honest ≡ true → before.store.slots ≡ Some slots →
       after.store.slots ≡ Some (first_slots (instance_from variant meaning secrets))
-  pub first : (values : List (List ℕ)) → IsFirst (instance_from variant meaning secrets) (first_on values)
+  pub first : (values : List (List ℕ)) → IsFirstStore (instance_from variant meaning secrets) (first_on values)
 
 -- All is set up after Ok. After any fault the cell is as before, so that the call may be made again; or else the platform
 -- failed at the last step, and all is set up.

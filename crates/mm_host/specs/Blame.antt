@@ -5,12 +5,12 @@ use Rattle.mm_platform.specs.Standing.{Standing}
 use Rattle.mm_model.specs.declared.refusal.Refusal.TheVariants as refusal
 use Rattle.mm_call.specs.Leaving.{Blames}
 use Rattle.mm_call.specs.Refusals.{fault_of}
-use Rattle.mm_store.specs.Kept.{Kept}
+use Rattle.mm_store.specs.Kept.{StoreStanding}
 use Rattle.mm_host.specs.declared.fault.HostFault.{HostFault}
 use Rattle.mm_host.specs.declared.fault.HostFault.TheVariants.{Memory, Store, Refused}
 
 -- The store's count of faults rose exactly where Store is told, and the platform's exactly where a device's fault is.
-abbrev pub Blamed : {T : Type 0} → Result T HostFault → Standing → Standing → Kept → Kept → Type 0
+abbrev pub Blamed : {T : Type 0} → Result T HostFault → Standing → Standing → StoreStanding → StoreStanding → Type 0
 Blamed (Ok it) before after old new = (after.faults ≡ before.faults) × (new.faults ≡ old.faults)
 Blamed (Err Memory) before after old new = (after.faults ≡ before.faults) × (new.faults ≡ old.faults)
 Blamed (Err Store) before after old new = (after.faults ≡ before.faults) × Rose old.faults new.faults

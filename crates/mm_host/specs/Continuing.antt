@@ -24,15 +24,15 @@ use Rattle.mm_callers.specs.Opt.{AreShown}
 use Rattle.mm_schedule.specs.declared.reply.Reply.{Reply}
 use Rattle.mm_schedule.specs.declared.reply.Reply.TheVariants.{Told}
 use Rattle.mm_schedule.specs.Machine.{StepsOn}
-use Rattle.mm_store.specs.Kept.{Kept}
+use Rattle.mm_store.specs.Kept.{StoreStanding}
 use Rattle.mm_store.specs.Pending.{Pending}
-use Rattle.mm_store.specs.Slots.{Slots, seen_in}
+use Rattle.mm_store.specs.Slots.{Slots, slot_read}
 use Rattle.mm_host.specs.declared.fault.HostFault.{HostFault}
 use Rattle.mm_host.specs.declared.fault.SessionFault.{SessionFault}
 use Rattle.mm_host.specs.declared.fault.SessionFault.TheVariants.{Memory, Store, Refused, ReadFault, WriteFault, LineLong, BadLine, TooMuch}
 use Rattle.mm_host.specs.declared.resuming.Resumed.{Resumed}
 use Rattle.mm_host.specs.declared.resuming.Resumed.TheVariants.{Start, Answered}
-use Rattle.mm_host.specs.Fitting.{Fits}
+use Rattle.mm_host.specs.Fitting.{FitsHistory}
 use Rattle.mm_host.specs.Recovery.{CanRecover, IsRefusedAs}
 use Rattle.mm_host.specs.Serving.{Served}
 use Rattle.mm_host.specs.Sessions.{AfterResume, BeginsWith, Sessions}
@@ -53,32 +53,32 @@ history_then i y (Some p) = if nat_eq p.position (total_of y.batches) then y els
 
 -- What is asked of a session on these lines: what is asked of a recovery, and that the lines are to follow it.
 pub record CanServe (all others : List (List ℕ)) (asked : List Batch) (i : Instance) (y : History) (slots : Slots) (standing : Standing)
-    (kept : Kept) (lines : List (List ℕ)) : Type 0 where
+    (kept : StoreStanding) (lines : List (List ℕ)) : Type 0 where
   pub can : CanRecover all others asked i y slots standing kept
   pub follow : AreToFollow all asked i (history_then i y can.fits.waiting) lines
 
 -- the position of what waits, and 0 where nothing does
-abbrev pub position_of : Option Pending → ℕ
-position_of None = 0
-position_of (Some p) = p.position
+abbrev pub waiting_position : Option Pending → ℕ
+waiting_position None = 0
+waiting_position (Some p) = p.position
 
 -- What waits says no later position than this. A write of a record that failed may leave any bytes: this asks that they
 -- aren't by chance a record of a later position.
 pub record IsNotBeyond (slots : Slots) (position : ℕ) : Type 0 where
   pub waiting : Option Pending
-  pub is_waiting : IsWaiting (seen_in slots 2) (seen_in slots 3) waiting
-  pub most : position_of waiting ≤ position
+  pub is_waiting : IsWaiting (slot_read slots 2) (slot_read slots 3) waiting
+  pub most : waiting_position waiting ≤ position
 
 -- the reply that an answer is
-abbrev pub reply_of : Answer → Reply
-reply_of answer = Told answer.again (answer.position - 1) (answer.output ∷ [])
+abbrev pub answer_reply : Answer → Reply
+answer_reply answer = Told answer.again (answer.position - 1) (answer.output ∷ [])
 
 -- Requests are asked one after another, and these answers are the replies of one run of the module, from some requests to
 -- others.
 abbrev pub RunsOver : Meaning → List (List ℕ) → List Served → List (List ℕ) → Type 0
 RunsOver meaning requests [] after = after ≡ requests
 RunsOver meaning requests (c ∷ calls) after =
-    (between : List (List ℕ)) × StepsOn meaning requests (One c.line) (reply_of c.answer) between × RunsOver meaning between calls after
+    (between : List (List ℕ)) × StepsOn meaning requests (One c.line) (answer_reply c.answer) between × RunsOver meaning between calls after
 
 -- what waited, with its answer
 abbrev pub told_first : Option Pending → Resumed → List Served
@@ -88,14 +88,14 @@ told_first (Some p) (Answered answer) = record { line = p.request; answer = answ
 
 -- the requests that a session told, each with its answer
 abbrev pub told_in : {variant : Variant} {meaning : Meaning} {begun : Result Resumed HostFault} {platform after : Standing}
-    {store new : Kept} {left : Option (List ℕ)} {taken sent : List ℕ} {result : Result Unit SessionFault} → Option Pending
+    {store new : StoreStanding} {left : Option (List ℕ)} {taken sent : List ℕ} {result : Result Unit SessionFault} → Option Pending
     → AfterResume variant meaning begun platform after store new left taken sent result → List Served
 told_in waiting (inl stops) = []
 told_in waiting (inr goes) = told_first waiting goes.first ++ goes.lines.calls
 
 -- the request in hand where a session stopped: what waited, or the line after those that were told
 abbrev pub IsInHand : {variant : Variant} {meaning : Meaning} {begun : Result Resumed HostFault} {platform after : Standing}
-    {store new : Kept} {left : Option (List ℕ)} {taken sent : List ℕ} {result : Result Unit SessionFault} → Option Pending
+    {store new : StoreStanding} {left : Option (List ℕ)} {taken sent : List ℕ} {result : Result Unit SessionFault} → Option Pending
     → AfterResume variant meaning begun platform after store new left taken sent result → List ℕ → Type 0
 IsInHand waiting (inl stops) request = (p : Pending) × (waiting ≡ Some p) × (p.request ≡ request)
 IsInHand waiting (inr goes) request = (held : List ℕ) × BeginsWith goes.lines.more request held
@@ -135,7 +135,7 @@ pub record HasUntold (hand : List ℕ → Type 0) (result : Result Unit SessionF
 -- of that run's requests, or of those and the one in hand. The slots fit it, so that the session may be gone on with.
 -- A refusal is a device's fault, or tells how that history has ended; it isn't spoiled where no value of others counts,
 -- nor lost where it wasn't before.
-pub record ContinuesTo (all others : List (List ℕ)) (asked : List Batch) (i : Instance) (y : History) (standing : Standing) (kept : Kept)
+pub record ContinuesTo (all others : List (List ℕ)) (asked : List Batch) (i : Instance) (y : History) (standing : Standing) (kept : StoreStanding)
     (told : List Served) (hand : List ℕ → Type 0) (result : Result Unit SessionFault) : Type 0 where
   pub after : History
   pub stands : StandsFor i standing after
@@ -143,8 +143,8 @@ pub record ContinuesTo (all others : List (List ℕ)) (asked : List Batch) (i : 
   pub slots_after : Slots
   pub honest : kept.is_honest ≡ true
   pub slots_told : kept.slots ≡ Some slots_after
-  pub fits : IsNotBeyond slots_after (total_of after.batches + 1) → Fits i slots_after after
-  pub whole : result ≢ Err Store → Fits i slots_after after
+  pub fits : IsNotBeyond slots_after (total_of after.batches + 1) → FitsHistory i slots_after after
+  pub whole : result ≢ Err Store → FitsHistory i slots_after after
   pub requests : List (List ℕ)
   pub run : RunsOver i.meaning (requests_of y.batches) told requests
   pub committed : (requests_of after.batches ≡ requests) ⊎ HasUntold hand result requests (requests_of after.batches)
@@ -155,15 +155,15 @@ pub record ContinuesTo (all others : List (List ℕ)) (asked : List Batch) (i : 
 -- Over an honest store and an input that tell what they hold: by whatever steps the session went, from every history.
 -- Over a platform of Basic under every key; over one of Opt under every key and barrier, where what others did is known
 -- by the items that the register shows at the session's end behind those that counted at its start.
-abbrev pub Continues : Variant → Meaning → Standing → Standing → Kept → Kept → Option (List ℕ) → Option (List ℕ) → Option (List ℕ)
+abbrev pub SessionContinues : Variant → Meaning → Standing → Standing → StoreStanding → StoreStanding → Option (List ℕ) → Option (List ℕ) → Option (List ℕ)
     → Option (List ℕ) → Result Unit SessionFault → Type 0
-Continues Basic meaning before after old new left left' received received' result =
+SessionContinues Basic meaning before after old new left left' received received' result =
     (s : Sessions Basic meaning before after old new left left' received received' result)
     (key : List ℕ) (y : History) (slots : Slots) (all others : List (List ℕ)) (asked : List Batch) (input : List ℕ) →
     left ≡ Some input → (can : CanServe all others asked (basic meaning key) y slots before old (lines_of input)) →
     ContinuesTo all others asked (basic meaning key) y after new (told_in can.can.fits.waiting s.goes)
     (IsInHand can.can.fits.waiting s.goes) result
-Continues Opt meaning before after old new left left' received received' result =
+SessionContinues Opt meaning before after old new left left' received received' result =
     (s : Sessions Opt meaning before after old new left left' received received' result)
     (key barrier : List ℕ) (y : History) (slots : Slots) (all others : List (List ℕ)) (asked : List Batch) (input : List ℕ)
     (items more : List Item) →

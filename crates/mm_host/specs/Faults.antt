@@ -13,22 +13,22 @@ store_fault_as fault.Memory = Memory
 store_fault_as fault.Failed = Store
 
 -- want of memory is told as such
-abbrev pub refused_as : Refusal → HostFault
-refused_as refusal.Memory = Memory
-refused_as refusal.Long = Refused refusal.Long
-refused_as (refusal.Device fault) = Refused (refusal.Device fault)
-refused_as refusal.Blank = Refused refusal.Blank
-refused_as refusal.Cell = Refused refusal.Cell
-refused_as refusal.Lost = Refused refusal.Lost
-refused_as refusal.Form = Refused refusal.Form
-refused_as refusal.Kind = Refused refusal.Kind
-refused_as refusal.State = Refused refusal.State
-refused_as refusal.Tag = Refused refusal.Tag
-refused_as refusal.Stale = Refused refusal.Stale
-refused_as refusal.Full = Refused refusal.Full
+abbrev pub refusal_fault : Refusal → HostFault
+refusal_fault refusal.Memory = Memory
+refusal_fault refusal.Long = Refused refusal.Long
+refusal_fault (refusal.Device fault) = Refused (refusal.Device fault)
+refusal_fault refusal.Blank = Refused refusal.Blank
+refusal_fault refusal.Cell = Refused refusal.Cell
+refusal_fault refusal.Lost = Refused refusal.Lost
+refusal_fault refusal.Form = Refused refusal.Form
+refusal_fault refusal.Kind = Refused refusal.Kind
+refusal_fault refusal.State = Refused refusal.State
+refusal_fault refusal.Tag = Refused refusal.Tag
+refusal_fault refusal.Stale = Refused refusal.Stale
+refusal_fault refusal.Full = Refused refusal.Full
 
 -- a session tells the faults of its calls as they are
-abbrev pub told_as : HostFault → SessionFault
-told_as Memory = session.Memory
-told_as Store = session.Store
-told_as (Refused why) = session.Refused why
+abbrev pub as_session_fault : HostFault → SessionFault
+as_session_fault Memory = session.Memory
+as_session_fault Store = session.Store
+as_session_fault (Refused why) = session.Refused why

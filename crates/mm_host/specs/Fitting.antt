@@ -8,7 +8,7 @@ use Rattle.mm_model.specs.Places.{Names}
 use Rattle.mm_model.specs.Standing.{IsRight}
 use Rattle.mm_callers.specs.Basic.{EndsWith}
 use Rattle.mm_store.specs.Pending.{Pending}
-use Rattle.mm_store.specs.Slots.{Slots, seen_in}
+use Rattle.mm_store.specs.Slots.{Slots, slot_read}
 use Rattle.mm_host.specs.Waiting.{IsWaiting}
 
 -- the slot of the snapshot before the position of a request that waits
@@ -30,10 +30,10 @@ IsAwaited y p =
 -- Where nothing waits, nothing is committed, and slot 0 holds the first snapshot. Otherwise the request that waits is
 -- awaited, and the snapshot before its position is in its slot.
 abbrev pub FitsBy : Instance → Slots → History → Option Pending → Type 0
-FitsBy i slots y None = (total_of y.batches ≡ 0) × Holds i y (seen_in slots 0) 0
-FitsBy i slots y (Some p) = IsAwaited y p × Holds i y (seen_in slots (offer_slot p)) (p.position - 1)
+FitsBy i slots y None = (total_of y.batches ≡ 0) × Holds i y (slot_read slots 0) 0
+FitsBy i slots y (Some p) = IsAwaited y p × Holds i y (slot_read slots (offer_slot p)) (p.position - 1)
 
-pub record Fits (i : Instance) (slots : Slots) (y : History) : Type 0 where
+pub record FitsHistory (i : Instance) (slots : Slots) (y : History) : Type 0 where
   pub waiting : Option Pending
-  pub is_waiting : IsWaiting (seen_in slots 2) (seen_in slots 3) waiting
+  pub is_waiting : IsWaiting (slot_read slots 2) (slot_read slots 3) waiting
   pub fits : FitsBy i slots y waiting

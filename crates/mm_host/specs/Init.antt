@@ -15,7 +15,7 @@ use Rattle.mm_model.specs.History.{first_history}
 use Rattle.mm_model.specs.Standing.{cell_of, issued_bytes}
 use Rattle.mm_call.specs.Standing.{instance_by}
 use Rattle.mm_store.specs.declared.fault.StoreFault.{StoreFault}
-use Rattle.mm_store.specs.Kept.{Kept}
+use Rattle.mm_store.specs.Kept.{StoreStanding}
 use Rattle.mm_store.specs.Calls.{WritesSlot}
 use Rattle.mm_host.specs.declared.init_fault.InitFault.{InitFault}
 use Rattle.mm_host.specs.declared.init_fault.InitFault.TheVariants.{Memory, Platform, Already, ReadFault, Short}
@@ -25,11 +25,11 @@ use Rattle.mm_host.specs.InitFaults.{store_failed_as}
 -- is left, where it tells that, and its count of faults
 pub record Devices : Type 0 where
   pub platform : Standing
-  pub store : Kept
+  pub store : StoreStanding
   pub left : Option (List ℕ)
   pub source_faults : ℕ
 
-abbrev pub devices : Standing → Kept → (left : Option (List ℕ)) (source_faults : ℕ) → Devices
+abbrev pub devices : Standing → StoreStanding → (left : Option (List ℕ)) (source_faults : ℕ) → Devices
 devices platform store left source_faults =
     record { platform = platform; store = store; left = left; source_faults = source_faults }
 
@@ -66,14 +66,14 @@ first_puts snapshot =
     ∷ record { slot = 0; bytes = snapshot } ∷ []
 
 -- Each is written where those before it were, up to the first that fails.
-abbrev pub AfterPut : Result Unit StoreFault → Kept → Kept → Result Unit StoreFault → Type 0 → Type 0
+abbrev pub AfterPut : Result Unit StoreFault → StoreStanding → StoreStanding → Result Unit StoreFault → Type 0 → Type 0
 AfterPut (Err why) middle new result Rest = (new ≡ middle) × (result ≡ Err why)
 AfterPut (Ok _) middle new result Rest = Rest
 
-abbrev pub PutsAll : List Put → Kept → Kept → Result Unit StoreFault → Type 0
+abbrev pub PutsAll : List Put → StoreStanding → StoreStanding → Result Unit StoreFault → Type 0
 PutsAll [] old new result = (new ≡ old) × (result ≡ Ok tt)
 PutsAll (put ∷ puts) old new result =
-    (middle : Kept) × (written : Result Unit StoreFault) × WritesSlot put.slot put.bytes old middle written
+    (middle : StoreStanding) × (written : Result Unit StoreFault) × WritesSlot put.slot put.bytes old middle written
     × AfterPut written middle new result (PutsAll puts middle new result)
 
 -- the cell is written
@@ -91,13 +91,13 @@ abbrev pub AfterPuts : List ℕ → Standing → Standing → Result Unit StoreF
 AfterPuts cell before after (Err why) result = (after ≡ before) × (result ≡ Err (store_failed_as why))
 AfterPuts cell before after (Ok _) result = WritesCell cell before after result
 
-pub record SetsUpBoth (cell snapshot : List ℕ) (before after : Standing) (old new : Kept) (result : Result Unit InitFault) : Type 0 where
+pub record SetsUpBoth (cell snapshot : List ℕ) (before after : Standing) (old new : StoreStanding) (result : Result Unit InitFault) : Type 0 where
   pub stored : Result Unit StoreFault
   pub puts : PutsAll (first_puts snapshot) old new stored
   pub goes : AfterPuts cell before after stored result
 
 -- The first cell and snapshot of the instance are made, unless memory is wanting.
-abbrev pub SetsUp : Instance → Standing → Standing → Kept → Kept → Result Unit InitFault → Type 0
+abbrev pub SetsUp : Instance → Standing → Standing → StoreStanding → StoreStanding → Result Unit InitFault → Type 0
 SetsUp i before after old new result =
     ((after ≡ before) × (new ≡ old) × (result ≡ Err Memory))
     ⊎ SetsUpBoth (cell_spelling (cell_of i first_history)) (issued_bytes i first_history) before after old new result

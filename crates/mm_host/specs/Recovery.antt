@@ -21,14 +21,14 @@ use Rattle.mm_call.specs.Leaving.{whole}
 use Rattle.mm_call.specs.Refusals.{fault_of}
 use Rattle.mm_call.specs.Tied.{standing_items}
 use Rattle.mm_callers.specs.Opt.{AreShown}
-use Rattle.mm_store.specs.Kept.{Kept}
+use Rattle.mm_store.specs.Kept.{StoreStanding}
 use Rattle.mm_store.specs.Pending.{Pending}
-use Rattle.mm_store.specs.Slots.{Slots, seen_in}
+use Rattle.mm_store.specs.Slots.{Slots, slot_read}
 use Rattle.mm_host.specs.declared.fault.HostFault.{HostFault}
 use Rattle.mm_host.specs.declared.fault.HostFault.TheVariants.{Memory, Store, Refused}
 use Rattle.mm_host.specs.declared.resuming.Resumed.{Resumed}
 use Rattle.mm_host.specs.declared.resuming.Resumed.TheVariants.{Start, Answered}
-use Rattle.mm_host.specs.Fitting.{offer_slot, Fits, Holds}
+use Rattle.mm_host.specs.Fitting.{offer_slot, FitsHistory, Holds}
 use Rattle.mm_host.specs.Saying.{position_at, snapshot_at}
 
 -- What is asked for the request that waits: it is among those asked, and the messages of its offer are in the list.
@@ -36,16 +36,16 @@ abbrev pub IsAskedFor : List (List ℕ) → List Batch → Instance → Slots �
 IsAskedFor all asked i slots None = Unit {0}
 IsAskedFor all asked i slots (Some p) =
     Contains asked (One p.request)
-    × Within (right_messages i (One p.request) (right_content i (seen_in slots (offer_slot p)))) all
+    × Within (right_messages i (One p.request) (right_content i (slot_read slots (offer_slot p)))) all
 
 -- What is asked for a recovery: the store is honest, and tells its slots; the platform stands for the history, and the
 -- slots fit it; and no two messages share a digest, of the history and of the request that waits.
 pub record CanRecover (all others : List (List ℕ)) (asked : List Batch) (i : Instance) (y : History) (slots : Slots) (standing : Standing)
-    (kept : Kept) : Type 0 where
+    (kept : StoreStanding) : Type 0 where
   pub honest : kept.is_honest ≡ true
   pub told : kept.slots ≡ Some slots
   pub stands : StandsFor i standing y
-  pub fits : Fits i slots y
+  pub fits : FitsHistory i slots y
   pub clear : IsClear all
   pub apart : AreNoGuards i.barrier others asked
   pub within : IsWithin all others asked i y
@@ -73,42 +73,42 @@ IsRefusedAs why _ = ⊥
 
 -- It begins with the first snapshot exactly where nothing waits.
 abbrev pub ComesTo : Instance → History → Slots → Option Pending → History → Result Resumed HostFault → Type 0
-ComesTo i y slots waiting after (Ok (Start first)) = (waiting ≡ None) × (first ≡ seen_in slots 0)
+ComesTo i y slots waiting after (Ok (Start first)) = (waiting ≡ None) × (first ≡ slot_read slots 0)
 ComesTo i y slots waiting after (Ok (Answered answer)) = AnswersAt i y waiting after answer
 ComesTo i y slots waiting after (Err Memory) = Unit {0}
 ComesTo i y slots waiting after (Err Store) = Unit {0}
 ComesTo i y slots waiting after (Err (Refused why)) = IsRefusedAs why (life_of i.variant after)
 
 -- A request may have been committed where it is answered, and where memory, the store or a device failed.
-abbrev pub MayCommit : {T : Type 0} → Result T HostFault → Type 0
-MayCommit (Ok it) = Unit {0}
-MayCommit (Err Memory) = Unit {0}
-MayCommit (Err Store) = Unit {0}
-MayCommit (Err (Refused why)) = IsSome (fault_of why)
+abbrev pub MayHaveCommitted : {T : Type 0} → Result T HostFault → Type 0
+MayHaveCommitted (Ok it) = Unit {0}
+MayHaveCommitted (Err Memory) = Unit {0}
+MayHaveCommitted (Err Store) = Unit {0}
+MayHaveCommitted (Err (Refused why)) = IsSome (fault_of why)
 
 -- Whatever it gives, the platform stands for a history that grew by the request that waits or by nothing, and the slots
 -- fit that one; so it may be called again. What was asked of the history holds of it too. The newest snapshot is in the
 -- slot of its position's parity, and names that position of the history. No power is lost by it.
 pub record RecoversTo (all others : List (List ℕ)) (asked : List Batch) (i : Instance) (y : History) (slots : Slots)
-    (waiting : Option Pending) (standing : Standing) (kept : Kept) (result : Result Resumed HostFault) : Type 0 where
+    (waiting : Option Pending) (standing : Standing) (kept : StoreStanding) (result : Result Resumed HostFault) : Type 0 where
   pub after : History
   pub stands : StandsFor i standing after
   pub within : IsWithin all others asked i after
   pub grown : IsGrown y waiting after
-  pub only : (after.batches ≡ y.batches) ⊎ MayCommit result
+  pub only : (after.batches ≡ y.batches) ⊎ MayHaveCommitted result
   pub slots_after : Slots
   pub told : kept.slots ≡ Some slots_after
-  pub fits : Fits i slots_after after
+  pub fits : FitsHistory i slots_after after
   pub same_wait : fits.waiting ≡ waiting
   pub honest : kept.is_honest ≡ true
-  pub newest : IfOk result (λ resumed. seen_in slots_after (position_at resumed % 2) ≡ snapshot_at resumed)
+  pub newest : IfOk result (λ resumed. slot_read slots_after (position_at resumed % 2) ≡ snapshot_at resumed)
   pub holds : IfOk result (λ resumed. Holds i after (snapshot_at resumed) (position_at resumed))
   pub powered : life_of i.variant y ≢ LostLife → life_of i.variant after ≢ LostLife
   pub comes : ComesTo i y slots waiting after result
 
 -- Over a platform of Basic it recovers from every history, under every key; over one of Opt under every key and barrier,
 -- where what others did is known by the items that the register shows at exit behind those that counted at entry.
-abbrev pub Recovers : Variant → Meaning → Standing → Standing → Kept → Kept → Result Resumed HostFault → Type 0
+abbrev pub Recovers : Variant → Meaning → Standing → Standing → StoreStanding → StoreStanding → Result Resumed HostFault → Type 0
 Recovers Basic meaning before after old new result =
     (key : List ℕ) (y : History) (slots : Slots) (all others : List (List ℕ)) (asked : List Batch)
     (can : CanRecover all others asked (basic meaning key) y slots before old) →

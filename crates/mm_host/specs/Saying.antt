@@ -14,7 +14,7 @@ use Rattle.mm_host.specs.declared.fault.SessionFault.{SessionFault}
 use Rattle.mm_host.specs.declared.fault.SessionFault.TheVariants.{WriteFault}
 use Rattle.mm_host.specs.declared.resuming.Resumed.{Resumed}
 use Rattle.mm_host.specs.declared.resuming.Resumed.TheVariants.{Start, Answered}
-use Rattle.mm_host.specs.Faults.{told_as}
+use Rattle.mm_host.specs.Faults.{as_session_fault}
 
 -- the position and the snapshot that a session stands at, and the output told last
 abbrev pub position_at : Resumed → ℕ
@@ -35,19 +35,19 @@ pub record IsSized (last : Resumed) : Type 0 where
   pub output : length (output_at last) ≤ longest_request
 
 -- the word of a refusal that is told
-abbrev pub cause_of : Refusal → Option Cause
-cause_of refusal.Form = Some cause.Form
-cause_of refusal.Kind = Some cause.Kind
-cause_of refusal.State = Some cause.State
-cause_of refusal.Tag = Some cause.Tag
-cause_of refusal.Stale = Some cause.Stale
-cause_of refusal.Full = Some cause.Full
-cause_of refusal.Memory = None
-cause_of refusal.Long = None
-cause_of (refusal.Device fault) = None
-cause_of refusal.Blank = None
-cause_of refusal.Cell = None
-cause_of refusal.Lost = None
+abbrev pub told_cause : Refusal → Option Cause
+told_cause refusal.Form = Some cause.Form
+told_cause refusal.Kind = Some cause.Kind
+told_cause refusal.State = Some cause.State
+told_cause refusal.Tag = Some cause.Tag
+told_cause refusal.Stale = Some cause.Stale
+told_cause refusal.Full = Some cause.Full
+told_cause refusal.Memory = None
+told_cause refusal.Long = None
+told_cause (refusal.Device fault) = None
+told_cause refusal.Blank = None
+told_cause refusal.Cell = None
+told_cause refusal.Lost = None
 
 -- the line `no CAUSE`
 abbrev pub refusal_text : Option Cause → List ℕ
@@ -55,25 +55,25 @@ refusal_text None = []
 refusal_text (Some why) = codes "no " ++ cause_text why ++ 10 ∷ []
 
 -- what is written for what a recovery or a line came to: the line of its answer, or of its refusal
-abbrev pub text_of : Result Resumed HostFault → List ℕ
-text_of (Ok (Start first)) = []
-text_of (Ok (Answered answer)) = told_line answer.again answer.position answer.output
-text_of (Err Memory) = []
-text_of (Err Store) = []
-text_of (Err (Refused why)) = refusal_text (cause_of why)
+abbrev pub reply_text : Result Resumed HostFault → List ℕ
+reply_text (Ok (Start first)) = []
+reply_text (Ok (Answered answer)) = told_line answer.again answer.position answer.output
+reply_text (Err Memory) = []
+reply_text (Err Store) = []
+reply_text (Err (Refused why)) = refusal_text (told_cause why)
 
 abbrev pub comes_as : Result Resumed HostFault → Result Resumed SessionFault
 comes_as (Ok resumed) = Ok resumed
-comes_as (Err fault) = Err (told_as fault)
+comes_as (Err fault) = Err (as_session_fault fault)
 
 -- All of the text went out, and what came is handed on; or the output failed, and a front of it went out.
-abbrev pub Says : Result Resumed HostFault → List ℕ → Result Resumed SessionFault → Type 0
-Says came sent result =
-    ((sent ≡ text_of came) × (result ≡ comes_as came))
-    ⊎ ((result ≡ Err WriteFault) × (text_of came ≢ []) × IsFrontOf sent (text_of came))
+abbrev pub SendsReply : Result Resumed HostFault → List ℕ → Result Resumed SessionFault → Type 0
+SendsReply came sent result =
+    ((sent ≡ reply_text came) × (result ≡ comes_as came))
+    ⊎ ((result ≡ Err WriteFault) × (reply_text came ≢ []) × IsFrontOf sent (reply_text came))
 
-pub record Tells (came : Result Resumed HostFault) (received received' : Option (List ℕ))
+pub record TellsReply (came : Result Resumed HostFault) (received received' : Option (List ℕ))
     (result : Result Resumed SessionFault) : Type 0 where
   pub sent : List ℕ
   pub appended : Appends received received' sent
-  pub says : Says came sent result
+  pub says : SendsReply came sent result

@@ -1,6 +1,6 @@
 -- A line that is asked: its record is written before, and the answer's snapshot after. Nothing is asked for these steps.
 use Rattle.std.specs.Prelude.{◌≡◌, ◌+◌, ◌%◌, ℕ, List, [], ◌∷◌, ◌++◌, Result, Ok, Err}
-use Rattle.mm_base.specs.Lines.{IsWithin}
+use Rattle.mm_base.specs.Lines.{MayGrow}
 use Rattle.mm_base.specs.Limits.{longest_request}
 use Rattle.mm_digest.specs.declared.variant.Variant.{Variant}
 use Rattle.mm_platform.specs.Standing.{Standing}
@@ -8,7 +8,7 @@ use Rattle.mm_module.specs.Meaning.{Meaning}
 use Rattle.mm_model.specs.declared.answer.Answer.{Answer}
 use Rattle.mm_schedule.specs.Replies.{told_line}
 use Rattle.mm_store.specs.declared.fault.StoreFault.{StoreFault}
-use Rattle.mm_store.specs.Kept.{Kept}
+use Rattle.mm_store.specs.Kept.{StoreStanding}
 use Rattle.mm_store.specs.Calls.{WritesSlot}
 use Rattle.mm_store.specs.Pending.{Pending, pending_spelling}
 use Rattle.mm_host.specs.declared.fault.HostFault.{HostFault}
@@ -23,16 +23,16 @@ abbrev pub record_for : Resumed → List ℕ → Pending
 record_for last line = record { position = position_at last + 1; request = line }
 
 -- The request is asked with the last snapshot, and the answer's snapshot is kept.
-abbrev pub AfterRecord : Variant → Meaning → Standing → Standing → Result Unit StoreFault → Kept → Kept → Resumed → List ℕ
+abbrev pub AfterRecord : Variant → Meaning → Standing → Standing → Result Unit StoreFault → StoreStanding → StoreStanding → Resumed → List ℕ
     → Result Resumed HostFault → Type 0
 AfterRecord variant meaning before after (Err why) old new last line result =
     (after ≡ before) × (new ≡ old) × (result ≡ Err (store_fault_as why))
 AfterRecord variant meaning before after (Ok _) old new last line result =
     AsksAndKeeps variant meaning before after old new (snapshot_at last) line result
 
-pub record AsksLine (variant : Variant) (meaning : Meaning) (before after : Standing) (old new : Kept) (last : Resumed) (line : List ℕ)
+pub record AsksLine (variant : Variant) (meaning : Meaning) (before after : Standing) (old new : StoreStanding) (last : Resumed) (line : List ℕ)
     (result : Result Resumed HostFault) : Type 0 where
-  pub middle : Kept
+  pub middle : StoreStanding
   pub recorded : Result Unit StoreFault
   pub records : WritesSlot (2 + (position_at last + 1) % 2) (pending_spelling (record_for last line)) old middle recorded
   pub goes : AfterRecord variant meaning before after recorded middle new last line result
@@ -40,7 +40,7 @@ pub record AsksLine (variant : Variant) (meaning : Meaning) (before after : Stan
 -- where a session stands: its platform, its store, and what it came to last
 pub record Place : Type 0 where
   pub platform : Standing
-  pub store : Kept
+  pub store : StoreStanding
   pub last : Resumed
 
 -- a line, and the answer to it
@@ -50,9 +50,9 @@ pub record Served : Type 0 where
 
 -- The line is asked and answered, and the session goes on.
 pub record ServesFirst (variant : Variant) (meaning : Meaning) (from : Place) (c : Served) (goes : Place → Type 0) : Type 0 where
-  pub within : IsWithin longest_request c.line
+  pub within : MayGrow longest_request c.line
   pub platform : Standing
-  pub store : Kept
+  pub store : StoreStanding
   pub asks : AsksLine variant meaning from.platform platform from.store store from.last c.line (Ok (Answered c.answer))
   pub rest : goes (record { platform = platform; store = store; last = Answered c.answer })
 

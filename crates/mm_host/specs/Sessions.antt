@@ -1,19 +1,19 @@
 -- A session: it goes on after a stop, and then answers each line of its input before it reads the next.
 use Rattle.std.specs.Prelude.{◌≡◌, ◌+◌, ◌<◌, ◌≤◌, ℕ, List, [], ◌∷◌, ◌++◌, length, Option, Result, Ok, Err, ◌⊎◌}
 use Rattle.std.specs.Io.KnownBytes.{Appends, Consumes, IsAtEnd}
-use Rattle.mm_base.specs.Input.{joined}
-use Rattle.mm_base.specs.Lines.{IsLong, IsWithin}
+use Rattle.mm_base.specs.Input.{lines_joined}
+use Rattle.mm_base.specs.Lines.{IsLong, MayGrow}
 use Rattle.mm_base.specs.Limits.{longest_request}
 use Rattle.mm_digest.specs.declared.variant.Variant.{Variant}
 use Rattle.mm_platform.specs.Standing.{Standing}
 use Rattle.mm_module.specs.Meaning.{Meaning}
-use Rattle.mm_store.specs.Kept.{Kept}
+use Rattle.mm_store.specs.Kept.{StoreStanding}
 use Rattle.mm_host.specs.declared.fault.HostFault.{HostFault}
 use Rattle.mm_host.specs.declared.fault.SessionFault.{SessionFault}
 use Rattle.mm_host.specs.declared.fault.SessionFault.TheVariants.{Memory, Store, Refused, ReadFault, WriteFault, LineLong, BadLine, TooMuch}
 use Rattle.mm_host.specs.declared.resuming.Resumed.{Resumed}
 use Rattle.mm_host.specs.Resumes.{Resumes}
-use Rattle.mm_host.specs.Saying.{text_of, Says}
+use Rattle.mm_host.specs.Saying.{reply_text, SendsReply}
 use Rattle.mm_host.specs.Serving.{AsksLine, Place, Served, Serves, lines_served, replies_to}
 
 -- the most lines
@@ -21,7 +21,7 @@ abbrev pub most_lines : ℕ
 most_lines = 1000000
 
 -- Nothing more is asked or written.
-pub record IsAtRest (at : Place) (after : Standing) (new : Kept) (sent : List ℕ) : Type 0 where
+pub record IsAtRest (at : Place) (after : Standing) (new : StoreStanding) (sent : List ℕ) : Type 0 where
   pub platform : after ≡ at.platform
   pub store : new ≡ at.store
   pub nothing : sent ≡ []
@@ -29,10 +29,10 @@ pub record IsAtRest (at : Place) (after : Standing) (new : Kept) (sent : List �
 -- The bytes begin with a line, its LF and what is held behind.
 pub record BeginsWith (bytes line held : List ℕ) : Type 0 where
   pub cut : bytes ≡ line ++ 10 ∷ held
-  pub within : IsWithin longest_request line
+  pub within : MayGrow longest_request line
 
 -- The line in hand is asked, and comes to a fault; or its reply isn't written whole.
-pub record StopsInLine (variant : Variant) (meaning : Meaning) (number : ℕ) (at : Place) (after : Standing) (new : Kept)
+pub record StopsInLine (variant : Variant) (meaning : Meaning) (number : ℕ) (at : Place) (after : Standing) (new : StoreStanding)
     (more sent : List ℕ) (fault : SessionFault) : Type 0 where
   pub line : List ℕ
   pub held : List ℕ
@@ -40,16 +40,16 @@ pub record StopsInLine (variant : Variant) (meaning : Meaning) (number : ℕ) (a
   pub few : number ≤ most_lines
   pub came : Result Resumed HostFault
   pub asks : AsksLine variant meaning at.platform after at.store new at.last line came
-  pub says : Says came sent (Err fault)
+  pub says : SendsReply came sent (Err fault)
 
 -- How a session stops, where the line of this number would be next, and `more` was taken of the input behind the lines
 -- before it.
-abbrev pub Stops : Variant → Meaning → ℕ → Place → Standing → Kept → Option (List ℕ) → List ℕ → List ℕ → SessionFault → Type 0
+abbrev pub Stops : Variant → Meaning → ℕ → Place → Standing → StoreStanding → Option (List ℕ) → List ℕ → List ℕ → SessionFault → Type 0
 -- the source failed before the line's LF
-Stops variant meaning number at after new left more sent ReadFault = IsAtRest at after new sent × IsWithin longest_request more
+Stops variant meaning number at after new left more sent ReadFault = IsAtRest at after new sent × MayGrow longest_request more
 -- the input ended within the line
 Stops variant meaning number at after new left more sent (BadLine line) =
-    IsAtRest at after new sent × (line ≡ number) × IsWithin longest_request more × (0 < length more) × IsAtEnd left
+    IsAtRest at after new sent × (line ≡ number) × MayGrow longest_request more × (0 < length more) × IsAtEnd left
 -- more bytes came than a line may have
 Stops variant meaning number at after new left more sent (LineLong line) =
     IsAtRest at after new sent × (line ≡ number) × IsLong longest_request more
@@ -64,12 +64,12 @@ Stops variant meaning number at after new left more sent (Refused why) =
 Stops variant meaning number at after new left more sent WriteFault = StopsInLine variant meaning number at after new more sent WriteFault
 
 -- Ok: the input ended behind a whole line.
-abbrev pub Ends : Variant → Meaning → ℕ → Place → Standing → Kept → Option (List ℕ) → List ℕ → List ℕ → Result Unit SessionFault → Type 0
-Ends variant meaning number at after new left more sent (Ok _) = IsAtRest at after new sent × (more ≡ []) × IsAtEnd left
-Ends variant meaning number at after new left more sent (Err fault) = Stops variant meaning number at after new left more sent fault
+abbrev pub EndsSession : Variant → Meaning → ℕ → Place → Standing → StoreStanding → Option (List ℕ) → List ℕ → List ℕ → Result Unit SessionFault → Type 0
+EndsSession variant meaning number at after new left more sent (Ok _) = IsAtRest at after new sent × (more ≡ []) × IsAtEnd left
+EndsSession variant meaning number at after new left more sent (Err fault) = Stops variant meaning number at after new left more sent fault
 
 -- Some lines are served from where the session began, and there it ends.
-pub record ServesLines (variant : Variant) (meaning : Meaning) (from : Place) (after : Standing) (new : Kept) (left : Option (List ℕ))
+pub record ServesLines (variant : Variant) (meaning : Meaning) (from : Place) (after : Standing) (new : StoreStanding) (left : Option (List ℕ))
     (taken sent : List ℕ) (result : Result Unit SessionFault) : Type 0 where
   pub calls : List Served
   pub few : length calls ≤ most_lines
@@ -77,35 +77,35 @@ pub record ServesLines (variant : Variant) (meaning : Meaning) (from : Place) (a
   pub serves : Serves variant meaning from calls at
   pub more : List ℕ
   pub last : List ℕ
-  pub took : taken ≡ joined (lines_served calls) ++ more
+  pub took : taken ≡ lines_joined (lines_served calls) ++ more
   pub wrote : sent ≡ replies_to calls ++ last
-  pub ends : Ends variant meaning (length calls + 1) at after new left more last result
+  pub ends : EndsSession variant meaning (length calls + 1) at after new left more last result
 
 -- What waited came to a fault, or its reply isn't written whole; no line is read.
 pub record StopsAtOnce (begun : Result Resumed HostFault) (taken sent : List ℕ) (result : Result Unit SessionFault) : Type 0 where
   pub fault : SessionFault
-  pub says : Says begun sent (Err fault)
+  pub says : SendsReply begun sent (Err fault)
   pub stops : result ≡ Err fault
   pub nothing : taken ≡ []
 
 -- What waited is told, and the lines are served.
-pub record GoesOn (variant : Variant) (meaning : Meaning) (begun : Result Resumed HostFault) (platform after : Standing) (store new : Kept)
+pub record GoesOn (variant : Variant) (meaning : Meaning) (begun : Result Resumed HostFault) (platform after : Standing) (store new : StoreStanding)
     (left : Option (List ℕ)) (taken sent : List ℕ) (result : Result Unit SessionFault) : Type 0 where
   pub first : Resumed
   pub begins : begun ≡ Ok first
   pub replies : List ℕ
-  pub wrote : sent ≡ text_of begun ++ replies
+  pub wrote : sent ≡ reply_text begun ++ replies
   pub lines : ServesLines variant meaning (record { platform = platform; store = store; last = first }) after new left taken replies result
 
 -- It stops at once, or it goes on, as what waited came to.
-abbrev pub AfterResume : Variant → Meaning → Result Resumed HostFault → Standing → Standing → Kept → Kept → Option (List ℕ) → List ℕ
+abbrev pub AfterResume : Variant → Meaning → Result Resumed HostFault → Standing → Standing → StoreStanding → StoreStanding → Option (List ℕ) → List ℕ
     → List ℕ → Result Unit SessionFault → Type 0
 AfterResume variant meaning begun platform after store new left taken sent result =
     ((after ≡ platform) × (new ≡ store) × StopsAtOnce begun taken sent result)
     ⊎ GoesOn variant meaning begun platform after store new left taken sent result
 
 -- The call: these bytes were taken of the input, and those written.
-pub record Sessions (variant : Variant) (meaning : Meaning) (before after : Standing) (old new : Kept)
+pub record Sessions (variant : Variant) (meaning : Meaning) (before after : Standing) (old new : StoreStanding)
     (left left' received received' : Option (List ℕ)) (result : Result Unit SessionFault) : Type 0 where
   pub taken : List ℕ
   pub sent : List ℕ
@@ -113,6 +113,6 @@ pub record Sessions (variant : Variant) (meaning : Meaning) (before after : Stan
   pub appended : Appends received received' sent
   pub begun : Result Resumed HostFault
   pub platform : Standing
-  pub store : Kept
+  pub store : StoreStanding
   pub resumes : Resumes variant meaning before platform old store begun
   pub goes : AfterResume variant meaning begun platform after store new left' taken sent result

@@ -13,14 +13,14 @@ use Rattle.mm_model.specs.Sound.{IsSound}
 use Rattle.mm_call.specs.Courses.{commits}
 use Rattle.mm_store.specs.Pending.{Pending}
 use Rattle.mm_store.specs.Slots.{Slots}
-use Rattle.mm_host.specs.Fitting.{Fits}
+use Rattle.mm_host.specs.Fitting.{FitsHistory}
 use Rattle.mm_host.specs.Init.{Devices, instance_from}
 use Rattle.mm_host.specs.Begins.{first_on, first_slots, ShowsValues, Begins}
 use Rattle.mm_host.specs.Recovery.{CanRecover}
 
 -- the slots fit the history, and this waits
 pub record FitsWith (i : Instance) (slots : Slots) (y : History) (waiting : Option Pending) : Type 0 where
-  pub fits : Fits i slots y
+  pub fits : FitsHistory i slots y
   pub waits : fits.waiting ≡ waiting
 
 -- A move that commits nothing keeps them so: a value of others, a loss of power, what closes a segment.

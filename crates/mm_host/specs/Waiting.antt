@@ -1,6 +1,6 @@
 -- The request that waits in a store.
 use Rattle.std.specs.Prelude.{◌≡◌, ◌≤◌, ℕ, List, Option, None, Some, Result, Ok, Err, ◌⊎◌, nat_le, if◌then◌else◌}
-use Rattle.mm_base.specs.Lines.{IsWithin}
+use Rattle.mm_base.specs.Lines.{MayGrow}
 use Rattle.mm_base.specs.Limits.{longest_request}
 use Rattle.mm_store.specs.declared.fault.StoreFault.{StoreFault}
 use Rattle.mm_store.specs.declared.fault.StoreFault.TheVariants.{Memory}
@@ -21,7 +21,7 @@ pub record IsWaiting (two three : List ℕ) (waiting : Option Pending) : Type 0 
   pub is : waiting ≡ later in_two in_three
 
 -- what waits is taken, or memory is wanting
-pub record Takes (two three : List ℕ) (result : Result (Option Pending) StoreFault) : Type 0 where
+pub record TakesWaiting (two three : List ℕ) (result : Result (Option Pending) StoreFault) : Type 0 where
   pub waiting : Option Pending
   pub is_waiting : IsWaiting two three waiting
   pub gives : (result ≡ Ok waiting) ⊎ (result ≡ Err Memory)
@@ -29,4 +29,4 @@ pub record Takes (two three : List ℕ) (result : Result (Option Pending) StoreF
 -- a request that may be asked, and has a position before it
 pub record IsAskable (p : Pending) : Type 0 where
   pub least : 1 ≤ p.position
-  pub line : IsWithin longest_request p.request
+  pub line : MayGrow longest_request p.request

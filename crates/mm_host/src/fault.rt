@@ -1,7 +1,7 @@
 //! How the host program's calls fail.
 
 ghost use Rattle.std.specs.Prelude.{◌≡◌};
-ghost use Rattle.mm_host.specs.Faults.{refused_as, store_fault_as, told_as};
+ghost use Rattle.mm_host.specs.Faults.{refusal_fault, store_fault_as, as_session_fault};
 ghost use Rattle.mm_host.specs.declared.fault.SessionFault.TheVariants.{Memory as memory};
 
 use mm_base::Memory;
@@ -35,7 +35,7 @@ impl From<StoreFault> for HostFault {
 }
 
 impl From<Refusal> for HostFault {
-    ghost from_gives = { λ refusal host. host ≡ refused_as refusal };
+    ghost from_gives = { λ refusal host. host ≡ refusal_fault refusal };
 
     fn from(refusal: Refusal) -> HostFault {
         match refusal {
@@ -83,7 +83,7 @@ impl From<Memory> for SessionFault {
 }
 
 impl From<HostFault> for SessionFault {
-    ghost from_gives = { λ fault session. session ≡ told_as fault };
+    ghost from_gives = { λ fault session. session ≡ as_session_fault fault };
 
     fn from(fault: HostFault) -> SessionFault {
         match fault {

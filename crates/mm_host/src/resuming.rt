@@ -7,7 +7,7 @@ ghost use Rattle.mm_store.specs.declared.store.TheConstants.{LONGEST_SLOT};
 ghost use Rattle.mm_host.specs.Waiting.{IsAskable};
 ghost use Rattle.mm_host.specs.Blame.{Blamed, IsNamed};
 ghost use Rattle.mm_host.specs.Recovery.{Recovers};
-ghost use Rattle.mm_host.specs.Resumes.{Starts, Repeats, AsksAndKeeps, Keeps, Resumes};
+ghost use Rattle.mm_host.specs.Resumes.{Starts, RepeatsPending, AsksAndKeeps, Keeps, Resumes};
 ghost use Rattle.mm_host.specs.Saying.{IsSized};
 
 use crate::asking::ask;
@@ -114,7 +114,7 @@ fn repeat<M: Module, P: Platform, T: Store>(
     waiting: &Waiting,
 ) -> Result<Resumed, HostFault>
     requires { IsAskable waiting.now }
-    ensures { Repeats variant (M.meaning «module».now) (P.standing platform.old)
+    ensures { RepeatsPending variant (M.meaning «module».now) (P.standing platform.old)
         (P.standing platform.new) (T.kept store.old) (T.kept store.new) waiting.now result }
 {
     let slot = ((waiting.position - 1) % 2) as u8;

@@ -1,18 +1,18 @@
 //! A session: the lines of an input, each asked and told before the next is read.
 
 ghost use Rattle.std.specs.Prelude.{◌≡◌, ◌+◌, ◌≤◌, ◌%◌, [], IfOk, IfSome, Ok, length};
-ghost use Rattle.mm_base.specs.Lines.{IsWithin};
+ghost use Rattle.mm_base.specs.Lines.{MayGrow};
 ghost use Rattle.mm_base.specs.Limits.{last_position, longest_request};
 ghost use Rattle.mm_play.specs.Plays.{IsBlamed};
 ghost use Rattle.mm_store.specs.Calls.{WritesSlot};
 ghost use Rattle.mm_store.specs.Pending.{pending_spelling};
-ghost use Rattle.mm_host.specs.Continuing.{Continues};
-ghost use Rattle.mm_host.specs.Saying.{IsSized, Tells, position_at, snapshot_at};
+ghost use Rattle.mm_host.specs.Continuing.{SessionContinues};
+ghost use Rattle.mm_host.specs.Saying.{IsSized, TellsReply, position_at, snapshot_at};
 ghost use Rattle.mm_host.specs.Serving.{AsksLine};
 ghost use Rattle.mm_host.specs.SessionBlame.{IsRefusalNamed, is_platform_fault, is_read_fault, is_store_fault, is_write_fault};
 ghost use Rattle.mm_host.specs.SessionLines.{SparesLines};
 ghost use Rattle.mm_host.specs.Sessions.{ServesLines, Sessions, most_lines};
-ghost use Rattle.mm_host.specs.Turns.{AsksAndTells, ServesInput, TakesLine, Turns};
+ghost use Rattle.mm_host.specs.Turns.{AsksAndTells, ServesInput, TakesLine, ServesNext};
 
 use crate::fault::{HostFault, SessionFault};
 use crate::resuming::{Resumed, ask_and_keep, resume};
@@ -53,7 +53,7 @@ pub fn session<M: Module, P: Platform, T: Store, S: Source, K: Sink>(
     ensures wrote { IsBlamed (is_write_fault result) (K.faults out.old) (K.faults out.new) }
     ensures named { IsRefusalNamed result }
     ensures lines { SparesLines (S.left input.old) result }
-    ensures continues { Continues variant (M.meaning «module».now) (P.standing platform.old)
+    ensures continues { SessionContinues variant (M.meaning «module».now) (P.standing platform.old)
         (P.standing platform.new) (T.kept store.old) (T.kept store.new) (S.left input.old)
         (S.left input.new) (K.received out.old) (K.received out.new) result }
 {
@@ -142,7 +142,7 @@ fn serve_next<M: Module, P: Platform, T: Store, S: Source, K: Sink>(
 ) -> Result<Option<Resumed>, SessionFault>
     requires number { number ≤ most_lines + 1 }
     requires sized { IsSized last.now }
-    ensures turns { Turns variant (M.meaning «module».now) number
+    ensures turns { ServesNext variant (M.meaning «module».now) number
         (record { platform = P.standing platform.old; store = T.kept store.old; last = last.now })
         (P.standing platform.new) (T.kept store.new) (S.left input.old) (S.left input.new)
         reader.old reader.new (K.received out.old) (K.received out.new) result }
@@ -174,7 +174,7 @@ fn serve_line<M: Module, P: Platform, T: Store, K: Sink>(
     line: &[u8],
 ) -> Result<Option<Resumed>, SessionFault>
     requires sized { IsSized last.now }
-    requires line { IsWithin longest_request line.now }
+    requires line { MayGrow longest_request line.now }
     ensures takes { TakesLine variant (M.meaning «module».now) number
         (record { platform = P.standing platform.old; store = T.kept store.old; last = last.now })
         (P.standing platform.new) (T.kept store.new) (K.received out.old) (K.received out.new)
@@ -203,7 +203,7 @@ fn ask_and_tell<M: Module, P: Platform, T: Store, K: Sink>(
     line: &[u8],
 ) -> Result<Resumed, SessionFault>
     requires sized { IsSized last.now }
-    requires line { IsWithin longest_request line.now }
+    requires line { MayGrow longest_request line.now }
     ensures asks { AsksAndTells variant (M.meaning «module».now)
         (record { platform = P.standing platform.old; store = T.kept store.old; last = last.now })
         (P.standing platform.new) (T.kept store.new) (K.received out.old) (K.received out.new)
@@ -227,7 +227,7 @@ fn ask_line<M: Module, P: Platform, T: Store>(
     line: &[u8],
 ) -> Result<Resumed, HostFault>
     requires sized { IsSized last.now }
-    requires line { IsWithin longest_request line.now }
+    requires line { MayGrow longest_request line.now }
     ensures asks { AsksLine variant (M.meaning «module».now) (P.standing platform.old)
         (P.standing platform.new) (T.kept store.old) (T.kept store.new) last.now line.now result }
     ensures sized { IfOk result IsSized }
@@ -255,7 +255,7 @@ fn write_record<T: Store>(
 ) -> Result<(), StoreFault>
     requires least { 1 ≤ position }
     requires most { position ≤ last_position + 1 }
-    requires line { IsWithin longest_request request.now }
+    requires line { MayGrow longest_request request.now }
     ensures { WritesSlot (2 + position % 2)
         (pending_spelling (record { position = position; request = request.now }))
         (T.kept store.old) (T.kept store.new) result }

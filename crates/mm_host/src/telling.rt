@@ -8,7 +8,7 @@ ghost use Rattle.mm_play.specs.Plays.{IsBlamed};
 ghost use Rattle.mm_schedule.specs.Replies.{told_line};
 ghost use Rattle.mm_host.specs.declared.fault.HostFault.TheVariants.{Refused};
 ghost use Rattle.mm_host.specs.declared.resuming.Resumed.TheVariants.{Answered};
-ghost use Rattle.mm_host.specs.Saying.{IsSized, Tells, cause_of, refusal_text};
+ghost use Rattle.mm_host.specs.Saying.{IsSized, TellsReply, told_cause, refusal_text};
 ghost use Rattle.mm_host.specs.SessionBlame.{is_write_fault};
 
 use crate::fault::{HostFault, SessionFault};
@@ -24,7 +24,7 @@ const LINE_ROOM: usize = 4200;
 /// one of the six of an offer.
 pub fn tell<K: Sink>(came: Result<Resumed, HostFault>, out: &mut K) -> Result<Resumed, SessionFault>
     requires { IfOk came IsSized }
-    ensures tells { Tells came (K.received out.old) (K.received out.new) result }
+    ensures tells { TellsReply came (K.received out.old) (K.received out.new) result }
     ensures wrote { IsBlamed (is_write_fault result) (K.faults out.old) (K.faults out.new) }
 {
     match came {
@@ -39,7 +39,7 @@ pub fn tell<K: Sink>(came: Result<Resumed, HostFault>, out: &mut K) -> Result<Re
 // Writes the line of an answer, and hands the answer on.
 fn tell_answer<K: Sink>(answer: Answer, out: &mut K) -> Result<Resumed, SessionFault>
     requires { length answer.output ≤ longest_request }
-    ensures tells { Tells (Ok (Answered answer)) (K.received out.old) (K.received out.new) result }
+    ensures tells { TellsReply (Ok (Answered answer)) (K.received out.old) (K.received out.new) result }
     ensures wrote { IsBlamed (is_write_fault result) (K.faults out.old) (K.faults out.new) }
 {
     match write_answer(&answer, out) {
@@ -50,7 +50,7 @@ fn tell_answer<K: Sink>(answer: Answer, out: &mut K) -> Result<Resumed, SessionF
 
 // Writes the line of a refusal, where it has one, and answers why the session ends.
 fn tell_refusal<K: Sink>(refusal: Refusal, out: &mut K) -> Result<Resumed, SessionFault>
-    ensures tells { Tells (Err (Refused refusal)) (K.received out.old) (K.received out.new) result }
+    ensures tells { TellsReply (Err (Refused refusal)) (K.received out.old) (K.received out.new) result }
     ensures wrote { IsBlamed (is_write_fault result) (K.faults out.old) (K.faults out.new) }
 {
     match write_refusal(refusal, out) {
@@ -77,9 +77,9 @@ fn write_answer<K: Sink>(answer: &Answer, out: &mut K) -> Result<(), WriteFault>
 }
 
 fn write_refusal<K: Sink>(refusal: Refusal, out: &mut K) -> Result<(), WriteFault>
-    ensures sent { Sends (K.received out.old) (K.received out.new) (refusal_text (cause_of refusal))
+    ensures sent { Sends (K.received out.old) (K.received out.new) (refusal_text (told_cause refusal))
         result }
-    ensures told { OnErr result (cause_of refusal ≢ None) }
+    ensures told { OnErr result (told_cause refusal ≢ None) }
     ensures counted { CountsFaults (K.faults out.old) (K.faults out.new) result }
 {
     let Some(cause) = cause_of(refusal) else {
@@ -93,7 +93,7 @@ fn write_refusal<K: Sink>(refusal: Refusal, out: &mut K) -> Result<(), WriteFaul
 
 // The word of a refusal of the offer.
 fn cause_of(refusal: Refusal) -> Option<Cause>
-    ensures { result ≡ cause_of refusal }
+    ensures { result ≡ told_cause refusal }
 {
     match refusal {
         Refusal::Form => Some(Cause::Form),

@@ -2,9 +2,9 @@
 
 ghost use Rattle.std.specs.Prelude.{◌≡◌, ◌+◌, ◌^◌, IfOk, IfSome};
 ghost use Rattle.std.specs.Option.{option_map};
-ghost use Rattle.mm_store.specs.Kept.{Kept};
+ghost use Rattle.mm_store.specs.Kept.{StoreStanding};
 ghost use Rattle.mm_store.specs.Records.{pending_of};
-ghost use Rattle.mm_host.specs.Waiting.{IsAskable, Takes, later};
+ghost use Rattle.mm_host.specs.Waiting.{IsAskable, TakesWaiting, later};
 ghost use Rattle.mm_host.specs.Resumes.{FindsWaiting};
 
 use mm_base::Bytes;
@@ -40,7 +40,7 @@ pub fn find_waiting<T: Store>(alloc: Global, store: &mut T) -> Result<Option<Wai
 
 // The request of the later valid record in these bytes of slots 2 and 3.
 fn take_later(alloc: Global, two: &[u8], three: &[u8]) -> Result<Option<Waiting>, StoreFault>
-    ensures takes { Takes two.now three.now result }
+    ensures takes { TakesWaiting two.now three.now result }
     ensures askable { IfOk result (λ waiting. IfSome waiting IsAskable) }
 {
     let Some(pending) = later(read_pending(2, two), read_pending(3, three)) else {

@@ -4,7 +4,7 @@ use Rattle.std.proofs.Common.{refl, sym, ◌∙◌, ap, arith, rules, subst}
 use Rattle.std.specs.List.{list_all}
 use Rattle.std.specs.Str.{bytes_eq}
 use Rattle.std.proofs.lemmas.Bool.Decides.{nat_tests}
-use Rattle.mm_base.specs.Decimals.{number_of}
+use Rattle.mm_base.specs.Decimals.{decimal_number}
 use Rattle.mm_module.specs.Bytes.{is_byte, are_bytes}
 use Rattle.mm_module.specs.LineLaws.{and-true, and-both, All-are_bytes, IsText, IsLine-text, is_unbroken-decimal, length-decimal}
 use Rattle.mm_module.specs.Meaning.{IsLawful, IsShort}
@@ -115,7 +115,7 @@ unfolding request_of
 request_of-IsLimiterRequest [] = tt
 request_of-IsLimiterRequest (word ∷ []) = left_asked (bytes_eq word (codes "left"))
 request_of-IsLimiterRequest (word ∷ secret ∷ []) = guess_asked (bytes_eq word (codes "guess") && is_secret secret) secret
-request_of-IsLimiterRequest (word ∷ secret ∷ number ∷ []) = guard_asked secret (number_of number) (bytes_eq word (codes "set")) _ refl
+request_of-IsLimiterRequest (word ∷ secret ∷ number ∷ []) = guard_asked secret (decimal_number number) (bytes_eq word (codes "set")) _ refl
 request_of-IsLimiterRequest (word ∷ secret ∷ number ∷ other ∷ more) = tt
 
 -- what is said, with a count of guesses

@@ -3,7 +3,7 @@ use Rattle.std.specs.Prelude.{ℕ, ◌≤◌, ◌-◌, ◌==◌, ◌&&◌, Bool,
 use Rattle.std.specs.Fmt.{decimal}
 use Rattle.std.specs.List.{list_all}
 use Rattle.std.specs.Str.{bytes_eq}
-use Rattle.mm_base.specs.Decimals.{number_of}
+use Rattle.mm_base.specs.Decimals.{decimal_number}
 use Rattle.mm_module.specs.Visible.{is_visible}
 use Rattle.mm_module.specs.Words.{words_of}
 use Rattle.mm_module.specs.Meaning.{Meaning}
@@ -70,7 +70,7 @@ unfoldable pub request_of : List (List ℕ) → Option Request
 request_of (word ∷ []) = if bytes_eq word (codes "left") then Some Left else None
 request_of (word ∷ secret ∷ []) = if bytes_eq word (codes "guess") && is_secret secret then Some (Guess secret) else None
 request_of (word ∷ secret ∷ number ∷ []) = if bytes_eq word (codes "set") && is_secret secret
-    then option_and_then (guard_of secret) (number_of number) else None
+    then option_and_then (guard_of secret) (decimal_number number) else None
 request_of _ = None
 
 -- a guarded state: the guesses left are at most those allowed, and the length is that of a secret

@@ -7,7 +7,7 @@ use Rattle.std.proofs.lemmas.List.Folds.{list_any-append}
 use Rattle.std.proofs.lemmas.Bool.Decides.{nat_tests}
 use Rattle.mm_base.specs.Limits.{longest_request, most_members}
 use Rattle.mm_module.specs.Meaning.{IsLine}
-use Rattle.mm_module.specs.Batch.{Batch, members_of, text_of, size_of}
+use Rattle.mm_module.specs.Batch.{Batch, members_of, batch_text, size_of}
 use Rattle.mm_module.proofs.BatchLaws.{text_of-members_of}
 use Rattle.mm_model.specs.Long.{is_lf, is_long}
 
@@ -69,17 +69,17 @@ piece (x ∷ y ∷ xs) (suc i) m e = later_piece x m (join_with_byte 9 (y ∷ xs
 pub few_members : (b : Batch) → is_long b ≡ false → size_of b ≤ most_members
 few_members b e =
     few (size_of b)
-    (neither_right (nat_lt longest_request (length (text_of b)) || list_any is_lf (text_of b)) (nat_lt most_members (size_of b)) e)
+    (neither_right (nat_lt longest_request (length (batch_text b)) || list_any is_lf (batch_text b)) (nat_lt most_members (size_of b)) e)
 
 pub members_are_lines : (b : Batch) → is_long b ≡ false → (i : ℕ) (m : List ℕ) → slice_get (members_of b) i ≡ Some m → IsLine m
 members_are_lines b e i m at =
-    let p : IsPiece m (text_of b) =
+    let p : IsPiece m (batch_text b) =
     subst (λ (v : List ℕ). IsPiece m v) (text_of-members_of b) (piece (members_of b) i m at) in
-    let f = neither_left (nat_lt longest_request (length (text_of b)) || list_any is_lf (text_of b)) (nat_lt most_members (size_of b)) e in
-    let s : length (text_of b) ≤ longest_request =
-    short (length (text_of b)) (neither_left (nat_lt longest_request (length (text_of b))) (list_any is_lf (text_of b)) f) in
+    let f = neither_left (nat_lt longest_request (length (batch_text b)) || list_any is_lf (batch_text b)) (nat_lt most_members (size_of b)) e in
+    let s : length (batch_text b) ≤ longest_request =
+    short (length (batch_text b)) (neither_left (nat_lt longest_request (length (batch_text b))) (list_any is_lf (batch_text b)) f) in
     record {
       short = omega (arith, p.size, s);
       unbroken = All-from_recursion (λ byte. byte ≢ 10) m
-          (unbroken m (p.clean (neither_right (nat_lt longest_request (length (text_of b))) (list_any is_lf (text_of b)) f)));
+          (unbroken m (p.clean (neither_right (nat_lt longest_request (length (batch_text b))) (list_any is_lf (batch_text b)) f)));
     }

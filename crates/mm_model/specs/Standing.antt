@@ -6,7 +6,7 @@ use Rattle.mm_digest.specs.declared.variant.Variant.TheVariants.{Basic, Opt}
 use Rattle.mm_seal.specs.declared.cell.Cell.{Cell}
 use Rattle.mm_seal.specs.Cell.{IsCell, cell_spelling}
 use Rattle.mm_seal.specs.Snapshot.{Content, IsContent, variant_of, sealed_of}
-use Rattle.mm_platform.specs.Standing.{Standing, values_of, register_of}
+use Rattle.mm_platform.specs.Standing.{Standing, item_values, register_after}
 use Rattle.mm_model.specs.Instance.{Instance}
 use Rattle.mm_model.specs.History.{History, cell_digest_of, register_value_of}
 use Rattle.mm_model.specs.Places.{Names, digest_of, issued}
@@ -29,7 +29,7 @@ cell_of i y = record {
 
 -- what a read of the register gives, where the platform tells its items
 abbrev pub register_reads : Standing → Option (List ℕ)
-register_reads standing = option_map (λ items. register_of (values_of items)) standing.items
+register_reads standing = option_map (λ items. register_after (item_values items)) standing.items
 
 -- in Opt the register has the history's value
 abbrev pub RegisterStands : Variant → Instance → Standing → History → Type 0

@@ -12,7 +12,7 @@ ghost use Rattle.mm_module.specs.Meaning.{Meaning};
 ghost use Rattle.mm_model.specs.Chains.{trail, link_message, guard_message, closing_message, link, guard, summary_of, register_of, anchor_of};
 ghost use Rattle.mm_model.specs.Instance.{Instance, basic, opt};
 ghost use Rattle.mm_model.specs.History.{History, cell_digest_of, register_value_of};
-ghost use Rattle.mm_platform.specs.Standing.{register_of as folded_of};
+ghost use Rattle.mm_platform.specs.Standing.{register_after as folded_of};
 ghost use Rattle.mm_seal.specs.Snapshot.{Content};
 ghost use Rattle.mm_model.specs.Places.{Names};
 ghost use Rattle.mm_model.specs.Judge.{judge, verdict_by_digests};

@@ -2,10 +2,10 @@
 use Rattle.std.proofs.Common.{◌≡◌, ℕ, ◌<◌, ◌≤◌, List, [], ◌∷◌, length, Bool, true, false, ◌||◌, cond, refl, ap, sym, ◌∙◌, arith, if◌then◌else◌, rules}
 use Rattle.std.specs.List.{slice_split, onto_first, join_with_byte}
 use Rattle.std.proofs.lemmas.List.Splits.{join_with_byte-slice_split, length-slice_split}
-use Rattle.mm_module.specs.Batch.{Batch, One, Many, is_tab, has_tab, members_of, text_of, size_of, IsBatch, normal}
+use Rattle.mm_module.specs.Batch.{Batch, One, Many, is_tab, has_tab, members_of, batch_text, size_of, IsBatch, normal}
 
 -- the members, joined by TABs, are the text
-pub text_of-members_of : (batch : Batch) → join_with_byte 9 (members_of batch) ≡ text_of batch
+pub text_of-members_of : (batch : Batch) → join_with_byte 9 (members_of batch) ≡ batch_text batch
 text_of-members_of (One request) = refl
 text_of-members_of (Many text) = join_with_byte-slice_split 9 text
 
@@ -45,12 +45,12 @@ pub members_of-normal : (batch : Batch) → members_of (normal batch) ≡ member
 members_of-normal (One request) = refl
 members_of-normal (Many text) = normal_members text (has_tab text) refl
 
-normal_text : (text : List ℕ) (flag : Bool) → text_of (if flag then Many text else One text) ≡ text
+normal_text : (text : List ℕ) (flag : Bool) → batch_text (if flag then Many text else One text) ≡ text
 normal_text text true = refl
 normal_text text false = refl
 
 -- the normal form has the same text
-pub text_of-normal : (batch : Batch) → text_of (normal batch) ≡ text_of batch
+pub text_of-normal : (batch : Batch) → batch_text (normal batch) ≡ batch_text batch
 text_of-normal (One request) = refl
 text_of-normal (Many text) = normal_text text (has_tab text)
 

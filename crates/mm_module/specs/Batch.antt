@@ -21,9 +21,9 @@ members_of (One request) = request ∷ []
 members_of (Many text) = slice_split is_tab text
 
 -- the bytes of a batch: its members, joined by TABs
-abbrev pub text_of : Batch → List ℕ
-text_of (One request) = request
-text_of (Many text) = text
+abbrev pub batch_text : Batch → List ℕ
+batch_text (One request) = request
+batch_text (Many text) = text
 
 -- how many requests a batch has
 abbrev pub size_of : Batch → ℕ

@@ -2,7 +2,7 @@
 use Rattle.std.specs.Prelude.{ℕ, ◌+◌, ◌^◌, ◌==◌, ◌&&◌, Bool, nat_lt, List, [], ◌∷◌, length, replicate, codes, Option, Some, None, option_map, if◌then◌else◌}
 use Rattle.std.specs.Fmt.{decimal}
 use Rattle.std.specs.Str.{bytes_eq}
-use Rattle.mm_base.specs.Decimals.{number_of}
+use Rattle.mm_base.specs.Decimals.{decimal_number}
 use Rattle.mm_base.specs.Fields.{eight_bytes}
 use Rattle.mm_module.specs.Bytes.{are_bytes}
 use Rattle.mm_module.specs.Numbers.{of_eight_bytes}
@@ -16,7 +16,7 @@ use Rattle.mm_module.specs.declared.counter.Says.TheVariants.{Value, Full, Bad}
 -- the request that these words are: `read`, or `add N`
 abbrev pub request_of : List (List ℕ) → Option Request
 request_of (word ∷ []) = if bytes_eq word (codes "read") then Some Read else None
-request_of (word ∷ number ∷ []) = if bytes_eq word (codes "add") then option_map (λ n. Add n) (number_of number) else None
+request_of (word ∷ number ∷ []) = if bytes_eq word (codes "add") then option_map (λ n. Add n) (decimal_number number) else None
 request_of _ = None
 
 -- the value after a request, and what the counter says

@@ -1,7 +1,7 @@
 //! Requests that are committed together.
 
 ghost use Rattle.std.specs.Prelude.{◌≡◌, ◌==◌, slice_get, option_map};
-ghost use Rattle.mm_module.specs.Batch.{members_of, size_of, text_of};
+ghost use Rattle.mm_module.specs.Batch.{members_of, size_of, batch_text};
 ghost use Rattle.mm_module.specs.Batches.{batch_of};
 
 /// Requests under one commit.
@@ -22,7 +22,7 @@ fn is_tab(byte: &u8) -> bool
 impl<'a> Batch<'a> {
     /// The bytes: the members, joined by TABs.
     pub fn text(&self) -> &'a [u8]
-        ensures { result.now ≡ text_of (batch_of self.now) }
+        ensures { result.now ≡ batch_text (batch_of self.now) }
     {
         match *self {
             Batch::One(request) => request,

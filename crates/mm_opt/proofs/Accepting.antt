@@ -28,12 +28,12 @@ use Rattle.mm_call.specs.Order.{weighed, examined}
 use Rattle.mm_call.specs.Answers.{answer_at}
 use Rattle.mm_call.specs.Refusals.{OrMemory}
 use Rattle.mm_call.specs.Levels.{Level, by_digests, place_then}
-use Rattle.mm_call.specs.Found.{Found as Accepted, found_with, found_from as accepted_from, found_at as accepted_at, found_in as accepted_in}
+use Rattle.mm_call.specs.Found.{Found as Accepted, found_with, found_by_verdict as accepted_from, found_at as accepted_at, found_unless_wanting as accepted_in}
 use Rattle.mm_call.specs.Standing.{cell_at}
 use Rattle.mm_opt.specs.declared.found.Found.{Found}
 use Rattle.mm_opt.specs.declared.found.Found.TheVariants.{Repeat, Inside, Opens}
-use Rattle.mm_opt.specs.Order.{value_of, has_lost_power, verdict_at, verdict_of}
-use Rattle.mm_opt.specs.Answers.{answer_of, place_after, change_by, opened_cell, found_from, found_at, found_unless, found_in}
+use Rattle.mm_opt.specs.Order.{batch_value, has_lost_power, verdict_at, verdict_of}
+use Rattle.mm_opt.specs.Answers.{answer_of, place_after, change_by, opened_cell, found_from, found_in_offer, found_unless, found_in}
 use Rattle.mm_opt.specs.Steps.{FindsIn}
 use Rattle.mm_opt.specs.TurnsOn.{Accepts}
 
@@ -95,7 +95,7 @@ as_from (Ok false) meaning key barrier seen offered b =
     as_change seen.flag meaning key barrier seen b (found_with offered (Ok false)) (answer_of meaning (cell_at (opt meaning key barrier) seen) seen.register offered b false) refl
     (record { offered = offered; found_is = refl; answer_is = answer_alike meaning key barrier seen offered b false })
 
-as_read : (taken : Result Snapshot PartsFault) (meaning : Meaning) (key barrier : List ℕ) (seen : Digests) (offer : List ℕ) (b : Batch) → ReadsParts offer Opt meaning.id taken → AsFound (opt meaning key barrier) seen (normal b) (accepted_from (opt meaning key barrier) (by_digests (opt meaning key barrier)) seen (normal b) taken) (found_at meaning (cell_at (opt meaning key barrier) seen) seen.register taken b)
+as_read : (taken : Result Snapshot PartsFault) (meaning : Meaning) (key barrier : List ℕ) (seen : Digests) (offer : List ℕ) (b : Batch) → ReadsParts offer Opt meaning.id taken → AsFound (opt meaning key barrier) seen (normal b) (accepted_from (opt meaning key barrier) (by_digests (opt meaning key barrier)) seen (normal b) taken) (found_in_offer meaning (cell_at (opt meaning key barrier) seen) seen.register taken b)
 as_read (Err Form) meaning key barrier seen offer b reads = refl
 as_read (Err Kind) meaning key barrier seen offer b reads = refl
 as_read (Ok offered) meaning key barrier seen offer b reads =
@@ -104,7 +104,7 @@ as_read (Ok offered) meaning key barrier seen offer b reads =
     let w : Verdict = verdict_by_digests barrier seen.flag seen.digest seen.register offered.content.place (normal b) in
     let same : examined meaning key offered (normal b) w ≡ examined meaning key offered b v =
     examined_alike meaning key offered b v w (verdict_alike offered.content.place meaning key barrier seen b reads.1.0) in
-    subst (λ (e : Result Bool Refusal). AsFound i seen (normal b) (found_with offered.content e) (found_at meaning (cell_at i seen) seen.register (Ok offered) b)) (sym same)
+    subst (λ (e : Result Bool Refusal). AsFound i seen (normal b) (found_with offered.content e) (found_in_offer meaning (cell_at i seen) seen.register (Ok offered) b)) (sym same)
     (as_from (examined meaning key offered b v) meaning key barrier seen offered.content b)
 
 as_unless : (lost : Bool) (i : Instance) (seen : Digests) (b : Batch) (x : Result Accepted Refusal) (found : Result Found Refusal) → AsFound i seen b x found → AsFound i seen b (if lost then Err refusal.Lost else x) (found_unless lost found)
@@ -117,7 +117,7 @@ as_in meaning key barrier seen offer b taken reads =
     subst (λ (p : Result Snapshot PartsFault). AsFound i seen (normal b) (if (by_digests i).is_lost seen then Err refusal.Lost else accepted_from i (by_digests i) seen (normal b) p) (found_in meaning (cell_at i seen) seen.register taken b))
     (parts_are Opt meaning.id offer taken reads)
     (as_unless (has_lost_power (cell_at i seen) seen.register) i seen (normal b) (accepted_from i (by_digests i) seen (normal b) taken)
-    (found_at meaning (cell_at i seen) seen.register taken b) (as_read taken meaning key barrier seen offer b reads))
+    (found_in_offer meaning (cell_at i seen) seen.register taken b) (as_read taken meaning key barrier seen offer b reads))
 
 -- memory was wanting
 abbrev pub is_memory : Refusal → Bool

@@ -19,7 +19,7 @@ use Rattle.mm_opt.specs.declared.found.Found.{Found}
 use Rattle.mm_opt.specs.declared.found.Found.TheVariants.{Repeat, Inside, Opens}
 use Rattle.mm_opt.specs.declared.found.Ready.{Ready}
 use Rattle.mm_opt.specs.declared.found.Opening.{Opening}
-use Rattle.mm_opt.specs.Steps.{ReadsCell, ReadsRegister, MakesRoom, Extends, Empties, Places, Writes}
+use Rattle.mm_opt.specs.Steps.{ReadsOwnCell, ReadsRegister, MakesRoom, Extends, Empties, Places, Writes}
 use Rattle.mm_opt.specs.Asks.{ReadsOn, Reads, PlacedOn, EmptiedOn, CommitsFound, Ends, Calls, OneStep, TwoSteps, ThreeSteps, FourSteps, one_step, two_steps, three_steps, four_steps, five_steps, StepsAnswered, StepsRefused, StepsBy}
 use Rattle.mm_opt.proofs.Findings.{IsFirst, IsSecond, IsShaped, first_refused, shaped}
 
@@ -160,7 +160,7 @@ twice_refused refusal.Stale old new is two = two
 twice_refused refusal.Full old new is two = two
 
 -- the reading steps, where they are refused and where they aren't
-reads_stepped : (cell : Result Cell Refusal) (meaning : Meaning) (old middle new : Standing) (offer : List ℕ) (b : Batch) (why : Refusal) → ReadsCell meaning.id old middle cell → ReadsOn meaning cell middle new offer b (Err why) → StepsRefused why old new
+reads_stepped : (cell : Result Cell Refusal) (meaning : Meaning) (old middle new : Standing) (offer : List ℕ) (b : Batch) (why : Refusal) → ReadsOwnCell meaning.id old middle cell → ReadsOn meaning cell middle new offer b (Err why) → StepsRefused why old new
 reads_stepped (Err other) meaning old middle new offer b why r on =
     let e : why ≡ other = same_refusal why other (Err why) refl on.1 in
     subst (λ (w : Refusal). StepsRefused w old new) (sym e)
@@ -170,7 +170,7 @@ reads_stepped (Ok cell) meaning old middle new offer b why r on =
     twice_refused why old new (shaped meaning cell middle new offer b (Err why) on)
     (second_counted meaning cell offer b (Err why) old middle new (first_counted None old middle r.goes) on)
 
-pub reads_counted : (cell : Result Cell Refusal) (meaning : Meaning) (old middle new : Standing) (offer : List ℕ) (b : Batch) (found : Found) → ReadsCell meaning.id old middle cell → ReadsOn meaning cell middle new offer b (Ok found) → TwoSteps old new
+pub reads_counted : (cell : Result Cell Refusal) (meaning : Meaning) (old middle new : Standing) (offer : List ℕ) (b : Batch) (found : Found) → ReadsOwnCell meaning.id old middle cell → ReadsOn meaning cell middle new offer b (Ok found) → TwoSteps old new
 reads_counted (Err why) meaning old middle new offer b found r on = let e : Ok found ≡ Err why = on.1 in absurd (cc)
 reads_counted (Ok cell) meaning old middle new offer b found r on =
     second_counted meaning cell offer b (Ok found) old middle new (first_counted None old middle r.goes) on

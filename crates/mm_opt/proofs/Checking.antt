@@ -10,9 +10,9 @@ use Rattle.mm_digest.specs.declared.variant.Variant.TheVariants.{Basic, Opt}
 use Rattle.mm_digest.specs.Messages.{zero_bytes, extended_of, anchored_of}
 use Rattle.mm_digest.proofs.Lengths.{length-anchored_of}
 use Rattle.mm_platform.specs.declared.fault.StepFault.{StepFault}
-use Rattle.mm_platform.specs.Standing.{Item, Plan, Standing, values_of, register_of}
+use Rattle.mm_platform.specs.Standing.{Item, Plan, Standing, item_values, register_after}
 use Rattle.mm_platform.specs.Steps.{Act, ReadCell, WriteCell, ReadRegister, Goes}
-use Rattle.mm_platform.specs.Told.{plan_of}
+use Rattle.mm_platform.specs.Told.{next_plan}
 use Rattle.mm_module.specs.Meaning.{Meaning}
 use Rattle.mm_seal.specs.declared.cell.Cell.{Cell}
 use Rattle.mm_seal.specs.declared.cell.CellFault.{CellFault}
@@ -179,10 +179,10 @@ same_refusal why other x p q = let e : why ≡ other = cc in ap refused e
 
 -- Basic has no segments
 checks_basic : (found : Result Segment CheckpointRefusal) (meaning : Meaning) (key : List ℕ) (d : Digests) (lost : Bool) (old middle new : Standing) (result : Result Checkpointed CheckpointRefusal) → StandsAt (basic meaning key) old d → (l : Looks old middle found) → (e : EndsLooking found middle new result)
-    → ChecksBy (basic meaning key) d (checkpointed_with (basic meaning key) (by_digests (basic meaning key)) d (on_course (met (checked_fates found old middle new result l e) 1 (plan_of old))) lost) old new result
+    → ChecksBy (basic meaning key) d (checkpointed_with (basic meaning key) (by_digests (basic meaning key)) d (on_course (met (checked_fates found old middle new result l e) 1 (next_plan old))) lost) old new result
 checks_basic (Err why) meaning key d lost old middle new result s l e =
     let i : Instance = basic meaning key in
-    let fates : ℕ → Fate = met (fate_of ReadCell old middle (closing_fault_of why) l.goes ∷ []) 1 (plan_of old) in
+    let fates : ℕ → Fate = met (fate_of ReadCell old middle (closing_fault_of why) l.goes ∷ []) 1 (next_plan old) in
     subst (λ (n : Standing). ChecksBy i d (checkpointed_with i (by_digests i) d (on_course fates) lost) old n result) (sym e.0)
     (elim (handing why) [
       | handed fault is ↦ checks_first i d fates lost old middle fault result s
@@ -317,10 +317,10 @@ checks_open (Ok next) meaning key barrier d lost plan cell old first second new 
     ∙ ap (λ (l : Bool). closing_told (closed_by (result_err e.written) (closes (walk fates 1 (Reads ∷ Reads ∷ Writes Close ∷ [])).moves) (closing_of Opt d.flag l))) (sym not_lost))
 
 checks_opt : (found : Result Segment CheckpointRefusal) (meaning : Meaning) (key barrier : List ℕ) (d : Digests) (old middle new : Standing) (result : Result Checkpointed CheckpointRefusal) → StandsAt (opt meaning key barrier) old d → (l : Looks old middle found) → (e : EndsLooking found middle new result)
-    → ChecksBy (opt meaning key barrier) d (checkpointed (opt meaning key barrier) (by_digests (opt meaning key barrier)) d (on_course (met (checked_fates found old middle new result l e) 1 (plan_of old)))) old new result
+    → ChecksBy (opt meaning key barrier) d (checkpointed (opt meaning key barrier) (by_digests (opt meaning key barrier)) d (on_course (met (checked_fates found old middle new result l e) 1 (next_plan old)))) old new result
 checks_opt (Err why) meaning key barrier d old middle new result s l e =
     let i : Instance = opt meaning key barrier in
-    let fates : ℕ → Fate = met (fate_of ReadCell old middle (closing_fault_of why) l.goes ∷ []) 1 (plan_of old) in
+    let fates : ℕ → Fate = met (fate_of ReadCell old middle (closing_fault_of why) l.goes ∷ []) 1 (next_plan old) in
     subst (λ (n : Standing). ChecksBy i d (checkpointed i (by_digests i) d (on_course fates)) old n result) (sym e.0)
     (elim (handing why) [
       | handed fault is ↦ checks_first i d fates _ old middle fault result s
@@ -330,7 +330,7 @@ checks_opt (Err why) meaning key barrier d old middle new result s l e =
     ])
 checks_opt (Ok Shut) meaning key barrier d old middle new result s l e =
     let i : Instance = opt meaning key barrier in
-    let fates : ℕ → Fate = met (fate_of ReadCell old middle None l.goes ∷ []) 1 (plan_of old) in
+    let fates : ℕ → Fate = met (fate_of ReadCell old middle None l.goes ∷ []) 1 (next_plan old) in
     let shut : d.flag ≡ false = opt_shut d.flag (cell_at i d) (seen_segment i d old (Ok Shut) (l.finds refl) s) in
     let seen : Digests = all_made (by_digests i) d (seen_in fates (reading_steps Opt) 1) in
     let lost : Bool = seen.flag && bytes_eq seen.register zero_bytes in
@@ -340,14 +340,14 @@ checks_opt (Ok Shut) meaning key barrier d old middle new result s l e =
 checks_opt (Ok (Open cell)) meaning key barrier d old middle new result s l e =
     let i : Instance = opt meaning key barrier in
     let o = opt_open d.flag (cell_at i d) cell (seen_segment i d old (Ok (Open cell)) (l.finds refl) s) in
-    checks_open e.found meaning key barrier d _ (plan_of old) cell old middle e.middle new result l.goes s o.0 o.1 e.weighs e.ends
+    checks_open e.found meaning key barrier d _ (next_plan old) cell old middle e.middle new result l.goes s o.0 o.1 e.weighs e.ends
     (ap (λ (y : Digests). y.flag && bytes_eq y.register zero_bytes) (seen_is meaning key barrier d l.goes.others e.weighs.goes.others))
 
 goes_by : (variant : Variant) (found : Result Segment CheckpointRefusal) (meaning : Meaning) (key barrier : List ℕ) (d : Digests) (old middle new : Standing) (result : Result Checkpointed CheckpointRefusal) → StandsAt (instance_by variant meaning key barrier) old d → (l : Looks old middle found) → (e : EndsLooking found middle new result)
-    → ChecksBy (instance_by variant meaning key barrier) d (checkpointed (instance_by variant meaning key barrier) (by_digests (instance_by variant meaning key barrier)) d (on_course (met (checked_fates found old middle new result l e) 1 (plan_of old)))) old new result
+    → ChecksBy (instance_by variant meaning key barrier) d (checkpointed (instance_by variant meaning key barrier) (by_digests (instance_by variant meaning key barrier)) d (on_course (met (checked_fates found old middle new result l e) 1 (next_plan old)))) old new result
 goes_by Basic found meaning key barrier d old middle new result s l e =
     let i : Instance = basic meaning key in
-    let seen : Digests = all_made (by_digests i) d (seen_in (met (checked_fates found old middle new result l e) 1 (plan_of old)) (reading_steps Basic) 1) in
+    let seen : Digests = all_made (by_digests i) d (seen_in (met (checked_fates found old middle new result l e) 1 (next_plan old)) (reading_steps Basic) 1) in
     checks_basic found meaning key d (seen.flag && bytes_eq seen.register zero_bytes) old middle new result s l e
 goes_by Opt found meaning key barrier d old middle new result s l e = checks_opt found meaning key barrier d old middle new result s l e
 
@@ -403,7 +403,7 @@ looked_planned (Ok (Open cell)) old middle new result plan p l e =
 
 pub checks_on : (old new : Standing) (result : Result Checkpointed CheckpointRefusal) → ClosesSegment old new result → ChecksOn old new result
 checks_on old new result c =
-    let course : Course = on_course (met (checked_fates c.found old c.middle new result c.looks c.ends) 1 (plan_of old)) in
+    let course : Course = on_course (met (checked_fates c.found old c.middle new result c.looks c.ends) 1 (next_plan old)) in
     let by = λ (variant : Variant) (meaning : Meaning) (key barrier : List ℕ) (d : Digests) (s : StandsAt (instance_by variant meaning key barrier) old d).
     goes_by variant c.found meaning key barrier d old c.middle new result s c.looks c.ends in
     record {

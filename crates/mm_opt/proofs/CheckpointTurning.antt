@@ -16,7 +16,7 @@ use Rattle.mm_model.specs.Steps.{Step, Reads}
 use Rattle.mm_call.specs.Levels.{all_made, by_digests}
 use Rattle.mm_call.specs.Courses.{Fate, step_moves}
 use Rattle.mm_call.specs.Standing.{cell_at, StandsAt}
-use Rattle.mm_call.specs.Trails.{Makes, Stepped}
+use Rattle.mm_call.specs.Trails.{MakesStep, Stepped}
 use Rattle.mm_call.proofs.Trails.{reads_of, reads_beside, with_register, foreign_made, leads}
 use Rattle.mm_call.proofs.Telling.{trail_last}
 use Rattle.mm_opt.specs.declared.segment.Checkpointed.{Checkpointed}
@@ -35,7 +35,7 @@ use Rattle.mm_opt.proofs.Going.{fate_of, read_value}
 use Rattle.mm_opt.proofs.Turning.{quiet_moves}
 use Rattle.mm_opt.proofs.Checking.{seen_segment, opt_refused, opt_shut, opt_open, closing_lost, closing_next, write_closed}
 
-makes_of : (call : CheckpointStage) (meaning : Meaning) (key barrier : List ℕ) (d : Digests) (old : Standing) → StandsAt (opt meaning key barrier) old d → ClosingHoldsAt (opt meaning key barrier) d call → Makes (opt meaning key barrier) d (closing_act_of call) (closing_step_of call)
+makes_of : (call : CheckpointStage) (meaning : Meaning) (key barrier : List ℕ) (d : Digests) (old : Standing) → StandsAt (opt meaning key barrier) old d → ClosingHoldsAt (opt meaning key barrier) d call → MakesStep (opt meaning key barrier) d (closing_act_of call) (closing_step_of call)
 makes_of stage.Begun meaning key barrier d old s h = tt
 makes_of (stage.Seen cell) meaning key barrier d old s h = tt
 makes_of (stage.Closing next) meaning key barrier d old s h = write_closed meaning key barrier d next s.spells h.1

@@ -1,7 +1,7 @@
 -- What is found, and the room that is made after it.
 use Rattle.std.proofs.Common.{◌≡◌, ℕ, Bool, true, false, List, length, Option, None, Some, Result, Ok, Err, refl, sym, ap, ◌∙◌, subst, inl, inr}
 use Rattle.mm_platform.specs.declared.fault.StepFault.{StepFault}
-use Rattle.mm_platform.specs.Standing.{Item, Standing, values_of, register_of}
+use Rattle.mm_platform.specs.Standing.{Item, Standing, item_values, register_after}
 use Rattle.mm_platform.specs.Steps.{ReadRegister, Goes}
 use Rattle.mm_module.specs.Meaning.{Meaning}
 use Rattle.mm_module.specs.Batch.{Batch}
@@ -22,9 +22,9 @@ use Rattle.mm_call.specs.Refusals.{fault_of, fault_in, OrMemory}
 use Rattle.mm_opt.specs.declared.found.Found.{Found}
 use Rattle.mm_opt.specs.declared.found.Found.TheVariants.{Repeat, Inside, Opens}
 use Rattle.mm_opt.specs.Seen.{is_cell_of, own_cell, cell_in}
-use Rattle.mm_opt.specs.Order.{value_of, has_lost_power, verdict_of}
-use Rattle.mm_opt.specs.Answers.{answer_of, change_by, found_from, found_at, found_unless, found_in, opened_cell}
-use Rattle.mm_opt.specs.Steps.{ReadsCell, FindsIn, MakesRoom, ReadsRegister}
+use Rattle.mm_opt.specs.Order.{batch_value, has_lost_power, verdict_of}
+use Rattle.mm_opt.specs.Answers.{answer_of, change_by, found_from, found_in_offer, found_unless, found_in, opened_cell}
+use Rattle.mm_opt.specs.Steps.{ReadsOwnCell, FindsIn, MakesRoom, ReadsRegister}
 
 -- want of memory, twice
 or_then : (x : Result Found Refusal) (found : Found) (result : Result Found Refusal) → OrMemory x (Ok found) → OrMemory (Ok found) result → OrMemory x result
@@ -41,7 +41,7 @@ no_fault_or found result o =
 
 -- the second step, by what it found and the room that was made
 pub reads_register : (meaning : Meaning) (cell : Cell) (old middle new : Standing) (offer : List ℕ) (b : Batch) (register : List ℕ) (found : Found) (result : Result Found Refusal)
-    → Goes ReadRegister old middle None → ((items : List Item) → middle.items ≡ Some items → register ≡ register_of (values_of items)) → length register ≡ 32
+    → Goes ReadRegister old middle None → ((items : List Item) → middle.items ≡ Some items → register ≡ register_after (item_values items)) → length register ≡ 32
     → FindsIn meaning cell register offer b (Ok found) → OrMemory (Ok found) result → MakesRoom result middle new
     → ReadsRegister meaning cell old new offer b result
 reads_register meaning cell old middle new offer b register found result goes told size finds or room = record {
@@ -131,7 +131,7 @@ second_unless refusal.Stale h = tt
 second_unless refusal.Full h = tt
 
 -- what the first step refuses
-pub first_refused : (id : ℕ) (old new : Standing) (why : Refusal) → ReadsCell id old new (Err why) → IsFirst why
+pub first_refused : (id : ℕ) (old new : Standing) (why : Refusal) → ReadsOwnCell id old new (Err why) → IsFirst why
 first_refused id old new why r =
     first_unless why (λ (h : fault_of why ≡ None).
     let f = r.finds h in
@@ -165,13 +165,13 @@ shaped_change : (flag : Bool) (value next : List ℕ) (answer : BatchAnswer) →
 shaped_change true value next answer is = is
 shaped_change false value next answer is = is
 
-shaped_from : (e : Result Bool Refusal) (meaning : Meaning) (cell : Cell) (register : List ℕ) (offered : Content) (b : Batch) → IsSecondIn e → IsShaped (found_from e cell (value_of cell b) (answer_of meaning cell register offered b))
+shaped_from : (e : Result Bool Refusal) (meaning : Meaning) (cell : Cell) (register : List ℕ) (offered : Content) (b : Batch) → IsSecondIn e → IsShaped (found_from e cell (batch_value cell b) (answer_of meaning cell register offered b))
 shaped_from (Err why) meaning cell register offered b is = is
 shaped_from (Ok true) meaning cell register offered b is = refl
 shaped_from (Ok false) meaning cell register offered b is =
-    shaped_change cell.flag (value_of cell b) (opened_cell cell) (answer_of meaning cell register offered b false) refl
+    shaped_change cell.flag (batch_value cell b) (opened_cell cell) (answer_of meaning cell register offered b false) refl
 
-shaped_at : (meaning : Meaning) (cell : Cell) (register : List ℕ) (taken : Result Snapshot PartsFault) (b : Batch) → IsShaped (found_at meaning cell register taken b)
+shaped_at : (meaning : Meaning) (cell : Cell) (register : List ℕ) (taken : Result Snapshot PartsFault) (b : Batch) → IsShaped (found_in_offer meaning cell register taken b)
 shaped_at meaning cell register (Err Form) b = tt
 shaped_at meaning cell register (Err Kind) b = tt
 shaped_at meaning cell register (Ok offered) b =
@@ -190,7 +190,7 @@ shaped_or (Ok it) found h o =
 shaped_in : (meaning : Meaning) (cell : Cell) (register offer : List ℕ) (b : Batch) (found : Result Found Refusal) → FindsIn meaning cell register offer b found → IsShaped found
 shaped_in meaning cell register offer b found f =
     shaped_or (found_in meaning cell register f.taken b) found
-    (shaped_found_unless (has_lost_power cell register) (found_at meaning cell register f.taken b) (shaped_at meaning cell register f.taken b))
+    (shaped_found_unless (has_lost_power cell register) (found_in_offer meaning cell register f.taken b) (shaped_at meaning cell register f.taken b))
     f.found_is
 
 shaped_unless : (found : Result Found Refusal) → (fault_in found ≡ None → IsShaped found) → IsShaped found

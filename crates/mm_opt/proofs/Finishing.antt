@@ -8,7 +8,7 @@ use Rattle.mm_platform.specs.declared.plan.Stop.{Stop}
 use Rattle.mm_platform.specs.declared.plan.Stop.TheVariants.{Quiet, Cut, Drop, Fail}
 use Rattle.mm_platform.specs.Standing.{Plan, Standing}
 use Rattle.mm_platform.specs.Steps.{Act, ReadCell, WriteCell, ReadRegister, ResetRegister, ExtendRegister, Goes}
-use Rattle.mm_platform.specs.Told.{plan_of}
+use Rattle.mm_platform.specs.Told.{next_plan}
 use Rattle.mm_module.specs.Meaning.{Meaning}
 use Rattle.mm_module.specs.Batch.{Batch, normal}
 use Rattle.mm_seal.specs.declared.cell.Cell.{Cell}
@@ -26,7 +26,7 @@ use Rattle.mm_call.specs.Ended.{result_of, ended_with, refused_as, committed_as,
 use Rattle.mm_call.specs.Refusals.{fault_of, fault_in, handed_on}
 use Rattle.mm_call.specs.Leaving.{Blames}
 use Rattle.mm_call.specs.Levels.{all_made, by_digests}
-use Rattle.mm_call.specs.Found.{Found as Accepted, found_at as accepted_at, found_in as accepted_in, is_fresh}
+use Rattle.mm_call.specs.Found.{Found as Accepted, found_at as accepted_at, found_unless_wanting as accepted_in, is_fresh}
 use Rattle.mm_call.specs.Courses.{End, Done, Fails, end_of, Course, Fate, Walked, walk, after_step, made_move, step_moves, commits}
 use Rattle.mm_call.specs.Called.{Called, Ending, Breaks, kept_at, ended_by, called_by, called_with, called, seen_at, position_of}
 use Rattle.mm_call.specs.Standing.{StandsAt}
@@ -41,7 +41,7 @@ use Rattle.mm_opt.specs.declared.stage.Stage.{Stage}
 use Rattle.mm_opt.specs.declared.stage.Stage.TheVariants as stage
 use Rattle.mm_opt.specs.declared.stage.Change.{Change}
 use Rattle.mm_opt.specs.declared.stage.Change.TheVariants as change
-use Rattle.mm_opt.specs.Steps.{ReadsCell, ReadsRegister, MakesRoom, Extends, Empties, Places, Writes as WritesCell}
+use Rattle.mm_opt.specs.Steps.{ReadsOwnCell, ReadsRegister, MakesRoom, Extends, Empties, Places, Writes as WritesCell}
 use Rattle.mm_opt.specs.Asks.{ReadsOn, PlacedOn, EmptiedOn, CommitsFound, Ends, Asks, Calls}
 use Rattle.mm_opt.specs.TurnsOn.{Accepts}
 use Rattle.mm_opt.specs.Finishes.{ExtendsTo, WritesTo, PlacedTo, PlacesTo, EmptiedTo, OpensTo, EndsTo, AsksTo, SeesTo, ChangesTo, Finishes}
@@ -287,12 +287,12 @@ refused_keeps (Some f) why fates o e h = h f refl
 fails_at : (answer : Option StepFault) (made : Bool) (fault : StepFault) → answer ≡ Some fault → end_of answer made ≡ Fails fault made
 fails_at answer made fault e = ap (λ (a : Option StepFault). end_of a made) e
 
-second_keeps : (found : Result Found Refusal) (meaning : Meaning) (key barrier : List ℕ) (d : Digests) (cell : Cell) (old first second new : Standing) (offer : List ℕ) (b : Batch) (ended : Ended) → StandsAt (opt meaning key barrier) old d → (r : ReadsCell meaning.id old first (Ok cell)) → (on : ReadsRegister meaning cell first second offer b found) → (e : EndsTo found second new ended)
+second_keeps : (found : Result Found Refusal) (meaning : Meaning) (key barrier : List ℕ) (d : Digests) (cell : Cell) (old first second new : Standing) (offer : List ℕ) (b : Batch) (ended : Ended) → StandsAt (opt meaning key barrier) old d → (r : ReadsOwnCell meaning.id old first (Ok cell)) → (on : ReadsRegister meaning cell first second offer b found) → (e : EndsTo found second new ended)
     → let c : Course = course_of (Ok cell) found meaning old first second new offer b (result_of ended) r on (ends_from found second new ended e) in
     KeepsAs c.fates (called (opt meaning key barrier) (by_digests (opt meaning key barrier)) d c offer (normal b)) ended
 second_keeps (Err why) meaning key barrier d cell old first second new offer b ended s r on e =
     let i : Instance = opt meaning key barrier in
-    let fates : ℕ → Fate = met (fate_of ReadCell old first None r.goes ∷ fate_of ReadRegister first on.middle (fault_of why) on.goes ∷ []) 1 (plan_of old) in
+    let fates : ℕ → Fate = met (fate_of ReadCell old first None r.goes ∷ fate_of ReadRegister first on.middle (fault_of why) on.goes ∷ []) 1 (next_plan old) in
     let c : Course = record { fates = fates; lacks = lacks_in (Err why) } in
     let x : Result Accepted Refusal = accepted_in (accepted_at i (by_digests i) (seen_at i (by_digests i) d c) (normal b) offer) c.lacks in
     let o : Called Digests = called i (by_digests i) d c offer (normal b) in
@@ -310,19 +310,19 @@ second_keeps (Ok found) meaning key barrier d cell old first second new offer b 
     let seen : Digests = all_made (by_digests i) (all_made (by_digests i) d (map Foreign r.goes.others)) (map Foreign on.goes.others) in
     subst (λ (y : Digests). KeepsAs c.fates (called_with i (by_digests i) d y c (normal b) (accepted_in (accepted_at i (by_digests i) y (normal b) offer) c.lacks)) ended)
     (sym (seen_is meaning key barrier d r.goes.others on.goes.others))
-    (found_keeps found meaning key barrier d seen (normal b) (accepted_in (accepted_at i (by_digests i) seen (normal b) offer) false) f g (plan_of old) second new ended
+    (found_keeps found meaning key barrier d seen (normal b) (accepted_in (accepted_at i (by_digests i) seen (normal b) offer) false) f g (next_plan old) second new ended
     (ap (λ (y : Digests). y.flag) (two_brought i d r.goes.others on.goes.others))
     (second_found meaning key barrier d cell old first second offer b (Ok found) s r on refl) refl refl e)
 
 ends_refused : (found : Result Found Refusal) (why : Refusal) (old new : Standing) (ended : Ended) → found ≡ Err why → EndsTo found old new ended → (new ≡ old) × (ended ≡ refused_as why)
 ends_refused found why old new ended is e = subst (λ (f : Result Found Refusal). EndsTo f old new ended) is e
 
-first_keeps : (cell : Result Cell Refusal) (found : Result Found Refusal) (meaning : Meaning) (key barrier : List ℕ) (d : Digests) (old first second new : Standing) (offer : List ℕ) (b : Batch) (ended : Ended) → StandsAt (opt meaning key barrier) old d → (r : ReadsCell meaning.id old first cell) → (on : ReadsOn meaning cell first second offer b found) → (e : EndsTo found second new ended)
+first_keeps : (cell : Result Cell Refusal) (found : Result Found Refusal) (meaning : Meaning) (key barrier : List ℕ) (d : Digests) (old first second new : Standing) (offer : List ℕ) (b : Batch) (ended : Ended) → StandsAt (opt meaning key barrier) old d → (r : ReadsOwnCell meaning.id old first cell) → (on : ReadsOn meaning cell first second offer b found) → (e : EndsTo found second new ended)
     → let c : Course = course_of cell found meaning old first second new offer b (result_of ended) r on (ends_from found second new ended e) in
     KeepsAs c.fates (called (opt meaning key barrier) (by_digests (opt meaning key barrier)) d c offer (normal b)) ended
 first_keeps (Err why) found meaning key barrier d old first second new offer b ended s r on e =
     let i : Instance = opt meaning key barrier in
-    let fates : ℕ → Fate = met (fate_of ReadCell old first (fault_of why) r.goes ∷ []) 1 (plan_of old) in
+    let fates : ℕ → Fate = met (fate_of ReadCell old first (fault_of why) r.goes ∷ []) 1 (next_plan old) in
     let c : Course = record { fates = fates; lacks = lacks_in found } in
     let x : Result Accepted Refusal = accepted_in (accepted_at i (by_digests i) (seen_at i (by_digests i) d c) (normal b) offer) c.lacks in
     let o : Called Digests = called i (by_digests i) d c offer (normal b) in
@@ -392,7 +392,7 @@ second_planned (Ok (Opens opening)) cell meaning old middle new offer b ended pl
     emptied_planned e.emptied opening middle e.middle new ended plan
     (room_at on.middle middle plan 2 (room_only (Ok (Opens opening)) on.middle middle on.room) (then_at ReadRegister old on.middle plan 1 p on.goes)) e.empties e.on
 
-first_planned : (cell : Result Cell Refusal) (found : Result Found Refusal) (meaning : Meaning) (old first second new : Standing) (offer : List ℕ) (b : Batch) (ended : Ended) (plan : Plan) → IsAt old plan 0 → ReadsCell meaning.id old first cell → ReadsOn meaning cell first second offer b found → EndsTo found second new ended → StaysBy plan new ended
+first_planned : (cell : Result Cell Refusal) (found : Result Found Refusal) (meaning : Meaning) (old first second new : Standing) (offer : List ℕ) (b : Batch) (ended : Ended) (plan : Plan) → IsAt old plan 0 → ReadsOwnCell meaning.id old first cell → ReadsOn meaning cell first second offer b found → EndsTo found second new ended → StaysBy plan new ended
 first_planned (Err why) found meaning old first second new offer b ended plan p r on e =
     let x = ends_refused found why second new ended on.1 e in
     subst (λ (n : Standing). StaysBy plan n ended) (sym (x.0 ∙ on.0))
@@ -475,7 +475,7 @@ second_blamed (Ok (Opens opening)) cell meaning old middle new offer b ended on 
     later old middle new ended (ap (λ (x : Standing). x.faults) (room_only (Ok (Opens opening)) on.middle middle on.room) ∙ on.goes.ends.faults)
     (emptied_blamed e.emptied opening middle e.middle new ended e.empties e.on)
 
-first_blamed : (cell : Result Cell Refusal) (found : Result Found Refusal) (meaning : Meaning) (old first second new : Standing) (offer : List ℕ) (b : Batch) (ended : Ended) → ReadsCell meaning.id old first cell → ReadsOn meaning cell first second offer b found → EndsTo found second new ended → BlamesFor old new ended
+first_blamed : (cell : Result Cell Refusal) (found : Result Found Refusal) (meaning : Meaning) (old first second new : Standing) (offer : List ℕ) (b : Batch) (ended : Ended) → ReadsOwnCell meaning.id old first cell → ReadsOn meaning cell first second offer b found → EndsTo found second new ended → BlamesFor old new ended
 first_blamed (Err why) found meaning old first second new offer b ended r on e =
     let x = ends_refused found why second new ended on.1 e in
     subst (λ (n : Standing). BlamesFor old n ended) (sym (x.0 ∙ on.0))

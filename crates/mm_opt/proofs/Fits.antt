@@ -27,9 +27,9 @@ use Rattle.mm_opt.specs.declared.found.Opening.{Opening}
 use Rattle.mm_opt.specs.declared.found.Found.{Found}
 use Rattle.mm_opt.specs.declared.found.Found.TheVariants.{Repeat, Inside, Opens}
 use Rattle.mm_opt.specs.Seen.{is_cell_of, own_cell, cell_in}
-use Rattle.mm_opt.specs.Order.{value_of, has_lost_power, verdict_of}
-use Rattle.mm_opt.specs.Answers.{answer_of, change_by, opened_cell, extension_at, extension_after, place_after, found_from, found_at, found_unless, found_in}
-use Rattle.mm_opt.specs.Steps.{ReadsCell as ReadsStep, FindsIn, ReadsRegister}
+use Rattle.mm_opt.specs.Order.{batch_value, has_lost_power, verdict_of}
+use Rattle.mm_opt.specs.Answers.{answer_of, change_by, opened_cell, extension_at, extension_after, place_after, found_from, found_in_offer, found_unless, found_in}
+use Rattle.mm_opt.specs.Steps.{ReadsOwnCell as ReadsStep, FindsIn, ReadsRegister}
 use Rattle.mm_opt.specs.Asks.{ReadsOn, Reads, PlacedOn, EmptiedOn, CommitsFound, Ends, Calls}
 
 -- the extension of an answer's place
@@ -45,8 +45,8 @@ after_size false extension value size = length-extended_of extension value
 accepted_fit : (meaning : Meaning) → IsLawful meaning → (cell : Cell) (register : List ℕ) (offered : Snapshot) (b : Batch) (verdict : Verdict) (again : Bool) → IsCell cell → length register ≡ 32 → examined meaning cell.key offered b verdict ≡ Ok again → IsFit b (answer_of meaning cell register offered.content b again)
 accepted_fit meaning lawful cell register offered b verdict again is size e =
     let a = weighed_only _ _ _ _ again e in
-    is_fit meaning lawful cell.key offered.content.state offered.content.position (place_after cell register (value_of cell b) again) b again
-    (is.summary, after_size again (extension_at cell.flag register) (value_of cell b) (extension_size cell.flag register size))
+    is_fit meaning lawful cell.key offered.content.state offered.content.position (place_after cell register (batch_value cell b) again) b again
+    (is.summary, after_size again (extension_at cell.flag register) (batch_value cell b) (extension_size cell.flag register size))
     (subst (λ (t : Bool). IsTrue t) (sym a.spelled) refl)
     (grind (arith, nat_tests, a.fitting))
 
@@ -65,11 +65,11 @@ from_fit (Err why) cell value answer b h = tt
 from_fit (Ok true) cell value answer b h = h true refl
 from_fit (Ok false) cell value answer b h = change_fit cell.flag value (opened_cell cell) (answer false) b (h false refl)
 
-at_fit : (meaning : Meaning) → IsLawful meaning → (cell : Cell) (register : List ℕ) (taken : Result Snapshot PartsFault) (b : Batch) → IsCell cell → length register ≡ 32 → IsFitFound b (found_at meaning cell register taken b)
+at_fit : (meaning : Meaning) → IsLawful meaning → (cell : Cell) (register : List ℕ) (taken : Result Snapshot PartsFault) (b : Batch) → IsCell cell → length register ≡ 32 → IsFitFound b (found_in_offer meaning cell register taken b)
 at_fit meaning lawful cell register (Err Form) b is size = tt
 at_fit meaning lawful cell register (Err Kind) b is size = tt
 at_fit meaning lawful cell register (Ok offered) b is size =
-    from_fit (examined meaning cell.key offered b (verdict_of cell register offered b)) cell (value_of cell b)
+    from_fit (examined meaning cell.key offered b (verdict_of cell register offered b)) cell (batch_value cell b)
     (answer_of meaning cell register offered.content b) b
     (λ (again : Bool) (e : examined meaning cell.key offered b (verdict_of cell register offered b) ≡ Ok again).
     accepted_fit meaning lawful cell register offered b (verdict_of cell register offered b) again is size e)
@@ -99,7 +99,7 @@ reads_fit (Ok seen) meaning lawful old middle new offer b found r on =
     let c = r.finds refl in
     let f = on.finds refl in
     or_fit b (found_in meaning seen f.register f.finds.taken b) (Ok found)
-    (unless_fit (has_lost_power seen f.register) b (found_at meaning seen f.register f.finds.taken b)
+    (unless_fit (has_lost_power seen f.register) b (found_in_offer meaning seen f.register f.finds.taken b)
     (at_fit meaning lawful seen f.register f.finds.taken b (seen_spelled c.sees.read meaning.id c.bytes seen c.sees.reads c.sees.found_is) f.size))
     f.finds.found_is
 

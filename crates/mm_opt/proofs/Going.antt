@@ -10,9 +10,9 @@ use Rattle.mm_digest.specs.declared.variant.Variant.{Variant}
 use Rattle.mm_digest.specs.declared.variant.Variant.TheVariants.{Opt}
 use Rattle.mm_digest.specs.Messages.{zero_bytes, extended_of}
 use Rattle.mm_platform.specs.declared.fault.StepFault.{StepFault}
-use Rattle.mm_platform.specs.Standing.{Item, own_item, Plan, Standing, values_of, register_of}
+use Rattle.mm_platform.specs.Standing.{Item, own_item, Plan, Standing, item_values, register_after}
 use Rattle.mm_platform.specs.Steps.{Act, ReadCell, WriteCell, ReadRegister, ResetRegister, ExtendRegister, Goes}
-use Rattle.mm_platform.specs.Told.{plan_of}
+use Rattle.mm_platform.specs.Told.{next_plan}
 use Rattle.mm_module.specs.Meaning.{Meaning}
 use Rattle.mm_module.specs.Batch.{Batch, normal}
 use Rattle.mm_seal.specs.declared.cell.Cell.{Cell}
@@ -31,11 +31,11 @@ use Rattle.mm_model.specs.declared.refusal.Refusal.TheVariants as refusal
 use Rattle.mm_call.specs.Answers.{answer_at}
 use Rattle.mm_call.specs.Refusals.{fault_of, fault_in, handed_on}
 use Rattle.mm_call.specs.Levels.{Level, all_made, by_digests, place_then}
-use Rattle.mm_call.specs.Found.{Found as Accepted, found_at as accepted_at, found_in as accepted_in, is_fresh}
+use Rattle.mm_call.specs.Found.{Found as Accepted, found_at as accepted_at, found_unless_wanting as accepted_in, is_fresh}
 use Rattle.mm_call.specs.Courses.{Course, Fate, Walked, walk, step_moves, seen_in, end_of, AreTold}
-use Rattle.mm_call.specs.Called.{Called, ended_by, called_by, called_with, seen_at, called, told}
+use Rattle.mm_call.specs.Called.{Called, ended_by, called_by, called_with, seen_at, called, given_for}
 use Rattle.mm_call.specs.Standing.{cell_at, StandsAt, shown_by}
-use Rattle.mm_call.specs.Trails.{IsChange, IsWrite, Makes, Stepped, Trail, Leads}
+use Rattle.mm_call.specs.Trails.{IsChange, IsWrite, MakesStep, Stepped, Trail, Leads}
 use Rattle.mm_call.specs.CallsOn.{GoesBy}
 use Rattle.mm_call.proofs.Trails.{reads_of, reads_beside, with_register, foreign_made, all_made-append, leads}
 use Rattle.mm_call.proofs.Telling.{stepped, trail_on, trail_fails, trail_last, met, AreMet, told_by, IsAt, begins_at, met_at, then_at, room_at}
@@ -45,7 +45,7 @@ use Rattle.mm_opt.specs.declared.found.Found.{Found}
 use Rattle.mm_opt.specs.declared.found.Found.TheVariants.{Repeat, Inside, Opens}
 use Rattle.mm_opt.specs.Seen.{is_opt, is_cell_of, own_cell, cell_in}
 use Rattle.mm_opt.specs.Answers.{opened_cell}
-use Rattle.mm_opt.specs.Steps.{FindsCell, ReadsCell, FindsIn, ReadsRegister, Extends, Empties, Places, Writes as WritesCell}
+use Rattle.mm_opt.specs.Steps.{FindsCell, ReadsOwnCell, FindsIn, ReadsRegister, Extends, Empties, Places, Writes as WritesCell}
 use Rattle.mm_opt.specs.Asks.{ReadsOn, Reads as ReadsBoth, PlacedOn, EmptiedOn, CommitsFound, Ends, Asks}
 use Rattle.mm_opt.proofs.Acting.{room_only}
 use Rattle.mm_opt.specs.TurnsOn.{Accepts}
@@ -80,13 +80,13 @@ abbrev pub on_fates : (cell : Result Cell Refusal) (meaning : Meaning) (old new 
 on_fates (Err why) meaning old new offer b found on rest = []
 on_fates (Ok cell) meaning old new offer b found on rest = fate_of ReadRegister old on.middle (fault_in found) on.goes ∷ rest
 
-abbrev pub read_fates : (cell : Result Cell Refusal) (found : Result Found Refusal) (meaning : Meaning) (old first second new : Standing) (offer : List ℕ) (b : Batch) (result : Result BatchAnswer Refusal) → ReadsCell meaning.id old first cell → ReadsOn meaning cell first second offer b found → Ends found second new result → List Fate
+abbrev pub read_fates : (cell : Result Cell Refusal) (found : Result Found Refusal) (meaning : Meaning) (old first second new : Standing) (offer : List ℕ) (b : Batch) (result : Result BatchAnswer Refusal) → ReadsOwnCell meaning.id old first cell → ReadsOn meaning cell first second offer b found → Ends found second new result → List Fate
 read_fates cell found meaning old first second new offer b result r on e =
     fate_of ReadCell old first (fault_in cell) r.goes ∷ on_fates cell meaning first second offer b found on (ends_fates found second new result e)
 
-abbrev pub course_of : (cell : Result Cell Refusal) (found : Result Found Refusal) (meaning : Meaning) (old first second new : Standing) (offer : List ℕ) (b : Batch) (result : Result BatchAnswer Refusal) → ReadsCell meaning.id old first cell → ReadsOn meaning cell first second offer b found → Ends found second new result → Course
+abbrev pub course_of : (cell : Result Cell Refusal) (found : Result Found Refusal) (meaning : Meaning) (old first second new : Standing) (offer : List ℕ) (b : Batch) (result : Result BatchAnswer Refusal) → ReadsOwnCell meaning.id old first cell → ReadsOn meaning cell first second offer b found → Ends found second new result → Course
 course_of cell found meaning old first second new offer b result r on e = record {
-  fates = met (read_fates cell found meaning old first second new offer b result r on e) 1 (plan_of old);
+  fates = met (read_fates cell found meaning old first second new offer b result r on e) 1 (next_plan old);
   lacks = lacks_in found;
 }
 
@@ -121,7 +121,7 @@ tells_second (Ok found) cell meaning old middle new offer b result plan at on e 
       (room_at on.middle middle plan 2 (room_only (Ok found) on.middle middle on.room) (then_at ReadRegister old on.middle plan 1 at on.goes)) e.commits,
 )
 
-tells_first : (cell : Result Cell Refusal) (found : Result Found Refusal) (meaning : Meaning) (old first second new : Standing) (offer : List ℕ) (b : Batch) (result : Result BatchAnswer Refusal) (plan : Plan) → IsAt old plan 0 → (r : ReadsCell meaning.id old first cell) → (on : ReadsOn meaning cell first second offer b found) → (e : Ends found second new result) → AreMet (read_fates cell found meaning old first second new offer b result r on e) 1 plan
+tells_first : (cell : Result Cell Refusal) (found : Result Found Refusal) (meaning : Meaning) (old first second new : Standing) (offer : List ℕ) (b : Batch) (result : Result BatchAnswer Refusal) (plan : Plan) → IsAt old plan 0 → (r : ReadsOwnCell meaning.id old first cell) → (on : ReadsOn meaning cell first second offer b found) → (e : Ends found second new result) → AreMet (read_fates cell found meaning old first second new offer b result r on e) 1 plan
 tells_first (Err why) found meaning old first second new offer b result plan at r on e =
     (met_at ReadCell old first (fault_of why) plan 0 at r.goes, tt)
 tells_first (Ok cell) found meaning old first second new offer b result plan at r on e = (
@@ -129,7 +129,7 @@ tells_first (Ok cell) found meaning old first second new offer b result plan at 
   tells_second found cell meaning first second new offer b result plan (then_at ReadCell old first plan 0 at r.goes) on e,
 )
 
-pub tells : (cell : Result Cell Refusal) (found : Result Found Refusal) (meaning : Meaning) (old first second new : Standing) (offer : List ℕ) (b : Batch) (result : Result BatchAnswer Refusal) → (r : ReadsCell meaning.id old first cell) → (on : ReadsOn meaning cell first second offer b found) → (e : Ends found second new result) → AreTold old (course_of cell found meaning old first second new offer b result r on e).fates
+pub tells : (cell : Result Cell Refusal) (found : Result Found Refusal) (meaning : Meaning) (old first second new : Standing) (offer : List ℕ) (b : Batch) (result : Result BatchAnswer Refusal) → (r : ReadsOwnCell meaning.id old first cell) → (on : ReadsOn meaning cell first second offer b found) → (e : Ends found second new result) → AreTold old (course_of cell found meaning old first second new offer b result r on e).fates
 tells cell found meaning old first second new offer b result r on e =
     told_by old (read_fates cell found meaning old first second new offer b result r on e)
     (λ (plan : Plan) (is_on : old.is_on ≡ true) (known : old.plan ≡ Some plan) (at : plan.at ≡ 0).
@@ -155,14 +155,14 @@ asks false false b = refl
 
 -- a call whose steps made this trail
 conclude : (i : Instance) (d seen : Digests) (fates : ℕ → Fate) (b : Batch) (x : Result Accepted Refusal) (steps : List Step) (old new : Standing) (fault : Option StepFault) (result : Result BatchAnswer Refusal) → StandsAt i old d → ask_steps i.variant d.flag (is_fresh x) b ≡ steps → Trail i d fates 1 steps old new fault
-    → result ≡ told (ended_by (by_digests i) seen (all_made (by_digests i) d (walk fates 1 steps).moves) b x (walk fates 1 steps).moves fault)
+    → result ≡ given_for (ended_by (by_digests i) seen (all_made (by_digests i) d (walk fates 1 steps).moves) b x (walk fates 1 steps).moves fault)
     → GoesBy i d (called_by (by_digests i) d seen b x (walk fates 1 (ask_steps i.variant d.flag (is_fresh x) b))) old new result
 conclude i d seen fates b x steps old new fault result s e t is =
     let l = leads i d fates 1 steps old new fault s t in
     let w : Walked = walk fates 1 steps in
     subst (λ (st : List Step). GoesBy i d (called_by (by_digests i) d seen b x (walk fates 1 st)) old new result) (sym e)
     (record {
-      gives = is ∙ ap (λ (f : Option StepFault). told (ended_by (by_digests i) seen (all_made (by_digests i) d w.moves) b x w.moves f)) (sym l.broken);
+      gives = is ∙ ap (λ (f : Option StepFault). given_for (ended_by (by_digests i) seen (all_made (by_digests i) d w.moves) b x w.moves f)) (sym l.broken);
       stands = l.stands;
       items = l.items;
       steps = l.steps;
@@ -188,7 +188,7 @@ seen_is meaning key barrier d v w =
     ∙ ap (λ (ms : List Move). all_made (by_digests i) (all_made (by_digests i) d (map Foreign v)) ms) (append-nil (map Foreign w))
 
 -- a step that doesn't fail, and room made after it
-pub quietly : (fault : Option StepFault) (i : Instance) (d : Digests) (act : Act) (step : Step) (old after new : Standing) → (g : Goes act old after fault) → fault ≡ None → Makes i d act step → new ≡ record after { spare = new.spare } → Stepped i d (fate_of act old after fault g) step old new None
+pub quietly : (fault : Option StepFault) (i : Instance) (d : Digests) (act : Act) (step : Step) (old after new : Standing) → (g : Goes act old after fault) → fault ≡ None → MakesStep i d act step → new ≡ record after { spare = new.spare } → Stepped i d (fate_of act old after fault g) step old new None
 quietly None i d act step old after new g e makes room = record {
   act = act;
   after = after;
@@ -283,9 +283,9 @@ seen_cell meaning key barrier d old found f s =
     f.sees.found_is ∙ ap (λ (r : Result Cell CellFault). cell_in meaning.id r) same ∙ own_found i d refl
 
 -- the register's value that is read
-pub read_value : (items : Option (List Item)) (r register : List ℕ) → reads_of items ≡ Some r → ((xs : List Item) → items ≡ Some xs → register ≡ register_of (values_of xs)) → register ≡ r
+pub read_value : (items : Option (List Item)) (r register : List ℕ) → reads_of items ≡ Some r → ((xs : List Item) → items ≡ Some xs → register ≡ register_after (item_values xs)) → register ≡ r
 read_value None r register e h = cc
-read_value (Some xs) r register e h = let f : register_of (values_of xs) ≡ r = cc in h xs refl ∙ f
+read_value (Some xs) r register e h = let f : register_after (item_values xs) ≡ r = cc in h xs refl ∙ f
 
 -- a refusal hands on a device's fault, or doesn't
 data Handing (why : Refusal) : Type 0 where
@@ -311,7 +311,7 @@ abbrev GivenBy : BatchAnswer → Result BatchAnswer StepFault → Type 0
 GivenBy answer (Ok it) = it ≡ answer
 GivenBy answer (Err fault) = Unit {0}
 
-handed_told : (written : Result BatchAnswer StepFault) (i : Instance) (d seen s : Digests) (b : Batch) (accepted : Accepted) (moves : List Move) (answer : BatchAnswer) → answer ≡ (by_digests i).answer accepted.again seen s accepted.offered b → GivenBy answer written → handed_on written ≡ told (ended_by (by_digests i) seen s b (Ok accepted) moves (result_err written))
+handed_told : (written : Result BatchAnswer StepFault) (i : Instance) (d seen s : Digests) (b : Batch) (accepted : Accepted) (moves : List Move) (answer : BatchAnswer) → answer ≡ (by_digests i).answer accepted.again seen s accepted.offered b → GivenBy answer written → handed_on written ≡ given_for (ended_by (by_digests i) seen s b (Ok accepted) moves (result_err written))
 handed_told (Ok it) i d seen s b accepted moves answer e gives = ap (λ (v : BatchAnswer). Ok v) (gives ∙ e)
 handed_told (Err fault) i d seen s b accepted moves answer e gives = refl
 
@@ -323,7 +323,7 @@ pub same_cell : (c e : Cell) (x y : Result Cell Refusal) → x ≡ Ok c → y �
 same_cell c e x y p q r = cc
 
 -- a step that fails
-pub loudly : (answer : Option StepFault) (fault : StepFault) (i : Instance) (d : Digests) (act : Act) (step : Step) (old after new : Standing) → (g : Goes act old after answer) → answer ≡ Some fault → Makes i d act step → new ≡ record after { spare = new.spare } → Stepped i d (fate_of act old after answer g) step old new (Some fault)
+pub loudly : (answer : Option StepFault) (fault : StepFault) (i : Instance) (d : Digests) (act : Act) (step : Step) (old after new : Standing) → (g : Goes act old after answer) → answer ≡ Some fault → MakesStep i d act step → new ≡ record after { spare = new.spare } → Stepped i d (fate_of act old after answer g) step old new (Some fault)
 loudly None fault i d act step old after new g e makes room = absurd (cc)
 loudly (Some actual) fault i d act step old after new g e makes room =
     subst (λ (f : StepFault). Stepped i d (fate_of act old after (Some actual) g) step old new (Some f)) (let same : actual ≡ fault = cc in same)
@@ -479,7 +479,7 @@ goes_accepted (Opens opening) meaning key barrier d seen f g plan b x old first 
     (emptied_given c.emptied opening second c.middle new written c.empties c.on) is
 
 -- what the second step reads, where the first was made on these digests
-pub second_found : (meaning : Meaning) (key barrier : List ℕ) (d : Digests) (cell : Cell) (old first second : Standing) (offer : List ℕ) (b : Batch) (found : Result Found Refusal) → StandsAt (opt meaning key barrier) old d → (r : ReadsCell meaning.id old first (Ok cell)) → (on : ReadsRegister meaning cell first second offer b found) → fault_in found ≡ None
+pub second_found : (meaning : Meaning) (key barrier : List ℕ) (d : Digests) (cell : Cell) (old first second : Standing) (offer : List ℕ) (b : Batch) (found : Result Found Refusal) → StandsAt (opt meaning key barrier) old d → (r : ReadsOwnCell meaning.id old first (Ok cell)) → (on : ReadsRegister meaning cell first second offer b found) → fault_in found ≡ None
     → AsFound (opt meaning key barrier) (all_made (by_digests (opt meaning key barrier)) (all_made (by_digests (opt meaning key barrier)) d (map Foreign r.goes.others)) (map Foreign on.goes.others)) (normal b)
     (accepted_in (accepted_at (opt meaning key barrier) (by_digests (opt meaning key barrier)) (all_made (by_digests (opt meaning key barrier)) (all_made (by_digests (opt meaning key barrier)) d (map Foreign r.goes.others)) (map Foreign on.goes.others)) (normal b) offer) (lacks_in found)) found
 second_found meaning key barrier d cell old first second offer b found s r on quiet =
@@ -501,13 +501,13 @@ second_found meaning key barrier d cell old first second offer b found s r on qu
     (subst (λ (c : Cell). FindsIn meaning c seen.register offer b found) same
     (subst (λ (v : List ℕ). FindsIn meaning cell v offer b found) read f.finds))
 
-goes_on : (found : Result Found Refusal) (meaning : Meaning) (key barrier : List ℕ) (d : Digests) (cell : Cell) (old first second new : Standing) (offer : List ℕ) (b : Batch) (result : Result BatchAnswer Refusal) → StandsAt (opt meaning key barrier) old d → (r : ReadsCell meaning.id old first (Ok cell)) → (on : ReadsRegister meaning cell first second offer b found) → (e : Ends found second new result)
+goes_on : (found : Result Found Refusal) (meaning : Meaning) (key barrier : List ℕ) (d : Digests) (cell : Cell) (old first second new : Standing) (offer : List ℕ) (b : Batch) (result : Result BatchAnswer Refusal) → StandsAt (opt meaning key barrier) old d → (r : ReadsOwnCell meaning.id old first (Ok cell)) → (on : ReadsRegister meaning cell first second offer b found) → (e : Ends found second new result)
     → GoesBy (opt meaning key barrier) d (called (opt meaning key barrier) (by_digests (opt meaning key barrier)) d (course_of (Ok cell) found meaning old first second new offer b result r on e) offer (normal b)) old new result
 goes_on (Err why) meaning key barrier d cell old first second new offer b result s r on e =
     let i : Instance = opt meaning key barrier in
     let f : Fate = fate_of ReadCell old first None r.goes in
     let g : Fate = fate_of ReadRegister first on.middle (fault_of why) on.goes in
-    let fates : ℕ → Fate = met (f ∷ g ∷ []) 1 (plan_of old) in
+    let fates : ℕ → Fate = met (f ∷ g ∷ []) 1 (next_plan old) in
     let c : Course = record { fates = fates; lacks = lacks_in (Err why) } in
     let seen : Digests = after_two i fates d in
     let t : Stepped i d f Reads old first None = stepped i d ReadCell Reads old first None r.goes tt in
@@ -532,7 +532,7 @@ goes_on (Ok found) meaning key barrier d cell old first second new offer b resul
     let brought : seen ≡ with_register d value = two_brought i d r.goes.others on.goes.others in
     subst (λ (y : Digests). GoesBy i d (called_with i (by_digests i) d y c (normal b) (accepted_in (accepted_at i (by_digests i) y (normal b) offer) c.lacks)) old new result)
     (sym (seen_is meaning key barrier d r.goes.others on.goes.others))
-    (goes_accepted found meaning key barrier d seen f g (plan_of old) (normal b) (accepted_in (accepted_at i (by_digests i) seen (normal b) offer) false) old first second new e.written result s e.commits
+    (goes_accepted found meaning key barrier d seen f g (next_plan old) (normal b) (accepted_in (accepted_at i (by_digests i) seen (normal b) offer) false) old first second new e.written result s e.commits
     (stepped i d ReadCell Reads old first None r.goes tt)
     (quietly None i (all_made (by_digests i) d (map Foreign r.goes.others)) ReadRegister Reads first on.middle second on.goes refl tt (room_only (Ok found) on.middle second on.room))
     refl (ap (λ (y : Digests). y.flag) brought) (ap (λ (y : Digests). cell_at i y) brought)
@@ -546,7 +546,7 @@ unseen why meaning key barrier d old s f =
     let i : Instance = opt meaning key barrier in
     let e : Err why ≡ Ok (cell_at i d) = seen_cell meaning key barrier d old (Err why) f s in cc
 
-pub goes : (cell : Result Cell Refusal) (found : Result Found Refusal) (meaning : Meaning) (key barrier : List ℕ) (d : Digests) (old first second new : Standing) (offer : List ℕ) (b : Batch) (result : Result BatchAnswer Refusal) → StandsAt (opt meaning key barrier) old d → (r : ReadsCell meaning.id old first cell) → (on : ReadsOn meaning cell first second offer b found) → (e : Ends found second new result)
+pub goes : (cell : Result Cell Refusal) (found : Result Found Refusal) (meaning : Meaning) (key barrier : List ℕ) (d : Digests) (old first second new : Standing) (offer : List ℕ) (b : Batch) (result : Result BatchAnswer Refusal) → StandsAt (opt meaning key barrier) old d → (r : ReadsOwnCell meaning.id old first cell) → (on : ReadsOn meaning cell first second offer b found) → (e : Ends found second new result)
     → GoesBy (opt meaning key barrier) d (called (opt meaning key barrier) (by_digests (opt meaning key barrier)) d (course_of cell found meaning old first second new offer b result r on e) offer (normal b)) old new result
 goes (Ok cell) found meaning key barrier d old first second new offer b result s r on e =
     goes_on found meaning key barrier d cell old first second new offer b result s r on e

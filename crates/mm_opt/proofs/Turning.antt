@@ -20,10 +20,10 @@ use Rattle.mm_model.specs.declared.answer.BatchAnswer.{BatchAnswer}
 use Rattle.mm_model.specs.declared.refusal.Refusal.{Refusal}
 use Rattle.mm_call.specs.Refusals.{fault_of, fault_in}
 use Rattle.mm_call.specs.Levels.{all_made, by_digests}
-use Rattle.mm_call.specs.Found.{Found as Accepted, found_at as accepted_at, found_in as accepted_in}
+use Rattle.mm_call.specs.Found.{Found as Accepted, found_at as accepted_at, found_unless_wanting as accepted_in}
 use Rattle.mm_call.specs.Courses.{Fate, Walked, after_step, step_moves, end_of}
 use Rattle.mm_call.specs.Standing.{cell_at, StandsAt}
-use Rattle.mm_call.specs.Trails.{Makes, Stepped}
+use Rattle.mm_call.specs.Trails.{MakesStep, Stepped}
 use Rattle.mm_call.proofs.Trails.{reads_of, reads_beside, with_register, foreign_made, all_made-append, leads}
 use Rattle.mm_call.proofs.Telling.{trail_last}
 use Rattle.mm_opt.specs.declared.found.Opening.{Opening}
@@ -35,21 +35,21 @@ use Rattle.mm_opt.specs.declared.stage.Change.{Change}
 use Rattle.mm_opt.specs.declared.stage.Change.TheVariants as change
 use Rattle.mm_opt.specs.declared.call.Turn.{Turn}
 use Rattle.mm_opt.specs.Answers.{opened_cell}
-use Rattle.mm_opt.specs.Steps.{act_of, FindsIn, ReadsCell, ReadsRegister, Extends, Empties, Places, Writes}
+use Rattle.mm_opt.specs.Steps.{act_of, FindsIn, ReadsOwnCell, ReadsRegister, Extends, Empties, Places, Writes}
 use Rattle.mm_opt.specs.Turns.{seen_turn, found_turn, emptied_turn, placed_turn, last_turn, Changes as ChangesTurn, Turns, fault_turned}
-use Rattle.mm_opt.specs.TurnsOn.{step_of, OpensAt, HoldsIn, HoldsAt, HoldsOn, SecondOn, one_step, StepsOn, TurnsOn}
+use Rattle.mm_opt.specs.TurnsOn.{step_of, OpensAt, HoldsIn, HoldsAt, HoldsOn, SecondOn, one_step, WalksOn, TurnsOn}
 use Rattle.mm_opt.proofs.Acting.{room_only}
 use Rattle.mm_opt.proofs.Accepting.{AsFound, lacks_in, as_found}
 use Rattle.mm_opt.proofs.Going.{fate_of, change_inside, change_emptied, change_placed, write_opened, same_cell, seen_cell, read_value}
 
 -- the device step makes the step of the walk
-makes_in : (it : Change) (meaning : Meaning) (key barrier : List ℕ) (d : Digests) (b : Batch) (old : Standing) → StandsAt (opt meaning key barrier) old d → HoldsIn (opt meaning key barrier) d b it → Makes (opt meaning key barrier) d (act_of (stage.Changing it)) (step_of (stage.Changing it) b)
+makes_in : (it : Change) (meaning : Meaning) (key barrier : List ℕ) (d : Digests) (b : Batch) (old : Standing) → StandsAt (opt meaning key barrier) old d → HoldsIn (opt meaning key barrier) d b it → MakesStep (opt meaning key barrier) d (act_of (stage.Changing it)) (step_of (stage.Changing it) b)
 makes_in (change.Inside ready) meaning key barrier d b old s h = change_inside meaning key barrier d b ready.value.bytes h.0 h.1
 makes_in (change.Emptying opening) meaning key barrier d b old s h = change_emptied meaning key barrier d
 makes_in (change.Placing opening) meaning key barrier d b old s h = change_placed meaning key barrier d b opening.value.bytes h.value
 makes_in (change.Writing opening) meaning key barrier d b old s h = write_opened meaning key barrier d b opening.next h.shut s.spells h.next
 
-makes_of : (call : Stage) (meaning : Meaning) (key barrier : List ℕ) (d : Digests) (b : Batch) (old : Standing) → StandsAt (opt meaning key barrier) old d → HoldsAt (opt meaning key barrier) d b call → Makes (opt meaning key barrier) d (act_of call) (step_of call b)
+makes_of : (call : Stage) (meaning : Meaning) (key barrier : List ℕ) (d : Digests) (b : Batch) (old : Standing) → StandsAt (opt meaning key barrier) old d → HoldsAt (opt meaning key barrier) d b call → MakesStep (opt meaning key barrier) d (act_of call) (step_of call b)
 makes_of stage.Begun meaning key barrier d b old s h = tt
 makes_of (stage.Seen cell) meaning key barrier d b old s h = tt
 makes_of (stage.Changing it) meaning key barrier d b old s h = makes_in it meaning key barrier d b old s h
@@ -84,7 +84,7 @@ opens_still i d e b opening given kept same o = record {
 }
 
 -- what the call holds after a turn
-seen_held : (outcome : Result Cell Refusal) (meaning : Meaning) (key barrier : List ℕ) (d e : Digests) (b : Batch) (old new : Standing) → StandsAt (opt meaning key barrier) old d → ReadsCell meaning.id old new outcome → IsRegister (opt meaning key barrier) d e → HoldsOn (opt meaning key barrier) e b (seen_turn outcome)
+seen_held : (outcome : Result Cell Refusal) (meaning : Meaning) (key barrier : List ℕ) (d e : Digests) (b : Batch) (old new : Standing) → StandsAt (opt meaning key barrier) old d → ReadsOwnCell meaning.id old new outcome → IsRegister (opt meaning key barrier) d e → HoldsOn (opt meaning key barrier) e b (seen_turn outcome)
 seen_held (Err why) meaning key barrier d e b old new s r kept = tt
 seen_held (Ok cell) meaning key barrier d e b old new s r kept =
     let i : Instance = opt meaning key barrier in
@@ -118,7 +118,7 @@ after_turn i d call b values = all_made (by_digests i) d (step_moves (step_of ca
 steps_on : (call : Stage) (meaning : Meaning) (key barrier : List ℕ) (d : Digests) (old middle new : Standing) (offer : List ℕ) (b : Batch) (turn : Turn) → StandsAt (opt meaning key barrier) old d → HoldsAt (opt meaning key barrier) d b call → (g : Goes (act_of call) old middle (fault_turned turn)) → new ≡ record middle { spare = new.spare }
     → (fault_turned turn ≡ None → HoldsOn (opt meaning key barrier) (after_turn (opt meaning key barrier) d call b g.others) b turn)
     → (fault_turned turn ≡ None → SecondOn call (opt meaning key barrier) (after_turn (opt meaning key barrier) d call b g.others) offer b turn)
-    → StepsOn (opt meaning key barrier) d call old new offer b turn
+    → WalksOn (opt meaning key barrier) d call old new offer b turn
 steps_on call meaning key barrier d old middle new offer b turn s h g room holds finds =
     let i : Instance = opt meaning key barrier in
     let step : Step = step_of call b in
@@ -140,7 +140,7 @@ steps_on call meaning key barrier d old middle new offer b turn s h g room holds
       finds = λ (e : fault_turned turn ≡ None). subst (λ (ms : List Move). SecondOn call i (all_made (by_digests i) d ms) offer b turn) (moves e) (finds e);
     }
 
-begun_on : (outcome : Result Cell Refusal) (meaning : Meaning) (key barrier : List ℕ) (d : Digests) (old new : Standing) (offer : List ℕ) (b : Batch) → StandsAt (opt meaning key barrier) old d → ReadsCell meaning.id old new outcome → StepsOn (opt meaning key barrier) d stage.Begun old new offer b (seen_turn outcome)
+begun_on : (outcome : Result Cell Refusal) (meaning : Meaning) (key barrier : List ℕ) (d : Digests) (old new : Standing) (offer : List ℕ) (b : Batch) → StandsAt (opt meaning key barrier) old d → ReadsOwnCell meaning.id old new outcome → WalksOn (opt meaning key barrier) d stage.Begun old new offer b (seen_turn outcome)
 begun_on (Err why) meaning key barrier d old new offer b s r =
     steps_on stage.Begun meaning key barrier d old new new offer b (seen_turn (Err why)) s tt r.goes refl (λ (e : fault_of why ≡ None). tt) (λ (e : fault_of why ≡ None). tt)
 begun_on (Ok cell) meaning key barrier d old new offer b s r =
@@ -150,7 +150,7 @@ begun_on (Ok cell) meaning key barrier d old new offer b s r =
     (λ (e : n ≡ None). seen_held (Ok cell) meaning key barrier d (after_turn i d stage.Begun b r.goes.others) b old new s r (read_kept i d r.goes.others))
     (λ (e : n ≡ None). tt)
 
-seen_on : (outcome : Result Found Refusal) (meaning : Meaning) (key barrier : List ℕ) (d : Digests) (cell : Cell) (old new : Standing) (offer : List ℕ) (b : Batch) → StandsAt (opt meaning key barrier) old d → cell ≡ cell_at (opt meaning key barrier) d → ReadsRegister meaning cell old new offer b outcome → StepsOn (opt meaning key barrier) d (stage.Seen cell) old new offer (normal b) (found_turn outcome)
+seen_on : (outcome : Result Found Refusal) (meaning : Meaning) (key barrier : List ℕ) (d : Digests) (cell : Cell) (old new : Standing) (offer : List ℕ) (b : Batch) → StandsAt (opt meaning key barrier) old d → cell ≡ cell_at (opt meaning key barrier) d → ReadsRegister meaning cell old new offer b outcome → WalksOn (opt meaning key barrier) d (stage.Seen cell) old new offer (normal b) (found_turn outcome)
 seen_on (Err why) meaning key barrier d cell old new offer b s mine on =
     steps_on (stage.Seen cell) meaning key barrier d old on.middle new offer (normal b) (found_turn (Err why)) s mine on.goes (room_only (Err why) on.middle new on.room)
     (λ (e : fault_of why ≡ None). tt)
@@ -172,7 +172,7 @@ seen_on (Ok (Opens opening)) meaning key barrier d cell old new offer b s mine o
     (λ (e : n ≡ None). record { shut = so.0; value = so.1; next = so.2 }) (λ (e : n ≡ None). record { lacks = false; gives = so.3 })
 
 -- the turns that give the last of a call
-last_on : (outcome : Result BatchAnswer StepFault) (it : Change) (meaning : Meaning) (key barrier : List ℕ) (d : Digests) (old new : Standing) (offer : List ℕ) (b : Batch) → StandsAt (opt meaning key barrier) old d → HoldsIn (opt meaning key barrier) d b it → Goes (act_of (stage.Changing it)) old new (result_err outcome) → StepsOn (opt meaning key barrier) d (stage.Changing it) old new offer b (last_turn outcome)
+last_on : (outcome : Result BatchAnswer StepFault) (it : Change) (meaning : Meaning) (key barrier : List ℕ) (d : Digests) (old new : Standing) (offer : List ℕ) (b : Batch) → StandsAt (opt meaning key barrier) old d → HoldsIn (opt meaning key barrier) d b it → Goes (act_of (stage.Changing it)) old new (result_err outcome) → WalksOn (opt meaning key barrier) d (stage.Changing it) old new offer b (last_turn outcome)
 last_on (Err fault) it meaning key barrier d old new offer b s h g =
     let n : Option StepFault = Some fault in
     steps_on (stage.Changing it) meaning key barrier d old new new offer b (last_turn (Err fault)) s h g refl (λ (e : n ≡ None). tt) (λ (e : n ≡ None). tt)
@@ -180,7 +180,7 @@ last_on (Ok answer) it meaning key barrier d old new offer b s h g =
     let n : Option StepFault = None in
     steps_on (stage.Changing it) meaning key barrier d old new new offer b (last_turn (Ok answer)) s h g refl (λ (e : n ≡ None). tt) (λ (e : n ≡ None). tt)
 
-emptied_on : (outcome : Result Opening StepFault) (meaning : Meaning) (key barrier : List ℕ) (d : Digests) (opening : Opening) (old new : Standing) (offer : List ℕ) (b : Batch) → StandsAt (opt meaning key barrier) old d → OpensAt (opt meaning key barrier) d b opening → Empties opening old new outcome → StepsOn (opt meaning key barrier) d (stage.Changing (change.Emptying opening)) old new offer b (emptied_turn outcome)
+emptied_on : (outcome : Result Opening StepFault) (meaning : Meaning) (key barrier : List ℕ) (d : Digests) (opening : Opening) (old new : Standing) (offer : List ℕ) (b : Batch) → StandsAt (opt meaning key barrier) old d → OpensAt (opt meaning key barrier) d b opening → Empties opening old new outcome → WalksOn (opt meaning key barrier) d (stage.Changing (change.Emptying opening)) old new offer b (emptied_turn outcome)
 emptied_on (Err fault) meaning key barrier d opening old new offer b s h x =
     let n : Option StepFault = Some fault in
     steps_on (stage.Changing (change.Emptying opening)) meaning key barrier d old new new offer b (emptied_turn (Err fault)) s h x.goes refl (λ (e : n ≡ None). absurd (cc)) (λ (e : n ≡ None). tt)
@@ -190,7 +190,7 @@ emptied_on (Ok it) meaning key barrier d opening old new offer b s h x =
     (λ (e : n ≡ None). opens_still (opt meaning key barrier) d (after_turn (opt meaning key barrier) d (stage.Changing (change.Emptying opening)) b x.goes.others) b opening it (reset_kept (opt meaning key barrier) d x.goes.others) x.gives h)
     (λ (e : n ≡ None). tt)
 
-placed_on : (outcome : Result Opening StepFault) (meaning : Meaning) (key barrier : List ℕ) (d : Digests) (opening : Opening) (old new : Standing) (offer : List ℕ) (b : Batch) → StandsAt (opt meaning key barrier) old d → OpensAt (opt meaning key barrier) d b opening → Places opening old new outcome → StepsOn (opt meaning key barrier) d (stage.Changing (change.Placing opening)) old new offer b (placed_turn outcome)
+placed_on : (outcome : Result Opening StepFault) (meaning : Meaning) (key barrier : List ℕ) (d : Digests) (opening : Opening) (old new : Standing) (offer : List ℕ) (b : Batch) → StandsAt (opt meaning key barrier) old d → OpensAt (opt meaning key barrier) d b opening → Places opening old new outcome → WalksOn (opt meaning key barrier) d (stage.Changing (change.Placing opening)) old new offer b (placed_turn outcome)
 placed_on (Err fault) meaning key barrier d opening old new offer b s h x =
     let n : Option StepFault = Some fault in
     steps_on (stage.Changing (change.Placing opening)) meaning key barrier d old new new offer b (placed_turn (Err fault)) s h x.goes refl (λ (e : n ≡ None). absurd (cc)) (λ (e : n ≡ None). tt)
@@ -200,26 +200,26 @@ placed_on (Ok it) meaning key barrier d opening old new offer b s h x =
     (λ (e : n ≡ None). opens_still (opt meaning key barrier) d (after_turn (opt meaning key barrier) d (stage.Changing (change.Placing opening)) b x.goes.others) b opening it (placed_kept (opt meaning key barrier) d b x.goes.others) x.gives h)
     (λ (e : n ≡ None). tt)
 
-changes_on : (it : Change) (meaning : Meaning) (key barrier : List ℕ) (d : Digests) (old new : Standing) (offer : List ℕ) (b : Batch) (turn : Turn) → StandsAt (opt meaning key barrier) old d → HoldsIn (opt meaning key barrier) d b it → ChangesTurn it old new turn → StepsOn (opt meaning key barrier) d (stage.Changing it) old new offer b turn
+changes_on : (it : Change) (meaning : Meaning) (key barrier : List ℕ) (d : Digests) (old new : Standing) (offer : List ℕ) (b : Batch) (turn : Turn) → StandsAt (opt meaning key barrier) old d → HoldsIn (opt meaning key barrier) d b it → ChangesTurn it old new turn → WalksOn (opt meaning key barrier) d (stage.Changing it) old new offer b turn
 changes_on (change.Inside ready) meaning key barrier d old new offer b turn s h t =
-    subst (λ (u : Turn). StepsOn (opt meaning key barrier) d (stage.Changing (change.Inside ready)) old new offer b u) (sym t.gives)
+    subst (λ (u : Turn). WalksOn (opt meaning key barrier) d (stage.Changing (change.Inside ready)) old new offer b u) (sym t.gives)
     (last_on t.outcome (change.Inside ready) meaning key barrier d old new offer b s h t.step.goes)
 changes_on (change.Emptying opening) meaning key barrier d old new offer b turn s h t =
-    subst (λ (u : Turn). StepsOn (opt meaning key barrier) d (stage.Changing (change.Emptying opening)) old new offer b u) (sym t.gives)
+    subst (λ (u : Turn). WalksOn (opt meaning key barrier) d (stage.Changing (change.Emptying opening)) old new offer b u) (sym t.gives)
     (emptied_on t.outcome meaning key barrier d opening old new offer b s h t.step)
 changes_on (change.Placing opening) meaning key barrier d old new offer b turn s h t =
-    subst (λ (u : Turn). StepsOn (opt meaning key barrier) d (stage.Changing (change.Placing opening)) old new offer b u) (sym t.gives)
+    subst (λ (u : Turn). WalksOn (opt meaning key barrier) d (stage.Changing (change.Placing opening)) old new offer b u) (sym t.gives)
     (placed_on t.outcome meaning key barrier d opening old new offer b s h t.step)
 changes_on (change.Writing opening) meaning key barrier d old new offer b turn s h t =
-    subst (λ (u : Turn). StepsOn (opt meaning key barrier) d (stage.Changing (change.Writing opening)) old new offer b u) (sym t.gives)
+    subst (λ (u : Turn). WalksOn (opt meaning key barrier) d (stage.Changing (change.Writing opening)) old new offer b u) (sym t.gives)
     (last_on t.outcome (change.Writing opening) meaning key barrier d old new offer b s h t.step.goes)
 
 pub turns_on : (call : Stage) (meaning : Meaning) (old new : Standing) (offer : List ℕ) (b : Batch) (turn : Turn) → Turns meaning call old new offer b turn → TurnsOn meaning call old new offer b turn
 turns_on stage.Begun meaning old new offer b turn t key barrier d s h =
-    subst (λ (u : Turn). StepsOn (opt meaning key barrier) d stage.Begun old new offer (normal b) u) (sym t.gives)
+    subst (λ (u : Turn). WalksOn (opt meaning key barrier) d stage.Begun old new offer (normal b) u) (sym t.gives)
     (begun_on t.outcome meaning key barrier d old new offer (normal b) s t.step)
 turns_on (stage.Seen cell) meaning old new offer b turn t key barrier d s h =
-    subst (λ (u : Turn). StepsOn (opt meaning key barrier) d (stage.Seen cell) old new offer (normal b) u) (sym t.gives)
+    subst (λ (u : Turn). WalksOn (opt meaning key barrier) d (stage.Seen cell) old new offer (normal b) u) (sym t.gives)
     (seen_on t.outcome meaning key barrier d cell old new offer b s h t.step)
 turns_on (stage.Changing it) meaning old new offer b turn t key barrier d s h =
     changes_on it meaning key barrier d old new offer (normal b) turn s h t

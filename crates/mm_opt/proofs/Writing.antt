@@ -23,9 +23,9 @@ use Rattle.mm_opt.specs.declared.found.Opening.{Opening}
 use Rattle.mm_opt.specs.declared.found.Found.{Found}
 use Rattle.mm_opt.specs.declared.found.Found.TheVariants.{Repeat, Inside, Opens}
 use Rattle.mm_opt.specs.Seen.{is_cell_of, own_cell, cell_in}
-use Rattle.mm_opt.specs.Order.{value_of, has_lost_power, verdict_of}
-use Rattle.mm_opt.specs.Answers.{answer_of, change_by, opened_cell, found_from, found_at, found_unless, found_in}
-use Rattle.mm_opt.specs.Steps.{ReadsCell as ReadsStep, FindsIn, ReadsRegister, Extends, Empties, Places, Writes}
+use Rattle.mm_opt.specs.Order.{batch_value, has_lost_power, verdict_of}
+use Rattle.mm_opt.specs.Answers.{answer_of, change_by, opened_cell, found_from, found_in_offer, found_unless, found_in}
+use Rattle.mm_opt.specs.Steps.{ReadsOwnCell as ReadsStep, FindsIn, ReadsRegister, Extends, Empties, Places, Writes}
 use Rattle.mm_opt.specs.Asks.{ReadsOn, Reads, PlacedOn, EmptiedOn, CommitsFound, Ends, Calls, OneStep, TwoSteps, ThreeSteps, FourSteps, StepsMade, one_step, two_steps, three_steps, four_steps, five_steps, StepsAnswered, StepsRefused, StepsBy, WritesAtMostOnce, StepsFrom, AnswersFrom, WritesBy}
 use Rattle.mm_opt.proofs.Findings.{IsShaped, shaped}
 use Rattle.mm_opt.proofs.Asking.{room_counted, reads_counted, reads_shaped, steps}
@@ -76,11 +76,11 @@ from_by_flag (Err why) cell value answer = tt
 from_by_flag (Ok true) cell value answer = tt
 from_by_flag (Ok false) cell value answer = change_by_flag cell.flag value (opened_cell cell) (answer false)
 
-at_by_flag : (meaning : Meaning) (cell : Cell) (register : List ℕ) (taken : Result Snapshot PartsFault) (b : Batch) → IsByFlag cell.flag (found_at meaning cell register taken b)
+at_by_flag : (meaning : Meaning) (cell : Cell) (register : List ℕ) (taken : Result Snapshot PartsFault) (b : Batch) → IsByFlag cell.flag (found_in_offer meaning cell register taken b)
 at_by_flag meaning cell register (Err Form) b = tt
 at_by_flag meaning cell register (Err Kind) b = tt
 at_by_flag meaning cell register (Ok offered) b =
-    from_by_flag (examined meaning cell.key offered b (verdict_of cell register offered b)) cell (value_of cell b)
+    from_by_flag (examined meaning cell.key offered b (verdict_of cell register offered b)) cell (batch_value cell b)
     (answer_of meaning cell register offered.content b)
 
 unless_by_flag : (lost flag : Bool) (found : Result Found Refusal) → IsByFlag flag found → IsByFlag flag (found_unless lost found)
@@ -95,7 +95,7 @@ or_by_flag flag (Ok it) found is o =
 in_by_flag : (meaning : Meaning) (cell : Cell) (register offer : List ℕ) (b : Batch) (found : Result Found Refusal) → FindsIn meaning cell register offer b found → IsByFlag cell.flag found
 in_by_flag meaning cell register offer b found f =
     or_by_flag cell.flag (found_in meaning cell register f.taken b) found
-    (unless_by_flag (has_lost_power cell register) cell.flag (found_at meaning cell register f.taken b) (at_by_flag meaning cell register f.taken b))
+    (unless_by_flag (has_lost_power cell register) cell.flag (found_in_offer meaning cell register f.taken b) (at_by_flag meaning cell register f.taken b))
     f.found_is
 
 -- the cell that is seen is the one that is told

@@ -18,7 +18,7 @@ use Rattle.mm_model.specs.declared.refusal.Refusal.TheVariants as refusal
 use Rattle.mm_call.specs.Order.{examined}
 use Rattle.mm_opt.specs.declared.found.Found.{Found}
 use Rattle.mm_opt.specs.declared.found.Found.TheVariants.{Repeat, Inside, Opens}
-use Rattle.mm_opt.specs.Order.{value_of, has_lost_power, verdict_of}
+use Rattle.mm_opt.specs.Order.{batch_value, has_lost_power, verdict_of}
 use Rattle.mm_call.specs.Answers.{answer_at}
 
 abbrev pub digest : List ℕ → Digest
@@ -41,7 +41,7 @@ place_after cell register value again =
 
 abbrev pub answer_of : Meaning → Cell → List ℕ → Content → Batch → Bool → BatchAnswer
 answer_of meaning cell register offered b again =
-    answer_at meaning cell.key offered (place_after cell register (value_of cell b) again) b again
+    answer_at meaning cell.key offered (place_after cell register (batch_value cell b) again) b again
 
 -- the cell once a segment is open
 abbrev pub opened_cell : Cell → List ℕ
@@ -62,11 +62,11 @@ found_from (Ok true) cell value answer = Ok (Repeat (answer true))
 found_from (Ok false) cell value answer = Ok (change_of cell value (answer false))
 
 -- what a call finds in an offer, where power wasn't lost
-abbrev pub found_at : Meaning → Cell → List ℕ → Result Snapshot PartsFault → Batch → Result Found Refusal
-found_at meaning cell register (Err Form) b = Err refusal.Form
-found_at meaning cell register (Err Kind) b = Err refusal.Kind
-found_at meaning cell register (Ok offered) b =
-    found_from (examined meaning cell.key offered b (verdict_of cell register offered b)) cell (value_of cell b)
+abbrev pub found_in_offer : Meaning → Cell → List ℕ → Result Snapshot PartsFault → Batch → Result Found Refusal
+found_in_offer meaning cell register (Err Form) b = Err refusal.Form
+found_in_offer meaning cell register (Err Kind) b = Err refusal.Kind
+found_in_offer meaning cell register (Ok offered) b =
+    found_from (examined meaning cell.key offered b (verdict_of cell register offered b)) cell (batch_value cell b)
     (answer_of meaning cell register offered.content b)
 
 abbrev pub found_unless : Bool → Result Found Refusal → Result Found Refusal
@@ -77,7 +77,7 @@ found_unless false found = found
 -- they were read, and the offer as it is taken apart
 abbrev pub found_in : Meaning → Cell → List ℕ → Result Snapshot PartsFault → Batch → Result Found Refusal
 found_in meaning cell register taken b =
-    found_unless (has_lost_power cell register) (found_at meaning cell register taken b)
+    found_unless (has_lost_power cell register) (found_in_offer meaning cell register taken b)
 
 -- the register is to be extended
 abbrev pub extends : Found → Bool

@@ -15,7 +15,7 @@ use Rattle.mm_call.specs.Refusals.{handed_on}
 use Rattle.mm_opt.specs.declared.found.Opening.{Opening}
 use Rattle.mm_opt.specs.declared.found.Found.{Found}
 use Rattle.mm_opt.specs.declared.found.Found.TheVariants.{Repeat, Inside, Opens}
-use Rattle.mm_opt.specs.Steps.{IsReady, ReadsCell, ReadsRegister, Extends, Empties, Places, Writes}
+use Rattle.mm_opt.specs.Steps.{IsReady, ReadsOwnCell, ReadsRegister, Extends, Empties, Places, Writes}
 
 -- The reading steps of a call.
 abbrev pub ReadsOn : Meaning → Result Cell Refusal → Standing → Standing → List ℕ → Batch → Result Found Refusal → Type 0
@@ -25,7 +25,7 @@ ReadsOn meaning (Ok cell) old new offer b found = ReadsRegister meaning cell old
 pub record Reads (meaning : Meaning) (old new : Standing) (offer : List ℕ) (b : Batch) (found : Result Found Refusal) : Type 0 where
   pub middle : Standing
   pub cell : Result Cell Refusal
-  pub reads : ReadsCell meaning.id old middle cell
+  pub reads : ReadsOwnCell meaning.id old middle cell
   pub on : ReadsOn meaning cell middle new offer b found
 
 -- the room that a call takes once its batch has run

@@ -5,7 +5,7 @@ use Rattle.mm_digest.specs.declared.variant.Variant.{Variant}
 use Rattle.mm_digest.specs.declared.variant.Variant.TheVariants.{Basic, Opt}
 use Rattle.mm_digest.specs.Messages.{zero_bytes, anchored_of}
 use Rattle.mm_platform.specs.declared.fault.StepFault.{StepFault}
-use Rattle.mm_platform.specs.Standing.{Item, Standing, values_of, register_of}
+use Rattle.mm_platform.specs.Standing.{Item, Standing, item_values, register_after}
 use Rattle.mm_platform.specs.Steps.{Act, ReadCell, WriteCell, ReadRegister, Goes}
 use Rattle.mm_seal.specs.declared.cell.Cell.{Cell}
 use Rattle.mm_seal.specs.declared.cell.CellFault.{CellFault}
@@ -93,7 +93,7 @@ closing_in cell register = closing_by (bytes_eq register zero_bytes) cell regist
 -- What is found on a platform, whose register is read; it is the platform's, where that tells its items.
 pub record FindsClosing (cell : Cell) (new : Standing) (found : Result (List ℕ) CheckpointRefusal) : Type 0 where
   pub register : List ℕ
-  pub told : (items : List Item) → new.items ≡ Some items → register ≡ register_of (values_of items)
+  pub told : (items : List Item) → new.items ≡ Some items → register ≡ register_after (item_values items)
   pub found_is : found ≡ closing_in cell register
 
 -- The second step, and what is found where it doesn't fail.

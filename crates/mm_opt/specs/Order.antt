@@ -24,8 +24,8 @@ abbrev pub point : List ℕ → List ℕ → Point
 point anchor extension = record { anchor = anchor; extension = extension }
 
 -- the value by which the batch extends the register
-abbrev pub value_of : Cell → Batch → List ℕ
-value_of cell b = guard cell.barrier (normal b)
+abbrev pub batch_value : Cell → Batch → List ℕ
+batch_value cell b = guard cell.barrier (normal b)
 
 -- power was lost inside an open segment
 abbrev pub has_lost_power : Cell → List ℕ → Bool
@@ -34,7 +34,7 @@ has_lost_power cell register = cell.flag && bytes_eq register zero_bytes
 -- the verdict by digests on an offered place
 abbrev pub verdict_at : Cell → List ℕ → Place → Batch → Verdict
 verdict_at cell register place b =
-    opt_verdict cell.flag cell.summary.bytes register (forms_of (anchor_in place) (extension_in place)) (value_of cell b)
+    opt_verdict cell.flag cell.summary.bytes register (forms_of (anchor_in place) (extension_in place)) (batch_value cell b)
 
 abbrev pub verdict_of : Cell → List ℕ → Snapshot → Batch → Verdict
 verdict_of cell register offered b = verdict_at cell register offered.content.place b

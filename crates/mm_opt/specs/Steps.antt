@@ -3,7 +3,7 @@ use Rattle.std.specs.Prelude.{◌≡◌, ℕ, ◌≤◌, List, length, None, Som
 use Rattle.std.specs.Result.{result_err}
 use Rattle.mm_digest.specs.declared.variant.Variant.TheVariants.{Opt}
 use Rattle.mm_platform.specs.declared.fault.StepFault.{StepFault}
-use Rattle.mm_platform.specs.Standing.{Item, Standing, values_of, register_of}
+use Rattle.mm_platform.specs.Standing.{Item, Standing, item_values, register_after}
 use Rattle.mm_platform.specs.Steps.{Act, ReadCell, WriteCell, ReadRegister, ResetRegister, ExtendRegister, Goes, Readies}
 use Rattle.mm_module.specs.Meaning.{Meaning}
 use Rattle.mm_module.specs.Batch.{Batch}
@@ -45,10 +45,10 @@ number_in (change.Emptying opening) = 3
 number_in (change.Placing opening) = 4
 number_in (change.Writing opening) = 5
 
-abbrev pub number_of : Stage → ℕ
-number_of stage.Begun = 1
-number_of (stage.Seen cell) = 2
-number_of (stage.Changing it) = number_in it
+abbrev pub step_number : Stage → ℕ
+step_number stage.Begun = 1
+step_number (stage.Seen cell) = 2
+step_number (stage.Changing it) = number_in it
 
 -- there is room to record one own extension
 abbrev pub IsReady : Standing → Type 0
@@ -73,7 +73,7 @@ pub record FindsCell (id : ℕ) (old : Standing) (found : Result Cell Refusal) :
   pub sees : SeesCell id bytes found
 
 -- The first step, and what is found where it doesn't fail.
-pub record ReadsCell (id : ℕ) (old new : Standing) (found : Result Cell Refusal) : Type 0 where
+pub record ReadsOwnCell (id : ℕ) (old new : Standing) (found : Result Cell Refusal) : Type 0 where
   pub goes : Goes ReadCell old new (fault_in found)
   pub finds : fault_in found ≡ None → FindsCell id old found
 
@@ -87,7 +87,7 @@ pub record FindsIn (meaning : Meaning) (cell : Cell) (register offer : List ℕ)
 pub record Finds (meaning : Meaning) (cell : Cell) (middle : Standing) (offer : List ℕ) (b : Batch)
     (found : Result Found Refusal) : Type 0 where
   pub register : List ℕ
-  pub told : (items : List Item) → middle.items ≡ Some items → register ≡ register_of (values_of items)
+  pub told : (items : List Item) → middle.items ≡ Some items → register ≡ register_after (item_values items)
   pub size : length register ≡ 32
   pub finds : FindsIn meaning cell register offer b found
 

@@ -19,7 +19,7 @@ use Rattle.mm_opt.specs.declared.stage.Change.{Change}
 use Rattle.mm_opt.specs.declared.stage.Change.TheVariants as change
 use Rattle.mm_opt.specs.declared.call.Turn.{Turn}
 use Rattle.mm_opt.specs.declared.call.Turn.TheVariants.{Going, Done, Refused}
-use Rattle.mm_opt.specs.Steps.{act_of, MayGoOn, ReadsCell, ReadsRegister, Extends, Empties, Places, Writes}
+use Rattle.mm_opt.specs.Steps.{act_of, MayGoOn, ReadsOwnCell, ReadsRegister, Extends, Empties, Places, Writes}
 
 -- the position after the batch, once it has run in memory
 abbrev pub position_in : Change → ℕ
@@ -28,10 +28,10 @@ position_in (change.Emptying opening) = opening.answer.position
 position_in (change.Placing opening) = opening.answer.position
 position_in (change.Writing opening) = opening.answer.position
 
-abbrev pub position_of : Stage → Option ℕ
-position_of stage.Begun = None
-position_of (stage.Seen cell) = None
-position_of (stage.Changing it) = Some (position_in it)
+abbrev pub stage_position : Stage → Option ℕ
+stage_position stage.Begun = None
+stage_position (stage.Seen cell) = None
+stage_position (stage.Changing it) = Some (position_in it)
 
 -- what the first turn gives, by the cell that it finds
 abbrev pub seen_turn : Result Cell Refusal → Turn
@@ -74,7 +74,7 @@ Changes (change.Writing opening) old new turn = TurnsBy (Writes opening old new)
 
 -- one turn of a call
 abbrev pub Turns : Meaning → Stage → Standing → Standing → List ℕ → Batch → Turn → Type 0
-Turns meaning stage.Begun old new offer b turn = TurnsBy (ReadsCell meaning.id old new) seen_turn turn
+Turns meaning stage.Begun old new offer b turn = TurnsBy (ReadsOwnCell meaning.id old new) seen_turn turn
 Turns meaning (stage.Seen cell) old new offer b turn =
     TurnsBy (ReadsRegister meaning cell old new offer b) found_turn turn
 Turns meaning (stage.Changing it) old new offer b turn = Changes it old new turn

@@ -15,7 +15,7 @@ use Rattle.mm_model.specs.declared.refusal.Refusal.{Refusal}
 use Rattle.mm_call.specs.Answers.{answer_at}
 use Rattle.mm_call.specs.Refusals.{fault_of}
 use Rattle.mm_call.specs.Levels.{all_made, by_digests, place_then}
-use Rattle.mm_call.specs.Found.{Found as Accepted, found_at as accepted_at, found_in as accepted_in}
+use Rattle.mm_call.specs.Found.{Found as Accepted, found_at as accepted_at, found_unless_wanting as accepted_in}
 use Rattle.mm_call.specs.Courses.{Fate, Walked, walk}
 use Rattle.mm_call.specs.Standing.{cell_at, StandsAt}
 use Rattle.mm_call.specs.Trails.{Leads}
@@ -84,13 +84,13 @@ GivesFound i seen b x (Going (stage.Changing (change.Placing opening))) = ⊥
 GivesFound i seen b x (Going (stage.Changing (change.Writing opening))) = ⊥
 
 -- What the register was read to give, but for want of memory, which comes in place of an accepted offer.
-pub record FindsOn (i : Instance) (seen : Digests) (offer : List ℕ) (b : Batch) (turn : Turn) : Type 0 where
+pub record FindsSeen (i : Instance) (seen : Digests) (offer : List ℕ) (b : Batch) (turn : Turn) : Type 0 where
   pub lacks : Bool
   pub gives : GivesFound i seen b (accepted_in (accepted_at i (by_digests i) seen b offer) lacks) turn
 
 abbrev pub SecondOn : Stage → Instance → Digests → List ℕ → Batch → Turn → Type 0
 SecondOn stage.Begun i d offer b turn = Unit {0}
-SecondOn (stage.Seen cell) i d offer b turn = FindsOn i d offer b turn
+SecondOn (stage.Seen cell) i d offer b turn = FindsSeen i d offer b turn
 SecondOn (stage.Changing it) i d offer b turn = Unit {0}
 
 -- one step of a walk
@@ -99,7 +99,7 @@ one_step fate step = walk (λ _. fate) 1 (step ∷ [])
 
 -- A turn was the next step of the walk: the platform goes on by its moves; and where the step didn't fail, the call holds
 -- again what the digests then gave, and the turn that read the register gives what the call by digests finds.
-pub record StepsOn (i : Instance) (d : Digests) (stage : Stage) (old new : Standing) (offer : List ℕ) (b : Batch)
+pub record WalksOn (i : Instance) (d : Digests) (stage : Stage) (old new : Standing) (offer : List ℕ) (b : Batch)
     (turn : Turn) : Type 0 where
   pub fate : Fate
   pub leads : Leads i d (one_step fate (step_of stage b)) old new (fault_turned turn)
@@ -110,4 +110,4 @@ pub record StepsOn (i : Instance) (d : Digests) (stage : Stage) (old new : Stand
 abbrev pub TurnsOn : Meaning → Stage → Standing → Standing → List ℕ → Batch → Turn → Type 0
 TurnsOn meaning stage old new offer b turn =
     (key barrier : List ℕ) (d : Digests) → StandsAt (opt meaning key barrier) old d → HoldsAt (opt meaning key barrier) d (normal b) stage →
-    StepsOn (opt meaning key barrier) d stage old new offer (normal b) turn
+    WalksOn (opt meaning key barrier) d stage old new offer (normal b) turn

@@ -62,8 +62,8 @@ impl Call {
     ghost use Rattle.std.specs.Prelude.{◌≡◌, false};
     ghost use Rattle.mm_module.specs.Batches.{batch_of};
     ghost use Rattle.mm_model.specs.Long.{is_long};
-    ghost use Rattle.mm_opt.specs.Steps.{number_of, MayGoOn};
-    ghost use Rattle.mm_opt.specs.Turns.{Turns, ActsAt, TurnMayGoOn, position_of, fault_turned};
+    ghost use Rattle.mm_opt.specs.Steps.{step_number, MayGoOn};
+    ghost use Rattle.mm_opt.specs.Turns.{Turns, ActsAt, TurnMayGoOn, stage_position, fault_turned};
     ghost use Rattle.mm_call.specs.Leaving.{Blames};
     ghost use Rattle.mm_opt.specs.TurnsOn.{TurnsOn};
     ghost use Rattle.mm_opt.specs.Finishes.{Finishes};
@@ -73,7 +73,7 @@ impl Call {
 
     /// The number of the next device step, from 1.
     pub fn next_step(&self) -> u8
-        ensures { result ≡ number_of self.now }
+        ensures { result ≡ step_number self.now }
     {
         match &self.stage {
             Stage::Begun => 1,
@@ -84,7 +84,7 @@ impl Call {
 
     /// The position after the batch, once it has run in memory.
     pub fn position(&self) -> Option<u64>
-        ensures { result ≡ position_of self.now }
+        ensures { result ≡ stage_position self.now }
     {
         match &self.stage {
             Stage::Begun => None,

@@ -11,7 +11,7 @@ ghost use Rattle.mm_model.specs.Judge.{forms_of, opt_verdict};
 ghost use Rattle.mm_model.specs.Long.{is_long};
 ghost use Rattle.mm_opt.specs.Seen.{is_cell_of, own_cell, SeesCell};
 ghost use Rattle.mm_opt.specs.Order.{anchor_in, extension_in};
-ghost use Rattle.mm_opt.specs.Answers.{place_after, extension_at, extension_after, change_of, found_at};
+ghost use Rattle.mm_opt.specs.Answers.{place_after, extension_at, extension_after, change_of, found_in_offer};
 ghost use Rattle.mm_call.specs.Refusals.{OrMemory, fault_in};
 ghost use Rattle.mm_opt.specs.Steps.{FindsIn};
 
@@ -99,7 +99,7 @@ fn weigh<M: Module>(
     requires position { offered.now.content.position ≤ last_position }
     requires short { is_long (batch_of batch) ≡ false }
     ensures { OrMemory
-        (found_at (M.meaning «module».now) cell.now register.now.bytes (Ok offered.now)
+        (found_in_offer (M.meaning «module».now) cell.now register.now.bytes (Ok offered.now)
         (batch_of batch.entry)) result }
 {
     let body = offered.body();

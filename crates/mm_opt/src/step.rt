@@ -4,7 +4,7 @@ ghost use Rattle.std.specs.Prelude.{◌≡◌, false};
 ghost use Rattle.mm_module.specs.Batches.{batch_of};
 ghost use Rattle.mm_model.specs.Long.{is_long};
 ghost use Rattle.mm_call.specs.Refusals.{OrMemory};
-ghost use Rattle.mm_opt.specs.Steps.{IsReady, ReadsCell, ReadsRegister, MakesRoom, Extends, Empties, Places, Writes};
+ghost use Rattle.mm_opt.specs.Steps.{IsReady, ReadsOwnCell, ReadsRegister, MakesRoom, Extends, Empties, Places, Writes};
 
 use crate::find::{find, find_cell};
 use crate::found::{Found, Opening, Ready};
@@ -17,7 +17,7 @@ use std::alloc::Global;
 
 /// The first step: reads the cell.
 pub fn read_cell<P: Platform>(id: u8, platform: &mut P) -> Result<Cell, Refusal>
-    ensures { ReadsCell id (P.standing platform.old) (P.standing platform.new) result }
+    ensures { ReadsOwnCell id (P.standing platform.old) (P.standing platform.new) result }
 {
     let mut bytes = [0; 104];
     match platform.nv_read(&mut bytes) {

@@ -5,7 +5,7 @@ use Rattle.std.proofs.lemmas.List.{get_or-append_right, get_or-drop, drop-drop, 
 use Rattle.std.proofs.Math.Seq.{take-append_seam}
 use Rattle.mm_digest.specs.declared.digest.Digest.{Digest}
 use Rattle.mm_pages.specs.Bytes.{page_of}
-use Rattle.mm_pages.specs.Rows.{Rows, row_in, with_row, kept_of, digest_of, keeping, digests_of}
+use Rattle.mm_pages.specs.Rows.{Rows, row_in, with_row, kept_digest, page_digest, keeping, page_digests}
 
 chosen : Bool → Bool → Bool → Rows → List (Option Digest)
 chosen a b c rows = if a then rows.zero else if b then rows.one else if c then rows.two else rows.three
@@ -79,20 +79,20 @@ keeping-alike page digest one other e f =
 
 -- what is kept of a page behind the digests of the pages before it
 pub kept_of-next : (page : ℕ) (firsts row : List (Option Digest)) → length firsts ≡ page →
-    kept_of (firsts ++ drop page row) page ≡ kept_of row page
+    kept_digest (firsts ++ drop page row) page ≡ kept_digest row page
 kept_of-next page firsts row e =
     get_or-append_right firsts (drop page row) page page None e (omega arith)
     ∙ get_or-drop page row (page - page) None
     ∙ ap (λ n. get_or row n None) (omega arith)
 
-pub length-digests_of : (bytes : List ℕ) (count : ℕ) → length (digests_of bytes count) ≡ count
+pub length-digests_of : (bytes : List ℕ) (count : ℕ) → length (page_digests bytes count) ≡ count
 length-digests_of bytes zero = refl
 length-digests_of bytes (suc count) =
-    length-append (digests_of bytes count) (Some (digest_of (page_of bytes count)) ∷ [])
+    length-append (page_digests bytes count) (Some (page_digest (page_of bytes count)) ∷ [])
     ∙ omega (arith, length-digests_of bytes count)
 
 pub take-digests_of : (bytes : List ℕ) (count : ℕ) (rest : List (Option Digest)) →
-    take count (digests_of bytes count ++ rest) ≡ digests_of bytes count
+    take count (page_digests bytes count ++ rest) ≡ page_digests bytes count
 take-digests_of bytes count rest =
-    let firsts : List (Option Digest) = digests_of bytes count in
+    let firsts : List (Option Digest) = page_digests bytes count in
     subst (λ n. take n (firsts ++ rest) ≡ firsts) (length-digests_of bytes count) (take-append_seam firsts rest)

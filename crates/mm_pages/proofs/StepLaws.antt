@@ -8,8 +8,8 @@ use Rattle.mm_store.specs.Slots.{Slots, with_slot}
 use Rattle.mm_store.specs.Calls.{putting}
 use Rattle.mm_pages.specs.Bytes.{page_of, page_count}
 use Rattle.mm_pages.specs.Paged.{Paged}
-use Rattle.mm_pages.specs.Rows.{Rows, with_row, digest_of, digests_of}
-use Rattle.mm_pages.specs.Puts.{PutsAll}
+use Rattle.mm_pages.specs.Rows.{Rows, with_row, page_digest, page_digests}
+use Rattle.mm_pages.specs.Puts.{PutsWhole}
 use Rattle.mm_pages.specs.Cached.{AreOf, AreInStep, KeepsStep}
 use Rattle.mm_pages.proofs.RowLaws.{length-digests_of}
 
@@ -18,11 +18,11 @@ last_of zero digest other e = (refl, cc)
 last_of (suc n) digest other e = absurd (cc)
 
 -- the digests of bytes are those of their own pages
-are_of_own : (bytes : List ℕ) (count : ℕ) → AreOf (digests_of bytes count) bytes
+are_of_own : (bytes : List ℕ) (count : ℕ) → AreOf (page_digests bytes count) bytes
 are_of_own bytes zero page digest e = absurd (cc)
 are_of_own bytes (suc count) page digest e =
-    let firsts : List (Option Digest) = digests_of bytes count in
-    let last : Digest = digest_of (page_of bytes count) in
+    let firsts : List (Option Digest) = page_digests bytes count in
+    let last : Digest = page_digest (page_of bytes count) in
     elim (cases_lt page count) [
       | inl before ↦
           are_of_own bytes count page digest
@@ -31,7 +31,7 @@ are_of_own bytes (suc count) page digest e =
           (let found = last_of (page - count) last digest
           (sym (get_or-append_right firsts (Some last ∷ []) count page None (length-digests_of bytes count) here) ∙ e) in
           let same : count ≡ page = omega (arith, found.0) in
-          sym found.1 ∙ ap (λ n. digest_of (page_of bytes n)) same)
+          sym found.1 ∙ ap (λ n. page_digest (page_of bytes n)) same)
     ]
 
 put_row : Bool → Bool → Bool → Rows → List (Option Digest) → Rows
@@ -73,7 +73,7 @@ step_after slot rows after row bytes old new was now r s e f k h =
     (subst (λ (x : Slots). AreInStep (with_row rows slot row) x) same (step_with slot rows was row bytes h k))
 
 pub step_written : (slot : ℕ) (bytes : List ℕ) (old new : Paged) (rows after : Rows) →
-    PutsAll slot bytes old new rows after → KeepsStep old new rows after
+    PutsWhole slot bytes old new rows after → KeepsStep old new rows after
 step_written slot bytes old new rows after p honest was now e f h =
-    step_after slot rows after (digests_of bytes (page_count (length bytes))) bytes old.slots new.slots was now p.rows_are
+    step_after slot rows after (page_digests bytes (page_count (length bytes))) bytes old.slots new.slots was now p.rows_are
     (p.slots honest) e f (are_of_own bytes (page_count (length bytes))) h

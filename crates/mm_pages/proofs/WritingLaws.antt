@@ -13,9 +13,9 @@ use Rattle.mm_store.proofs.SlotLaws.{slot_in-with_slot, with_slot-twice, with_sl
 use Rattle.mm_pages.specs.Bytes.{resized, page_of, with_page, page_count}
 use Rattle.mm_pages.specs.Paged.{Paged}
 use Rattle.mm_pages.specs.Calls.{WritesPage, ReadsLength, Syncs, changing}
-use Rattle.mm_pages.specs.Counts.{counted_by, may_be, look_at, looks_at, change_of, changes_of, one_if}
-use Rattle.mm_pages.specs.Rows.{Rows, row_in, with_row, kept_of, digest_of, keeping, digests_of, DropsPage}
-use Rattle.mm_pages.specs.Puts.{IsInStep, HoldsPage, IsPutAt, FailsIn, Fails, PutsThere, PutsOne, IsFilled, FillsSlot, PutsFirst, IsOneMoreAtMost, Fits, FitsLength, PutsAll, PutsBytes}
+use Rattle.mm_pages.specs.Counts.{counted_by, may_be, look_at, looks_at, change_count, changes_of, one_if}
+use Rattle.mm_pages.specs.Rows.{Rows, row_in, with_row, kept_digest, page_digest, keeping, page_digests, DropsPage}
+use Rattle.mm_pages.specs.Puts.{IsInStep, HoldsPage, IsPutAt, FailsIn, Fails, PutsThere, PutsOne, IsFilled, FillsSlot, PutsFirst, IsOneMoreAtMost, Fits, FitsLength, PutsWhole, PutsBytes}
 use Rattle.mm_pages.proofs.BytesLaws.{get_or-page_of, page_of-same, with_page-before, with_page-within, with_page-after, resized-same, resized-length}
 use Rattle.mm_pages.proofs.RowLaws.{row_in-with_row, with_row-twice, with_row-same, keeping-next, keeping-alike, kept_of-next, length-digests_of, take-digests_of}
 use Rattle.mm_pages.proofs.CountLaws.{counted_by-add, both_right, same_bytes, no_change, a_change, changes_of-same}
@@ -75,8 +75,8 @@ comes_there slot page part (Some was) new l e = record {
 
 -- one page: it is there already
 pub put_held : (slot page : ℕ) (part : List ℕ) (digest : Digest) (kept : Option Digest) (old new : Paged)
-    (rows after : Rows) → HoldsPage slot page kept digest part old new (Ok true) → digest ≡ digest_of part →
-    kept ≡ kept_of (row_in rows slot) page → after ≡ with_row rows slot (keeping page digest (row_in rows slot)) →
+    (rows after : Rows) → HoldsPage slot page kept digest part old new (Ok true) → digest ≡ page_digest part →
+    kept ≡ kept_digest (row_in rows slot) page → after ≡ with_row rows slot (keeping page digest (row_in rows slot)) →
     PutsOne slot page part old new rows after
 put_held slot page part digest kept old new rows after h d k r = record {
   honest = ap (λ (x : Paged). x.is_honest) h.same;
@@ -86,7 +86,7 @@ put_held slot page part digest kept old new rows after h d k r = record {
   looks =
       ap (λ (x : Paged). x.page_reads) h.same
       ∙ ap (λ (x : Option Digest). counted_by (one_if (may_be x digest)) old.page_reads) k
-      ∙ ap (λ (x : Digest). counted_by (one_if (may_be (kept_of (row_in rows slot) page) x)) old.page_reads) d;
+      ∙ ap (λ (x : Digest). counted_by (one_if (may_be (kept_digest (row_in rows slot) page) x)) old.page_reads) d;
   puts =
       λ honest.
       let same : new.slots ≡ old.slots = ap (λ (x : Paged). x.slots) h.same in
@@ -95,7 +95,7 @@ put_held slot page part digest kept old new rows after h d k r = record {
       (λ told e. same_bytes (page_of (slot_in told slot) page) part (both_right (may_be kept digest) (bytes_eq (page_of (slot_in told slot) page) part) (h.holds told e))));
   writes =
       λ told e step.
-      let none : change_of (page_of (slot_in told slot) page) part ≡ 0 =
+      let none : change_count (page_of (slot_in told slot) page) part ≡ 0 =
       no_change (may_be kept digest) (page_of (slot_in told slot) page) part (h.holds told e) in
       ap (λ (x : Paged). x.page_writes) h.same ∙ ap (λ n. counted_by n old.page_writes) (sym none);
   still = λ told e step none. ap (λ (x : Paged). x.slots) h.same;
@@ -104,25 +104,25 @@ put_held slot page part digest kept old new rows after h d k r = record {
 -- one page: it is written
 pub put_written : (slot page : ℕ) (part : List ℕ) (digest : Digest) (kept : Option Digest) (old mid new : Paged)
     (rows dropped after : Rows) (done : Unit) → HoldsPage slot page kept digest part old mid (Ok false) →
-    WritesPage slot page part mid new (Ok done) → length part ≡ 256 → digest ≡ digest_of part →
-    kept ≡ kept_of (row_in rows slot) page → DropsPage slot page rows dropped →
+    WritesPage slot page part mid new (Ok done) → length part ≡ 256 → digest ≡ page_digest part →
+    kept ≡ kept_digest (row_in rows slot) page → DropsPage slot page rows dropped →
     after ≡ with_row dropped slot (keeping page digest (row_in dropped slot)) → PutsOne slot page part old new rows after
 put_written slot page part digest kept old mid new rows dropped after done h w l d k r s =
     let row_is : row_in dropped slot ≡ r.row = ap (λ (x : Rows). row_in x slot) r.rows ∙ row_in-with_row rows slot r.row in
-    let alike : keeping page digest (row_in dropped slot) ≡ keeping page (digest_of part) (row_in rows slot) =
+    let alike : keeping page digest (row_in dropped slot) ≡ keeping page (page_digest part) (row_in rows slot) =
     ap (λ (x : List (Option Digest)). keeping page digest x) row_is
     ∙ keeping-alike page digest r.row (row_in rows slot) r.before r.after
     ∙ ap (λ (x : Digest). keeping page x (row_in rows slot)) d in
     let reads : mid.page_reads ≡ counted_by (look_at (row_in rows slot) page part) old.page_reads =
     ap (λ (x : Paged). x.page_reads) h.same
     ∙ ap (λ (x : Option Digest). counted_by (one_if (may_be x digest)) old.page_reads) k
-    ∙ ap (λ (x : Digest). counted_by (one_if (may_be (kept_of (row_in rows slot) page) x)) old.page_reads) d in
+    ∙ ap (λ (x : Digest). counted_by (one_if (may_be (kept_digest (row_in rows slot) page) x)) old.page_reads) d in
     let changes : (told : Slots) → old.slots ≡ Some told → IsInStep (row_in rows slot) page (slot_in told slot) →
-    change_of (page_of (slot_in told slot) page) part ≡ 1 =
+    change_count (page_of (slot_in told slot) page) part ≡ 1 =
     λ told e step.
-    let known : (x : Digest) → kept ≡ Some x → x ≡ digest_of (page_of (slot_in told slot) page) =
+    let known : (x : Digest) → kept ≡ Some x → x ≡ page_digest (page_of (slot_in told slot) page) =
     λ x f. step x (sym k ∙ f) in
-    let held : false ≡ (may_be kept (digest_of part) && bytes_eq (page_of (slot_in told slot) page) part) =
+    let held : false ≡ (may_be kept (page_digest part) && bytes_eq (page_of (slot_in told slot) page) part) =
     h.holds told e ∙ ap (λ (x : Digest). may_be kept x && bytes_eq (page_of (slot_in told slot) page) part) d in
     a_change kept (page_of (slot_in told slot) page) part known held in
     record {
@@ -131,8 +131,8 @@ put_written slot page part digest kept old mid new rows dropped after done h w l
       lengths = ap (λ (x : Paged). x.length_writes) w.same ∙ ap (λ (x : Paged). x.length_writes) h.same;
       rows_are =
           s ∙ ap (λ (x : List (Option Digest)). with_row dropped slot x) alike
-          ∙ ap (λ (x : Rows). with_row x slot (keeping page (digest_of part) (row_in rows slot))) r.rows
-          ∙ with_row-twice rows slot r.row (keeping page (digest_of part) (row_in rows slot));
+          ∙ ap (λ (x : Rows). with_row x slot (keeping page (page_digest part) (row_in rows slot))) r.rows
+          ∙ with_row-twice rows slot r.row (keeping page (page_digest part) (row_in rows slot));
       looks = ap (λ (x : Paged). x.page_reads) w.same ∙ reads;
       puts =
           λ honest.
@@ -142,13 +142,13 @@ put_written slot page part digest kept old mid new rows dropped after done h w l
           (written ∙ ap (λ (x : Option Slots). changing slot (with_page page part) x) still);
       writes =
           λ told e step.
-          let one : change_of (page_of (slot_in told slot) page) part ≡ 1 = changes told e step in
+          let one : change_count (page_of (slot_in told slot) page) part ≡ 1 = changes told e step in
           ap (λ (x : Paged). x.page_writes) w.same
           ∙ ap (λ (x : Paged). counted x.page_writes) h.same
           ∙ ap (λ n. counted_by n old.page_writes) (sym one);
       still =
           λ told e step none.
-          let one : change_of (page_of (slot_in told slot) page) part ≡ 1 = changes told e step in
+          let one : change_count (page_of (slot_in told slot) page) part ≡ 1 = changes told e step in
           absurd (omega (arith, one, none));
     }
 
@@ -247,27 +247,27 @@ pub puts_more : (slot count : ℕ) (bytes : List ℕ) (old mid new : Paged) (row
     PutsFirst slot (suc count) bytes old new rows after
 puts_more slot count bytes old mid new rows some after f p =
     let part : List ℕ = page_of bytes count in
-    let firsts : List (Option Digest) = digests_of bytes count in
+    let firsts : List (Option Digest) = page_digests bytes count in
     let row : List (Option Digest) = row_in rows slot in
     let row_is : row_in some slot ≡ firsts ++ drop count row =
     ap (λ (x : Rows). row_in x slot) f.rows_are ∙ row_in-with_row rows slot (firsts ++ drop count row) in
-    let kept_is : kept_of (row_in some slot) count ≡ kept_of row count =
-    ap (λ (x : List (Option Digest)). kept_of x count) row_is
+    let kept_is : kept_digest (row_in some slot) count ≡ kept_digest row count =
+    ap (λ (x : List (Option Digest)). kept_digest x count) row_is
     ∙ kept_of-next count firsts row (length-digests_of bytes count) in
-    let more : keeping count (digest_of part) (row_in some slot) ≡ digests_of bytes (suc count) ++ drop (suc count) row =
-    ap (λ (x : List (Option Digest)). keeping count (digest_of part) x) row_is
-    ∙ keeping-next count (digest_of part) firsts row (length-digests_of bytes count) in
+    let more : keeping count (page_digest part) (row_in some slot) ≡ page_digests bytes (suc count) ++ drop (suc count) row =
+    ap (λ (x : List (Option Digest)). keeping count (page_digest part) x) row_is
+    ∙ keeping-next count (page_digest part) firsts row (length-digests_of bytes count) in
     record {
       honest = p.honest ∙ f.honest;
       faults = p.faults ∙ f.faults;
       lengths = p.lengths ∙ f.lengths;
       rows_are =
           p.rows_are ∙ ap (λ (x : List (Option Digest)). with_row some slot x) more
-          ∙ ap (λ (x : Rows). with_row x slot (digests_of bytes (suc count) ++ drop (suc count) row)) f.rows_are
-          ∙ with_row-twice rows slot (firsts ++ drop count row) (digests_of bytes (suc count) ++ drop (suc count) row);
+          ∙ ap (λ (x : Rows). with_row x slot (page_digests bytes (suc count) ++ drop (suc count) row)) f.rows_are
+          ∙ with_row-twice rows slot (firsts ++ drop count row) (page_digests bytes (suc count) ++ drop (suc count) row);
       looks =
           p.looks
-          ∙ ap (λ (x : Option Digest). counted_by (one_if (may_be x (digest_of part))) mid.page_reads) kept_is
+          ∙ ap (λ (x : Option Digest). counted_by (one_if (may_be x (page_digest part))) mid.page_reads) kept_is
           ∙ ap (λ n. counted_by (look_at row count part) n) f.looks
           ∙ sym (counted_by-add (look_at row count part) (looks_at row bytes count) old.page_reads);
       fills =
@@ -281,12 +281,12 @@ puts_more slot count bytes old mid new rows some after f p =
           let page : page_of (slot_in (with_slot told slot g.left) slot) count ≡ page_of was count =
           ap (λ (x : List ℕ). page_of x count) here ∙ page_after count bytes was g.left (g.fills told e) in
           let step : IsInStep (row_in some slot) count (slot_in (with_slot told slot g.left) slot) =
-          λ x k. steps count (omega arith) x (sym kept_is ∙ k) ∙ ap digest_of (sym page) in
+          λ x k. steps count (omega arith) x (sym kept_is ∙ k) ∙ ap page_digest (sym page) in
           p.writes (with_slot told slot g.left) (told_after slot g.left old.slots mid.slots told g.slots e) step
-          ∙ ap (λ (x : List ℕ). counted_by (change_of x part) mid.page_writes) page
-          ∙ ap (λ n. counted_by (change_of (page_of was count) part) n)
+          ∙ ap (λ (x : List ℕ). counted_by (change_count x part) mid.page_writes) page
+          ∙ ap (λ n. counted_by (change_count (page_of was count) part) n)
           (f.writes honest told e (λ k below. steps k (omega arith)))
-          ∙ sym (counted_by-add (change_of (page_of was count) part) (changes_of was bytes count) old.page_writes);
+          ∙ sym (counted_by-add (change_count (page_of was count) part) (changes_of was bytes count) old.page_writes);
       still =
           λ honest told e steps none.
           let was : List ℕ = slot_in told slot in
@@ -300,11 +300,11 @@ pub reaches : (slot count : ℕ) (bytes : List ℕ) (old new : Paged) (rows afte
     PutsFirst slot count bytes old new rows after → count ≤ length (row_in after slot)
 reaches slot count bytes old new rows after f =
     let row_is = ap (λ (x : Rows). row_in x slot) f.rows_are
-    ∙ row_in-with_row rows slot (digests_of bytes count ++ drop count (row_in rows slot)) in
+    ∙ row_in-with_row rows slot (page_digests bytes count ++ drop count (row_in rows slot)) in
     omega (
       arith,
       ap length row_is,
-      length-append (digests_of bytes count) (drop count (row_in rows slot)),
+      length-append (page_digests bytes count) (drop count (row_in rows slot)),
       length-digests_of bytes count,
     )
 
@@ -425,13 +425,13 @@ fits_whole slot bytes (Some told) mid new f e =
 pub puts_all : (slot : ℕ) (bytes : List ℕ) (old mid new : Paged) (rows some after : Rows) →
     PutsFirst slot (page_count (length bytes)) bytes old mid rows some →
     after ≡ with_row some slot (take (page_count (length bytes)) (row_in some slot)) →
-    Fits slot (length bytes) mid new → PutsAll slot bytes old new rows after
+    Fits slot (length bytes) mid new → PutsWhole slot bytes old new rows after
 puts_all slot bytes old mid new rows some after f r g =
     let count : ℕ = page_count (length bytes) in
-    let row_is : row_in some slot ≡ digests_of bytes count ++ drop count (row_in rows slot) =
+    let row_is : row_in some slot ≡ page_digests bytes count ++ drop count (row_in rows slot) =
     ap (λ (x : Rows). row_in x slot) f.rows_are
-    ∙ row_in-with_row rows slot (digests_of bytes count ++ drop count (row_in rows slot)) in
-    let cut : take count (row_in some slot) ≡ digests_of bytes count =
+    ∙ row_in-with_row rows slot (page_digests bytes count ++ drop count (row_in rows slot)) in
+    let cut : take count (row_in some slot) ≡ page_digests bytes count =
     ap (λ (x : List (Option Digest)). take count x) row_is ∙ take-digests_of bytes count (drop count (row_in rows slot)) in
     record {
       honest = g.honest ∙ f.honest;
@@ -439,8 +439,8 @@ puts_all slot bytes old mid new rows some after f r g =
       lengths = subst (λ n. IsOneMoreAtMost n new.length_writes) f.lengths g.lengths;
       rows_are =
           r ∙ ap (λ (x : List (Option Digest)). with_row some slot x) cut
-          ∙ ap (λ (x : Rows). with_row x slot (digests_of bytes count)) f.rows_are
-          ∙ with_row-twice rows slot _ (digests_of bytes count);
+          ∙ ap (λ (x : Rows). with_row x slot (page_digests bytes count)) f.rows_are
+          ∙ with_row-twice rows slot _ (page_digests bytes count);
       looks = g.reads ∙ f.looks;
       slots =
           λ honest.
@@ -467,6 +467,6 @@ fails_at_end slot bytes old mid new rows some after f r g =
 
 -- a write that didn't fail
 pub put_whole : (slot : ℕ) (bytes : List ℕ) (old new : Paged) (rows after : Rows) (result : Result Unit Failed) →
-    PutsBytes slot bytes old new rows after result → is_err result ≡ false → PutsAll slot bytes old new rows after
+    PutsBytes slot bytes old new rows after result → is_err result ≡ false → PutsWhole slot bytes old new rows after
 put_whole slot bytes old new rows after (Ok done) p e = p
 put_whole slot bytes old new rows after (Err fault) p e = absurd (cc)

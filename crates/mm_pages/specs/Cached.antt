@@ -6,7 +6,7 @@ use Rattle.mm_digest.specs.declared.digest.Digest.{Digest}
 use Rattle.mm_store.specs.Slots.{Slots}
 use Rattle.mm_pages.specs.Bytes.{page_count}
 use Rattle.mm_pages.specs.Paged.{Paged}
-use Rattle.mm_pages.specs.Rows.{Rows, with_row, digests_of}
+use Rattle.mm_pages.specs.Rows.{Rows, with_row, page_digests}
 use Rattle.mm_pages.specs.Puts.{IsInStep}
 
 -- the device, and the digests that are kept of its pages
@@ -16,7 +16,7 @@ pub record Cached (D : Type 0) : Type 0 where
 
 -- the digests kept after a write: those of the pages of the bytes and no other of their slot, or none of it
 abbrev pub rows_after_write : {T : Type 0} → ℕ → List ℕ → Rows → Result T StoreFault → Rows
-rows_after_write slot bytes rows (Ok _) = with_row rows slot (digests_of bytes (page_count (length bytes)))
+rows_after_write slot bytes rows (Ok _) = with_row rows slot (page_digests bytes (page_count (length bytes)))
 rows_after_write slot bytes rows (Err _) = with_row rows slot []
 
 -- the digests kept after a read: all of them, or none of its slot where the device failed

@@ -4,7 +4,7 @@ use Rattle.std.specs.Str.{bytes_eq}
 use Rattle.mm_base.specs.Faults.{counted}
 use Rattle.mm_digest.specs.declared.digest.Digest.{Digest}
 use Rattle.mm_pages.specs.Bytes.{page_of}
-use Rattle.mm_pages.specs.Rows.{kept_of, digest_of}
+use Rattle.mm_pages.specs.Rows.{kept_digest, page_digest}
 
 -- the count after so many more
 abbrev pub counted_by : ℕ → ℕ → ℕ
@@ -21,7 +21,7 @@ one_if b = if b then 1 else 0
 
 -- 1 where the page is read back before these bytes are put there
 abbrev pub look_at : List (Option Digest) → ℕ → List ℕ → ℕ
-look_at row page part = one_if (may_be (kept_of row page) (digest_of part))
+look_at row page part = one_if (may_be (kept_digest row page) (page_digest part))
 
 -- how many of the first pages of these bytes are read back: those of which no digest is kept, or that of the
 -- new page
@@ -30,10 +30,10 @@ looks_at row bytes zero = 0
 looks_at row bytes (suc count) = look_at row count (page_of bytes count) + looks_at row bytes count
 
 -- 1 where the page is another
-abbrev pub change_of : List ℕ → List ℕ → ℕ
-change_of was part = if bytes_eq was part then 0 else 1
+abbrev pub change_count : List ℕ → List ℕ → ℕ
+change_count was part = if bytes_eq was part then 0 else 1
 
 -- how many of the first pages of these bytes differ from what was there
 abbrev pub changes_of : List ℕ → List ℕ → ℕ → ℕ
 changes_of was bytes zero = 0
-changes_of was bytes (suc count) = change_of (page_of was count) (page_of bytes count) + changes_of was bytes count
+changes_of was bytes (suc count) = change_count (page_of was count) (page_of bytes count) + changes_of was bytes count

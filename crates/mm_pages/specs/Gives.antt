@@ -3,7 +3,7 @@ use Rattle.std.specs.Prelude.{◌≡◌, ◌≤◌, ℕ, List, length, take, Som
 use Rattle.mm_base.specs.declared.fault.Failed.{Failed}
 use Rattle.mm_base.specs.Faults.{CountsFaults}
 use Rattle.mm_store.specs.declared.fault.StoreFault.{StoreFault}
-use Rattle.mm_store.specs.Slots.{Slots, slot_in, seen_in}
+use Rattle.mm_store.specs.Slots.{Slots, slot_in, slot_read}
 use Rattle.mm_store.specs.Calls.{CountsFailures}
 use Rattle.mm_store.specs.declared.store.TheConstants.{LONGEST_SLOT}
 use Rattle.mm_pages.specs.Paged.{Paged}
@@ -12,7 +12,7 @@ use Rattle.mm_pages.specs.Paged.{Paged}
 pub record GivesBytes (slot : ℕ) (old new : Paged) (result : Result (List ℕ) StoreFault) : Type 0 where
   pub same : new ≡ record old { faults = new.faults; page_reads = new.page_reads }
   pub counted_faults : CountsFailures old.faults new.faults result
-  pub gives : IfOk result (λ bytes. (slots : Slots) → old.slots ≡ Some slots → bytes ≡ seen_in slots slot)
+  pub gives : IfOk result (λ bytes. (slots : Slots) → old.slots ≡ Some slots → bytes ≡ slot_read slots slot)
   pub short : IfOk result (λ bytes. length bytes ≤ LONGEST_SLOT)
 
 -- how many bytes a read of the slot gives
@@ -20,7 +20,7 @@ pub record GivesSize (slot : ℕ) (old new : Paged) (result : Result ℕ Failed)
   pub same : new ≡ record old { faults = new.faults }
   pub counted_faults : CountsFaults old.faults new.faults result
   pub most : IfOk result (λ size. size ≤ LONGEST_SLOT)
-  pub gives : IfOk result (λ size. (slots : Slots) → old.slots ≡ Some slots → size ≡ length (seen_in slots slot))
+  pub gives : IfOk result (λ size. (slots : Slots) → old.slots ≡ Some slots → size ≡ length (slot_read slots slot))
 
 -- the pages of a slot's first bytes
 pub record GivesPages (slot size : ℕ) (old new : Paged) (bytes : List ℕ) (result : Result Unit StoreFault) : Type 0 where

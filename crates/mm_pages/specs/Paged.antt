@@ -1,7 +1,7 @@
 -- What a device of pages holds.
 use Rattle.std.specs.Prelude.{ℕ, Bool, Option}
 use Rattle.mm_store.specs.Slots.{Slots}
-use Rattle.mm_store.specs.Kept.{Kept}
+use Rattle.mm_store.specs.Kept.{StoreStanding}
 
 -- the slots where the device tells them, whether it is honest, its count of faults, and how many reads of
 -- pages, writes of pages and writes of lengths were called
@@ -14,5 +14,5 @@ pub record Paged : Type 0 where
   pub length_writes : ℕ
 
 -- what a store over the device holds
-abbrev pub kept_on : Paged → Kept
+abbrev pub kept_on : Paged → StoreStanding
 kept_on paged = record { slots = paged.slots; is_honest = paged.is_honest; faults = paged.faults }

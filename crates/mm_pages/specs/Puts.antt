@@ -9,12 +9,12 @@ use Rattle.mm_store.specs.Calls.{putting}
 use Rattle.mm_pages.specs.Bytes.{resized, page_of, page_count}
 use Rattle.mm_pages.specs.Calls.{changing}
 use Rattle.mm_pages.specs.Paged.{Paged}
-use Rattle.mm_pages.specs.Counts.{counted_by, may_be, look_at, looks_at, change_of, changes_of, one_if}
-use Rattle.mm_pages.specs.Rows.{Rows, row_in, with_row, kept_of, digest_of, keeping, digests_of}
+use Rattle.mm_pages.specs.Counts.{counted_by, may_be, look_at, looks_at, change_count, changes_of, one_if}
+use Rattle.mm_pages.specs.Rows.{Rows, row_in, with_row, kept_digest, page_digest, keeping, page_digests}
 
 -- the digest that is kept of a page, if any, is the digest of what is there
 abbrev pub IsInStep : List (Option Digest) → ℕ → List ℕ → Type 0
-IsInStep row page was = (digest : Digest) → kept_of row page ≡ Some digest → digest ≡ digest_of (page_of was page)
+IsInStep row page was = (digest : Digest) → kept_digest row page ≡ Some digest → digest ≡ page_digest (page_of was page)
 
 -- a page is looked up and, where its digest doesn't tell it from the new one, read back
 pub record HoldsPage (slot page : ℕ) (kept : Option Digest) (digest : Digest) (part : List ℕ) (old new : Paged)
@@ -53,13 +53,13 @@ pub record PutsOne (slot page : ℕ) (part : List ℕ) (old new : Paged) (rows a
   pub honest : new.is_honest ≡ old.is_honest
   pub faults : new.faults ≡ old.faults
   pub lengths : new.length_writes ≡ old.length_writes
-  pub rows_are : after ≡ with_row rows slot (keeping page (digest_of part) (row_in rows slot))
+  pub rows_are : after ≡ with_row rows slot (keeping page (page_digest part) (row_in rows slot))
   pub looks : new.page_reads ≡ counted_by (look_at (row_in rows slot) page part) old.page_reads
   pub puts : old.is_honest ≡ true → PutsThere slot page part old.slots new.slots
   pub writes : (told : Slots) → old.slots ≡ Some told → IsInStep (row_in rows slot) page (slot_in told slot)
-      → new.page_writes ≡ counted_by (change_of (page_of (slot_in told slot) page) part) old.page_writes
+      → new.page_writes ≡ counted_by (change_count (page_of (slot_in told slot) page) part) old.page_writes
   pub still : (told : Slots) → old.slots ≡ Some told → IsInStep (row_in rows slot) page (slot_in told slot)
-      → change_of (page_of (slot_in told slot) page) part ≡ 0 → new.slots ≡ old.slots
+      → change_count (page_of (slot_in told slot) page) part ≡ 0 → new.slots ≡ old.slots
 
 abbrev pub PutsPage : ℕ → ℕ → List ℕ → Paged → Paged → Rows → Rows → Result Unit Failed → Type 0
 PutsPage slot page part old new rows after (Ok _) = PutsOne slot page part old new rows after
@@ -81,7 +81,7 @@ pub record PutsFirst (slot count : ℕ) (bytes : List ℕ) (old new : Paged) (ro
   pub honest : new.is_honest ≡ old.is_honest
   pub faults : new.faults ≡ old.faults
   pub lengths : new.length_writes ≡ old.length_writes
-  pub rows_are : after ≡ with_row rows slot (digests_of bytes count ++ drop count (row_in rows slot))
+  pub rows_are : after ≡ with_row rows slot (page_digests bytes count ++ drop count (row_in rows slot))
   pub looks : new.page_reads ≡ counted_by (looks_at (row_in rows slot) bytes count) old.page_reads
   pub fills : old.is_honest ≡ true → FillsSlot slot count bytes old.slots new.slots
   pub writes : old.is_honest ≡ true → (told : Slots) → old.slots ≡ Some told
@@ -115,11 +115,11 @@ FitsLength slot size old new (Ok _) = Fits slot size old new
 FitsLength slot size old new (Err _) = FailsIn slot old new
 
 -- a whole write
-pub record PutsAll (slot : ℕ) (bytes : List ℕ) (old new : Paged) (rows after : Rows) : Type 0 where
+pub record PutsWhole (slot : ℕ) (bytes : List ℕ) (old new : Paged) (rows after : Rows) : Type 0 where
   pub honest : new.is_honest ≡ old.is_honest
   pub faults : new.faults ≡ old.faults
   pub lengths : IsOneMoreAtMost old.length_writes new.length_writes
-  pub rows_are : after ≡ with_row rows slot (digests_of bytes (page_count (length bytes)))
+  pub rows_are : after ≡ with_row rows slot (page_digests bytes (page_count (length bytes)))
   pub looks : new.page_reads ≡ counted_by (looks_at (row_in rows slot) bytes (page_count (length bytes))) old.page_reads
   pub slots : old.is_honest ≡ true → new.slots ≡ putting slot bytes old.slots
   pub writes : old.is_honest ≡ true → (told : Slots) → old.slots ≡ Some told
@@ -130,5 +130,5 @@ pub record PutsAll (slot : ℕ) (bytes : List ℕ) (old new : Paged) (rows after
       → slot_in told slot ≡ bytes → new.length_writes ≡ old.length_writes
 
 abbrev pub PutsBytes : ℕ → List ℕ → Paged → Paged → Rows → Rows → Result Unit Failed → Type 0
-PutsBytes slot bytes old new rows after (Ok _) = PutsAll slot bytes old new rows after
+PutsBytes slot bytes old new rows after (Ok _) = PutsWhole slot bytes old new rows after
 PutsBytes slot bytes old new rows after (Err _) = Fails slot old new rows after

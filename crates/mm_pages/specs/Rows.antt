@@ -26,21 +26,21 @@ with_row rows slot row =
     else if slot == 2 then record rows { two = row } else record rows { three = row }
 
 -- the digest that is kept of a page
-abbrev pub kept_of : List (Option Digest) → ℕ → Option Digest
-kept_of row page = slice_index_or row page None
+abbrev pub kept_digest : List (Option Digest) → ℕ → Option Digest
+kept_digest row page = slice_index_or row page None
 
 -- the digest of a page's bytes
-abbrev pub digest_of : List ℕ → Digest
-digest_of part = record { bytes = sha256 part }
+abbrev pub page_digest : List ℕ → Digest
+page_digest part = record { bytes = sha256 part }
 
 -- a row with this digest in place of a page's, which follows those of the pages before it
 abbrev pub keeping : ℕ → Digest → List (Option Digest) → List (Option Digest)
 keeping page digest row = take page row ++ (Some digest ∷ drop (page + 1) row)
 
 -- the digests of the first pages of these bytes
-abbrev pub digests_of : List ℕ → ℕ → List (Option Digest)
-digests_of bytes zero = []
-digests_of bytes (suc count) = digests_of bytes count ++ (Some (digest_of (page_of bytes count)) ∷ [])
+abbrev pub page_digests : List ℕ → ℕ → List (Option Digest)
+page_digests bytes zero = []
+page_digests bytes (suc count) = page_digests bytes count ++ (Some (page_digest (page_of bytes count)) ∷ [])
 
 -- one row changed but for its digests before and after a page
 pub record DropsPage (slot page : ℕ) (old new : Rows) : Type 0 where

@@ -40,12 +40,12 @@ paged_by s = record {
 }
 
 -- one call fewer is ahead
-abbrev pub called : Sheets → Sheets
-called s = record s { ahead = s.ahead - 1 }
+abbrev pub call_made : Sheets → Sheets
+call_made s = record s { ahead = s.ahead - 1 }
 
 -- after a call that failed
 abbrev pub failed : Sheets → Sheets
-failed s = record (called s) { faults = counted s.faults }
+failed s = record (call_made s) { faults = counted s.faults }
 
 -- after a write to a slot that failed
 abbrev pub failed_in : ℕ → Sheets → Sheets
@@ -53,15 +53,15 @@ failed_in slot s = record (failed s) { slots = with_slot s.slots slot s.leaves }
 
 -- after a call that reads
 abbrev pub after_reading : {T : Type 0} → Sheets → Result T Failed → Sheets
-after_reading s (Ok _) = called s
+after_reading s (Ok _) = call_made s
 after_reading s (Err _) = failed s
 
 -- after a call that changes a slot so
 abbrev pub after_changing : ℕ → (List ℕ → List ℕ) → Sheets → Result Unit Failed → Sheets
-after_changing slot change s (Ok _) = record (called s) { slots = with_slot s.slots slot (change (slot_in s.slots slot)) }
+after_changing slot change s (Ok _) = record (call_made s) { slots = with_slot s.slots slot (change (slot_in s.slots slot)) }
 after_changing slot change s (Err _) = failed_in slot s
 
 -- after a sync of a slot
 abbrev pub after_syncing : ℕ → Sheets → Result Unit Failed → Sheets
-after_syncing slot s (Ok _) = called s
+after_syncing slot s (Ok _) = call_made s
 after_syncing slot s (Err _) = failed_in slot s

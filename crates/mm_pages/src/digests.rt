@@ -1,7 +1,7 @@
 //! The digests that are kept of pages.
 
 ghost use Rattle.std.specs.Prelude.{◌≡◌, ◌<◌, ◌≤◌, ◌+◌, [], take, drop, length, Some, None, IfOk};
-ghost use Rattle.mm_pages.specs.Rows.{no_rows, row_in, with_row, kept_of, keeping, DropsPage};
+ghost use Rattle.mm_pages.specs.Rows.{no_rows, row_in, with_row, kept_digest, keeping, DropsPage};
 
 use mm_base::Memory;
 use mm_digest::Digest;
@@ -39,7 +39,7 @@ impl Row {
 
     // The digest that is kept of a page.
     fn get(&self, page: u16) -> Option<Digest>
-        ensures { result ≡ kept_of self.now page }
+        ensures { result ≡ kept_digest self.now page }
     {
         match self.digests.get(usize::from(page)) {
             None => None,
@@ -118,7 +118,7 @@ impl Digests {
     /// The digest that is kept of a page.
     pub fn get(&self, slot: u8, page: u16) -> Option<Digest>
         requires { slot < 4 }
-        ensures { result ≡ kept_of (row_in self.now slot) page }
+        ensures { result ≡ kept_digest (row_in self.now slot) page }
     {
         match slot {
             0 => self.zero.get(page),

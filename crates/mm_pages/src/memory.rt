@@ -5,7 +5,7 @@ ghost use Rattle.mm_base.specs.Faults.{counted};
 ghost use Rattle.mm_store.specs.Slots.{slot_in, with_slot};
 ghost use Rattle.mm_pages.specs.Bytes.{resized, with_page};
 ghost use Rattle.mm_pages.specs.Calls.{ReadsLength, ReadsPage, WritesPage, SetsLength, Syncs};
-ghost use Rattle.mm_pages.specs.Sheets.{blank, paged_by, called, failed, failed_in, after_reading, after_changing, after_syncing};
+ghost use Rattle.mm_pages.specs.Sheets.{blank, paged_by, call_made, failed, failed_in, after_reading, after_changing, after_syncing};
 
 use crate::device::PageDevice;
 use crate::page::{PAGE, page_of};
@@ -272,7 +272,7 @@ impl MemPages {
     // Begins a call, and tells whether it is the one that is to fail.
     fn is_to_fail(&mut self) -> bool
         ensures fails { IsTrue result ↔ (self.old.ahead ≡ 1) }
-        ensures after { self.new ≡ (if result then failed self.old else called self.old) }
+        ensures after { self.new ≡ (if result then failed self.old else call_made self.old) }
         ensures later { self.old.faults ≤ self.new.faults }
     {
         let fails = self.ahead == 1;
@@ -287,7 +287,7 @@ impl MemPages {
     fn is_to_fail_in(&mut self, slot: u8) -> bool
         requires { slot < 4 }
         ensures fails { IsTrue result ↔ (self.old.ahead ≡ 1) }
-        ensures after { self.new ≡ (if result then failed_in slot self.old else called self.old) }
+        ensures after { self.new ≡ (if result then failed_in slot self.old else call_made self.old) }
         ensures later { self.old.faults ≤ self.new.faults }
     {
         if !self.is_to_fail() {

@@ -8,7 +8,7 @@ use Rattle.mm_platform.specs.declared.plan.Stop.{Stop}
 use Rattle.mm_platform.specs.declared.plan.Stop.TheVariants.{Quiet, Cut, Drop, Fail}
 use Rattle.mm_platform.specs.Standing.{Item, own_item, Plan, Standing, next_step}
 use Rattle.mm_platform.specs.Steps.{Act, ReadCell, WriteCell, ReadRegister, ResetRegister, ExtendRegister, room_taken, EndsBy, IsDone, IsOff, fault_at, is_made_at, is_on_at, will_answer, will_be_made, will_be_on, will_bring, faults_after, GoesByPlan, Goes}
-use Rattle.mm_platform.specs.Told.{plan_of, answer_of, makes, begun, spare_after, stepped}
+use Rattle.mm_platform.specs.Told.{next_plan, next_answer, makes, step_begun, spare_after, step_made}
 
 -- a step that answers Off on a platform that was on
 off_ends : (old new : Standing) (is_made : Bool) → old.is_on ≡ true → new.faults ≡ counted old.faults → IsOff old new is_made
@@ -60,8 +60,8 @@ room_left (WriteCell bytes) is_made spare = omega arith
 room_left ReadRegister is_made spare = omega arith
 room_left ResetRegister is_made spare = omega arith
 
-by_plan : (act : Act) (old : Standing) (plan : Plan) → plan_of old ≡ plan
-    → GoesByPlan plan old (stepped act old) (makes old) (will_bring old.is_on (plan_of old)) (answer_of old)
+by_plan : (act : Act) (old : Standing) (plan : Plan) → next_plan old ≡ plan
+    → GoesByPlan plan old (step_made act old) (makes old) (will_bring old.is_on (next_plan old)) (next_answer old)
 by_plan act old plan e = record {
   answers = ap (will_answer old.is_on) e;
   makes = ap (will_be_made old.is_on) e;
@@ -70,42 +70,42 @@ by_plan act old plan e = record {
   counts = refl;
 }
 
-pub known_plan : (old : Standing) (plan : Plan) → old.plan ≡ Some plan → plan_of old ≡ plan
+pub known_plan : (old : Standing) (plan : Plan) → old.plan ≡ Some plan → next_plan old ≡ plan
 known_plan old plan known = rw known refl
 
-steps_go : (act : Act) (old : Standing) → Goes act old (stepped act old) (answer_of old)
+steps_go : (act : Act) (old : Standing) → Goes act old (step_made act old) (next_answer old)
 steps_go act old = record {
   is_made = makes old;
-  others = will_bring old.is_on (plan_of old);
+  others = will_bring old.is_on (next_plan old);
   cell = refl;
   items = refl;
   steps = refl;
   writes = refl;
   room = room_left act (makes old) old.spare;
   plan = refl;
-  ends = ends_by old.is_on (plan_of old) old (stepped act old) refl refl refl;
+  ends = ends_by old.is_on (next_plan old) old (step_made act old) refl refl refl;
   told = λ plan known. by_plan act old plan (known_plan old plan known);
 }
 
 -- a step of the platform in memory goes as the traits say
-pub goes : (act : Act) (old new : Standing) (fault : Option StepFault) → new ≡ stepped act old → fault ≡ answer_of old
+pub goes : (act : Act) (old new : Standing) (fault : Option StepFault) → new ≡ step_made act old → fault ≡ next_answer old
     → Goes act old new fault
 goes act old new fault stands answers = rw (stands, answers) (steps_go act old)
 
 -- what stands once the register was reset
-pub resets : (old seen now : Standing) (items : List Item) → seen ≡ begun old → makes old ≡ true → seen.items ≡ Some items
-    → now ≡ record seen { items = Some [] } → now ≡ stepped ResetRegister old
+pub resets : (old seen now : Standing) (items : List Item) → seen ≡ step_begun old → makes old ≡ true → seen.items ≡ Some items
+    → now ≡ record seen { items = Some [] } → now ≡ step_made ResetRegister old
 resets old seen now items stands made held is =
-    let held' : (begun old).items ≡ Some items = ap (λ (x : Standing). x.items) (sym stands) ∙ held in
+    let held' : (step_begun old).items ≡ Some items = ap (λ (x : Standing). x.items) (sym stands) ∙ held in
     is ∙ rw (stands, made, held') refl
 
 -- what stands once the register was extended
-pub extends : (value : List ℕ) (old seen now : Standing) (items : List Item) → seen ≡ begun old → makes old ≡ true
+pub extends : (value : List ℕ) (old seen now : Standing) (items : List Item) → seen ≡ step_begun old → makes old ≡ true
     → seen.items ≡ Some items
     → now ≡ record seen { items = Some (items ++ own_item value ∷ []); spare = seen.spare - 1 }
-    → now ≡ stepped (ExtendRegister value) old
+    → now ≡ step_made (ExtendRegister value) old
 extends value old seen now items stands made held is =
-    let held' : (begun old).items ≡ Some items = ap (λ (x : Standing). x.items) (sym stands) ∙ held in
+    let held' : (step_begun old).items ≡ Some items = ap (λ (x : Standing). x.items) (sym stands) ∙ held in
     is ∙ rw (stands, made, held') refl
 
 pub is_made_of : (made : Bool) → not made ≡ false → made ≡ true

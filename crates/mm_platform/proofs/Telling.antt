@@ -5,14 +5,14 @@ use Rattle.std.specs.Option.{option_map}
 use Rattle.mm_platform.specs.declared.fault.StepFault.{StepFault}
 use Rattle.mm_platform.specs.Standing.{Plan, Standing, plan_after}
 use Rattle.mm_platform.specs.Steps.{Act, beside, cell_after, items_after, will_answer, will_be_made, will_be_on, will_bring, faults_after, Goes}
-use Rattle.mm_platform.specs.Told.{answer_of, makes, stepped, acted, answered, AreAlike}
+use Rattle.mm_platform.specs.Told.{next_answer, makes, step_made, acted, acts_answer, AreAlike}
 use Rattle.mm_platform.specs.Calls.{ActsAsTold}
 use Rattle.mm_platform.proofs.Stepping.{known_plan}
 
 -- what a step does, by the plan that it was told
 pub record IsAsTold (act : Act) (old new : Standing) (fault : Option StepFault) : Type 0 where
-  pub answer : fault ≡ answer_of old
-  pub stands : AreAlike new (stepped act old)
+  pub answer : fault ≡ next_answer old
+  pub stands : AreAlike new (step_made act old)
 
 pub as_told : (act : Act) (old new : Standing) (fault : Option StepFault) → Goes act old new fault
     → (plan : Plan) → old.plan ≡ Some plan → IsAsTold act old new fault
@@ -37,10 +37,10 @@ as_told act old new fault step plan known =
     }
 
 -- Alike standings meet the same next step.
-pub answer-alike : (one other : Standing) → AreAlike one other → answer_of one ≡ answer_of other
+pub answer-alike : (one other : Standing) → AreAlike one other → next_answer one ≡ next_answer other
 answer-alike one other a = rw (a.is_on, a.plan) refl
 
-pub stepped-alike : (act : Act) (one other : Standing) → AreAlike one other → AreAlike (stepped act one) (stepped act other)
+pub stepped-alike : (act : Act) (one other : Standing) → AreAlike one other → AreAlike (step_made act one) (step_made act other)
 stepped-alike act one other a =
     let made : makes one ≡ makes other = rw (a.is_on, a.plan) refl in
     let answers = answer-alike one other a in
@@ -79,8 +79,8 @@ if-alike false true x y z w e p q = cc
 pub acted-alike : (acts : List Act) (one other : Standing) → AreAlike one other → AreAlike (acted acts one) (acted acts other)
 acted-alike [] one other a = a
 acted-alike (act ∷ acts) one other a =
-    if-alike (is_none (answer_of one)) (is_none (answer_of other)) _ _ _ _ (ap is_none (answer-alike one other a))
-    (acted-alike acts (stepped act one) (stepped act other) (stepped-alike act one other a)) (stepped-alike act one other a)
+    if-alike (is_none (next_answer one)) (is_none (next_answer other)) _ _ _ _ (ap is_none (answer-alike one other a))
+    (acted-alike acts (step_made act one) (step_made act other) (stepped-alike act one other a)) (stepped-alike act one other a)
 
 if-same : (b c : Bool) (x y z w : Option StepFault) → b ≡ c → x ≡ z → y ≡ w → (if b then x else y) ≡ (if c then z else w)
 if-same true true x y z w e p q = p
@@ -88,11 +88,11 @@ if-same false false x y z w e p q = q
 if-same true false x y z w e p q = cc
 if-same false true x y z w e p q = cc
 
-pub answered-alike : (acts : List Act) (one other : Standing) → AreAlike one other → answered acts one ≡ answered acts other
+pub answered-alike : (acts : List Act) (one other : Standing) → AreAlike one other → acts_answer acts one ≡ acts_answer acts other
 answered-alike [] one other a = refl
 answered-alike (act ∷ acts) one other a =
-    if-same (is_none (answer_of one)) (is_none (answer_of other)) _ _ _ _ (ap is_none (answer-alike one other a))
-    (answered-alike acts (stepped act one) (stepped act other) (stepped-alike act one other a)) (answer-alike one other a)
+    if-same (is_none (next_answer one)) (is_none (next_answer other)) _ _ _ _ (ap is_none (answer-alike one other a))
+    (answered-alike acts (step_made act one) (step_made act other) (stepped-alike act one other a)) (answer-alike one other a)
 
 -- a step that fails is the last
 failed-acted : (fault : StepFault) (answer : Option StepFault) (x y new : Standing) → Some fault ≡ answer → AreAlike new y
@@ -109,8 +109,8 @@ pub told_failed : (act : Act) (acts : List Act) (old new : Standing) (fault : St
     → (plan : Plan) → old.plan ≡ Some plan → ActsAsTold (act ∷ acts) old new (Some fault)
 told_failed act acts old new fault step plan known =
     let told = as_told act old new (Some fault) step plan known in record {
-      answer = failed-answered fault (answer_of old) _ told.answer;
-      stands = failed-acted fault (answer_of old) _ (stepped act old) new told.answer told.stands;
+      answer = failed-answered fault (next_answer old) _ told.answer;
+      stands = failed-acted fault (next_answer old) _ (step_made act old) new told.answer told.stands;
     }
 
 -- a step that doesn't fail is followed by the next
@@ -128,11 +128,11 @@ pub told_then : (act : Act) (acts : List Act) (old mid new : Standing) (fault : 
     → (plan : Plan) → old.plan ≡ Some plan → ActsAsTold acts mid new fault → ActsAsTold (act ∷ acts) old new fault
 told_then act acts old mid new fault step plan known rest =
     let told = as_told act old mid None step plan known in record {
-      answer = done-answered fault (answer_of old) _ told.answer
-          (rest.answer ∙ answered-alike acts mid (stepped act old) told.stands);
-      stands = done-acted (answer_of old) _ (stepped act old) new told.answer
-          (alike-then new (acted acts mid) (acted acts (stepped act old)) rest.stands
-          (acted-alike acts mid (stepped act old) told.stands));
+      answer = done-answered fault (next_answer old) _ told.answer
+          (rest.answer ∙ answered-alike acts mid (step_made act old) told.stands);
+      stands = done-acted (next_answer old) _ (step_made act old) new told.answer
+          (alike-then new (acted acts mid) (acted acts (step_made act old)) rest.stands
+          (acted-alike acts mid (step_made act old) told.stands));
     }
 
 -- the last step, whatever it answers

@@ -5,8 +5,8 @@ use Rattle.mm_platform.specs.Standing.{Standing}
 use Rattle.mm_platform.specs.Told.{quiet_plan}
 
 -- a new platform with this cell
-abbrev pub fresh : List ℕ → Standing
-fresh cell = record {
+abbrev pub new_platform : List ℕ → Standing
+new_platform cell = record {
   cell = Some cell;
   items = Some [];
   is_on = true;

@@ -17,12 +17,12 @@ own_item value = record { own = true; value = value }
 abbrev pub foreign_item : List ℕ → Item
 foreign_item value = record { own = false; value = value }
 
-abbrev pub values_of : List Item → List (List ℕ)
-values_of items = map (λ item. item.value) items
+abbrev pub item_values : List Item → List (List ℕ)
+item_values items = map (λ item. item.value) items
 
 -- the register's value after extensions by these values, from zero
-abbrev pub register_of : List (List ℕ) → List ℕ
-register_of values = fold extended_of zero_bytes values
+abbrev pub register_after : List (List ℕ) → List ℕ
+register_after values = fold extended_of zero_bytes values
 
 -- what the coming steps will meet: a stop, the values by which others extend the register just before
 -- certain steps, and the number of steps since the plan was made

@@ -12,22 +12,22 @@ abbrev pub quiet_plan : Plan
 quiet_plan = record { stop = Quiet; meddles = []; at = 0 }
 
 -- What the next step of a platform that tells its plan will do. The plan of one that tells none is taken as quiet.
-abbrev pub plan_of : Standing → Plan
-plan_of old = option_map_or (λ plan. plan) old.plan quiet_plan
+abbrev pub next_plan : Standing → Plan
+next_plan old = option_map_or (λ plan. plan) old.plan quiet_plan
 
-abbrev pub answer_of : Standing → Option StepFault
-answer_of old = will_answer old.is_on (plan_of old)
+abbrev pub next_answer : Standing → Option StepFault
+next_answer old = will_answer old.is_on (next_plan old)
 
 abbrev pub makes : Standing → Bool
-makes old = will_be_made old.is_on (plan_of old)
+makes old = will_be_made old.is_on (next_plan old)
 
 -- what stands once a step was called, before its effect
-abbrev pub begun : Standing → Standing
-begun old = record old {
-  items = beside (will_bring old.is_on (plan_of old)) old.items;
-  is_on = will_be_on old.is_on (plan_of old);
+abbrev pub step_begun : Standing → Standing
+step_begun old = record old {
+  items = beside (will_bring old.is_on (next_plan old)) old.items;
+  is_on = will_be_on old.is_on (next_plan old);
   steps = counted old.steps;
-  faults = faults_after (answer_of old) old.faults;
+  faults = faults_after (next_answer old) old.faults;
   plan = option_map plan_after old.plan;
 }
 
@@ -41,8 +41,8 @@ spare_after ReadRegister made spare = spare
 spare_after ResetRegister made spare = spare
 
 -- what stands after a step
-abbrev pub stepped : Act → Standing → Standing
-stepped act old = let now : Standing = begun old in record now {
+abbrev pub step_made : Act → Standing → Standing
+step_made act old = let now : Standing = step_begun old in record now {
   cell = cell_after act (makes old) now.cell;
   items = items_after act (makes old) now.items;
   writes = writes_after act now.writes;
@@ -52,11 +52,11 @@ stepped act old = let now : Standing = begun old in record now {
 -- What stands after these steps, of which none comes after one that fails; and what the last of them answers.
 abbrev pub acted : List Act → Standing → Standing
 acted [] old = old
-acted (act ∷ acts) old = if is_none (answer_of old) then acted acts (stepped act old) else stepped act old
+acted (act ∷ acts) old = if is_none (next_answer old) then acted acts (step_made act old) else step_made act old
 
-abbrev pub answered : List Act → Standing → Option StepFault
-answered [] old = None
-answered (act ∷ acts) old = if is_none (answer_of old) then answered acts (stepped act old) else answer_of old
+abbrev pub acts_answer : List Act → Standing → Option StepFault
+acts_answer [] old = None
+acts_answer (act ∷ acts) old = if is_none (next_answer old) then acts_answer acts (step_made act old) else next_answer old
 
 -- two standings that differ in their room at most
 pub record AreAlike (one other : Standing) : Type 0 where

@@ -2,7 +2,7 @@
 
 ghost use Rattle.std.specs.Prelude.{◌≡◌, ◌≤◌, ℕ, List, Some, OnOk, OnErr, IfOk};
 ghost use Rattle.std.specs.Result.{result_err};
-ghost use Rattle.mm_platform.specs.Standing.{Item, Standing, values_of, register_of};
+ghost use Rattle.mm_platform.specs.Standing.{Item, Standing, item_values, register_after};
 ghost use Rattle.mm_platform.specs.Steps.{ReadCell, WriteCell, ReadRegister, ResetRegister, ExtendRegister, Goes, Readies, Cycles};
 
 use crate::fault::StepFault;
@@ -47,7 +47,7 @@ pub trait Register: Device {
             (result_err result) }
         ensures read { IfOk result (λ value. (items : List Item)
             → (Self.standing self.new).items ≡ Some items
-            → value.bytes ≡ register_of (values_of items)) };
+            → value.bytes ≡ register_after (item_values items)) };
 
     /// Sets the register to zero.
     fn reg_reset(&mut self) -> Result<(), StepFault>

@@ -1,7 +1,7 @@
 //! The extensions of a register, and the value that they make.
 
 ghost use Rattle.std.specs.Prelude.{◌≡◌, ◌+◌, ◌<◌, ◌≤◌, [], ◌∷◌, ◌++◌, OnOk, OnErr, vec_len, vec_capacity, count_by};
-ghost use Rattle.mm_platform.specs.Standing.{values_of, register_of};
+ghost use Rattle.mm_platform.specs.Standing.{item_values, register_after};
 ghost use Rattle.mm_platform.specs.Entries.{item_of, items_of, is_own};
 
 use mm_base::Memory;
@@ -20,7 +20,7 @@ pub struct Entry {
 pub struct Extensions {
     pub entries: Vec<Entry>,
     pub value: Digest,
-    ghost folded: { value.bytes ≡ register_of (values_of (items_of entries.items)) },
+    ghost folded: { value.bytes ≡ register_after (item_values (items_of entries.items)) },
 }
 
 impl Extensions {

@@ -6,8 +6,8 @@ ghost use Rattle.mm_base.specs.Faults.{counted};
 ghost use Rattle.mm_platform.specs.Steps.{beside, will_bring};
 ghost use Rattle.mm_platform.specs.Standing.{Standing, Plan, foreign_item, due, next_step, plan_after};
 ghost use Rattle.mm_platform.specs.Entries.{items_of, is_own};
-ghost use Rattle.mm_platform.specs.Told.{quiet_plan, plan_of, begun, makes, answer_of};
-ghost use Rattle.mm_platform.specs.Memory.{fresh, ahead};
+ghost use Rattle.mm_platform.specs.Told.{quiet_plan, next_plan, step_begun, makes, next_answer};
+ghost use Rattle.mm_platform.specs.Memory.{new_platform, ahead};
 
 use crate::device::{Device, Nv, Platform, Register};
 use crate::extensions::{Entry, Extensions};
@@ -55,7 +55,7 @@ impl Model for MemPlatform {
 impl MemPlatform {
     /// A platform with this cell of 104 bytes: on, with an empty register, no faults and a quiet plan.
     pub fn new(alloc: Global, cell: &[u8; 104]) -> MemPlatform
-        ensures { result ≡ fresh cell.now }
+        ensures { result ≡ new_platform cell.now }
     {
         MemPlatform {
             cell: *cell,
@@ -140,9 +140,9 @@ impl MemPlatform {
 
     // Calls a step: counts it, and lets in what is due before it.
     fn begin_step(&mut self) -> Fate
-        ensures after { self.new ≡ begun self.old }
+        ensures after { self.new ≡ step_begun self.old }
         ensures made { result.is_made ≡ makes self.old }
-        ensures fault { result.fault ≡ answer_of self.old }
+        ensures fault { result.fault ≡ next_answer self.old }
     {
         let step = self.at.saturating_add(1);
         let fate = Fate::of(self.is_on, self.stop, step);
@@ -157,7 +157,7 @@ impl MemPlatform {
     fn let_in(&mut self, step: u64)
         requires { option_map next_step self.old.plan ≡ Some step }
         ensures { self.new ≡ record self.old {
-          items = beside (will_bring self.old.is_on (plan_of self.old)) self.old.items;
+          items = beside (will_bring self.old.is_on (next_plan self.old)) self.old.items;
           plan = option_map plan_after self.old.plan;
         } }
     {

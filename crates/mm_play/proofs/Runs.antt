@@ -2,7 +2,7 @@
 use Rattle.std.proofs.Common.{◌≡◌, ◌∙◌, ◌<◌, ◌≤◌, ◌+◌, ℕ, Bool, true, false, cond, List, [], ◌∷◌, ◌++◌, length, Result, Ok, Err, Option, refl, sym, ap, append_assoc, append-nil, arith, nat_lt, length-append}
 use Rattle.std.proofs.lemmas.Bool.Decides.{nat_tests}
 use Rattle.std.specs.List.{AllByRecursion}
-use Rattle.mm_base.specs.Input.{IsUnbroken, lines_of, tail_of, joined, onto_first, onto_tail}
+use Rattle.mm_base.specs.Input.{IsUnbroken, lines_of, tail_of, lines_joined, onto_first, onto_tail}
 use Rattle.mm_base.proofs.Input.{lines_of-append, tail_of-append, lines_of-line, tail_of-line, lines_of-joined, tail_of-joined, lines_of-unbroken, tail_of-unbroken}
 use Rattle.mm_base.specs.declared.replay_fault.ReplayFault.{ReplayFault}
 use Rattle.mm_base.specs.declared.replay_fault.ReplayFault.TheVariants.{BadLine, LineLong}
@@ -74,9 +74,9 @@ pub run_from-joined : {P : Type 0} (answer : P → List ℕ → Result (List ℕ
     (lines : List (List ℕ)) (rest sent : List ℕ) (last : P)
     → AllByRecursion IsUnbroken lines
     → run answer 1 player lines ≡ told sent (Ok last)
-    → run_of answer closing player (joined lines ++ rest) ≡ after_writing sent (run_from answer closing (1 + length lines) last rest)
+    → run_of answer closing player (lines_joined lines ++ rest) ≡ after_writing sent (run_from answer closing (1 + length lines) last rest)
 run_from-joined {P} answer closing player lines rest sent last each went =
-    ap (λ (ls : List (List ℕ)). and_then (run answer 1 player ls) (ended closing (1 + length ls) (tail_of (joined lines ++ rest)))) (lines_of-joined lines rest each)
+    ap (λ (ls : List (List ℕ)). and_then (run answer 1 player ls) (ended closing (1 + length ls) (tail_of (lines_joined lines ++ rest)))) (lines_of-joined lines rest each)
     ∙ ap (λ (t : List ℕ). and_then (run answer 1 player (lines ++ lines_of rest)) (ended closing (1 + length (lines ++ lines_of rest)) t)) (tail_of-joined lines rest each)
     ∙ ap (λ (n : ℕ). and_then (run answer 1 player (lines ++ lines_of rest)) (ended closing n (tail_of rest))) (omega (arith, length-append lines (lines_of rest)))
     ∙ ap (λ (t : Told P). and_then t (ended closing (1 + length lines + length (lines_of rest)) (tail_of rest))) (run-append answer 1 player lines (lines_of rest) sent last went)

@@ -1,7 +1,7 @@
 -- A line is answered, or the input ends, by what the reader read and what the player did.
 use Rattle.std.proofs.Common.{◌≡◌, ◌∙◌, ◌<◌, ◌+◌, ℕ, Bool, true, false, List, [], ◌∷◌, ◌++◌, length, take, drop, Result, Ok, Err, Option, refl, sym, ap, subst, append_assoc, arith, inl, inr, length-take, take-append-drop}
 use Rattle.std.specs.Io.KnownBytes.{IsAtEnd}
-use Rattle.mm_base.specs.Lines.{IsWithin}
+use Rattle.mm_base.specs.Lines.{MayGrow}
 use Rattle.mm_base.specs.Next.{NextLine}
 use Rattle.mm_base.specs.declared.lines.LineFault.{LineFault}
 use Rattle.mm_base.specs.declared.lines.LineFault.TheVariants as fault
@@ -12,7 +12,7 @@ use Rattle.mm_base.specs.declared.replay_fault.ReplayFault.TheVariants.{Memory, 
 use Rattle.mm_base.specs.Limits.{longest_line}
 use Rattle.mm_play.specs.declared.player.Refused.{Refused}
 use Rattle.mm_play.specs.Play.{stopped, closed, run_from}
-use Rattle.mm_play.specs.Turns.{Answers, Ends, Went, Advances}
+use Rattle.mm_play.specs.Turns.{Answers, EndsInput, PlayedOn, Advances}
 use Rattle.mm_play.proofs.Runs.{run_from-refused, run_from-long, run_from-end, run_from-tail}
 
 -- a line and what follows it, in one grouping
@@ -24,8 +24,8 @@ and_rest bytes line held rest h = ap (λ b. b ++ rest) h ∙ append_assoc line (
 
 went_by_line : {P : Type 0} (answer : P → List ℕ → Result (List ℕ × P) Refused) (closing : P → Option (List ℕ)) (number : ℕ) (player next : P)
     (left : Option (List ℕ)) (bytes held line pending said : List ℕ) (result : Result Bool ReplayFault)
-    → bytes ≡ line ++ 10 ∷ held → IsWithin longest_line line → Answers number (answer player line) next pending said result
-    → Went answer (run_from answer closing number player) number player next left bytes held pending said result
+    → bytes ≡ line ++ 10 ∷ held → MayGrow longest_line line → Answers number (answer player line) next pending said result
+    → PlayedOn answer (run_from answer closing number player) number player next left bytes held pending said result
 went_by_line answer closing number player next left bytes held line pending said (Ok true) cut within a =
     record { line = line; reply = a.1; unbroken = within.unbroken; short = within.short; cut = cut; answered = a.2; said_behind = a.3 }
 went_by_line answer closing number player next left bytes held line pending said (Ok false) cut within a =
@@ -89,8 +89,8 @@ advanced_by_tail answer closing number player left left' held held' pending read
 
 went_by_end : {P : Type 0} (answer : P → List ℕ → Result (List ℕ × P) Refused) (closing : P → Option (List ℕ)) (number : ℕ) (player : P)
     (left : Option (List ℕ)) (bytes held pending said : List ℕ) (result : Result Bool ReplayFault)
-    → bytes ≡ [] → IsAtEnd left → Ends number (closing player) pending said result
-    → Went answer (run_from answer closing number player) number player player left bytes held pending said result
+    → bytes ≡ [] → IsAtEnd left → EndsInput number (closing player) pending said result
+    → PlayedOn answer (run_from answer closing number player) number player player left bytes held pending said result
 went_by_end answer closing number player left bytes held pending said (Ok true) none at_end e =
     let clash : true ≡ false = e.0 in absurd (no_clash clash)
   where
@@ -121,7 +121,7 @@ pub advanced_by_end : {P : Type 0} (answer : P → List ℕ → Result (List ℕ
     (left left' : Option (List ℕ)) (held held' pending pending' : List ℕ) (result : Result Bool ReplayFault)
     (read : Result Read LineFault) (what : Read)
     → NextLine longest_line left left' held read held' → read ≡ Ok what → what ≡ End
-    → Ends number (closing player) pending pending' result
+    → EndsInput number (closing player) pending pending' result
     → Advances answer closing number player player left left' held held' pending pending' result
 advanced_by_end answer closing number player left left' held held' pending pending' result read what n is what_is e =
     let m = subst (λ r. NextLine longest_line left left' held r held') (is ∙ ap Ok what_is) n in

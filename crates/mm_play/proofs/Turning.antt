@@ -12,7 +12,7 @@ use Rattle.mm_play.specs.declared.player.Refused.{Refused}
 use Rattle.mm_play.specs.Play.{Told, after_writing, run_from}
 use Rattle.mm_play.specs.Takes.{IsFrontOf}
 use Rattle.mm_play.specs.Plays.{ForWhole}
-use Rattle.mm_play.specs.Turns.{Went, Advances, SendsDue, SendsThen, IsSent, Turns}
+use Rattle.mm_play.specs.Turns.{PlayedOn, Advances, SendsDue, SendsThen, IsSent, PlaysNext}
 use Rattle.mm_play.proofs.Runs.{run_from-answered}
 use Rattle.mm_play.proofs.Telling.{for_whole}
 
@@ -33,8 +33,8 @@ front_of_front a b c first second = subst (λ (x : List ℕ). IsFrontOf a x) sec
 
 went_behind : {P : Type 0} (answer : P → List ℕ → Result (List ℕ × P) Refused) (rest : List ℕ → Told P) (number : ℕ) (player next : P)
     (left : Option (List ℕ)) (bytes held pending said front : List ℕ) (result : Result Bool ReplayFault)
-    → Went answer rest number player next left bytes held pending said result
-    → Went answer rest number player next left bytes held (front ++ pending) (front ++ said) result
+    → PlayedOn answer rest number player next left bytes held pending said result
+    → PlayedOn answer rest number player next left bytes held (front ++ pending) (front ++ said) result
 went_behind answer rest number player next left bytes held pending said front (Ok true) w = record {
   line = w.line;
   reply = w.reply;
@@ -77,7 +77,7 @@ cut_reply {P} pending said sent reply t more behind is front =
 
 went_cut : {P : Type 0} (answer : P → List ℕ → Result (List ℕ × P) Refused) (closing : P → Option (List ℕ)) (number : ℕ) (player next : P)
     (left : Option (List ℕ)) (bytes held pending said sent : List ℕ) (result : Result Bool ReplayFault)
-    → Went answer (run_from answer closing number player) number player next left bytes held pending said result → IsFrontOf sent said
+    → PlayedOn answer (run_from answer closing number player) number player next left bytes held pending said result → IsFrontOf sent said
     → ForWhole left bytes (IsCut (run_from answer closing number player) pending sent)
 went_cut answer closing number player next left bytes held pending said sent (Ok true) w front =
     inl (λ more. cut_reply pending said sent w.reply (run_from answer closing number player (bytes ++ more)) (run_from answer closing (number + 1) next (held ++ more)) w.said_behind
@@ -116,7 +116,7 @@ due_sent received received' pending pending' due done m is =
 pub turn_cut : {P : Type 0} (answer : P → List ℕ → Result (List ℕ × P) Refused) (closing : P → Option (List ℕ)) (number : ℕ) (player : P)
     (left : Option (List ℕ)) (held held' : List ℕ) (received received' : Option (List ℕ)) (pending pending' : List ℕ) (due : Result (Unit {0}) write.WriteFault) (fault : write.WriteFault)
     → SendsDue received received' pending pending' due → due ≡ Err fault
-    → Turns answer closing number player player left left held held' received received' pending pending' (Err WriteFault)
+    → PlaysNext answer closing number player player left left held held' received received' pending pending' (Err WriteFault)
 turn_cut answer closing number player left held held' received received' pending pending' due fault m is =
     let none : pending' ≡ [] = subst (λ (r : Result (Unit {0}) write.WriteFault). OnErr r (pending' ≡ [])) is m.lost in
     let all : m.sent ++ pending' ≡ m.sent = ap (λ b. m.sent ++ b) none ∙ append-nil m.sent in
@@ -135,7 +135,7 @@ pub turn_goes : {P : Type 0} (answer : P → List ℕ → Result (List ℕ × P)
     (due : Result (Unit {0}) write.WriteFault) (done : Unit {0}) (came : Result Bool ReplayFault)
     → here ≡ held → SendsDue received received' pending waiting due → due ≡ Ok done
     → Advances answer closing number player next left left' here held' waiting pending' came → came ≡ Ok true
-    → Turns answer closing number player next left left' held held' received received' pending pending' (Ok true)
+    → PlaysNext answer closing number player next left left' held held' received received' pending pending' (Ok true)
 turn_goes answer closing number player next left left' held here held' received received' pending waiting pending' due done came same m is a came_is =
     let rest = run_from answer closing number player in
     let w = due_sent received received' pending waiting due done m is in
@@ -146,8 +146,8 @@ turn_goes answer closing number player next left left' held here held' received 
       sent = w.0;
       consumed = b.consumed;
       appended = w.1;
-      went = subst (λ (r : Result Bool ReplayFault). Went answer rest number player next left' (held ++ b.taken) held' pending (w.0 ++ pending') r) came_is
-          (subst (λ (p : List ℕ). Went answer rest number player next left' (held ++ b.taken) held' p (w.0 ++ pending') came) (sym w.2) went);
+      went = subst (λ (r : Result Bool ReplayFault). PlayedOn answer rest number player next left' (held ++ b.taken) held' pending (w.0 ++ pending') r) came_is
+          (subst (λ (p : List ℕ). PlayedOn answer rest number player next left' (held ++ b.taken) held' p (w.0 ++ pending') came) (sym w.2) went);
       is_sent = tt;
     }
 
@@ -160,19 +160,19 @@ pub turn_unread : {P : Type 0} (answer : P → List ℕ → Result (List ℕ × 
     (due : Result (Unit {0}) write.WriteFault) (done : Unit {0}) (came : Result Bool ReplayFault)
     → here ≡ held → SendsDue received received' pending waiting due → (IsUnbroken held → waiting ≡ []) → due ≡ Ok done
     → Advances answer closing number player next left left' here held' waiting pending' came → came ≡ Err ReadFault
-    → Turns answer closing number player next left left' held held' received received' pending pending' (Err ReadFault)
+    → PlaysNext answer closing number player next left left' held held' received received' pending pending' (Err ReadFault)
 turn_unread answer closing number player next left left' held here held' received received' pending waiting pending' due done came same m none is a came_is =
     let rest = run_from answer closing number player in
     let w = due_sent received received' pending waiting due done m is in
     let b = subst (λ (h : List ℕ). Advances answer closing number player next left left' h held' waiting pending' came) same a in
-    let failed = subst (λ (r : Result Bool ReplayFault). Went answer rest number player next left' (held ++ b.taken) held' waiting pending' r) came_is b.went in
+    let failed = subst (λ (r : Result Bool ReplayFault). PlayedOn answer rest number player next left' (held ++ b.taken) held' waiting pending' r) came_is b.went in
     let went = went_behind answer rest number player next left' (held ++ b.taken) held' waiting pending' w.0 (Err ReadFault) failed in
     record {
       taken = b.taken;
       sent = w.0;
       consumed = b.consumed;
       appended = w.1;
-      went = subst (λ (p : List ℕ). Went answer rest number player next left' (held ++ b.taken) held' p (w.0 ++ pending') (Err ReadFault)) (sym w.2) went;
+      went = subst (λ (p : List ℕ). PlayedOn answer rest number player next left' (held ++ b.taken) held' p (w.0 ++ pending') (Err ReadFault)) (sym w.2) went;
       is_sent = failed.0 ∙ none (unbroken_front held b.taken failed.1);
     }
 
@@ -188,7 +188,7 @@ pub turn_ends : {P : Type 0} (answer : P → List ℕ → Result (List ℕ × P)
     → here ≡ held → SendsDue received received' pending waiting due → due ≡ Ok done
     → Advances answer closing number player next left left' here held' waiting more found → found ≡ came
     → SendsThen came received' received'' more result → pending' ≡ []
-    → Turns answer closing number player next left left' held held' received received'' pending pending' result
+    → PlaysNext answer closing number player next left left' held held' received received'' pending pending' result
 turn_ends answer closing number player next left left' held here held' received received' received'' pending waiting more pending' due done found came result same m is a found_is s none =
     let rest = run_from answer closing number player in
     let w = due_sent received received' pending waiting due done m is in
@@ -196,7 +196,7 @@ turn_ends answer closing number player next left left' held here held' received 
     (subst (λ (h : List ℕ). Advances answer closing number player next left left' h held' waiting more found) same a) in
     let bytes = held ++ b.taken in
     let behind = went_behind answer rest number player next left' bytes held' waiting more w.0 came b.went in
-    let went = subst (λ (p : List ℕ). Went answer rest number player next left' bytes held' p (w.0 ++ more) came) (sym w.2) behind in
+    let went = subst (λ (p : List ℕ). PlayedOn answer rest number player next left' bytes held' p (w.0 ++ more) came) (sym w.2) behind in
     let all : (w.0 ++ s.sent) ++ pending' ≡ w.0 ++ s.sent = ap (λ p. (w.0 ++ s.sent) ++ p) none ∙ append-nil (w.0 ++ s.sent) in
     record {
       taken = b.taken;
@@ -207,12 +207,12 @@ turn_ends answer closing number player next left left' held here held' received 
         | inl whole ↦
             let sent : w.0 ++ more ≡ (w.0 ++ s.sent) ++ pending' =
             ap (λ p. w.0 ++ p) (s.parts ∙ ap (λ p. s.sent ++ p) whole.1 ∙ append-nil s.sent) ∙ sym all in
-            subst (λ (r : Result Bool ReplayFault). Went answer rest number player next left' bytes held' pending ((w.0 ++ s.sent) ++ pending') r) (sym whole.0)
-            (subst (λ (p : List ℕ). Went answer rest number player next left' bytes held' pending p came) sent went)
+            subst (λ (r : Result Bool ReplayFault). PlayedOn answer rest number player next left' bytes held' pending ((w.0 ++ s.sent) ++ pending') r) (sym whole.0)
+            (subst (λ (p : List ℕ). PlayedOn answer rest number player next left' bytes held' pending p came) sent went)
         | inr cut ↦
             let front : IsFrontOf ((w.0 ++ s.sent) ++ pending') (w.0 ++ more) =
             subst (λ (p : List ℕ). IsFrontOf p (w.0 ++ more)) (sym all) (front_after w.0 s.sent more (s.unsent, sym s.parts)) in
-            subst (λ (r : Result Bool ReplayFault). Went answer rest number player next left' bytes held' pending ((w.0 ++ s.sent) ++ pending') r) (sym cut)
+            subst (λ (r : Result Bool ReplayFault). PlayedOn answer rest number player next left' bytes held' pending ((w.0 ++ s.sent) ++ pending') r) (sym cut)
             (went_cut answer closing number player next left' bytes held' pending (w.0 ++ more) ((w.0 ++ s.sent) ++ pending') came went front)
       ];
       is_sent = none_is_sent pending' result none;

@@ -24,14 +24,14 @@ Answers number answer next old new (Err (BadLine line)) = (new ≡ old) × (why 
 Answers number answer next old new (Err TooMuch) = (new ≡ old) × (why : Refused) × (answer ≡ Err why) × (refusal_at number why ≡ TooMuch)
 
 -- A player met the end of the input, with these last lines, if it may end here.
-abbrev pub Ends : ℕ → Option (List ℕ) → List ℕ → List ℕ → Result Bool ReplayFault → Type 0
-Ends number closing old new (Ok goes_on) = (goes_on ≡ false) × (last : List ℕ) × (closing ≡ Some last) × (new ≡ old ++ last)
-Ends number closing old new (Err (BadLine line)) = (new ≡ old) × (closing ≡ None) × (line ≡ number)
-Ends number closing old new (Err Memory) = new ≡ old
-Ends number closing old new (Err WriteFault) = ⊥
-Ends number closing old new (Err ReadFault) = ⊥
-Ends number closing old new (Err (LineLong line)) = ⊥
-Ends number closing old new (Err TooMuch) = ⊥
+abbrev pub EndsInput : ℕ → Option (List ℕ) → List ℕ → List ℕ → Result Bool ReplayFault → Type 0
+EndsInput number closing old new (Ok goes_on) = (goes_on ≡ false) × (last : List ℕ) × (closing ≡ Some last) × (new ≡ old ++ last)
+EndsInput number closing old new (Err (BadLine line)) = (new ≡ old) × (closing ≡ None) × (line ≡ number)
+EndsInput number closing old new (Err Memory) = new ≡ old
+EndsInput number closing old new (Err WriteFault) = ⊥
+EndsInput number closing old new (Err ReadFault) = ⊥
+EndsInput number closing old new (Err (LineLong line)) = ⊥
+EndsInput number closing old new (Err TooMuch) = ⊥
 
 -- A line of this number was read and answered, and its reply stands behind what was pending.
 pub record AnswersLine {P : Type 0} (answer : P → List ℕ → Result (List ℕ × P) Refused) (number : ℕ) (player next : P)
@@ -47,20 +47,20 @@ pub record AnswersLine {P : Type 0} (answer : P → List ℕ → Result (List �
 -- By the answer: `bytes` are those held before and those taken, `held` those held after, and `rest` is the run over the
 -- input that begins with `bytes`; `pending` is what was pending, and `said` what was sent of it and of the turn's
 -- replies, and what is pending still.
-abbrev pub Went : {P : Type 0} → (P → List ℕ → Result (List ℕ × P) Refused) → (List ℕ → Told P) → ℕ → P → P → Option (List ℕ) → List ℕ
+abbrev pub PlayedOn : {P : Type 0} → (P → List ℕ → Result (List ℕ × P) Refused) → (List ℕ → Told P) → ℕ → P → P → Option (List ℕ) → List ℕ
     → List ℕ → List ℕ → List ℕ → Result Bool ReplayFault → Type 0
-Went answer rest number player next left bytes held pending said (Ok true) = AnswersLine answer number player next bytes held pending said
-Went answer rest number player next left bytes held pending said (Ok false) =
+PlayedOn answer rest number player next left bytes held pending said (Ok true) = AnswersLine answer number player next bytes held pending said
+PlayedOn answer rest number player next left bytes held pending said (Ok false) =
     IsAtEnd left × (last : List ℕ) × (rest bytes ≡ told last (Ok next)) × (said ≡ pending ++ last)
-Went answer rest number player next left bytes held pending said (Err ReadFault) = (said ≡ pending) × IsUnbroken bytes
-Went answer rest number player next left bytes held pending said (Err WriteFault) =
+PlayedOn answer rest number player next left bytes held pending said (Err ReadFault) = (said ≡ pending) × IsUnbroken bytes
+PlayedOn answer rest number player next left bytes held pending said (Err WriteFault) =
     ForWhole left bytes (λ input. IsFrontOf said (pending ++ (rest input).written))
-Went answer rest number player next left bytes held pending said (Err Memory) = said ≡ pending
-Went answer rest number player next left bytes held pending said (Err (BadLine line)) = (said ≡ pending)
+PlayedOn answer rest number player next left bytes held pending said (Err Memory) = said ≡ pending
+PlayedOn answer rest number player next left bytes held pending said (Err (BadLine line)) = (said ≡ pending)
     × ForWhole left bytes (λ input. rest input ≡ stopped (BadLine line))
-Went answer rest number player next left bytes held pending said (Err (LineLong line)) = (said ≡ pending)
+PlayedOn answer rest number player next left bytes held pending said (Err (LineLong line)) = (said ≡ pending)
     × ForWhole left bytes (λ input. rest input ≡ stopped (LineLong line))
-Went answer rest number player next left bytes held pending said (Err TooMuch) = (said ≡ pending)
+PlayedOn answer rest number player next left bytes held pending said (Err TooMuch) = (said ≡ pending)
     × ForWhole left bytes (λ input. rest input ≡ stopped TooMuch)
 
 -- A line was read and answered, or not, and nothing was sent.
@@ -69,7 +69,7 @@ pub record Advances {P : Type 0} (answer : P → List ℕ → Result (List ℕ �
     (left left' : Option (List ℕ)) (held held' pending pending' : List ℕ) (result : Result Bool ReplayFault) : Type 0 where
   pub taken : List ℕ
   pub consumed : Consumes left left' taken
-  pub went : Went answer (run_from answer closing number player) number player next left' (held ++ taken) held' pending pending' result
+  pub went : PlayedOn answer (run_from answer closing number player) number player next left' (held ++ taken) held' pending pending' result
 
 -- What was pending was sent, or is pending still; where the sink failed, a front of it was sent.
 pub record SendsDue (received received' : Option (List ℕ)) (pending pending' : List ℕ)
@@ -96,7 +96,7 @@ IsSent pending (Ok true) = Unit {0}
 IsSent pending (Ok false) = pending ≡ []
 IsSent pending (Err fault) = pending ≡ []
 
-pub record Turns {P : Type 0} (answer : P → List ℕ → Result (List ℕ × P) Refused) (closing : P → Option (List ℕ)) (number : ℕ)
+pub record PlaysNext {P : Type 0} (answer : P → List ℕ → Result (List ℕ × P) Refused) (closing : P → Option (List ℕ)) (number : ℕ)
     (player next : P)
     (left left' : Option (List ℕ)) (held held' : List ℕ) (received received' : Option (List ℕ)) (pending pending' : List ℕ)
     (result : Result Bool ReplayFault) : Type 0 where
@@ -104,6 +104,6 @@ pub record Turns {P : Type 0} (answer : P → List ℕ → Result (List ℕ × P
   pub sent : List ℕ
   pub consumed : Consumes left left' taken
   pub appended : Appends received received' sent
-  pub went : Went answer (run_from answer closing number player) number player next left' (held ++ taken) held' pending (sent ++ pending')
+  pub went : PlayedOn answer (run_from answer closing number player) number player next left' (held ++ taken) held' pending (sent ++ pending')
       result
   pub is_sent : IsSent pending' result

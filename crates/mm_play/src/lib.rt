@@ -5,4 +5,4 @@ mod lines;
 mod player;
 
 pub use lines::play;
-pub use player::{Player, Refused, TakeFault};
+pub use player::{Player, Refused, ReplyFault};

@@ -6,10 +6,10 @@ ghost use Rattle.mm_base.specs.Faults.{CountsFaults};
 ghost use Rattle.mm_base.specs.Input.{IsUnbroken};
 ghost use Rattle.mm_base.specs.Streams.{Sends};
 ghost use Rattle.mm_base.specs.Limits.{longest_line};
-ghost use Rattle.mm_play.specs.Turns.{Advances, Answers, Ends, SendsDue, SendsThen, Turns};
+ghost use Rattle.mm_play.specs.Turns.{Advances, Answers, EndsInput, SendsDue, SendsThen, PlaysNext};
 ghost use Rattle.mm_play.specs.Plays.{Plays, IsBlamed, is_read_fault, is_write_fault};
 
-use crate::player::{Player, Refused, TakeFault};
+use crate::player::{Player, Refused, ReplyFault};
 use mm_base::{
     Bytes, LONGEST_LINE, LineFault, LineReader, Read, ReplayFault, Sink, Source, WriteFault,
     write_all,
@@ -36,9 +36,9 @@ fn queue_reply<P: Player>(
             Ok(()) => Ok(true),
             Err(_) => Err(ReplayFault::Memory),
         },
-        Err(TakeFault::Memory) => Err(ReplayFault::Memory),
-        Err(TakeFault::Refused(Refused::Bad)) => Err(ReplayFault::BadLine { line: number }),
-        Err(TakeFault::Refused(Refused::Much)) => Err(ReplayFault::TooMuch),
+        Err(ReplyFault::Memory) => Err(ReplayFault::Memory),
+        Err(ReplyFault::Refused(Refused::Bad)) => Err(ReplayFault::BadLine { line: number }),
+        Err(ReplyFault::Refused(Refused::Much)) => Err(ReplayFault::TooMuch),
     }
 }
 
@@ -49,7 +49,7 @@ fn end_input<P: Player>(
     player: &P,
     pending: &mut Bytes,
 ) -> Result<bool, ReplayFault>
-    ensures { Ends number (P.closing player.now) pending.old pending.new result }
+    ensures { EndsInput number (P.closing player.now) pending.old pending.new result }
 {
     match player.last_lines(alloc) {
         Ok(Some(last)) => match pending.append(last.as_slice()) {
@@ -147,7 +147,7 @@ fn play_next<P: Player, S: Source, K: Sink>(
     pending: &mut Bytes,
     out: &mut K,
 ) -> Result<bool, ReplayFault>
-    ensures turns { Turns P.answer P.closing number player.old player.new (S.left input.old)
+    ensures turns { PlaysNext P.answer P.closing number player.old player.new (S.left input.old)
         (S.left input.new) reader.old reader.new (K.received out.old) (K.received out.new)
         pending.old pending.new result }
     ensures read { IsBlamed (is_read_fault result) (S.faults input.old) (S.faults input.new) }

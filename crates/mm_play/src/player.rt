@@ -3,7 +3,7 @@
 ghost use Rattle.std.specs.Prelude.{◌≡◌, ◌≤◌, ◌<◌, ◌^◌, ℕ, List, Option, Result, Ok, length, IfOk};
 ghost use Rattle.mm_base.specs.Limits.{longest_line};
 ghost use Rattle.mm_play.specs.declared.player.Refused.{Refused};
-ghost use Rattle.mm_play.specs.Takes.{Takes};
+ghost use Rattle.mm_play.specs.Takes.{GivesReply};
 
 use mm_base::{Bytes, Memory};
 use std::alloc::Global;
@@ -19,7 +19,7 @@ pub enum Refused {
 
 /// Why a player did not answer a line.
 #[derive(Clone, Copy, Debug, PartialEq, Eq)]
-pub enum TakeFault {
+pub enum ReplyFault {
     /// Want of memory.
     Memory,
     /// The line is refused.
@@ -38,9 +38,9 @@ pub trait Player {
     ghost lines_left: { Self → ℕ };
 
     /// The reply to a line of at most 8,400 bytes.
-    fn reply(&mut self, alloc: Global, line: &[u8]) -> Result<Bytes, TakeFault>
+    fn reply(&mut self, alloc: Global, line: &[u8]) -> Result<Bytes, ReplyFault>
         requires { length line.now ≤ longest_line }
-        ensures { Takes (answer self.old line.now) self.new result };
+        ensures { GivesReply (answer self.old line.now) self.new result };
 
     /// The last lines. None where the input may not end here.
     fn last_lines(&self, alloc: Global) -> Result<Option<Bytes>, Memory>

@@ -5,7 +5,7 @@ use Rattle.std.specs.declared.cmp.Ordering.TheVariants.{Less}
 use Rattle.std.specs.List.{list_all}
 use Rattle.std.specs.Str.{bytes_eq}
 use Rattle.std.proofs.lemmas.Bool.Decides.{nat_tests}
-use Rattle.mm_base.specs.Decimals.{number_of}
+use Rattle.mm_base.specs.Decimals.{decimal_number}
 use Rattle.mm_base.specs.Limits.{limit_of}
 use Rattle.mm_module.specs.LineLaws.{and-true, All-are_bytes, IsText, IsLine-text, is_unbroken-decimal, length-decimal}
 use Rattle.mm_module.specs.Meaning.{IsLawful, IsShort}
@@ -69,7 +69,7 @@ unfolding request_of
 request_of-IsQuotaRequest [] = tt
 request_of-IsQuotaRequest (word ∷ []) = sum-asked (bytes_eq word (codes "sum"))
 request_of-IsQuotaRequest (word ∷ name ∷ []) = left-asked name (bytes_eq word (codes "left")) _ refl
-request_of-IsQuotaRequest (word ∷ name ∷ number ∷ []) = numbered-asked word name (number_of number) (is_name name) refl
+request_of-IsQuotaRequest (word ∷ name ∷ number ∷ []) = numbered-asked word name (decimal_number number) (is_name name) refl
 request_of-IsQuotaRequest (word ∷ name ∷ number ∷ other ∷ more) = tt
 
 -- what is said, with a number of 64 bits

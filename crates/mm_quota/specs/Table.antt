@@ -7,7 +7,7 @@ use Rattle.std.specs.Int.{w16, to_be_bytes, from_be_bytes}
 use Rattle.std.specs.List.{list_all}
 use Rattle.std.specs.Ordering.{nat_cmp, is_lt, match_ordering}
 use Rattle.std.specs.Str.{bytes_eq}
-use Rattle.mm_base.specs.Decimals.{number_of}
+use Rattle.mm_base.specs.Decimals.{decimal_number}
 use Rattle.mm_base.specs.Fields.{eight_bytes}
 use Rattle.mm_module.specs.Bytes.{are_bytes}
 use Rattle.mm_module.specs.Numbers.{of_eight_bytes}
@@ -134,7 +134,7 @@ unfoldable pub request_of : List (List ℕ) → Option Request
 request_of (word ∷ []) = if bytes_eq word (codes "sum") then Some Sum else None
 request_of (word ∷ name ∷ []) = if bytes_eq word (codes "left") && is_name name then Some (On name Left) else None
 request_of (word ∷ name ∷ number ∷ []) = if is_name name
-    then option_map (λ action. On name action) (option_and_then (action_of word) (number_of number)) else None
+    then option_map (λ action. On name action) (option_and_then (action_of word) (decimal_number number)) else None
 request_of _ = None
 
 -- an account of a ledger: its name is one, its limit may be one, and at most that is used

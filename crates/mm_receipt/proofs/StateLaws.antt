@@ -4,8 +4,8 @@ use Rattle.std.specs.Prelude.{IsTrue, None}
 use Rattle.mm_base.specs.Limits.{last_position}
 use Rattle.mm_module.specs.Bytes.{are_bytes}
 use Rattle.mm_module.specs.Meaning.{Meaning}
-use Rattle.mm_receipt.specs.Receipts.{parts_by, parts_of}
-use Rattle.mm_receipt.specs.Table.{Kept, is_front, kept_of, is_state}
+use Rattle.mm_receipt.specs.Receipts.{parts_by, receipt_parts}
+use Rattle.mm_receipt.specs.Table.{ReceiptState, is_front, receipt_state_in, is_state}
 use Rattle.mm_receipt.specs.ReceiptedLaws.{SpellsKept, SpellsKept-from, kept_of-IsKept, is-true}
 
 drop-past : (n : ℕ) (xs : List ℕ) → length xs ≤ n → drop n xs ≡ []
@@ -15,20 +15,20 @@ drop-past (suc n) [] short = refl
 drop-past (suc n) (x ∷ xs) short = drop-past n xs (omega (arith, short))
 
 -- too few bytes have no digits and a space
-pub parts_of-short : (output : List ℕ) → length output < 64 → parts_of output ≡ None
+pub parts_of-short : (output : List ℕ) → length output < 64 → receipt_parts output ≡ None
 parts_of-short output short = ap (λ (l : List ℕ). parts_by (take 64 output) l) (drop-past 64 output (omega (arith, short)))
 
-pub spelled-then : (inner : Meaning) (bytes : List ℕ) (answer : Bool) (kept : Kept) → are_bytes bytes ≡ true → is_front bytes ≡ true
-    → answer ≡ inner.is_spelled kept.inner → kept ≡ kept_of bytes → answer ≡ is_state inner bytes
+pub spelled-then : (inner : Meaning) (bytes : List ℕ) (answer : Bool) (kept : ReceiptState) → are_bytes bytes ≡ true → is_front bytes ≡ true
+    → answer ≡ inner.is_spelled kept.inner → kept ≡ receipt_state_in bytes → answer ≡ is_state inner bytes
 unfolding is_state
 spelled-then inner bytes answer kept all front is read =
-    is ∙ ap (λ (k : Kept). inner.is_spelled k.inner) read
-    ∙ sym (ap (λ b. b && (is_front bytes && inner.is_spelled (kept_of bytes).inner)) all ∙ ap (λ b. b && inner.is_spelled (kept_of bytes).inner) front)
+    is ∙ ap (λ (k : ReceiptState). inner.is_spelled k.inner) read
+    ∙ sym (ap (λ b. b && (is_front bytes && inner.is_spelled (receipt_state_in bytes).inner)) all ∙ ap (λ b. b && inner.is_spelled (receipt_state_in bytes).inner) front)
 
 pub spelled-else : (inner : Meaning) (bytes : List ℕ) → are_bytes bytes ≡ true → is_front bytes ≡ false → is_state inner bytes ≡ false
 unfolding is_state
 spelled-else inner bytes all front =
-    ap (λ b. b && (is_front bytes && inner.is_spelled (kept_of bytes).inner)) all ∙ ap (λ b. b && inner.is_spelled (kept_of bytes).inner) front
+    ap (λ b. b && (is_front bytes && inner.is_spelled (receipt_state_in bytes).inner)) all ∙ ap (λ b. b && inner.is_spelled (receipt_state_in bytes).inner) front
 
 spelled-at : (inner : Meaning) (bytes : List ℕ) → IsTrue (is_state inner bytes) → SpellsKept inner bytes
 spelled-at inner bytes is = SpellsKept-from inner bytes (is-true (is_state inner bytes) is)
@@ -38,12 +38,12 @@ pub long-at : (inner : Meaning) (bytes : List ℕ) → IsTrue (is_state inner by
 long-at inner bytes is = (spelled-at inner bytes is).long
 
 -- where the count isn't the last, there is room for one more
-pub room-at : (inner : Meaning) (bytes : List ℕ) (kept : Kept) → IsTrue (is_state inner bytes) → kept ≡ kept_of bytes → kept.count ≢ last_position → kept.count < last_position
+pub room-at : (inner : Meaning) (bytes : List ℕ) (kept : ReceiptState) → IsTrue (is_state inner bytes) → kept ≡ receipt_state_in bytes → kept.count ≢ last_position → kept.count < last_position
 room-at inner bytes kept is read other =
-    let few : kept.count ≤ last_position = subst (λ (k : Kept). k.count ≤ last_position) (sym read) (kept_of-IsKept inner bytes (spelled-at inner bytes is)).few in
+    let few : kept.count ≤ last_position = subst (λ (k : ReceiptState). k.count ≤ last_position) (sym read) (kept_of-IsKept inner bytes (spelled-at inner bytes is)).few in
     omega (arith, few, other)
 
 -- the state inside is spelled
-pub inside-at : (inner : Meaning) (bytes : List ℕ) (kept : Kept) → IsTrue (is_state inner bytes) → kept ≡ kept_of bytes → IsTrue (inner.is_spelled kept.inner)
+pub inside-at : (inner : Meaning) (bytes : List ℕ) (kept : ReceiptState) → IsTrue (is_state inner bytes) → kept ≡ receipt_state_in bytes → IsTrue (inner.is_spelled kept.inner)
 inside-at inner bytes kept is read =
-    subst (λ (k : Kept). IsTrue (inner.is_spelled k.inner)) (sym read) (let e = (spelled-at inner bytes is).spelled in search (rules, e))
+    subst (λ (k : ReceiptState). IsTrue (inner.is_spelled k.inner)) (sym read) (let e = (spelled-at inner bytes is).spelled in search (rules, e))

@@ -13,7 +13,7 @@ use Rattle.mm_module.specs.Meaning.{Meaning, outputs_from}
 use Rattle.mm_receipt.specs.declared.receipt.NotReceipt.{NotReceipt}
 use Rattle.mm_receipt.specs.declared.receipt.NotReceipt.TheVariants.{Form, Tag}
 use Rattle.mm_receipt.specs.Receipts.{receipt_front, receipt_message, digits_of, receipt_of, is_lower_digit, parts_by, verified_by, verified}
-use Rattle.mm_receipt.specs.Table.{Kept, taken, outcome_of, first_kept, spelling_of, kept_of, receipted}
+use Rattle.mm_receipt.specs.Table.{ReceiptState, taken, outcome_of, first_kept, spelling_of, receipt_state_in, receipted}
 use Rattle.mm_receipt.specs.ReceiptedLaws.{IsKept, kept_of-spelling_of, outcome_of-IsKept}
 use Rattle.mm_receipt.specs.Tagged.{IsTaggedBy, IsTagged, IsCounted, ReceiptsAreTrue, ReceiptsDoNotClash}
 
@@ -88,36 +88,36 @@ accepted-receipt key position request output accepted =
     ∙ ap (λ (l : List ℕ). receipt_of key position request l) (sym (drop-suc 64 output))
 
 -- the outputs from what is kept
-abbrev outputs_by : Meaning → Kept → List (List ℕ) → List (List ℕ)
+abbrev outputs_by : Meaning → ReceiptState → List (List ℕ) → List (List ℕ)
 outputs_by inner kept [] = []
 outputs_by inner kept (request ∷ requests) = (outcome_of inner kept request).1 ∷ outputs_by inner (outcome_of inner kept request).0 requests
 
-outputs-same : (inner : Meaning) (kept : Kept) (requests : List (List ℕ)) → IsKept kept → outputs_from (receipted inner) (spelling_of kept) requests ≡ outputs_by inner kept requests
+outputs-same : (inner : Meaning) (kept : ReceiptState) (requests : List (List ℕ)) → IsKept kept → outputs_from (receipted inner) (spelling_of kept) requests ≡ outputs_by inner kept requests
 outputs-same inner kept [] good = refl
 outputs-same inner kept (request ∷ requests) good =
-    let e : outcome_of inner (kept_of (spelling_of kept)) request ≡ outcome_of inner kept request = ap (λ (k : Kept). outcome_of inner k request) (kept_of-spelling_of kept good) in
-    ap (λ (o : Kept × List ℕ). o.1 ∷ outputs_from (receipted inner) (spelling_of o.0) requests) e
+    let e : outcome_of inner (receipt_state_in (spelling_of kept)) request ≡ outcome_of inner kept request = ap (λ (k : ReceiptState). outcome_of inner k request) (kept_of-spelling_of kept good) in
+    ap (λ (o : ReceiptState × List ℕ). o.1 ∷ outputs_from (receipted inner) (spelling_of o.0) requests) e
     ∙ ap (λ (l : List (List ℕ)). (outcome_of inner kept request).1 ∷ l) (outputs-same inner (outcome_of inner kept request).0 requests (outcome_of-IsKept inner kept request good))
 
 -- a tagged request is told its receipt
-tagged-said : (inner : Meaning) (key : List ℕ) (kept : Kept) (request : List ℕ) (full : Bool) → (kept.count == last_position) ≡ full → kept.count ≢ last_position → kept.key ≡ Some key
-    → (let o : Kept × List ℕ = if full then (kept, codes "full") else taken inner kept request kept.key in o.1) ≡ receipt_of key (kept.count + 1) request (inner.says kept.inner request)
+tagged-said : (inner : Meaning) (key : List ℕ) (kept : ReceiptState) (request : List ℕ) (full : Bool) → (kept.count == last_position) ≡ full → kept.count ≢ last_position → kept.key ≡ Some key
+    → (let o : ReceiptState × List ℕ = if full then (kept, codes "full") else taken inner kept request kept.key in o.1) ≡ receipt_of key (kept.count + 1) request (inner.says kept.inner request)
 tagged-said inner key kept request true is room keyed = absurd (room (last kept.count is))
   where
     last : (n : ℕ) → (n == last_position) ≡ true → n ≡ last_position
     last n h = grind (arith, nat_tests)
 tagged-said inner key kept request false is room keyed = ap (λ (k : Option (List ℕ)). (taken inner kept request k).1) keyed
 
-taken-count : (inner : Meaning) (kept : Kept) (request : List ℕ) (key : Option (List ℕ)) → (taken inner kept request key).0.count ≡ kept.count + 1
+taken-count : (inner : Meaning) (kept : ReceiptState) (request : List ℕ) (key : Option (List ℕ)) → (taken inner kept request key).0.count ≡ kept.count + 1
 taken-count inner kept request None = refl
 taken-count inner kept request (Some key) = refl
 
 -- the count goes up by one, until it is full
-abbrev Counts : Kept → Kept → Type 0
+abbrev Counts : ReceiptState → ReceiptState → Type 0
 Counts kept next = (next.count ≡ kept.count + 1) ⊎ ((kept.count ≡ last_position) × (next.count ≡ last_position))
 
-counts-by : (inner : Meaning) (kept : Kept) (request : List ℕ) (full : Bool) → (kept.count == last_position) ≡ full
-    → Counts kept (let o : Kept × List ℕ = if full then (kept, codes "full") else taken inner kept request kept.key in o.0)
+counts-by : (inner : Meaning) (kept : ReceiptState) (request : List ℕ) (full : Bool) → (kept.count == last_position) ≡ full
+    → Counts kept (let o : ReceiptState × List ℕ = if full then (kept, codes "full") else taken inner kept request kept.key in o.0)
 counts-by inner kept request true is = inr (last kept.count is, last kept.count is)
   where
     last : (n : ℕ) → (n == last_position) ≡ true → n ≡ last_position
@@ -125,13 +125,13 @@ counts-by inner kept request true is = inr (last kept.count is, last kept.count 
 counts-by inner kept request false is = inl (taken-count inner kept request kept.key)
 
 -- a request that was tagged, so many requests later
-record WasTagged (inner : Meaning) (kept : Kept) (requests : List (List ℕ)) (key : List ℕ) (position : ℕ) (request said : List ℕ) : Type 0 where
+record WasTagged (inner : Meaning) (kept : ReceiptState) (requests : List (List ℕ)) (key : List ℕ) (position : ℕ) (request said : List ℕ) : Type 0 where
   before : ℕ
   place : position ≡ kept.count + before + 1
   asked : slice_get requests before ≡ Some request
   told : slice_get (outputs_by inner kept requests) before ≡ Some (receipt_of key position request said)
 
-here-tagged : (inner : Meaning) (key : List ℕ) (kept : Kept) (first : List ℕ) (requests : List (List ℕ)) → IsKept kept → IsCounted first
+here-tagged : (inner : Meaning) (key : List ℕ) (kept : ReceiptState) (first : List ℕ) (requests : List (List ℕ)) → IsKept kept → IsCounted first
     → (position : ℕ) (request said : List ℕ) → position ≤ last_position → length request ≤ longest_request
     → IsTaggedBy inner key kept first (receipt_message position request said) → WasTagged inner kept (first ∷ requests) key position request said
 here-tagged inner key kept first requests good counted position request said near short t =
@@ -143,14 +143,14 @@ here-tagged inner key kept first requests good counted position request said nea
     ∙ ap (λ (l : List ℕ). receipt_of key position request l) (sym same.outputs) in
     record { before = 0; place = omega (arith, same.positions); asked = ap (λ (l : List ℕ). Some l) (sym same.requests); told = ap (λ (l : List ℕ). Some l) (told ∙ receipt) }
 
-later-tagged : (inner : Meaning) (key : List ℕ) (kept : Kept) (first : List ℕ) (requests : List (List ℕ)) (position : ℕ) (request said : List ℕ) → position ≤ last_position
+later-tagged : (inner : Meaning) (key : List ℕ) (kept : ReceiptState) (first : List ℕ) (requests : List (List ℕ)) (position : ℕ) (request said : List ℕ) → position ≤ last_position
     → Counts kept (outcome_of inner kept first).0 → WasTagged inner (outcome_of inner kept first).0 requests key position request said
     → WasTagged inner kept (first ∷ requests) key position request said
 later-tagged inner key kept first requests position request said near (inl up) w =
     record { before = suc w.before; place = omega (arith, w.place, up); asked = w.asked; told = w.told }
 later-tagged inner key kept first requests position request said near (inr full) w = absurd (omega (arith, w.place, full.1, near))
 
-was-tagged : (inner : Meaning) (key : List ℕ) (kept : Kept) (requests : List (List ℕ)) → IsKept kept → AllByRecursion IsCounted requests
+was-tagged : (inner : Meaning) (key : List ℕ) (kept : ReceiptState) (requests : List (List ℕ)) → IsKept kept → AllByRecursion IsCounted requests
     → (position : ℕ) (request said : List ℕ) → position ≤ last_position → length request ≤ longest_request
     → IsTagged inner key kept requests (receipt_message position request said) → WasTagged inner kept requests key position request said
 was-tagged inner key kept [] good counted position request said near short t = absurd t

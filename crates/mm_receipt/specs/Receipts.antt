@@ -34,8 +34,8 @@ parts_by digits [] = None
 parts_by digits (space ∷ said) = if space == 32 && list_all is_lower_digit digits then Some (digits, said) else None
 
 -- 64 lower-case digits in front, and what stands behind a space
-abbrev pub parts_of : List ℕ → Option (List ℕ × List ℕ)
-parts_of output = parts_by (take 64 output) (drop 64 output)
+abbrev pub receipt_parts : List ℕ → Option (List ℕ × List ℕ)
+receipt_parts output = parts_by (take 64 output) (drop 64 output)
 
 abbrev pub verified_by : List ℕ → ℕ → List ℕ → Option (List ℕ × List ℕ) → Result (Unit {0}) NotReceipt
 verified_by key position request None = Err Form
@@ -43,4 +43,4 @@ verified_by key position request (Some parts) = if bytes_eq parts.0 (digits_of k
 
 -- whether an output is the receipt of what stands behind its digits
 abbrev pub verified : List ℕ → ℕ → List ℕ → List ℕ → Result (Unit {0}) NotReceipt
-verified key position request output = verified_by key position request (parts_of output)
+verified key position request output = verified_by key position request (receipt_parts output)

@@ -11,7 +11,7 @@ use Rattle.mm_module.specs.Words.{words_of}
 use Rattle.mm_receipt.specs.Receipts.{receipt_of}
 
 -- how many requests were run, the key once it is set, and the state of the module inside
-pub record Kept : Type 0 where
+pub record ReceiptState : Type 0 where
   pub count : ℕ
   pub key : Option (List ℕ)
   pub inner : List ℕ
@@ -27,26 +27,26 @@ keyed_text None = codes "unkeyed"
 keyed_text (Some key) = codes "keyed"
 
 -- a request before a key is set
-abbrev pub unkeyed : Kept → Option (List ℕ) → Kept × List ℕ
+abbrev pub unkeyed : ReceiptState → Option (List ℕ) → ReceiptState × List ℕ
 unkeyed kept key = (record { count = kept.count + 1; key = key; inner = kept.inner }, keyed_text key)
 
 -- a request under a key
-abbrev pub stamped : Meaning → Kept → List ℕ → List ℕ → Kept × List ℕ
+abbrev pub stamped : Meaning → ReceiptState → List ℕ → List ℕ → ReceiptState × List ℕ
 stamped inner kept request key = (
   record { count = kept.count + 1; key = Some key; inner = inner.next kept.inner request },
   receipt_of key (kept.count + 1) request (inner.says kept.inner request),
 )
 
-abbrev pub taken : Meaning → Kept → List ℕ → Option (List ℕ) → Kept × List ℕ
+abbrev pub taken : Meaning → ReceiptState → List ℕ → Option (List ℕ) → ReceiptState × List ℕ
 taken inner kept request None = unkeyed kept (key_of_words (words_of request))
 taken inner kept request (Some key) = stamped inner kept request key
 
 -- what a request does, and what is said: there are 2^48 positions
-abbrev pub outcome_of : Meaning → Kept → List ℕ → Kept × List ℕ
+abbrev pub outcome_of : Meaning → ReceiptState → List ℕ → ReceiptState × List ℕ
 outcome_of inner kept request = if kept.count == last_position then (kept, codes "full") else taken inner kept request kept.key
 
 -- before every request
-abbrev pub first_kept : Meaning → Kept
+abbrev pub first_kept : Meaning → ReceiptState
 first_kept inner = record { count = 0; key = None; inner = inner.first }
 
 -- a byte and a key: 00 and zeros, or 01 and the key
@@ -55,7 +55,7 @@ key_bytes None = 0 ∷ replicate 32 0
 key_bytes (Some key) = 1 ∷ key
 
 -- the bytes of a state
-abbrev pub spelling_of : Kept → List ℕ
+abbrev pub spelling_of : ReceiptState → List ℕ
 spelling_of kept = eight_bytes kept.count ++ (key_bytes kept.key ++ kept.inner)
 
 -- the key, where the byte before it is 01
@@ -71,24 +71,24 @@ is_keyed (form ∷ rest) = form == 1 || (form == 0 && bytes_eq (take 32 rest) (r
 abbrev pub is_front : List ℕ → Bool
 is_front bytes = nat_le 41 (length bytes) && (nat_le (of_eight_bytes (take 8 bytes)) last_position && is_keyed (drop 8 bytes))
 
-abbrev pub kept_by : ℕ → List ℕ → Kept
-kept_by count [] = record { count = count; key = None; inner = [] }
-kept_by count (form ∷ rest) = record { count = count; key = key_in form (take 32 rest); inner = drop 32 rest }
+abbrev pub as_receipt_state : ℕ → List ℕ → ReceiptState
+as_receipt_state count [] = record { count = count; key = None; inner = [] }
+as_receipt_state count (form ∷ rest) = record { count = count; key = key_in form (take 32 rest); inner = drop 32 rest }
 
 -- what a state keeps
-unfoldable pub kept_of : List ℕ → Kept
-kept_of bytes = kept_by (of_eight_bytes (take 8 bytes)) (drop 8 bytes)
+unfoldable pub receipt_state_in : List ℕ → ReceiptState
+receipt_state_in bytes = as_receipt_state (of_eight_bytes (take 8 bytes)) (drop 8 bytes)
 
 -- the bytes spell a state
 unfoldable pub is_state : Meaning → List ℕ → Bool
-is_state inner bytes = are_bytes bytes && (is_front bytes && inner.is_spelled (kept_of bytes).inner)
+is_state inner bytes = are_bytes bytes && (is_front bytes && inner.is_spelled (receipt_state_in bytes).inner)
 
 -- the module round another
 abbrev pub receipted : Meaning → Meaning
 receipted inner = record {
   id = (inner.id + 64) % 256;
   first = spelling_of (first_kept inner);
-  next = λ state request. spelling_of (outcome_of inner (kept_of state) request).0;
-  says = λ state request. (outcome_of inner (kept_of state) request).1;
+  next = λ state request. spelling_of (outcome_of inner (receipt_state_in state) request).0;
+  says = λ state request. (outcome_of inner (receipt_state_in state) request).1;
   is_spelled = is_state inner;
 }

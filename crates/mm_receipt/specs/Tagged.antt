@@ -4,16 +4,16 @@ use Rattle.std.specs.List.{AllByRecursion}
 use Rattle.mm_base.specs.Limits.{last_position, longest_request}
 use Rattle.mm_module.specs.Meaning.{Meaning, outputs_from}
 use Rattle.mm_receipt.specs.Receipts.{receipt_message, verified}
-use Rattle.mm_receipt.specs.Table.{Kept, outcome_of, first_kept, receipted}
+use Rattle.mm_receipt.specs.Table.{ReceiptState, outcome_of, first_kept, receipted}
 
 -- A request is run under this key, and this is the message of its receipt.
-pub record IsTaggedBy (inner : Meaning) (key : List ℕ) (kept : Kept) (request message : List ℕ) : Type 0 where
+pub record IsTaggedBy (inner : Meaning) (key : List ℕ) (kept : ReceiptState) (request message : List ℕ) : Type 0 where
   pub room : kept.count ≢ last_position
   pub keyed : kept.key ≡ Some key
   pub is : message ≡ receipt_message (kept.count + 1) request (inner.says kept.inner request)
 
 -- The message of one of these requests, run one after another.
-abbrev pub IsTagged : Meaning → List ℕ → Kept → List (List ℕ) → List ℕ → Type 0
+abbrev pub IsTagged : Meaning → List ℕ → ReceiptState → List (List ℕ) → List ℕ → Type 0
 IsTagged inner key kept [] message = ⊥
 IsTagged inner key kept (request ∷ requests) message =
     IsTaggedBy inner key kept request message ⊎ IsTagged inner key (outcome_of inner kept request).0 requests message

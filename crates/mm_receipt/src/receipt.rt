@@ -4,7 +4,7 @@ ghost use Rattle.std.specs.Prelude.{◌≡◌, ◌≤◌, ◌<◌, ℕ, List, le
 ghost use Rattle.std.specs.List.{list_all};
 ghost use Rattle.hex.specs.Hex.{encode_lower};
 ghost use Rattle.mm_base.specs.Limits.{longest_request};
-ghost use Rattle.mm_receipt.specs.Receipts.{is_lower_digit, receipt_front, digits_of, receipt_of, parts_of, verified};
+ghost use Rattle.mm_receipt.specs.Receipts.{is_lower_digit, receipt_front, digits_of, receipt_of, receipt_parts, verified};
 
 use mm_base::{Bytes, Memory, bytes_of_u32, bytes_of_u64};
 use mm_digest::{Digest, HmacKey};
@@ -77,7 +77,7 @@ fn are_lower_digits(digits: &[u8]) -> bool
 
 /// The digits of an output, and what stands behind the space, where it has the form of a receipt.
 fn read_parts(output: &[u8]) -> Option<(&[u8], &[u8])>
-    ensures { option_map (λ (p : _). (p.0.now, p.1.now)) result ≡ parts_of output.now }
+    ensures { option_map (λ (p : _). (p.0.now, p.1.now)) result ≡ receipt_parts output.now }
 {
     if output.len() < 64 {
         return None;

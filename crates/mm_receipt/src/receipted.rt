@@ -4,7 +4,7 @@ ghost use Rattle.std.specs.Prelude.{◌≡◌, ◌+◌, ◌++◌, ◌<◌, ◌�
 ghost use Rattle.mm_base.specs.Limits.{last_position};
 ghost use Rattle.mm_module.specs.Meaning.{IsLine};
 ghost use Rattle.mm_module.specs.Words.{words_of};
-ghost use Rattle.mm_receipt.specs.Table.{key_of_words, keyed_text, unkeyed, receipted, stamped, key_bytes, key_in, is_keyed, is_front, kept_by, kept_of, spelling_of, outcome_of};
+ghost use Rattle.mm_receipt.specs.Table.{key_of_words, keyed_text, unkeyed, receipted, stamped, key_bytes, key_in, is_keyed, is_front, as_receipt_state, receipt_state_in, spelling_of, outcome_of};
 ghost use Rattle.mm_receipt.specs.Views.{as_kept};
 ghost use Rattle.mm_receipt.specs.ReceiptedLaws.{receipted_is_lawful};
 
@@ -80,7 +80,7 @@ fn read_key(form: u8, bytes: &[u8]) -> Option<[u8; 32]>
 /// What is kept behind the count: a byte and a key, and the state inside.
 fn kept_behind(count: u64, bytes: &[u8]) -> Kept<'_>
     requires { 33 ≤ length bytes.now }
-    ensures { as_kept result ≡ kept_by count bytes.now }
+    ensures { as_kept result ≡ as_receipt_state count bytes.now }
 {
     let Some((form, rest)) = bytes.split_first() else {
         unreachable!()
@@ -94,10 +94,10 @@ fn kept_behind(count: u64, bytes: &[u8]) -> Kept<'_>
 }
 
 /// What a state keeps.
-#[tactic(auto, unfolding(crate::specs::Table::kept_of))]
+#[tactic(auto, unfolding(crate::specs::Table::receipt_state_in))]
 fn read_kept(bytes: &[u8]) -> Kept<'_>
     requires { 41 ≤ length bytes.now }
-    ensures { as_kept result ≡ kept_of bytes.now }
+    ensures { as_kept result ≡ receipt_state_in bytes.now }
 {
     let (count, rest) = bytes.split_at(8);
     kept_behind(u64_of_bytes(count), rest)

@@ -9,7 +9,7 @@ use Rattle.std.specs.declared.cmp.Ordering.TheVariants.{Less, Equal, Greater}
 use Rattle.std.specs.Str.{bytes_eq}
 use Rattle.std.proofs.lemmas.Bool.Decides.{nat_tests}
 use Rattle.std.proofs.lemmas.Slice.Eq.{bytes_eq-Decides}
-use Rattle.mm_base.specs.Decimals.{number_of}
+use Rattle.mm_base.specs.Decimals.{decimal_number}
 use Rattle.mm_base.specs.declared.replay_fault.ReplayFault.{ReplayFault}
 use Rattle.mm_base.specs.declared.replay_fault.ReplayFault.TheVariants.{LineLong}
 use Rattle.mm_base.specs.Limits.{last_position, longest_line, longest_request}
@@ -29,12 +29,12 @@ use Rattle.mm_receipts.specs.declared.pair.Asked.{Asked}
 use Rattle.mm_receipts.specs.declared.pair.Pair.{Pair}
 use Rattle.mm_receipts.specs.declared.pair.Verdict.{Verdict}
 use Rattle.mm_receipts.specs.declared.pair.Verdict.TheVariants.{NoForm, NoTag, Clash, Good}
-use Rattle.mm_receipts.specs.Checking.{Tally, Checking, asked_at, parted, numbered, is_too_much, known_at, beside, verdict_by, verdict_of, verdict_text, after_pair, first_by, second_answer, waits, settles, receipts_answer, first_tally}
-use Rattle.mm_receipts.specs.Honest.{pairs_of, text_alone, alone, IsGenuine, IsTrue, IsHonest, ChecksAreHonest}
+use Rattle.mm_receipts.specs.Checking.{Tally, Checking, pair_at, parted, asked_with, is_too_much, known_at, against_pair, receipt_verdict, pair_verdict, verdict_text, after_pair, first_by, second_answer, waits, settles, receipts_answer, first_tally}
+use Rattle.mm_receipts.specs.Honest.{pairs_of, text_alone, alone, WasTagged, IsTrue, IsHonest, ChecksAreHonest}
 
 -- a pair that nothing stands beside is answered by its output alone
 alone-text : (position : ℕ) (request output : List ℕ) (answer : Result (Unit {0}) NotReceipt)
-    → verdict_text position (verdict_by answer None request output) ≡ text_alone position answer
+    → verdict_text position (receipt_verdict answer None request output) ≡ text_alone position answer
 alone-text position request output (Err Form) = refl
 alone-text position request output (Err Tag) = refl
 alone-text position request output (Ok done) = refl
@@ -86,13 +86,13 @@ numbered-formed request number true is =
     record { near = grind (arith, nat_tests); short = grind (arith, nat_tests) }
 numbered-formed request number false is = tt
 
-found-formed : (request : List ℕ) (found : Option ℕ) → MayWait (numbered request found)
+found-formed : (request : List ℕ) (found : Option ℕ) → MayWait (asked_with request found)
 found-formed request None = tt
 found-formed request (Some number) = numbered-formed request number _ refl
 
 parted-formed : (line : List ℕ) (found : Option ℕ) → MayWait (parted line found)
 parted-formed line None = tt
-parted-formed line (Some at) = found-formed (drop (at + 1) line) (number_of (take at line))
+parted-formed line (Some at) = found-formed (drop (at + 1) line) (decimal_number (take at line))
 
 at-key : (a b : ℕ) → is_at (nat_cmp a) b ≡ true → a ≡ b
 at-key a b is = at-by a b (nat_lt a b) (a == b) refl is
@@ -144,7 +144,7 @@ module _ (inner : Meaning) (requests : List (List ℕ)) (counted : AllByRecursio
   same_bytes a b is = grind (arith, bytes_eq-Decides)
 
   beside-good : (asked : Asked) (output : List ℕ) (known : Option Pair) → IsUnforged inner requests key asked.position asked.request output → SoundAt asked.position known
-      → beside known asked.request output ≡ Good
+      → against_pair known asked.request output ≡ Good
   beside-good asked output None new sound = refl
   beside-good asked output (Some pair) new sound =
       let same = no-clash inner requests counted key asked.position asked.request output pair.request pair.output new sound in
@@ -152,13 +152,13 @@ module _ (inner : Meaning) (requests : List (List ℕ)) (counted : AllByRecursio
 
   -- a verdict on a sound tally is the one of the pair alone
   verdict-alone : (asked : Asked) (output : List ℕ) (known : Option Pair) (answer : Result (Unit {0}) NotReceipt) → (answer ≡ Ok tt → IsUnforged inner requests key asked.position asked.request output)
-      → SoundAt asked.position known → verdict_by answer known asked.request output ≡ verdict_by answer None asked.request output
+      → SoundAt asked.position known → receipt_verdict answer known asked.request output ≡ receipt_verdict answer None asked.request output
   verdict-alone asked output known (Err Form) new sound = refl
   verdict-alone asked output known (Err Tag) new sound = refl
   verdict-alone asked output known (Ok done) new sound = beside-good asked output known (new refl) sound
 
   after-sound : (tally : Tally) (asked : Asked) (output : List ℕ) (answer : Result (Unit {0}) NotReceipt) → (answer ≡ Ok tt → IsUnforged inner requests key asked.position asked.request output)
-      → AreSound tally.known → AreSound (after_pair tally asked output (verdict_by answer None asked.request output)).known
+      → AreSound tally.known → AreSound (after_pair tally asked output (receipt_verdict answer None asked.request output)).known
   after-sound tally asked output (Err Form) new sound = sound
   after-sound tally asked output (Err Tag) new sound = sound
   after-sound tally asked output (Ok done) new sound = sound-insert asked.position (record { request = asked.request; output = output }) tally.known (new refl) sound
@@ -187,11 +187,11 @@ module _ (inner : Meaning) (requests : List (List ℕ)) (counted : AllByRecursio
   -- a first line waits, and is answered nothing
   record Waiting (tally : Tally) (line : List ℕ) (reply : List ℕ) (mid : Checking) : Type 0 where
     silent : reply ≡ []
-    asked : mid.asked ≡ asked_at line
+    asked : mid.asked ≡ pair_at line
     known : mid.tally.known ≡ tally.known
     same_key : mid.tally.key ≡ tally.key
 
-  first-waits : (tally : Tally) (line : List ℕ) (found : Option Asked) (much : Bool) (reply : List ℕ) (mid : Checking) → asked_at line ≡ found → is_too_much tally line ≡ much
+  first-waits : (tally : Tally) (line : List ℕ) (found : Option Asked) (much : Bool) (reply : List ℕ) (mid : Checking) → pair_at line ≡ found → is_too_much tally line ≡ much
       → waits (first_by tally line found) ≡ Ok (reply, mid) → Waiting tally line reply mid
   first-waits tally line None much reply mid is flag h = absurd (refuses Bad reply mid h)
   first-waits tally line (Some asked) true reply mid is flag h = absurd (refuses Much reply mid (rw flag at h))
@@ -206,8 +206,8 @@ module _ (inner : Meaning) (requests : List (List ℕ)) (counted : AllByRecursio
 
   -- a second line is answered by its verdict
   record Settling (tally : Tally) (asked : Asked) (line : List ℕ) (reply : List ℕ) (mid : Checking) : Type 0 where
-    told : reply ≡ verdict_text asked.position (verdict_of tally asked line)
-    next : mid ≡ record { tally = after_pair tally asked line (verdict_of tally asked line); asked = None }
+    told : reply ≡ verdict_text asked.position (pair_verdict tally asked line)
+    next : mid ≡ record { tally = after_pair tally asked line (pair_verdict tally asked line); asked = None }
 
   second-settles : (tally : Tally) (asked : Asked) (line : List ℕ) (much : Bool) (reply : List ℕ) (mid : Checking) → is_too_much tally line ≡ much
       → settles (second_answer tally asked line) ≡ Ok (reply, mid) → Settling tally asked line reply mid
@@ -215,28 +215,28 @@ module _ (inner : Meaning) (requests : List (List ℕ)) (counted : AllByRecursio
   second-settles tally asked line false reply mid flag h =
       record { told = same_reply reply _ mid _ (rw flag at h); next = same_mid reply _ mid _ (rw flag at h) }
 
-  unforged : (asked : Asked) (line : List ℕ) → IsFormed asked → IsGenuine inner requests key (record { asked = asked; output = line })
+  unforged : (asked : Asked) (line : List ℕ) → IsFormed asked → WasTagged inner requests key (record { asked = asked; output = line })
       → verified key asked.position asked.request line ≡ Ok tt → IsUnforged inner requests key asked.position asked.request line
   unforged asked line formed genuine accepted = record { near = formed.near; short = formed.short; accepted = accepted; tagged = genuine accepted }
 
-  true-pair : (asked : Asked) (line : List ℕ) → IsFormed asked → IsGenuine inner requests key (record { asked = asked; output = line })
+  true-pair : (asked : Asked) (line : List ℕ) → IsFormed asked → WasTagged inner requests key (record { asked = asked; output = line })
       → IsTrue inner requests key (record { asked = asked; output = line })
   true-pair asked line formed genuine accepted = receipts-true inner requests counted key asked.position asked.request line (unforged asked line formed genuine accepted)
 
   honest-from : (lines : List (List ℕ)) (number : ℕ) (tally : Tally) (asked : Option Asked) (written : List ℕ) (next : Checking) → Stands tally asked
       → run receipts_answer number (record { tally = tally; asked = asked }) lines ≡ told written (Ok next)
-      → AllByRecursion (IsGenuine inner requests key) (pairs_of asked lines) → IsHonest inner requests key (pairs_of asked lines) written
+      → AllByRecursion (WasTagged inner requests key) (pairs_of asked lines) → IsHonest inner requests key (pairs_of asked lines) written
   honest-from [] number tally asked written next s ran genuine = record { plain = sym (ap (λ (t : Told Checking). t.written) ran); right = tt }
   honest-from (line ∷ lines) number tally None written next s ran genuine =
       let step = turn-step (record { tally = tally; asked = None }) line number lines written next (nat_lt longest_line (length line)) ran in
-      let w = first-waits tally line (asked_at line) (is_too_much tally line) step.reply step.mid refl refl step.answer in
-      let mid : record { tally = step.mid.tally; asked = asked_at line } ≡ step.mid = ap (λ (a : Option Asked). record { tally = step.mid.tally; asked = a }) (sym w.asked) in
-      let stands : Stands step.mid.tally (asked_at line) = record {
+      let w = first-waits tally line (pair_at line) (is_too_much tally line) step.reply step.mid refl refl step.answer in
+      let mid : record { tally = step.mid.tally; asked = pair_at line } ≡ step.mid = ap (λ (a : Option Asked). record { tally = step.mid.tally; asked = a }) (sym w.asked) in
+      let stands : Stands step.mid.tally (pair_at line) = record {
         keyed = w.same_key ∙ s.keyed;
         sound = subst AreSound (sym w.known) s.sound;
         formed = parted-formed line (position is_space line);
       } in
-      let rest = honest-from lines (number + 1) step.mid.tally (asked_at line) step.rest next stands
+      let rest = honest-from lines (number + 1) step.mid.tally (pair_at line) step.rest next stands
       (ap (λ (c : Checking). run receipts_answer (number + 1) c lines) mid ∙ step.ran) genuine in
       record { plain = step.parts ∙ ap (λ (l : List ℕ). l ++ step.rest) w.silent ∙ rest.plain; right = rest.right }
   honest-from (line ∷ lines) number tally (Some asked) written next s ran genuine =
@@ -244,12 +244,12 @@ module _ (inner : Meaning) (requests : List (List ℕ)) (counted : AllByRecursio
       let w = second-settles tally asked line (is_too_much tally line) step.reply step.mid refl step.answer in
       let answer = verified key asked.position asked.request line in
       let new : answer ≡ Ok tt → IsUnforged inner requests key asked.position asked.request line = unforged asked line s.formed genuine.0 in
-      let plain : verdict_of tally asked line ≡ verdict_by answer None asked.request line =
-      ap (λ (k : List ℕ). verdict_by (verified k asked.position asked.request line) (known_at asked.position tally.known) asked.request line) s.keyed
+      let plain : pair_verdict tally asked line ≡ receipt_verdict answer None asked.request line =
+      ap (λ (k : List ℕ). receipt_verdict (verified k asked.position asked.request line) (known_at asked.position tally.known) asked.request line) s.keyed
       ∙ verdict-alone asked line (known_at asked.position tally.known) answer new (sound-at asked.position tally.known s.sound) in
-      let after = after_pair tally asked line (verdict_of tally asked line) in
+      let after = after_pair tally asked line (pair_verdict tally asked line) in
       let stands : Stands after None = record {
-        keyed = after-key tally asked line (verdict_of tally asked line) ∙ s.keyed;
+        keyed = after-key tally asked line (pair_verdict tally asked line) ∙ s.keyed;
         sound = subst (λ (v : Verdict). AreSound (after_pair tally asked line v).known) (sym plain) (after-sound tally asked line answer new s.sound);
         formed = tt;
       } in

@@ -2,18 +2,18 @@
 use Rattle.std.proofs.Common.{◌≡◌, ◌∙◌, ℕ, List, ◌++◌, Option, Some, None, Result, Ok, Err, refl, sym, ap, subst}
 use Rattle.mm_base.specs.declared.replay_fault.ReplayFault.{ReplayFault}
 use Rattle.mm_play.specs.declared.player.Refused.{Refused}
-use Rattle.mm_play.specs.declared.player.TakeFault.{TakeFault}
-use Rattle.mm_play.specs.declared.player.TakeFault.TheVariants as fault
+use Rattle.mm_play.specs.declared.player.ReplyFault.{ReplyFault}
+use Rattle.mm_play.specs.declared.player.ReplyFault.TheVariants as fault
 use Rattle.mm_play.specs.Play.{Told, run, run_of}
 use Rattle.mm_play.specs.Plays.{IsUnrefused, Settles, Plays}
-use Rattle.mm_play.specs.Takes.{Takes}
+use Rattle.mm_play.specs.Takes.{GivesReply}
 use Rattle.mm_play.specs.Tells.{Answered, Finished, RefusesMuch}
 use Rattle.mm_play.proofs.Completing.{completed, settles_err}
 use Rattle.mm_play.proofs.Telling.{tells_by, tells_more}
 use Rattle.mm_receipts.specs.declared.pair.Asked.{Asked}
 use Rattle.mm_receipts.specs.declared.report.ReceiptReport.{ReceiptReport}
 use Rattle.mm_receipts.specs.Checking.{Tally, Checking, second_answer, settles, receipts_answer, receipts_closing, closing_at, last_line, first_checking}
-use Rattle.mm_receipts.specs.Reports.{AnswersHonestly, Checks, ChecksHonestly, Counts, EndsHonestly}
+use Rattle.mm_receipts.specs.Reports.{AnswersHonestly, ChecksReceipts, ChecksHonestly, CountsLast, EndsHonestly}
 use Rattle.mm_receipts.proofs.HonestLaws.{honest}
 
 settled-answer : (it : Checking) (old : Tally) (asked : Asked) (line : List ℕ) (answer : Result (List ℕ × Tally) Refused)
@@ -21,9 +21,9 @@ settled-answer : (it : Checking) (old : Tally) (asked : Asked) (line : List ℕ)
 settled-answer it old asked line answer is said =
     ap (λ (c : Checking). receipts_answer c line) is ∙ ap settles said
 
-pub takes-second : (it : Checking) (old : Tally) (asked : Asked) (line : List ℕ) (new : Tally) (next : Checking) (result : Result (List ℕ) TakeFault)
+pub takes-second : (it : Checking) (old : Tally) (asked : Asked) (line : List ℕ) (new : Tally) (next : Checking) (result : Result (List ℕ) ReplyFault)
     → it ≡ record { tally = old; asked = Some asked } → record { tally = new; asked = None } ≡ next
-    → Takes (second_answer old asked line) new result → Takes (receipts_answer it line) next result
+    → GivesReply (second_answer old asked line) new result → GivesReply (receipts_answer it line) next result
 takes-second it old asked line new next (Ok reply) is then t =
     settled-answer it old asked line (Ok (reply, new)) is t ∙ ap (λ (c : Checking). Ok (reply, c)) then
 takes-second it old asked line new next (Err fault.Memory) is then t = tt
@@ -38,7 +38,7 @@ whole_run key input = run_of receipts_answer receipts_closing (first_checking ke
 pub checks-err : (key : List ℕ) (first : Checking) → first ≡ first_checking key → (left left' received received' : Option (List ℕ)) (next : Checking)
     (result : Result (Unit {0}) ReplayFault) (fault : ReplayFault)
     → Plays receipts_answer receipts_closing first next left left' received received' result → result ≡ Err fault
-    → Checks key left left' received received' (Err fault)
+    → ChecksReceipts key left left' received received' (Err fault)
 checks-err key first is_first left left' received received' next result fault played is =
     let p = subst (λ (it : Checking). Plays receipts_answer receipts_closing it next left left' received received' result) is_first played in
     let s = subst (λ (r : Result (Unit {0}) ReplayFault). Settles (lines_run key) (whole_run key) next left' p.taken p.sent r) is p.settled in
@@ -55,7 +55,7 @@ checks-err key first is_first left left' received received' next result fault pl
 pub checks-ok : (key : List ℕ) (first : Checking) → first ≡ first_checking key → (left left' received received' : Option (List ℕ)) (next : Checking) (report : ReceiptReport)
     (result : Result (Unit {0}) ReplayFault) (done : Unit {0})
     → Plays receipts_answer receipts_closing first next left left' received received' result → result ≡ Ok done
-    → Counts next report → Checks key left left' received received' (Ok report)
+    → CountsLast next report → ChecksReceipts key left left' received received' (Ok report)
 checks-ok key first is_first left left' received received' next report result done played is reported =
     let p = subst (λ (it : Checking). Plays receipts_answer receipts_closing it next left left' received received' result) is_first played in
     let s = subst (λ (r : Result (Unit {0}) ReplayFault). Settles (lines_run key) (whole_run key) next left' p.taken p.sent r) is p.settled in
@@ -70,7 +70,7 @@ checks-ok key first is_first left left' received received' next report result do
     }
 
 -- lines of the form within the limits are not refused
-pub unrefused : (key : List ℕ) (left left' received received' : Option (List ℕ)) (result : Result ReceiptReport ReplayFault) → Checks key left left' received received' result
+pub unrefused : (key : List ℕ) (left left' received received' : Option (List ℕ)) (result : Result ReceiptReport ReplayFault) → ChecksReceipts key left left' received received' result
     → (bytes : List ℕ) (end : Checking) → left ≡ Some bytes → (run_of receipts_answer receipts_closing (first_checking key) bytes).outcome ≡ Ok end → IsUnrefused result
 unrefused key left left' received received' result r bytes end is ran =
     completed (lines_run key) (whole_run key) r.next left left' r.taken r.sent result r.consumed r.settled bytes end is ran
@@ -99,7 +99,7 @@ ends-honestly key lines written f = record {
   whole = f.whole ∙ ap (λ (l : List ℕ). f.said ++ l) (closes-with f.next.tally f.next.asked f.last f.closed);
 }
 
-pub honestly : (key : List ℕ) (left left' received received' : Option (List ℕ)) (result : Result ReceiptReport ReplayFault) → Checks key left left' received received' result
+pub honestly : (key : List ℕ) (left left' received received' : Option (List ℕ)) (result : Result ReceiptReport ReplayFault) → ChecksReceipts key left left' received received' result
     → ChecksHonestly key left left' received received' result
 honestly key left left' received received' result r = record {
   taken = r.taken;

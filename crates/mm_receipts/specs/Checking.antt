@@ -6,7 +6,7 @@ use Rattle.std.specs.List.{position}
 use Rattle.std.specs.Map.{lookup}
 use Rattle.std.specs.Ordering.{nat_cmp}
 use Rattle.std.specs.Str.{bytes_eq}
-use Rattle.mm_base.specs.Decimals.{number_of}
+use Rattle.mm_base.specs.Decimals.{decimal_number}
 use Rattle.mm_base.specs.Limits.{last_position, longest_request}
 use Rattle.mm_module.specs.Words.{is_space}
 use Rattle.mm_play.specs.declared.player.Refused.{Refused}
@@ -27,19 +27,19 @@ most_pairs = 20000
 abbrev pub most_read : ℕ
 most_read = 268435456
 
-abbrev pub numbered : List ℕ → Option ℕ → Option Asked
-numbered request None = None
-numbered request (Some number) =
+abbrev pub asked_with : List ℕ → Option ℕ → Option Asked
+asked_with request None = None
+asked_with request (Some number) =
     if nat_le 1 number && nat_le number last_position && nat_le (length request) longest_request
     then Some (record { position = number; request = request }) else None
 
 abbrev pub parted : List ℕ → Option ℕ → Option Asked
 parted line None = None
-parted line (Some at) = numbered (drop (at + 1) line) (number_of (take at line))
+parted line (Some at) = asked_with (drop (at + 1) line) (decimal_number (take at line))
 
 -- the first line of a pair: a position from 1 to 2^48, a space and a request of at most 4,096 bytes
-abbrev pub asked_at : List ℕ → Option Asked
-asked_at line = parted line (position is_space line)
+abbrev pub pair_at : List ℕ → Option Asked
+pair_at line = parted line (position is_space line)
 
 -- the good pairs by their positions, how many pairs were good, how many there were, and the bytes of their lines
 pub record Tally : Type 0 where
@@ -64,19 +64,19 @@ known_at number known = lookup (is_at (nat_cmp number)) known
 abbrev pub compared : Pair → List ℕ → List ℕ → Verdict
 compared pair request output = if bytes_eq request pair.request && bytes_eq output pair.output then Good else Clash
 
-abbrev pub beside : Option Pair → List ℕ → List ℕ → Verdict
-beside None request output = Good
-beside (Some pair) request output = compared pair request output
+abbrev pub against_pair : Option Pair → List ℕ → List ℕ → Verdict
+against_pair None request output = Good
+against_pair (Some pair) request output = compared pair request output
 
-abbrev pub verdict_by : Result (Unit {0}) NotReceipt → Option Pair → List ℕ → List ℕ → Verdict
-verdict_by (Err Form) known request output = NoForm
-verdict_by (Err Tag) known request output = NoTag
-verdict_by (Ok _) known request output = beside known request output
+abbrev pub receipt_verdict : Result (Unit {0}) NotReceipt → Option Pair → List ℕ → List ℕ → Verdict
+receipt_verdict (Err Form) known request output = NoForm
+receipt_verdict (Err Tag) known request output = NoTag
+receipt_verdict (Ok _) known request output = against_pair known request output
 
 -- what a pair is answered
-abbrev pub verdict_of : Tally → Asked → List ℕ → Verdict
-verdict_of tally asked output =
-    verdict_by (verified tally.key asked.position asked.request output) (known_at asked.position tally.known) asked.request output
+abbrev pub pair_verdict : Tally → Asked → List ℕ → Verdict
+pair_verdict tally asked output =
+    receipt_verdict (verified tally.key asked.position asked.request output) (known_at asked.position tally.known) asked.request output
 
 -- its line
 abbrev pub verdict_text : ℕ → Verdict → List ℕ
@@ -126,13 +126,13 @@ first_by tally line (Some asked) =
 
 -- the first line of a pair, which is answered nothing
 abbrev pub first_answer : Tally → List ℕ → Result (Asked × Tally) Refused
-first_answer tally line = first_by tally line (asked_at line)
+first_answer tally line = first_by tally line (pair_at line)
 
 -- the second line of a pair, and the reply
 abbrev pub second_answer : Tally → Asked → List ℕ → Result (List ℕ × Tally) Refused
 second_answer tally asked line =
     if is_too_much tally line then Err Much
-    else Ok (verdict_text asked.position (verdict_of tally asked line), after_pair tally asked line (verdict_of tally asked line))
+    else Ok (verdict_text asked.position (pair_verdict tally asked line), after_pair tally asked line (pair_verdict tally asked line))
 
 -- what was found, and the first line of a pair that waits for its second
 pub record Checking : Type 0 where
@@ -147,13 +147,13 @@ abbrev pub settles : Result (List ℕ × Tally) Refused → Result (List ℕ × 
 settles (Ok second) = Ok (second.0, record { tally = second.1; asked = None })
 settles (Err why) = Err why
 
-abbrev pub answer_at : Tally → Option Asked → List ℕ → Result (List ℕ × Checking) Refused
-answer_at tally None line = waits (first_answer tally line)
-answer_at tally (Some asked) line = settles (second_answer tally asked line)
+abbrev pub pair_answer : Tally → Option Asked → List ℕ → Result (List ℕ × Checking) Refused
+pair_answer tally None line = waits (first_answer tally line)
+pair_answer tally (Some asked) line = settles (second_answer tally asked line)
 
 -- the reply to a line
 abbrev pub receipts_answer : Checking → List ℕ → Result (List ℕ × Checking) Refused
-receipts_answer it line = answer_at it.tally it.asked line
+receipts_answer it line = pair_answer it.tally it.asked line
 
 -- the line `end G N`: how many pairs were good, and how many there were
 abbrev pub last_line : ℕ → ℕ → List ℕ

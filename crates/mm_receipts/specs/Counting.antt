@@ -8,7 +8,7 @@ use Rattle.mm_play.specs.Counting.{no_answer, same_next, left_or}
 use Rattle.mm_receipts.specs.declared.pair.Asked.{Asked}
 use Rattle.mm_receipts.specs.declared.pair.Verdict.{Verdict}
 use Rattle.mm_receipts.specs.declared.pair.Verdict.TheVariants.{NoForm, NoTag, Clash, Good}
-use Rattle.mm_receipts.specs.Checking.{Tally, Checking, most_pairs, is_too_much, asked_at, first_by, verdict_of, after_pair, second_answer, waits, settles, answer_at, receipts_answer, lines_left_at}
+use Rattle.mm_receipts.specs.Checking.{Tally, Checking, most_pairs, is_too_much, pair_at, first_by, pair_verdict, after_pair, second_answer, waits, settles, pair_answer, receipts_answer, lines_left_at}
 
 few_pairs : (tally : Tally) (line : List ℕ) → is_too_much tally line ≡ false → tally.pairs < most_pairs
 few_pairs tally line h = let a : nat_le most_pairs tally.pairs ≡ false = left_or (nat_le most_pairs tally.pairs) _ h in
@@ -36,11 +36,11 @@ second_counts : (tally : Tally) (asked : Asked) (line : List ℕ) (much : Bool) 
 second_counts tally asked line true reply next is h = absurd (no_answer Much reply next (rw is at h))
 second_counts tally asked line false reply next is h =
     subst (λ (c : Checking). lines_left_at c < 2 * (most_pairs - tally.pairs) - 1) (same_next reply _ next _ (rw is at h))
-    (omega (arith, few_pairs tally line is, after-pairs tally asked line (verdict_of tally asked line)))
+    (omega (arith, few_pairs tally line is, after-pairs tally asked line (pair_verdict tally asked line)))
 
-counts_at : (tally : Tally) (asked : Option Asked) (line reply : List ℕ) (next : Checking) → answer_at tally asked line ≡ Ok (reply, next)
+counts_at : (tally : Tally) (asked : Option Asked) (line reply : List ℕ) (next : Checking) → pair_answer tally asked line ≡ Ok (reply, next)
     → lines_left_at next < lines_left_at (record { tally = tally; asked = asked })
-counts_at tally None line reply next h = first_counts tally line (asked_at line) (is_too_much tally line) reply next refl h
+counts_at tally None line reply next h = first_counts tally line (pair_at line) (is_too_much tally line) reply next refl h
 counts_at tally (Some asked) line reply next h = second_counts tally asked line (is_too_much tally line) reply next refl h
 
 -- an answered line leaves fewer

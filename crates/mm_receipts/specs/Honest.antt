@@ -10,7 +10,7 @@ use Rattle.mm_receipt.specs.declared.receipt.NotReceipt.{NotReceipt}
 use Rattle.mm_receipt.specs.declared.receipt.NotReceipt.TheVariants.{Form, Tag}
 use Rattle.mm_receipts.specs.declared.pair.Asked.{Asked}
 use Rattle.mm_receipts.specs.declared.pair.Verdict.TheVariants.{NoForm, NoTag, Good}
-use Rattle.mm_receipts.specs.Checking.{Checking, asked_at, verdict_text, first_checking, receipts_answer}
+use Rattle.mm_receipts.specs.Checking.{Checking, pair_at, verdict_text, first_checking, receipts_answer}
 
 -- a pair of lines: a request at a position, and the output
 pub record Given : Type 0 where
@@ -20,7 +20,7 @@ pub record Given : Type 0 where
 -- the pairs of lines, where the first of one may wait already
 abbrev pub pairs_of : Option Asked → List (List ℕ) → List Given
 pairs_of asked [] = []
-pairs_of None (line ∷ lines) = pairs_of (asked_at line) lines
+pairs_of None (line ∷ lines) = pairs_of (pair_at line) lines
 pairs_of (Some asked) (line ∷ lines) = record { asked = asked; output = line } ∷ pairs_of None lines
 
 -- what a pair of this position is answered by its output alone, whatever came before it: never `clash`
@@ -37,8 +37,8 @@ each_alone key [] = []
 each_alone key (pair ∷ pairs) = alone key pair ++ each_alone key pairs
 
 -- where the output is accepted, its message is one that these requests tagged
-abbrev pub IsGenuine : Meaning → List (List ℕ) → List ℕ → Given → Type 0
-IsGenuine inner requests key pair =
+abbrev pub WasTagged : Meaning → List (List ℕ) → List ℕ → Given → Type 0
+WasTagged inner requests key pair =
     verified key pair.asked.position pair.asked.request pair.output ≡ Ok tt
     → IsTagged inner key (first_kept inner) requests (receipt_message pair.asked.position pair.asked.request (drop 65 pair.output))
 
@@ -56,7 +56,7 @@ pub record IsHonest (inner : Meaning) (requests : List (List ℕ)) (key : List �
 -- Whatever short requests a module ran: where they tagged the message of each output that is accepted, it is so.
 abbrev pub IsHonestFor : List ℕ → List (List ℕ) → List ℕ → Type 0
 IsHonestFor key lines written = (inner : Meaning) (requests : List (List ℕ)) → AllByRecursion IsCounted requests
-    → AllByRecursion (IsGenuine inner requests key) (pairs_of None lines) → IsHonest inner requests key (pairs_of None lines) written
+    → AllByRecursion (WasTagged inner requests key) (pairs_of None lines) → IsHonest inner requests key (pairs_of None lines) written
 
 -- so it is with lines that were answered
 abbrev pub ChecksAreHonest : Type 0

@@ -10,15 +10,15 @@ use Rattle.mm_receipts.specs.Honest.{IsHonestFor}
 use Rattle.mm_receipts.specs.declared.report.ReceiptReport.{ReceiptReport}
 
 -- the counts of the last line
-abbrev pub Counts : Checking → ReceiptReport → Type 0
-Counts it report = (report.good ≡ it.tally.good) × (report.pairs ≡ it.tally.pairs)
+abbrev pub CountsLast : Checking → ReceiptReport → Type 0
+CountsLast it report = (report.good ≡ it.tally.good) × (report.pairs ≡ it.tally.pairs)
 
-abbrev pub IsReported : {T : Type 0} → Checking → Result ReceiptReport T → Type 0
-IsReported next (Ok report) = Counts next report
-IsReported next (Err fault) = Unit {0}
+abbrev pub IsReceiptReport : {T : Type 0} → Checking → Result ReceiptReport T → Type 0
+IsReceiptReport next (Ok report) = CountsLast next report
+IsReceiptReport next (Err fault) = Unit {0}
 
 -- A check took these bytes of the input and wrote those, which fit the answers line by line.
-pub record Checks (key : List ℕ) (left left' received received' : Option (List ℕ))
+pub record ChecksReceipts (key : List ℕ) (left left' received received' : Option (List ℕ))
     (result : Result ReceiptReport ReplayFault) : Type 0 where
   pub taken : List ℕ
   pub sent : List ℕ
@@ -27,7 +27,7 @@ pub record Checks (key : List ℕ) (left left' received received' : Option (List
   pub appended : Appends received received' sent
   pub settled : Settles (run receipts_answer 1 (first_checking key)) (run_of receipts_answer receipts_closing (first_checking key)) next
       left' taken sent result
-  pub reported : IsReported next result
+  pub reported : IsReceiptReport next result
 
 -- These lines were answered with this text; and honestly, where no receipt is forged.
 pub record AnswersHonestly (key : List ℕ) (lines : List (List ℕ)) (written : List ℕ) : Type 0 where

@@ -2,8 +2,8 @@
 use Rattle.std.specs.Prelude.{◌≡◌, ◌≤◌, length, Option, Some, None, Result, Ok, Err}
 use Rattle.mm_base.specs.Limits.{longest_request}
 use Rattle.mm_play.specs.declared.player.Refused.{Refused}
-use Rattle.mm_play.specs.declared.player.TakeFault.{TakeFault}
-use Rattle.mm_play.specs.declared.player.TakeFault.TheVariants as fault
+use Rattle.mm_play.specs.declared.player.ReplyFault.{ReplyFault}
+use Rattle.mm_play.specs.declared.player.ReplyFault.TheVariants as fault
 use Rattle.mm_receipts.specs.Checking as checking
 use Rattle.mm_receipts.specs.declared.pair.Asked.{Asked}
 use Rattle.mm_receipts.specs.declared.tally.Tally.{Tally}
@@ -12,10 +12,10 @@ abbrev pub tallied : Tally → checking.Tally
 tallied tally = record { key = tally.key; known = tally.known.entries; good = tally.good; pairs = tally.pairs; read = tally.read }
 
 -- The first line of a pair was taken, with this answer.
-abbrev pub IsFirst : Result (Asked × checking.Tally) Refused → checking.Tally → Result Asked TakeFault → Type 0
-IsFirst answer next (Ok asked) = answer ≡ Ok (asked, next)
-IsFirst answer next (Err fault.Memory) = Unit {0}
-IsFirst answer next (Err (fault.Refused why)) = answer ≡ Err why
+abbrev pub TakesFirst : Result (Asked × checking.Tally) Refused → checking.Tally → Result Asked ReplyFault → Type 0
+TakesFirst answer next (Ok asked) = answer ≡ Ok (asked, next)
+TakesFirst answer next (Err fault.Memory) = Unit {0}
+TakesFirst answer next (Err (fault.Refused why)) = answer ≡ Err why
 
 -- a request that waits has at most 4,096 bytes
 abbrev pub IsShortAsked : Option Asked → Type 0

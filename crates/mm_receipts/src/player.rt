@@ -6,14 +6,14 @@ ghost use Rattle.mm_play.specs.Plays.{IsBlamed, IsUnrefused, is_read_fault, is_w
 ghost use Rattle.mm_receipts.specs.Checking.{Checking, first_checking, receipts_answer, receipts_closing, lines_left_at};
 ghost use Rattle.mm_receipts.specs.Counting.{receipts_count_down, receipts_are_few};
 ghost use Rattle.mm_receipts.specs.Tallies.{tallied, IsShortAsked};
-ghost use Rattle.mm_receipts.specs.Reports.{Checks, ChecksHonestly, Counts};
+ghost use Rattle.mm_receipts.specs.Reports.{ChecksReceipts, ChecksHonestly, CountsLast};
 
 use crate::pair::Asked;
 use crate::report::ReceiptReport;
 use crate::tally::Tally;
 use crate::text::last_text;
 use mm_base::{Bytes, Memory, ReplayFault, Sink, Source};
-use mm_play::{Player, TakeFault, play};
+use mm_play::{Player, ReplyFault, play};
 use std::alloc::Global;
 use std::marker::Model;
 
@@ -39,7 +39,7 @@ impl Player for ReceiptPlayer {
 
     ghost lines_left = { lines_left_at };
 
-    fn reply(&mut self, alloc: Global, line: &[u8]) -> Result<Bytes, TakeFault> {
+    fn reply(&mut self, alloc: Global, line: &[u8]) -> Result<Bytes, ReplyFault> {
         match self.asked.take() {
             None => {
                 let asked = self.tally.first(alloc, line)?;
@@ -69,7 +69,7 @@ impl Player for ReceiptPlayer {
 impl ReceiptPlayer {
     // What stands behind the last line.
     fn report(&self) -> ReceiptReport
-        ensures { Counts self.now result }
+        ensures { CountsLast self.now result }
     {
         let (good, pairs) = self.tally.counts();
         ReceiptReport { good, pairs }
@@ -83,7 +83,7 @@ fn checked<S: Source, K: Sink>(
     input: &mut S,
     out: &mut K,
 ) -> Result<ReceiptReport, ReplayFault>
-    ensures checks { Checks key.now (S.left input.old) (S.left input.new) (K.received out.old)
+    ensures checks { ChecksReceipts key.now (S.left input.old) (S.left input.new) (K.received out.old)
         (K.received out.new) result }
     ensures read { IsBlamed (is_read_fault result) (S.faults input.old) (S.faults input.new) }
     ensures wrote { IsBlamed (is_write_fault result) (K.faults out.old) (K.faults out.new) }
@@ -112,7 +112,7 @@ pub fn receipts<S: Source, K: Sink>(
     input: &mut S,
     out: &mut K,
 ) -> Result<ReceiptReport, ReplayFault>
-    ensures checks { Checks key.now (S.left input.old) (S.left input.new) (K.received out.old)
+    ensures checks { ChecksReceipts key.now (S.left input.old) (S.left input.new) (K.received out.old)
         (K.received out.new) result }
     ensures read { IsBlamed (is_read_fault result) (S.faults input.old) (S.faults input.new) }
     ensures wrote { IsBlamed (is_write_fault result) (K.faults out.old) (K.faults out.new) }

@@ -4,12 +4,12 @@ ghost use Rattle.std.specs.Prelude.{◌≡◌, ◌≤◌, ◌<◌, ◌+◌, ℕ,
 ghost use Rattle.std.specs.List.{position};
 ghost use Rattle.mm_base.specs.Limits.{longest_line, longest_request};
 ghost use Rattle.mm_module.specs.Words.{is_space};
-ghost use Rattle.mm_receipts.specs.Checking.{asked_at, compared, most_pairs, most_read};
+ghost use Rattle.mm_receipts.specs.Checking.{pair_at, compared, most_pairs, most_read};
 
 use crate::pair::{Asked, Pair, Verdict};
 use crate::text::text_of;
 use mm_base::{Bytes, LAST_POSITION, LONGEST_REQUEST, Memory, read_decimal};
-use mm_play::{Refused, TakeFault};
+use mm_play::{Refused, ReplyFault};
 use mm_receipt::{NotReceipt, verify};
 use std::alloc::Global;
 use std::collections::BTreeMap;
@@ -44,9 +44,9 @@ fn space_in(line: &[u8]) -> Option<usize>
 }
 
 impl Tally {
-    ghost use Rattle.mm_receipts.specs.Checking.{is_too_much, first_tally, first_answer, verdict_of, counted_in, remembered, after_pair, second_answer};
-    ghost use Rattle.mm_receipts.specs.Tallies.{tallied, IsFirst};
-    ghost use Rattle.mm_play.specs.Takes.{Takes};
+    ghost use Rattle.mm_receipts.specs.Checking.{is_too_much, first_tally, first_answer, pair_verdict, counted_in, remembered, after_pair, second_answer};
+    ghost use Rattle.mm_receipts.specs.Tallies.{tallied, TakesFirst};
+    ghost use Rattle.mm_play.specs.Takes.{GivesReply};
 
     /// Nothing was found yet. Takes no memory.
     pub fn new(alloc: Global, key: &[u8; 32]) -> Tally
@@ -77,32 +77,32 @@ impl Tally {
     }
 
     /// Takes the first line of a pair.
-    pub fn first(&mut self, alloc: Global, line: &[u8]) -> Result<Asked, TakeFault>
+    pub fn first(&mut self, alloc: Global, line: &[u8]) -> Result<Asked, ReplyFault>
         requires { length line.now ≤ longest_line }
-        ensures first { IsFirst (first_answer (tallied self.old) line.now) (tallied self.new)
+        ensures first { TakesFirst (first_answer (tallied self.old) line.now) (tallied self.new)
             result }
         ensures short { IfOk result (λ asked. length asked.request ≤ longest_request) }
     {
         let (position, request) = match read_asked(line) {
             Some(parts) => parts,
-            None => return Err(TakeFault::Refused(Refused::Bad)),
+            None => return Err(ReplyFault::Refused(Refused::Bad)),
         };
         if self.is_full(line) {
-            return Err(TakeFault::Refused(Refused::Much));
+            return Err(ReplyFault::Refused(Refused::Much));
         }
         match Bytes::copy_of(alloc, request) {
             Ok(request) => {
                 self.read += line.len() as u64;
                 Ok(Asked { position, request })
             }
-            Err(_) => Err(TakeFault::Memory),
+            Err(_) => Err(ReplyFault::Memory),
         }
     }
 
     // What a pair is answered.
     fn verdict(&self, asked: &Asked, output: &[u8]) -> Verdict
         requires { length asked.now.request ≤ longest_request }
-        ensures { result ≡ verdict_of (tallied self.now) asked.now output.now }
+        ensures { result ≡ pair_verdict (tallied self.now) asked.now output.now }
     {
         match verify(&self.key, asked.position, asked.request.as_slice(), output) {
             Ok(()) => {}
@@ -162,23 +162,23 @@ impl Tally {
     }
 
     /// Answers a pair by its second line.
-    pub fn second(&mut self, alloc: Global, asked: Asked, line: &[u8]) -> Result<Bytes, TakeFault>
+    pub fn second(&mut self, alloc: Global, asked: Asked, line: &[u8]) -> Result<Bytes, ReplyFault>
         requires line { length line.now ≤ longest_line }
         requires short { length asked.request ≤ longest_request }
-        ensures { Takes (second_answer (tallied self.old) asked line.now) (tallied self.new)
+        ensures { GivesReply (second_answer (tallied self.old) asked line.now) (tallied self.new)
             result }
     {
         if self.is_full(line) {
-            return Err(TakeFault::Refused(Refused::Much));
+            return Err(ReplyFault::Refused(Refused::Much));
         }
         let verdict = self.verdict(&asked, line);
         let text = match text_of(alloc, asked.position, verdict) {
             Ok(text) => text,
-            Err(_) => return Err(TakeFault::Memory),
+            Err(_) => return Err(ReplyFault::Memory),
         };
         match self.settle(alloc, asked, line, verdict) {
             Ok(()) => Ok(text),
-            Err(_) => Err(TakeFault::Memory),
+            Err(_) => Err(ReplyFault::Memory),
         }
     }
 }
@@ -186,7 +186,7 @@ impl Tally {
 /// The position and the request of the first line of a pair.
 fn read_asked(line: &[u8]) -> Option<(u64, &[u8])>
     ensures asked { option_map (λ (p : _). record { position = p.0; request = p.1.now }) result
-        ≡ asked_at line.now }
+        ≡ pair_at line.now }
     ensures short { IfSome result (λ p. length p.1.now ≤ longest_request) }
 {
     let at = space_in(line)?;

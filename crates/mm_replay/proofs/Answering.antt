@@ -16,8 +16,8 @@ use Rattle.mm_model.specs.Moves.{Digests}
 use Rattle.mm_call.specs.Levels.{by_digests}
 use Rattle.mm_run.specs.Folds.{Followed, followed}
 use Rattle.mm_run.specs.Held.{world_of}
-use Rattle.mm_replay.specs.Schedule.{Running, most_kept, is_too_much, outcome_in, after_event, Stage, InEvents, event_answer, schedule_answer}
-use Rattle.mm_replay.specs.Text.{text_of, texts_of}
+use Rattle.mm_replay.specs.Schedule.{Running, most_kept, is_too_much, running_outcome, after_event, Stage, InEvents, event_answer, schedule_answer}
+use Rattle.mm_replay.specs.Text.{text_of_replies, texts_of}
 
 abbrev pub followed_in : Running → List Event → Followed Digests
 followed_in r events = followed (world_of r.header) (by_digests (world_of r.header)) r.digests r.issued events
@@ -127,12 +127,12 @@ told_both t written outcome w o = λ i. told (w i) (o i)
 -- one more line was answered in front
 answers_more : (r : Running) (line : List ℕ) (lines : List (List ℕ)) (event : Event) (written : List ℕ) (p : Stage)
     → event_at line ≡ Some event → is_too_much r line ≡ false → AnswersFrom (after_event r line event) lines written p
-    → AnswersFrom r (line ∷ lines) (text_of (outcome_in r event).reply ++ written) p
+    → AnswersFrom r (line ∷ lines) (text_of_replies (running_outcome r event).reply ++ written) p
 answers_more r line lines event written p is few a = record {
   events = event ∷ a.events;
   last = a.last;
   read = ap (λ first. first ∷ map event_at lines) is ∙ ap (λ others. Some event ∷ others) a.read;
-  sent = ap (λ bytes. text_of (outcome_in r event).reply ++ bytes) a.sent;
+  sent = ap (λ bytes. text_of_replies (running_outcome r event).reply ++ bytes) a.sent;
   state = a.state;
   issued = a.issued;
   header = a.header;
@@ -155,12 +155,12 @@ not_stopped why written p h = not_ok why p (outcome_is (stopped why) (told writt
 answers_event : (heading : List ℕ → Option Header) (r : Running) (line : List ℕ) (lines : List (List ℕ)) (number : ℕ) (event : Event) (written : List ℕ) (p : Stage) (much : Bool)
     → is_too_much r line ≡ much → event_at line ≡ Some event → Onward heading r line lines number
     → answered (rest_of heading lines number) number
-    (cond much (Err Much) (Ok (text_of (outcome_in r event).reply, InEvents (after_event r line event)))) ≡ told written (Ok p)
+    (cond much (Err Much) (Ok (text_of_replies (running_outcome r event).reply, InEvents (after_event r line event)))) ≡ told written (Ok p)
     → AnswersFrom r (line ∷ lines) written p
 answers_event heading r line lines number event written p true full is on h = absurd (not_stopped (refusal_at number Much) written p h)
 answers_event heading r line lines number event written p false full is on h =
     let t = rest_of heading lines number (InEvents (after_event r line event)) in
-    let text = text_of (outcome_in r event).reply in
+    let text = text_of_replies (running_outcome r event).reply in
     let went = told_both t t.written (Ok p) refl (outcome_is (after_writing text t) (told written (Ok p)) h) in
     subst (λ (w : List ℕ). AnswersFrom r (line ∷ lines) w p) (written_of (after_writing text t) (told written (Ok p)) h)
     (answers_more r line lines event t.written p is full (on event t.written p went))

@@ -11,7 +11,7 @@ use Rattle.mm_schedule.specs.Events.{Event, Ask, Checkpoint, Power, Extend}
 use Rattle.mm_call.specs.Levels.{by_digests}
 use Rattle.mm_call.specs.Called.{Ending, Answers, Refuses, Breaks, called}
 use Rattle.mm_run.specs.Offered.{offered_bytes}
-use Rattle.mm_run.specs.Folds.{course_of, snapshots_of, asked, outcome_of}
+use Rattle.mm_run.specs.Folds.{course_of, snapshots_of, asked, event_outcome}
 use Rattle.mm_replay.specs.Issues.{Issues}
 
 ended_issues : (issued : List (List ℕ)) (ending : Ending) → Issues issued (issued ++ snapshots_of ending)
@@ -29,7 +29,7 @@ asked_issues : (i : Instance) (d : Digests) (issued : List (List ℕ)) (meddles 
 asked_issues i d issued meddles stop None b = inl refl
 asked_issues i d issued meddles stop (Some bytes) b = long_issues i d issued meddles stop bytes b (is_long b) refl
 
-pub outcome_issues : (i : Instance) (d : Digests) (issued : List (List ℕ)) (event : Event) → Issues issued (outcome_of i (by_digests i) d issued event).issued
+pub outcome_issues : (i : Instance) (d : Digests) (issued : List (List ℕ)) (event : Event) → Issues issued (event_outcome i (by_digests i) d issued event).issued
 outcome_issues i d issued (Ask meddles stop offer b) = asked_issues i d issued meddles stop (offered_bytes issued offer) b
 outcome_issues i d issued (Checkpoint meddles stop) = inl refl
 outcome_issues i d issued Power = inl refl

@@ -27,9 +27,9 @@ use Rattle.mm_run.specs.Held.{world_key, world_barrier, world_of}
 use Rattle.mm_run.specs.Premises.{IsClearRun, IsGenuineRun}
 use Rattle.mm_run.specs.Laws.{AgreesThroughout, BasicIsExpected, OptIsExpected, ExpectedRuns}
 use Rattle.mm_call.specs.Standing.{instance_by}
-use Rattle.mm_replay.specs.Schedule.{Running, begun, is_too_much, outcome_in, after_event, Stage, AtHeader, InEvents, event_answer, header_answer, schedule_answer, schedule_closing}
-use Rattle.mm_replay.specs.Text.{text_of, texts_of}
-use Rattle.mm_replay.specs.Headline.{IsContinuous, IsWithinLimits, AnswersEvents, AnswersLines, AnswersAll, IsTooMuch, Tells, unended}
+use Rattle.mm_replay.specs.Schedule.{Running, begun, is_too_much, running_outcome, after_event, Stage, AtHeader, InEvents, event_answer, header_answer, schedule_answer, schedule_closing}
+use Rattle.mm_replay.specs.Text.{text_of_replies, texts_of}
+use Rattle.mm_replay.specs.Headline.{IsContinuous, IsWithinLimits, AnswersEvents, AnswersLines, AnswersAll, IsTooMuch, IsOut, unended}
 use Rattle.mm_replay.proofs.Answering.{AnswersFrom, answers_from, over_of}
 
 -- by digests a world is told as expected, in either variant
@@ -165,7 +165,7 @@ header_refuses None h = cc
 header_refuses (Some header) h = cc
 
 full_event : (r : Running) (line : List ℕ) (event : Event) (much : Bool)
-    → (let a : Result (List ℕ × Stage) Refused = cond much (Err Much) (Ok (text_of (outcome_in r event).reply, InEvents (after_event r line event))) in a ≡ Err Much)
+    → (let a : Result (List ℕ × Stage) Refused = cond much (Err Much) (Ok (text_of_replies (running_outcome r event).reply, InEvents (after_event r line event))) in a ≡ Err Much)
     → much ≡ true
 full_event r line event true h = refl
 full_event r line event false h = cc
@@ -205,7 +205,7 @@ too_much heading done rest m = elim (headed heading done m.said m.next m.ran) [
 -- What is out tells the events.
 pub tells : {T : Type 0} (law : BasicIsExpected × OptIsExpected) (runs : ExpectedRuns) (heading : List ℕ → Option Header) (next : Stage) (left : Option (List ℕ)) (taken sent : List ℕ) (result : Result T ReplayFault)
     → Settles (run (schedule_answer heading) 1 AtHeader) (run_of (schedule_answer heading) schedule_closing AtHeader) next left taken sent result
-    → Tells heading left taken sent result
+    → IsOut heading left taken sent result
 tells law runs heading next left taken sent result s =
     tells_more (Answered (schedule_answer heading) AtHeader) (AnswersLines heading) (Finished (schedule_answer heading) schedule_closing AtHeader) (AnswersAll heading)
     (RefusesMuch (schedule_answer heading) AtHeader) (IsTooMuch heading) left taken sent result

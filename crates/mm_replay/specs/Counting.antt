@@ -9,8 +9,8 @@ use Rattle.mm_schedule.specs.Grammar.{event_at}
 use Rattle.mm_play.specs.declared.player.Refused.{Refused}
 use Rattle.mm_play.specs.declared.player.Refused.TheVariants.{Bad, Much}
 use Rattle.mm_play.specs.Counting.{no_answer, same_next, left_or}
-use Rattle.mm_replay.specs.Text.{text_of}
-use Rattle.mm_replay.specs.Schedule.{Running, begun, is_too_much, outcome_in, after_event, Stage, AtHeader, InEvents, event_answer, header_answer, schedule_answer, lines_left_at}
+use Rattle.mm_replay.specs.Text.{text_of_replies}
+use Rattle.mm_replay.specs.Schedule.{Running, begun, is_too_much, running_outcome, after_event, Stage, AtHeader, InEvents, event_answer, header_answer, schedule_answer, lines_left_at}
 
 header_counts : (found : Option Header) (reply : List ℕ) (next : Stage) → header_answer found ≡ Ok (reply, next)
     → lines_left_at next < most_events + 1
@@ -23,7 +23,7 @@ few_events r line h = let a : nat_le most_events r.events ≡ false = left_or (n
 
 event_counts : (r : Running) (line : List ℕ) (event : Event) (much : Bool) (reply : List ℕ) (next : Stage) → is_too_much r line ≡ much
     → (let a : Result (List ℕ × Stage) Refused = if much then Err Much
-    else Ok (text_of (outcome_in r event).reply, InEvents (after_event r line event)) in a ≡ Ok (reply, next))
+    else Ok (text_of_replies (running_outcome r event).reply, InEvents (after_event r line event)) in a ≡ Ok (reply, next))
     → lines_left_at next < most_events - r.events
 event_counts r line event true reply next is h = absurd (no_answer Much reply next h)
 event_counts r line event false reply next is h =

@@ -91,5 +91,5 @@ pub record IsTooMuch (heading : List ℕ → Option Header) (done rest : List (L
   pub over : IsOver header others events line
 
 -- What is out, by how a replay ended, where these bytes of the input were taken and those written.
-abbrev pub Tells : {T : Type 0} → (List ℕ → Option Header) → Option (List ℕ) → List ℕ → List ℕ → Result T ReplayFault → Type 0
-Tells heading left taken sent result = TellsBy (AnswersLines heading) (AnswersAll heading) (IsTooMuch heading) left taken sent result
+abbrev pub IsOut : {T : Type 0} → (List ℕ → Option Header) → Option (List ℕ) → List ℕ → List ℕ → Result T ReplayFault → Type 0
+IsOut heading left taken sent result = TellsBy (AnswersLines heading) (AnswersAll heading) (IsTooMuch heading) left taken sent result

@@ -2,11 +2,11 @@
 use Rattle.std.specs.Prelude.{◌≡◌, ℕ, true, false, List, [], Option, None, Some, Result, Ok, Err}
 use Rattle.mm_play.specs.declared.player.Refused.{Refused}
 use Rattle.mm_play.specs.declared.player.Refused.TheVariants.{Bad, Much}
-use Rattle.mm_play.specs.declared.player.TakeFault.{TakeFault}
-use Rattle.mm_play.specs.declared.player.TakeFault.TheVariants as fault
+use Rattle.mm_play.specs.declared.player.ReplyFault.{ReplyFault}
+use Rattle.mm_play.specs.declared.player.ReplyFault.TheVariants as fault
 use Rattle.mm_schedule.specs.Events.{Event}
 use Rattle.mm_schedule.specs.declared.reply.Reply.{Reply}
-use Rattle.mm_replay.specs.Schedule.{Running, is_too_much, outcome_in, after_event, Stage, AtHeader, InEvents}
+use Rattle.mm_replay.specs.Schedule.{Running, is_too_much, running_outcome, after_event, Stage, AtHeader, InEvents}
 use Rattle.mm_replay.specs.declared.progress.Progress.{Progress}
 
 -- what stands, by digests
@@ -25,15 +25,15 @@ stage_of None = AtHeader
 stage_of (Some progress) = InEvents (running progress)
 
 -- A header line was taken, with this answer.
-abbrev pub Begins : Result (List ℕ × Stage) Refused → Result Progress TakeFault → Type 0
-Begins answer (Ok progress) = answer ≡ Ok ([], InEvents (running progress))
-Begins answer (Err fault.Memory) = Unit {0}
-Begins answer (Err (fault.Refused why)) = answer ≡ Err why
+abbrev pub BeginsReplay : Result (List ℕ × Stage) Refused → Result Progress ReplyFault → Type 0
+BeginsReplay answer (Ok progress) = answer ≡ Ok ([], InEvents (running progress))
+BeginsReplay answer (Err fault.Memory) = Unit {0}
+BeginsReplay answer (Err (fault.Refused why)) = answer ≡ Err why
 
 -- The event of this line was answered, or it is one too many and nothing has changed.
-abbrev pub AnswersEvent : Running → Running → List ℕ → Event → Result Reply TakeFault → Type 0
+abbrev pub AnswersEvent : Running → Running → List ℕ → Event → Result Reply ReplyFault → Type 0
 AnswersEvent old new line event (Ok reply) =
-    (is_too_much old line ≡ false) × (reply ≡ (outcome_in old event).reply) × (new ≡ after_event old line event)
+    (is_too_much old line ≡ false) × (reply ≡ (running_outcome old event).reply) × (new ≡ after_event old line event)
 AnswersEvent old new line event (Err fault.Memory) = Unit {0}
 AnswersEvent old new line event (Err (fault.Refused Bad)) = ⊥
 AnswersEvent old new line event (Err (fault.Refused Much)) = (is_too_much old line ≡ true) × (new ≡ old)

@@ -6,7 +6,7 @@ use Rattle.mm_replay.specs.declared.report.Report.{Report}
 use Rattle.mm_play.specs.Play.{run, run_of}
 use Rattle.mm_play.specs.Plays.{Settles}
 use Rattle.mm_replay.specs.Schedule.{Stage, AtHeader, InEvents, schedule_answer, schedule_closing}
-use Rattle.mm_replay.specs.Headline.{Tells}
+use Rattle.mm_replay.specs.Headline.{IsOut}
 use Rattle.mm_schedule.specs.Headers.{header_at}
 
 -- how many requests were committed and snapshots issued
@@ -28,5 +28,5 @@ pub record Replays (left left' received received' : Option (List ℕ)) (result :
   pub appended : Appends received received' sent
   pub settled : Settles (run (schedule_answer header_at) 1 AtHeader) (run_of (schedule_answer header_at) schedule_closing AtHeader) next
       left' taken sent result
-  pub told : Tells header_at left' taken sent result
+  pub told : IsOut header_at left' taken sent result
   pub reported : IsReported next result

@@ -8,11 +8,11 @@ use Rattle.mm_schedule.specs.Grammar.{event_at}
 use Rattle.mm_schedule.specs.Replies.{end_line}
 use Rattle.mm_model.specs.Moves.{Digests}
 use Rattle.mm_call.specs.Levels.{by_digests}
-use Rattle.mm_run.specs.Folds.{Outcome, outcome_of, first_issued, first_digests}
+use Rattle.mm_run.specs.Folds.{Outcome, event_outcome, first_issued, first_digests}
 use Rattle.mm_run.specs.Held.{world_of}
 use Rattle.mm_play.specs.declared.player.Refused.{Refused}
 use Rattle.mm_play.specs.declared.player.Refused.TheVariants.{Bad, Much}
-use Rattle.mm_replay.specs.Text.{text_of}
+use Rattle.mm_replay.specs.Text.{text_of_replies}
 
 -- the most bytes of event lines and issued snapshots together
 abbrev pub most_kept : ℕ
@@ -41,14 +41,14 @@ abbrev pub is_too_much : Running → List ℕ → Bool
 is_too_much r line = nat_le most_events r.events || nat_lt most_kept (r.read + length line + sum_by length r.issued)
 
 -- what an event comes to
-abbrev pub outcome_in : Running → Event → Outcome Digests
-outcome_in r event = outcome_of (world_of r.header) (by_digests (world_of r.header)) r.digests r.issued event
+abbrev pub running_outcome : Running → Event → Outcome Digests
+running_outcome r event = event_outcome (world_of r.header) (by_digests (world_of r.header)) r.digests r.issued event
 
 abbrev pub after_event : Running → List ℕ → Event → Running
 after_event r line event = record {
   header = r.header;
-  digests = (outcome_in r event).state;
-  issued = (outcome_in r event).issued;
+  digests = (running_outcome r event).state;
+  issued = (running_outcome r event).issued;
   events = r.events + 1;
   read = r.read + length line;
 }
@@ -61,7 +61,7 @@ pub data Stage : Type 0 where
 abbrev pub event_answer : Running → List ℕ → Option Event → Result (List ℕ × Stage) Refused
 event_answer r line None = Err Bad
 event_answer r line (Some event) =
-    if is_too_much r line then Err Much else Ok (text_of (outcome_in r event).reply, InEvents (after_event r line event))
+    if is_too_much r line then Err Much else Ok (text_of_replies (running_outcome r event).reply, InEvents (after_event r line event))
 
 -- a header begins the events
 abbrev pub header_answer : Option Header → Result (List ℕ × Stage) Refused

@@ -7,7 +7,7 @@ ghost use Rattle.mm_base.specs.Limits.{longest_line, most_events, most_members};
 use crate::put::put_reply;
 use crate::report::Report;
 use mm_base::{Bytes, MOST_EVENTS, Memory};
-use mm_play::{Refused, TakeFault};
+use mm_play::{Refused, ReplyFault};
 use mm_schedule::{Event, EventFault, Header, Reply, put_end, read_event};
 use mm_world::World;
 use std::alloc::Global;
@@ -48,11 +48,11 @@ pub struct Progress {
 
 impl Progress {
     ghost use Rattle.mm_replay.specs.Progress.{running, AnswersEvent};
-    ghost use Rattle.mm_replay.specs.Schedule.{begun, is_too_much, event_answer, InEvents, after_event, outcome_in};
+    ghost use Rattle.mm_replay.specs.Schedule.{begun, is_too_much, event_answer, InEvents, after_event, running_outcome};
     ghost use Rattle.mm_schedule.specs.Events.{event_of};
     ghost use Rattle.mm_schedule.specs.Grammar.{event_at};
     ghost use Rattle.mm_schedule.specs.Replies.{IsPrintable, end_line};
-    ghost use Rattle.mm_play.specs.Takes.{Takes};
+    ghost use Rattle.mm_play.specs.Takes.{GivesReply};
     ghost use Rattle.mm_replay.specs.Replays.{Reports};
 
     /// A replay at its first event.
@@ -85,7 +85,7 @@ impl Progress {
         requires line { length line.now ≤ longest_line }
         requires room { is_too_much (running self.old) line.now ≡ false }
         ensures reply { IfOk result
-            (λ reply. reply ≡ (outcome_in (running self.old) (event_of event.now)).reply) }
+            (λ reply. reply ≡ (running_outcome (running self.old) (event_of event.now)).reply) }
         ensures printable { IfOk result IsPrintable }
         ensures after { OnOk result (running self.new
             ≡ after_event (running self.old) line.now (event_of event.now)) }
@@ -101,31 +101,31 @@ impl Progress {
     /// The reply to an event, which this line of at most 8,400 bytes spells. `Refused::Much` comes
     /// exactly where it is event 20,001, or where the event lines and the snapshots issued have more
     /// than 268,435,456 bytes; it isn't run then.
-    pub fn reply_to_event(&mut self, line: &[u8], event: &Event) -> Result<Reply, TakeFault>
+    pub fn reply_to_event(&mut self, line: &[u8], event: &Event) -> Result<Reply, ReplyFault>
         requires { length line.now ≤ longest_line }
         ensures answers { AnswersEvent (running self.old) (running self.new) line.now
             (event_of event.now) result }
         ensures printable { IfOk result IsPrintable }
     {
         if self.is_full(line) {
-            return Err(TakeFault::Refused(Refused::Much));
+            return Err(ReplyFault::Refused(Refused::Much));
         }
         match self.play_event(line, event) {
             Ok(reply) => Ok(reply),
-            Err(_) => Err(TakeFault::Memory),
+            Err(_) => Err(ReplyFault::Memory),
         }
     }
 
     /// The reply to an event line, as text.
-    pub fn reply_to_line(&mut self, alloc: Global, line: &[u8]) -> Result<Bytes, TakeFault>
+    pub fn reply_to_line(&mut self, alloc: Global, line: &[u8]) -> Result<Bytes, ReplyFault>
         requires { length line.now ≤ longest_line }
-        ensures { Takes (event_answer (running self.old) line.now (event_at line.now))
+        ensures { GivesReply (event_answer (running self.old) line.now (event_at line.now))
             (InEvents (running self.new)) result }
     {
         let event = match read_event(alloc, line) {
             Ok(event) => event,
-            Err(EventFault::Memory) => return Err(TakeFault::Memory),
-            Err(EventFault::Bad) => return Err(TakeFault::Refused(Refused::Bad)),
+            Err(EventFault::Memory) => return Err(ReplyFault::Memory),
+            Err(EventFault::Bad) => return Err(ReplyFault::Refused(Refused::Bad)),
         };
         let reply = match self.reply_to_event(line, &event) {
             Ok(reply) => reply,
@@ -134,7 +134,7 @@ impl Progress {
         let mut text = Bytes::new(alloc);
         match put_reply(&reply, &mut text) {
             Ok(()) => Ok(text),
-            Err(_) => Err(TakeFault::Memory),
+            Err(_) => Err(ReplyFault::Memory),
         }
     }
 

@@ -2,7 +2,7 @@
 
 ghost use Rattle.std.specs.Prelude.{◌≡◌, ◌++◌, OnOk};
 ghost use Rattle.mm_schedule.specs.Replies.{IsPrintable};
-ghost use Rattle.mm_replay.specs.Text.{text_of};
+ghost use Rattle.mm_replay.specs.Text.{text_of_replies};
 
 use mm_base::{Bytes, Memory};
 use mm_schedule::{Reply, put_line, reply_lines};
@@ -10,7 +10,7 @@ use mm_schedule::{Reply, put_line, reply_lines};
 /// Puts the lines of a reply at the end.
 pub fn put_reply(reply: &Reply, into: &mut Bytes) -> Result<(), Memory>
     requires { IsPrintable reply.now }
-    ensures { OnOk result (into.new ≡ into.old ++ text_of reply.now) }
+    ensures { OnOk result (into.new ≡ into.old ++ text_of_replies reply.now) }
 {
     'lines: for index in 0..reply_lines(reply) {
         put_line(reply, index, into)?;

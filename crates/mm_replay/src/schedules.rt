@@ -6,13 +6,13 @@ ghost use Rattle.mm_play.specs.Plays.{IsBlamed, IsUnrefused, is_read_fault, is_w
 ghost use Rattle.mm_replay.specs.Schedule.{Stage, AtHeader, header_answer, schedule_answer, schedule_closing, lines_left_at};
 ghost use Rattle.mm_replay.specs.Counting.{schedule_counts_down, schedule_is_short};
 ghost use Rattle.mm_schedule.specs.Headers.{header_at};
-ghost use Rattle.mm_replay.specs.Progress.{stage_of, Begins};
+ghost use Rattle.mm_replay.specs.Progress.{stage_of, BeginsReplay};
 ghost use Rattle.mm_replay.specs.Replays.{Replays, Reports};
 
 use crate::progress::Progress;
 use crate::report::Report;
 use mm_base::{Bytes, Memory, ReplayFault, Sink, Source};
-use mm_play::{Player, Refused, TakeFault, play};
+use mm_play::{Player, Refused, ReplyFault, play};
 use mm_run::{basic_is_expected, expected_runs, opt_is_expected};
 use mm_schedule::read_header;
 use std::alloc::Global;
@@ -53,16 +53,16 @@ impl SchedulePlayer {
 }
 
 /// A replay at its first event, by its header line.
-fn at_first_event(alloc: Global, line: &[u8]) -> Result<Progress, TakeFault>
-    ensures { Begins (header_answer (header_at line.now)) result }
+fn at_first_event(alloc: Global, line: &[u8]) -> Result<Progress, ReplyFault>
+    ensures { BeginsReplay (header_answer (header_at line.now)) result }
 {
     let header = match read_header(line) {
         Some(header) => header,
-        None => return Err(TakeFault::Refused(Refused::Bad)),
+        None => return Err(ReplyFault::Refused(Refused::Bad)),
     };
     match Progress::new(alloc, &header) {
         Ok(progress) => Ok(progress),
-        Err(_) => Err(TakeFault::Memory),
+        Err(_) => Err(ReplyFault::Memory),
     }
 }
 
@@ -73,7 +73,7 @@ impl Player for SchedulePlayer {
 
     ghost lines_left = { lines_left_at };
 
-    fn reply(&mut self, alloc: Global, line: &[u8]) -> Result<Bytes, TakeFault> {
+    fn reply(&mut self, alloc: Global, line: &[u8]) -> Result<Bytes, ReplyFault> {
         match &mut self.progress {
             Some(progress) => progress.reply_to_line(alloc, line),
             None => {

@@ -7,8 +7,8 @@ use Rattle.mm_module.specs.Batch.{Batch}
 use Rattle.mm_module.specs.Meaning.{Meaning}
 use Rattle.mm_model.specs.Instance.{Instance, basic}
 use Rattle.mm_model.specs.History.{first_history}
-use Rattle.mm_host.specs.Begins.{IsFirst, first_slots}
-use Rattle.mm_host.specs.Continuing.{AreToFollow, Continues, ContinuesTo, IsInHand, history_then, told_in}
+use Rattle.mm_host.specs.Begins.{IsFirstStore, first_slots}
+use Rattle.mm_host.specs.Continuing.{AreToFollow, SessionContinues, ContinuesTo, IsInHand, history_then, told_in}
 use Rattle.mm_host.specs.Recovery.{CanRecover, IsAskedFor}
 use Rattle.mm_host.specs.Sessions.{Sessions}
 use Rattle.mm_host.specs.declared.fault.SessionFault.{SessionFault}
@@ -29,7 +29,7 @@ can_recover : (all others : List (List ℕ)) (asked : List Batch) (meaning : Mea
     CanRecover all others asked (basic meaning (take 32 s.secrets)) first_history (first_slots (basic meaning (take 32 s.secrets))) (two_cells middle) (kept_in_pages store)
 can_recover all others asked meaning middle store left left' lines s can =
     let i : Instance = basic meaning (take 32 s.secrets) in
-    let first : IsFirst i first_history = s.first [] in
+    let first : IsFirstStore i first_history = s.first [] in
     record {
       honest = refl;
       told = ap (λ (slots : Slots). let o : Option Slots = Some slots in o) s.slots;
@@ -43,14 +43,14 @@ can_recover all others asked meaning middle store left left' lines s can =
 
 continues_to : (all others : List (List ℕ)) (asked : List Batch) (meaning : Meaning) (middle after : TwoCell Torn) (store new : Cached Sheets) (left left' input input' received received' : List ℕ)
     (result : Result Unit SessionFault) (s : StartsInMemory Basic meaning middle store left left') →
-    Continues Basic meaning (two_cells middle) (two_cells after) (kept_in_pages store) (kept_in_pages new) (Some input) (Some input') (Some received) (Some received') result →
+    SessionContinues Basic meaning (two_cells middle) (two_cells after) (kept_in_pages store) (kept_in_pages new) (Some input) (Some input') (Some received) (Some received') result →
     (session : Sessions Basic meaning (two_cells middle) (two_cells after) (kept_in_pages store) (kept_in_pages new) (Some input) (Some input') (Some received) (Some received') result) →
     CanBegin all others asked (basic meaning (take 32 s.secrets)) (lines_of input) →
     ContinuesTo all others asked (basic meaning (take 32 s.secrets)) first_history (two_cells after) (kept_in_pages new) (told_in None session.goes) (IsInHand None session.goes) result
 unfolding can_recover
 continues_to all others asked meaning middle after store new left left' input input' received received' result s continues session can =
     let i : Instance = basic meaning (take 32 s.secrets) in
-    let first : IsFirst i first_history = s.first [] in
+    let first : IsFirstStore i first_history = s.first [] in
     subst (λ (waiting : Option Pending). ContinuesTo all others asked i first_history (two_cells after) (kept_in_pages new) (told_in waiting session.goes) (IsInHand waiting session.goes) result) first.nothing_waits
     (continues session (take 32 s.secrets) first_history (first_slots i) all others asked input refl (record {
       can = can_recover all others asked meaning middle store left left' (lines_of input) s can;
@@ -60,7 +60,7 @@ continues_to all others asked meaning middle after store new left left' input in
 pub begins_and_serves : (meaning : Meaning) (middle after : TwoCell Torn) (store new : Cached Sheets) (left left' input input' received received' : List ℕ) (result : Result Unit SessionFault) →
     StartsInMemory Basic meaning middle store left left' →
     Sessions Basic meaning (two_cells middle) (two_cells after) (kept_in_pages store) (kept_in_pages new) (Some input) (Some input') (Some received) (Some received') result →
-    Continues Basic meaning (two_cells middle) (two_cells after) (kept_in_pages store) (kept_in_pages new) (Some input) (Some input') (Some received) (Some received') result →
+    SessionContinues Basic meaning (two_cells middle) (two_cells after) (kept_in_pages store) (kept_in_pages new) (Some input) (Some input') (Some received) (Some received') result →
     BeginsAndServes meaning after new left left' input input' received received' result
 begins_and_serves meaning middle after store new left left' input input' received received' result s session continues = record {
   secrets = s.secrets;

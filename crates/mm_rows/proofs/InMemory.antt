@@ -18,9 +18,9 @@ use Rattle.mm_pages.specs.Cached.{Cached}
 use Rattle.mm_pages.specs.Sheets.{Sheets}
 use Rattle.mm_store.specs.Slots.{Slots}
 use Rattle.mm_twocell.specs.Pairs.{picked}
-use Rattle.mm_twocell.specs.Torn.{Torn, whole}
+use Rattle.mm_twocell.specs.Torn.{Torn, whole_bytes}
 use Rattle.mm_twocell.specs.declared.pair.TwoCell.{TwoCell}
-use Rattle.mm_rows.specs.Devices.{devices, kept_in_pages, two_cells}
+use Rattle.mm_rows.specs.Devices.{first_devices, kept_in_pages, two_cells}
 use Rattle.mm_rows.specs.Recovering.{CanRecoverInMemory, RecoversInMemory}
 use Rattle.mm_rows.specs.Starting.{StartsInMemory}
 
@@ -47,19 +47,19 @@ recovers_in_memory Opt meaning before after old new result recovers = λ key bar
     recovers key barrier y old.device.slots all others asked items more (can_recover can)
 
 -- a memory of 209 bytes is told whole
-told_whole : (bytes : List ℕ) → length bytes ≡ 209 → whole (Some bytes) ≡ Some bytes
+told_whole : (bytes : List ℕ) → length bytes ≡ 209 → whole_bytes (Some bytes) ≡ Some bytes
 told_whole bytes e = rw e
 
 pub tells_picked : (it : TwoCell Torn) (bytes : List ℕ) → it.raw.standing.cell ≡ Some bytes → length bytes ≡ 209 →
     (cell : List ℕ) × ((two_cells it).cell ≡ Some cell)
-tells_picked it bytes e size = (picked bytes, ap (λ (c : Option (List ℕ)). option_map picked (whole c)) e ∙ ap (option_map picked) (told_whole bytes size))
+tells_picked it bytes e size = (picked bytes, ap (λ (c : Option (List ℕ)). option_map picked (whole_bytes c)) e ∙ ap (option_map picked) (told_whole bytes size))
 
 some_same : (a b : Slots) → (let o : Option Slots = Some a in o ≡ Some b) → a ≡ b
 some_same a b h = cc
 
 starts : (variant : Variant) (meaning : Meaning) (before after : TwoCell Torn) (old new : Cached Sheets) (entropy entropy' : Supply) (cell : List ℕ) →
     (two_cells before).cell ≡ Some cell →
-    Begins variant meaning (devices before old entropy) (devices after new entropy') →
+    Begins variant meaning (first_devices before old entropy) (first_devices after new entropy') →
     StartsInMemory variant meaning after new entropy.left entropy'.left
 starts variant meaning before after old new entropy entropy' cell told b = record {
   secrets = b.secrets;
@@ -72,7 +72,7 @@ starts variant meaning before after old new entropy entropy' cell told b = recor
 
 pub starts_in_memory : (variant : Variant) (meaning : Meaning) (before after : TwoCell Torn) (old new : Cached Sheets) (entropy entropy' : Supply) (result : Result Unit InitFault) →
     ((cell : List ℕ) × ((two_cells before).cell ≡ Some cell)) →
-    Leaves variant meaning (devices before old entropy) (devices after new entropy') result →
+    Leaves variant meaning (first_devices before old entropy) (first_devices after new entropy') result →
     OnOk result (StartsInMemory variant meaning after new entropy.left entropy'.left)
 starts_in_memory variant meaning before after old new entropy entropy' (Ok _) told leaves =
     starts variant meaning before after old new entropy entropy' told.0 told.1 leaves

@@ -6,16 +6,16 @@ use Rattle.mm_host.specs.Init.{Devices}
 use Rattle.mm_pages.specs.Cached.{Cached}
 use Rattle.mm_pages.specs.Sheets.{Sheets}
 use Rattle.mm_platform.specs.Standing.{Standing}
-use Rattle.mm_store.specs.Kept.{Kept}
+use Rattle.mm_store.specs.Kept.{StoreStanding}
 use Rattle.mm_twocell.specs.Pairs.{picked}
-use Rattle.mm_twocell.specs.Torn.{Torn, whole}
+use Rattle.mm_twocell.specs.Torn.{Torn, whole_bytes}
 use Rattle.mm_twocell.specs.declared.pair.TwoCell.{TwoCell}
 
 -- The cell is the one that the last of the memory's 209 bytes picks; the register, power, room and faults are those
 -- of the memory's platform. No plan is told.
 abbrev pub two_cells : TwoCell Torn → Standing
 two_cells it = record {
-  cell = option_map picked (whole it.raw.standing.cell);
+  cell = option_map picked (whole_bytes it.raw.standing.cell);
   items = it.raw.standing.items;
   is_on = it.raw.standing.is_on;
   steps = it.steps;
@@ -26,12 +26,12 @@ two_cells it = record {
 }
 
 -- the slots are the bytes of the pages, which are told, and honest
-abbrev pub kept_in_pages : Cached Sheets → Kept
+abbrev pub kept_in_pages : Cached Sheets → StoreStanding
 kept_in_pages store = record { slots = Some store.device.slots; is_honest = true; faults = store.device.faults }
 
 -- what a first start works with
-abbrev pub devices : TwoCell Torn → Cached Sheets → Supply → Devices
-devices it store entropy = record {
+abbrev pub first_devices : TwoCell Torn → Cached Sheets → Supply → Devices
+first_devices it store entropy = record {
   platform = two_cells it;
   store = kept_in_pages store;
   left = Some entropy.left;

@@ -14,7 +14,7 @@ use Rattle.mm_call.specs.Tied.{standing_items}
 use Rattle.mm_callers.specs.Opt.{AreShown}
 use Rattle.mm_host.specs.declared.fault.HostFault.{HostFault}
 use Rattle.mm_host.specs.declared.resuming.Resumed.{Resumed}
-use Rattle.mm_host.specs.Fitting.{Fits}
+use Rattle.mm_host.specs.Fitting.{FitsHistory}
 use Rattle.mm_host.specs.Recovery.{IsAskedFor, RecoversTo}
 use Rattle.mm_pages.specs.Cached.{Cached}
 use Rattle.mm_pages.specs.Sheets.{Sheets}
@@ -27,7 +27,7 @@ use Rattle.mm_rows.specs.Devices.{kept_in_pages, two_cells}
 pub record CanRecoverInMemory (all others : List (List ℕ)) (asked : List Batch) (i : Instance) (y : History) (it : TwoCell Torn)
     (store : Cached Sheets) : Type 0 where
   pub stands : StandsFor i (two_cells it) y
-  pub fits : Fits i store.device.slots y
+  pub fits : FitsHistory i store.device.slots y
   pub clear : IsClear all
   pub apart : AreNoGuards i.barrier others asked
   pub within : IsWithin all others asked i y

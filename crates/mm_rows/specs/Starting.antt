@@ -3,7 +3,7 @@ use Rattle.std.specs.Prelude.{◌≡◌, ℕ, List, ◌++◌, length}
 use Rattle.mm_digest.specs.declared.variant.Variant.{Variant}
 use Rattle.mm_module.specs.Meaning.{Meaning}
 use Rattle.mm_model.specs.Standing.{StandsFor}
-use Rattle.mm_host.specs.Begins.{IsFirst, ShowsValues, first_on, first_slots}
+use Rattle.mm_host.specs.Begins.{IsFirstStore, ShowsValues, first_on, first_slots}
 use Rattle.mm_host.specs.Init.{instance_from}
 use Rattle.mm_pages.specs.Cached.{Cached}
 use Rattle.mm_pages.specs.Sheets.{Sheets}
@@ -21,4 +21,4 @@ pub record StartsInMemory (variant : Variant) (meaning : Meaning) (after : TwoCe
   pub stands : (values : List (List ℕ)) → ShowsValues variant (two_cells after) values →
       StandsFor (instance_from variant meaning secrets) (two_cells after) (first_on values)
   pub slots : new.device.slots ≡ first_slots (instance_from variant meaning secrets)
-  pub first : (values : List (List ℕ)) → IsFirst (instance_from variant meaning secrets) (first_on values)
+  pub first : (values : List (List ℕ)) → IsFirstStore (instance_from variant meaning secrets) (first_on values)

@@ -1,10 +1,10 @@
 //! The host program over two cells and pages in memory.
 
 ghost use Rattle.std.specs.Prelude.{◌≡◌, ℕ, List, Some, IfOk, OnOk, length};
-ghost use Rattle.mm_host.specs.Continuing.{Continues};
+ghost use Rattle.mm_host.specs.Continuing.{SessionContinues};
 ghost use Rattle.mm_host.specs.Begins.{Leaves};
 ghost use Rattle.mm_host.specs.Sessions.{Sessions};
-ghost use Rattle.mm_rows.specs.Devices.{devices, kept_in_pages, two_cells};
+ghost use Rattle.mm_rows.specs.Devices.{first_devices, kept_in_pages, two_cells};
 ghost use Rattle.mm_rows.specs.FirstSession.{BeginsAndServes};
 ghost use Rattle.mm_rows.specs.Recovering.{RecoversInMemory};
 ghost use Rattle.mm_rows.specs.Starting.{StartsInMemory};
@@ -27,7 +27,7 @@ pub fn start<M: Module>(
     entropy: &mut MemSource,
 ) -> Result<(), InitFault>
     ensures leaves { Leaves variant (M.meaning «module».now)
-        (devices platform.old store.old entropy.old) (devices platform.new store.new entropy.new)
+        (first_devices platform.old store.old entropy.old) (first_devices platform.new store.new entropy.new)
         result }
     ensures starts { OnOk result
         (StartsInMemory variant (M.meaning «module».now) platform.new store.new
@@ -80,7 +80,7 @@ pub fn serve<M: Module>(
         (two_cells platform.new) (kept_in_pages store.old) (kept_in_pages store.new)
         (Some input.old.left) (Some input.new.left) (Some out.old.received) (Some out.new.received)
         result }
-    ensures continues { Continues variant (M.meaning «module».now) (two_cells platform.old)
+    ensures continues { SessionContinues variant (M.meaning «module».now) (two_cells platform.old)
         (two_cells platform.new) (kept_in_pages store.old) (kept_in_pages store.new)
         (Some input.old.left) (Some input.new.left) (Some out.old.received) (Some out.new.received)
         result }

@@ -9,7 +9,7 @@ use Rattle.mm_base.specs.Limits.{last_position, longest_request, most_members}
 use Rattle.mm_digest.specs.declared.variant.Variant.{Variant}
 use Rattle.mm_digest.specs.declared.variant.Variant.TheVariants.{Basic, Opt}
 use Rattle.mm_module.specs.Meaning.{Meaning, IsLawful, outputs_from}
-use Rattle.mm_module.specs.Batch.{Batch, members_of, size_of, text_of, normal}
+use Rattle.mm_module.specs.Batch.{Batch, members_of, size_of, batch_text, normal}
 use Rattle.mm_module.proofs.BatchLaws.{members_of-normal}
 use Rattle.mm_module.proofs.RunLaws.{length-outputs_from}
 use Rattle.mm_platform.specs.declared.fault.StepFault.{StepFault}
@@ -34,7 +34,7 @@ use Rattle.mm_modules.specs.Modules.{meaning_of}
 use Rattle.mm_modules.specs.ModulesLaws.{any_is_lawful}
 use Rattle.mm_call.specs.Order.{weighed, examined}
 use Rattle.mm_call.specs.Levels.{by_digests, all_made}
-use Rattle.mm_call.specs.Found.{Found, found_with, found_from, found_at, found_in, is_fresh}
+use Rattle.mm_call.specs.Found.{Found, found_with, found_by_verdict, found_at, found_unless_wanting, is_fresh}
 use Rattle.mm_call.specs.Courses.{Course, Walked, walk}
 use Rattle.mm_call.specs.Called.{Ending, Answers, Refuses, Breaks, Called, ended_by, seen_at, called}
 use Rattle.mm_call.specs.Checkpoints.{Closing, Closes, HasNone, NoSegment, LostPower, Stops, Checkpointed, checkpointed_with, checkpointed}
@@ -48,7 +48,7 @@ use Rattle.mm_schedule.specs.declared.reply.Reply.TheVariants as reply
 use Rattle.mm_schedule.specs.declared.reply.Cause.TheVariants as cause
 use Rattle.mm_schedule.specs.declared.reply.Way.{Way}
 use Rattle.mm_run.specs.Offered.{offered_bytes}
-use Rattle.mm_run.specs.Folds.{way_of, after_stop, course_of, reply_of, snapshots_of, moves_then, outcome_by, uncalled, asked, closing_reply, closing_then, closed_outcome, outcome_of}
+use Rattle.mm_run.specs.Folds.{way_of, after_stop, course_of, reply_of, snapshots_of, moves_then, outcome_by, uncalled, asked, closing_reply, closing_then, closed_outcome, event_outcome}
 use Rattle.mm_run.specs.Held.{Held, world_key, world_barrier, instance_of, outcome_in}
 use Rattle.mm_run.proofs.Running.{asks, checkpoint_none}
 
@@ -96,7 +96,7 @@ closing_count i stop (Stops fault closed) d = stop_count i stop d
 
 called_few : (i : Instance) (d : Digests) (c : Course) (bytes : List ℕ) (b : Batch) → (called i (by_digests i) d c bytes b).state.count ≤ d.count + size_of b
 called_few i d c bytes b =
-    let fresh : Bool = is_fresh (found_in (found_at i (by_digests i) (seen_at i (by_digests i) d c) b bytes) c.lacks) in
+    let fresh : Bool = is_fresh (found_unless_wanting (found_at i (by_digests i) (seen_at i (by_digests i) d c) b bytes) c.lacks) in
     let w : Walked = walk c.fates 1 (ask_steps i.variant d.flag fresh b) in
     omega (arith, count-made i w.moves d, walk_sizes b fresh w (asks i.variant c.fates d.flag fresh b))
 
@@ -110,7 +110,7 @@ le_of n h = grind (arith, nat_tests)
 
 pub short_size : (b : Batch) → is_long b ≡ false → size_of (normal b) ≤ most_members
 short_size b e =
-    let f : nat_lt most_members (size_of b) ≡ false = last_false (nat_lt longest_request (length (text_of b))) (list_any is_lf (text_of b)) (nat_lt most_members (size_of b)) e in
+    let f : nat_lt most_members (size_of b) ≡ false = last_false (nat_lt longest_request (length (batch_text b))) (list_any is_lf (batch_text b)) (nat_lt most_members (size_of b)) e in
     let few : size_of b ≤ most_members = le_of (size_of b) f in
     omega (arith, few, ap (λ (m : List (List ℕ)). length m) (members_of-normal b))
 
@@ -141,7 +141,7 @@ check_few i d issued meddles stop is_lost =
     omega (arith, closing_count i stop o.ending o.state, count-made i o.moves d, ap sizes_of (checkpoint_none i.variant d.flag is_lost c.fates))
 
 pub few_committed : (i : Instance) (d : Digests) (issued : List (List ℕ)) (event : Event)
-    → (outcome_of i (by_digests i) d issued event).state.count ≤ d.count + most_members
+    → (event_outcome i (by_digests i) d issued event).state.count ≤ d.count + most_members
 few_committed i d issued (Ask meddles stop offer b) = bytes_few i d issued meddles stop (offered_bytes issued offer) b
 few_committed i d issued (Checkpoint meddles stop) = check_few i d issued meddles stop _
 few_committed i d issued Power = none_more d.count
@@ -183,7 +183,7 @@ well_with meaning b offered (Ok again) h = λ (it : Found) (f : Ok (record { off
     let same : offered ≡ it.offered = cc in
     subst (λ (x : Content). IsAccepted meaning x b) same (h again refl)
 
-well_from : (i : Instance) (seen : Digests) (b : Batch) (taken : Result Snapshot PartsFault) → IsFoundWell i.meaning b (found_from i (by_digests i) seen b taken)
+well_from : (i : Instance) (seen : Digests) (b : Batch) (taken : Result Snapshot PartsFault) → IsFoundWell i.meaning b (found_by_verdict i (by_digests i) seen b taken)
 well_from i seen b (Err Form) = λ (it : Found) f. absurd (cc)
 well_from i seen b (Err Kind) = λ (it : Found) f. absurd (cc)
 well_from i seen b (Ok snapshot) =
@@ -197,9 +197,9 @@ well_by : (meaning : Meaning) (b : Batch) (lost : Bool) (why : Refusal) (found :
 well_by meaning b true why found h = λ (it : Found) f. absurd (cc)
 well_by meaning b false why found h = h
 
-well_found : (i : Instance) (seen : Digests) (b : Batch) (bytes : List ℕ) (lacks : Bool) → IsFoundWell i.meaning b (found_in (found_at i (by_digests i) seen b bytes) lacks)
+well_found : (i : Instance) (seen : Digests) (b : Batch) (bytes : List ℕ) (lacks : Bool) → IsFoundWell i.meaning b (found_unless_wanting (found_at i (by_digests i) seen b bytes) lacks)
 well_found i seen b bytes lacks = λ (it : Found) e.
-    well_by i.meaning b ((by_digests i).is_lost seen) refusal.Lost (found_from i (by_digests i) seen b (parts_of i.variant i.meaning.id bytes))
+    well_by i.meaning b ((by_digests i).is_lost seen) refusal.Lost (found_by_verdict i (by_digests i) seen b (parts_of i.variant i.meaning.id bytes))
     (well_from i seen b (parts_of i.variant i.meaning.id bytes)) it (unlacked (found_at i (by_digests i) seen b bytes) lacks it e)
 
 printed_broken : (how : Way) (fault : StepFault) (kept : Option ℕ) → IsPrintable (reply_of how (Breaks fault kept))
@@ -221,7 +221,7 @@ printed_called : (i : Instance) → IsLawful i.meaning → (d : Digests) (how : 
     → IsPrintable (reply_of how (called i (by_digests i) d c bytes b).ending)
 printed_called i lawful d how c bytes b =
     let seen : Digests = seen_at i (by_digests i) d c in
-    let found : Result Found Refusal = found_in (found_at i (by_digests i) seen b bytes) c.lacks in
+    let found : Result Found Refusal = found_unless_wanting (found_at i (by_digests i) seen b bytes) c.lacks in
     let w : Walked = walk c.fates 1 (ask_steps i.variant d.flag (is_fresh found) b) in
     printed_ended i lawful seen (all_made (by_digests i) d w.moves) how b found w.moves w.broken (well_found i seen b bytes c.lacks)
 
@@ -244,7 +244,7 @@ printed_closing how (Stops fault true) = tt
 printed_closing how (Stops fault false) = tt
 
 pub printable : (i : Instance) → IsLawful i.meaning → (d : Digests) (issued : List (List ℕ)) (event : Event)
-    → IsPrintable (outcome_of i (by_digests i) d issued event).reply
+    → IsPrintable (event_outcome i (by_digests i) d issued event).reply
 printable i lawful d issued (Ask meddles stop offer b) = printed_bytes i lawful d issued meddles stop (offered_bytes issued offer) b
 printable i lawful d issued (Checkpoint meddles stop) = printed_closing (way_of stop) (checkpointed i (by_digests i) d (course_of stop meddles)).ending
 printable i lawful d issued Power = tt
@@ -271,7 +271,7 @@ bytes_issue i d issued meddles stop None b = no_more (length issued)
 bytes_issue i d issued meddles stop (Some bytes) b = asked_issues i d issued meddles stop bytes b (is_long b)
 
 pub issues_one : (i : Instance) (d : Digests) (issued : List (List ℕ)) (event : Event)
-    → length (outcome_of i (by_digests i) d issued event).issued ≤ length issued + 1
+    → length (event_outcome i (by_digests i) d issued event).issued ≤ length issued + 1
 issues_one i d issued (Ask meddles stop offer b) = bytes_issue i d issued meddles stop (offered_bytes issued offer) b
 issues_one i d issued (Checkpoint meddles stop) = no_more (length issued)
 issues_one i d issued Power = no_more (length issued)

@@ -25,7 +25,7 @@ use Rattle.mm_schedule.specs.declared.reply.Reply.{Reply}
 use Rattle.mm_schedule.specs.declared.reply.Reply.TheVariants as reply
 use Rattle.mm_schedule.specs.declared.reply.Cause.TheVariants as cause
 use Rattle.mm_run.specs.Offered.{offered_bytes}
-use Rattle.mm_run.specs.Folds.{Outcome, way_of, after_stop, course_of, reply_of, snapshots_of, moves_then, outcome_by, uncalled, asked, closing_reply, closing_then, closed_outcome, outcome_of, followed}
+use Rattle.mm_run.specs.Folds.{Outcome, way_of, after_stop, course_of, reply_of, snapshots_of, moves_then, outcome_by, uncalled, asked, closing_reply, closing_then, closed_outcome, event_outcome, followed}
 use Rattle.mm_run.specs.Premises.{ask_moves, moves_of, asking_messages, event_messages, messages_from, foreign_of, foreign_values, batches_of, asked_batches, IsGenuineOffer, IsGenuineEvent, AreGenuine}
 use Rattle.mm_run.specs.Laws.{AgreesThroughout}
 
@@ -142,7 +142,7 @@ module _ (all others : List (List ℕ)) (asked_for : List Batch) (i : Instance) 
       → AllByRecursion (Contains others) (foreign_of event) → AllByRecursion (Contains asked_for) (batches_of event)
       → Within (event_messages i issued event) all → IsGenuineEvent i y issued event
       → Within (moves_messages i y (moves_of i y issued event)) all
-      → Same all others asked_for i (outcome_of i (by_lists i) y issued event) (outcome_of i (by_digests i) d issued event)
+      → Same all others asked_for i (event_outcome i (by_lists i) y issued event) (event_outcome i (by_digests i) d issued event)
   event_same y d issued (Ask meddles stop offer b) k outside batches listed genuine messages =
       asked_same y d issued meddles stop (offered_bytes issued offer) b k outside batches listed genuine messages
   event_same y d issued (Checkpoint meddles stop) k outside batches listed genuine messages =
@@ -157,8 +157,8 @@ module _ (all others : List (List ℕ)) (asked_for : List Batch) (i : Instance) 
       → AgreesThroughout i (followed i (by_lists i) y issued events) (followed i (by_digests i) d issued events)
   follow_same [] y d issued k outside among listed genuine = record { replies = refl; issued = refl; steps = refl; writes = refl; stands = k.agrees }
   follow_same (event ∷ events) y d issued k outside among listed genuine =
-      let o : Outcome History = outcome_of i (by_lists i) y issued event in
-      let p : Outcome Digests = outcome_of i (by_digests i) d issued event in
+      let o : Outcome History = event_outcome i (by_lists i) y issued event in
+      let p : Outcome Digests = event_outcome i (by_digests i) d issued event in
       let C : List ℕ → Type 0 = Contains all in
       let here : List (List ℕ) = event_messages i issued event ++ moves_messages i y (moves_of i y issued event) in
       let front = each_left C here (messages_from i o.state o.issued events) listed in

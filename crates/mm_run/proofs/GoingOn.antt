@@ -4,7 +4,7 @@ use Rattle.mm_model.specs.Instance.{Instance}
 use Rattle.mm_model.specs.History.{History}
 use Rattle.mm_schedule.specs.Events.{Event}
 use Rattle.mm_call.specs.Levels.{Level, by_lists}
-use Rattle.mm_run.specs.Folds.{Outcome, outcome_of, Followed, after_event, followed}
+use Rattle.mm_run.specs.Folds.{Outcome, event_outcome, Followed, followed_by, followed}
 use Rattle.mm_call.specs.Asked.{moves_messages}
 use Rattle.mm_run.specs.Premises.{event_messages, moves_of, messages_from}
 use Rattle.mm_run.specs.Laws.{continued}
@@ -18,7 +18,7 @@ nothing_first s issued f = λ j. record {
   writes = sym (zero-add f.writes) j;
 }
 
-event_first : {S : Type 0} (o : Outcome S) (f g : Followed S) → after_event o (continued f g) ≡ continued (after_event o f) g
+event_first : {S : Type 0} (o : Outcome S) (f g : Followed S) → followed_by o (continued f g) ≡ continued (followed_by o f) g
 event_first o f g = λ j. record {
   state = g.state;
   issued = g.issued;
@@ -32,15 +32,15 @@ pub goes_on : {S : Type 0} (i : Instance) (level : Level S) (es fs : List Event)
     followed i level s issued (es ++ fs) ≡ continued f (followed i level f.state f.issued fs))
 goes_on i level [] fs s issued = nothing_first s issued (followed i level s issued fs)
 goes_on i level (event ∷ es) fs s issued =
-    let o = outcome_of i level s issued event in
+    let o = event_outcome i level s issued event in
     let f = followed i level o.state o.issued es in
-    ap (after_event o) (goes_on i level es fs o.state o.issued) ∙ event_first o f (followed i level f.state f.issued fs)
+    ap (followed_by o) (goes_on i level es fs o.state o.issued) ∙ event_first o f (followed i level f.state f.issued fs)
 
 pub messages-append : (i : Instance) (es fs : List Event) (y : History) (issued : List (List ℕ))
     → (let f : Followed History = followed i (by_lists i) y issued es in
     messages_from i y issued (es ++ fs) ≡ messages_from i y issued es ++ messages_from i f.state f.issued fs)
 messages-append i [] fs y issued = refl
 messages-append i (event ∷ es) fs y issued =
-    let o = outcome_of i (by_lists i) y issued event in
+    let o = event_outcome i (by_lists i) y issued event in
     let here = event_messages i issued event ++ moves_messages i y (moves_of i y issued event) in
     ap (λ v. here ++ v) (messages-append i es fs o.state o.issued) ∙ sym (append_assoc here _ _)

@@ -33,7 +33,7 @@ use Rattle.mm_seal.specs.declared.snapshot.PartsFault.{PartsFault}
 use Rattle.mm_seal.specs.declared.snapshot.Place.TheVariants.{Opt as InOpt}
 use Rattle.mm_seal.specs.Snapshot.{Content, IsContent, Snapshot, tag_of}
 use Rattle.mm_seal.proofs.SealLaws.{sealed_once}
-use Rattle.mm_call.specs.Found.{found_at, found_in, is_fresh, content_if_right, right_content}
+use Rattle.mm_call.specs.Found.{found_at, found_unless_wanting, is_fresh, content_if_right, right_content}
 use Rattle.mm_run.specs.Held.{world_barrier, rising_from}
 use Rattle.mm_run.specs.Laws.{one_ask}
 use Rattle.mm_run.specs.Folds.{course_of}
@@ -335,7 +335,7 @@ basic_run : (meaning : Meaning) (key r : List ℕ) (all : List (List ℕ)) → i
 basic_run meaning key r all short starts asked =
     let i = basic meaning key in
     let P : List ℕ → Type 0 = Contains all in
-    let found = found_in (found_at i (by_lists i) first_history (One r) (issued_bytes i first_history)) false in
+    let found = found_unless_wanting (found_at i (by_lists i) first_history (One r) (issued_bytes i first_history)) false in
     let heard = if is_long (One r) then [] else right_messages i (One r) (right_content i (issued_bytes i first_history)) in
     let made = moves_messages i first_history (if is_long (One r) then [] else (walk (course_of Quiet []).fates 1 (ask_steps Basic false (is_fresh found) (One r))).moves) in (
       starts,
@@ -388,7 +388,7 @@ opt_run : (meaning : Meaning) (key barrier r : List ℕ) (all : List (List ℕ))
 opt_run meaning key barrier r all short starts asked listed =
     let i = opt meaning key barrier in
     let P : List ℕ → Type 0 = Contains all in
-    let found = found_in (found_at i (by_lists i) first_history (One r) (issued_bytes i first_history)) false in
+    let found = found_unless_wanting (found_at i (by_lists i) first_history (One r) (issued_bytes i first_history)) false in
     let heard = if is_long (One r) then [] else right_messages i (One r) (right_content i (issued_bytes i first_history)) in
     let made = moves_messages i first_history (if is_long (One r) then [] else (walk (course_of Quiet []).fates 1 (ask_steps Opt false (is_fresh found) (One r))).moves) in (
       starts,

@@ -35,7 +35,7 @@ use Rattle.mm_model.proofs.Moves.{sound_moved}
 use Rattle.mm_model.proofs.Named.{basic_names, basic_issued, opt_names, opt_issued}
 use Rattle.mm_call.specs.Order.{admitted, examined}
 use Rattle.mm_call.specs.Levels.{by_lists, all_made}
-use Rattle.mm_call.specs.Found.{Found, found_from, found_at, found_in, is_fresh}
+use Rattle.mm_call.specs.Found.{Found, found_by_verdict, found_at, found_unless_wanting, is_fresh}
 use Rattle.mm_call.specs.Courses.{End, Done, Fails, Fate, Course, Walked, made_move, step_moves, after_step, walk, closes}
 use Rattle.mm_call.specs.Called.{Ending, Answers, Refuses, Breaks, Called, seen_at, ended_by, called}
 use Rattle.mm_call.specs.Checkpoints.{Closing, Closes, HasNone, NoSegment, LostPower, Stops, Checkpointed, checkpointed_with}
@@ -52,7 +52,7 @@ use Rattle.mm_call.proofs.Walks as walks
 use Rattle.mm_call.proofs.BasicLaw.{unlacked}
 use Rattle.mm_schedule.specs.Events.{Event, Ask, Checkpoint, Power, Extend}
 use Rattle.mm_run.specs.Offered.{offered_bytes}
-use Rattle.mm_run.specs.Folds.{Outcome, after_stop, course_of, snapshots_of, moves_then, outcome_by, asked, closing_then, closed_outcome, outcome_of, Followed, followed, first_issued}
+use Rattle.mm_run.specs.Folds.{Outcome, after_stop, course_of, snapshots_of, moves_then, outcome_by, asked, closing_then, closed_outcome, event_outcome, Followed, followed, first_issued}
 use Rattle.mm_run.specs.Laws.{IsIssued, IssuedNamePositions}
 use Rattle.mm_run.proofs.Following.{each_self}
 use Rattle.mm_run.proofs.OptRuns.{own_asked, own_checked}
@@ -171,7 +171,7 @@ unless_lost false found f e = e
 
 -- what is found is found in a live history
 live_from : (meaning : Meaning) (key barrier : List ℕ) (y : History) (b : Batch) (parts : Result Snapshot PartsFault) (found : Found)
-    → found_from (opt meaning key barrier) (by_lists (opt meaning key barrier)) y b parts ≡ Ok found → life_of Opt y ≡ Live
+    → found_by_verdict (opt meaning key barrier) (by_lists (opt meaning key barrier)) y b parts ≡ Ok found → life_of Opt y ≡ Live
 live_from meaning key barrier y b (Err Form) found is = cc
 live_from meaning key barrier y b (Err Kind) found is = cc
 live_from meaning key barrier y b (Ok snapshot) found is =
@@ -221,12 +221,12 @@ ready_third meaning key barrier all others fates y b false true e due = λ outsi
 -- the moves of a call that asks for a batch may be made
 ask_may : (meaning : Meaning) (key barrier : List ℕ) (y : History) (c : Course) (bytes : List ℕ) (b : Batch)
     → (let i = opt meaning key barrier in
-    let found = found_in (found_at i (by_lists i) (all_made (by_lists i) y (before c)) b bytes) c.lacks in
+    let found = found_unless_wanting (found_at i (by_lists i) (all_made (by_lists i) y (before c)) b bytes) c.lacks in
     AllMay i y (walk c.fates 1 (ask_steps Opt y.is_open (is_fresh found) b)).moves)
 ask_may meaning key barrier y c bytes b =
     let i = opt meaning key barrier in
     let seen : History = all_made (by_lists i) y (before c) in
-    let found = found_in (found_at i (by_lists i) seen b bytes) c.lacks in
+    let found = found_unless_wanting (found_at i (by_lists i) seen b bytes) c.lacks in
     let taken : History = sight y c in
     let run : List ℕ = extended_message (register_of (own_values barrier taken.current)) (guard barrier b) in
     let all : List (List ℕ) = guard_message barrier b ∷ run ∷ [] in
@@ -305,7 +305,7 @@ asked_named meaning key barrier y issued stop c bytes b h =
     let i = opt meaning key barrier in
     let seen : History = all_made (by_lists i) y (before c) in
     let lists : Result Found Refusal = found_at i (by_lists i) seen b bytes in
-    let found : Result Found Refusal = found_in lists c.lacks in
+    let found : Result Found Refusal = found_unless_wanting lists c.lacks in
     let walked : Walked = walk c.fates 1 (ask_steps Opt y.is_open (is_fresh found) b) in
     let o : Called History = called i (by_lists i) y c bytes b in
     let n = ended_named meaning key barrier y seen issued b walked.moves walked.broken found (ask_may meaning key barrier y c bytes b) h
@@ -371,7 +371,7 @@ checkpoint_named meaning key barrier y issued stop c lost is h =
 
 event_named : (meaning : Meaning) (key barrier : List ℕ) (y : History) (issued : List (List ℕ)) (event : Event) → Named (opt meaning key barrier) y issued
     → (let i = opt meaning key barrier in
-    let o : Outcome History = outcome_of i (by_lists i) y issued event in Named i o.state o.issued)
+    let o : Outcome History = event_outcome i (by_lists i) y issued event in Named i o.state o.issued)
 event_named meaning key barrier y issued (Ask meddles stop offer b) h =
     offered_named meaning key barrier y issued meddles stop (offered_bytes issued offer) b h
 event_named meaning key barrier y issued (Checkpoint meddles stop) h =
@@ -390,7 +390,7 @@ follow_named : (meaning : Meaning) (key barrier : List ℕ) (events : List Event
 follow_named meaning key barrier [] y issued h = h
 follow_named meaning key barrier (event ∷ events) y issued h =
     let i = opt meaning key barrier in
-    let o : Outcome History = outcome_of i (by_lists i) y issued event in
+    let o : Outcome History = event_outcome i (by_lists i) y issued event in
     follow_named meaning key barrier events o.state o.issued (event_named meaning key barrier y issued event h)
 
 pub opt_issued_named : (meaning : Meaning) (key barrier : List ℕ) → IssuedNamePositions (opt meaning key barrier)
@@ -451,7 +451,7 @@ basic_called : (meaning : Meaning) (key : List ℕ) (y : History) (issued : List
 basic_called meaning key y issued stop c bytes b h =
     let i = basic meaning key in
     let seen : History = seen_at i (by_lists i) y c in
-    let found : Result Found Refusal = found_in (found_at i (by_lists i) seen b bytes) c.lacks in
+    let found : Result Found Refusal = found_unless_wanting (found_at i (by_lists i) seen b bytes) c.lacks in
     let walked : Walked = walk c.fates 1 (ask_steps Basic y.is_open (is_fresh found) b) in
     let o : Called History = called i (by_lists i) y c bytes b in
     kept_made meaning key (moves_then stop o.ending) o.state (issued ++ snapshots_of o.ending)
@@ -476,7 +476,7 @@ basic_checked meaning key y issued stop c lost h =
 
 basic_event : (meaning : Meaning) (key : List ℕ) (y : History) (issued : List (List ℕ)) (event : Event) → AllByRecursion (IsIssued (basic meaning key) y) issued
     → (let i = basic meaning key in
-    let o : Outcome History = outcome_of i (by_lists i) y issued event in AllByRecursion (IsIssued i o.state) o.issued)
+    let o : Outcome History = event_outcome i (by_lists i) y issued event in AllByRecursion (IsIssued i o.state) o.issued)
 basic_event meaning key y issued (Ask meddles stop offer b) h = basic_asked meaning key y issued meddles stop (offered_bytes issued offer) b h
 basic_event meaning key y issued (Checkpoint meddles stop) h = basic_checked meaning key y issued stop (course_of stop meddles)
     ((by_lists (basic meaning key)).is_lost (seen_at (basic meaning key) (by_lists (basic meaning key)) y (course_of stop meddles))) h
@@ -489,7 +489,7 @@ basic_follow : (meaning : Meaning) (key : List ℕ) (events : List Event) (y : H
 basic_follow meaning key [] y issued h = h
 basic_follow meaning key (event ∷ events) y issued h =
     let i = basic meaning key in
-    let o : Outcome History = outcome_of i (by_lists i) y issued event in
+    let o : Outcome History = event_outcome i (by_lists i) y issued event in
     basic_follow meaning key events o.state o.issued (basic_event meaning key y issued event h)
 
 pub basic_issued_named : (meaning : Meaning) (key : List ℕ) → IssuedNamePositions (basic meaning key)

@@ -22,7 +22,7 @@ use Rattle.mm_model.proofs.Moves.{sound_moved}
 use Rattle.mm_model.proofs.Ends.{first_sound, first_outside}
 use Rattle.mm_model.proofs.MovedDigests.{outside_moved}
 use Rattle.mm_call.specs.Levels.{by_lists, by_digests, all_made}
-use Rattle.mm_call.specs.Found.{right_content, is_fresh, found_at, found_in}
+use Rattle.mm_call.specs.Found.{right_content, is_fresh, found_at, found_unless_wanting}
 use Rattle.mm_call.specs.Courses.{End, Done, Fails, Fate, Course, Walked, made_move, step_moves, after_step, walk}
 use Rattle.mm_call.specs.Called.{called, seen_at}
 use Rattle.mm_call.specs.Checkpoints.{checkpointed, IsSameCheckpoint}
@@ -231,7 +231,7 @@ module _ (meaning : Meaning) (key barrier : List ℕ) (all others : List (List �
   calls clear apart y d stop meddles bytes b k outside is_asked listed genuine messages =
       let i = opt meaning key barrier in
       let c : Course = course_of stop meddles in
-      let fresh : Bool = is_fresh (found_in (found_at i (by_lists i) (seen_at i (by_lists i) y c) b bytes) c.lacks) in
+      let fresh : Bool = is_fresh (found_unless_wanting (found_at i (by_lists i) (seen_at i (by_lists i) y c) b bytes) c.lacks) in
       let among = walk_among others c.fates (ask_steps Opt y.is_open fresh b) 1 (own_asked y.is_open fresh b) (λ n. due_outside others meddles outside n) in
       let counts = call_counted meaning key barrier all others y c.fates y.is_open fresh b refl messages among in
       opt_calls_agree_by_lists meaning key barrier all others asked_for y d c bytes b k.agrees (record {

@@ -30,7 +30,7 @@ use Rattle.mm_model.proofs.Batches.{EndsWith, is_last_tells}
 use Rattle.mm_call.specs.Order.{admitted, examined}
 use Rattle.mm_call.specs.Answers.{answer_on}
 use Rattle.mm_call.specs.Levels.{by_lists, all_made}
-use Rattle.mm_call.specs.Found.{Found, found_from, found_at, found_in, is_fresh}
+use Rattle.mm_call.specs.Found.{Found, found_by_verdict, found_at, found_unless_wanting, is_fresh}
 use Rattle.mm_call.specs.Courses.{End, Done, Fails, Fate, Course, Walked, made_move, step_moves, after_step, walk, seen_in, commits}
 use Rattle.mm_call.specs.Called.{Ending, Answers, Refuses, Breaks, Called, reading_steps, kept_at, ended_by, called}
 use Rattle.mm_call.specs.Checkpoints.{Closing, Closes, HasNone, NoSegment, LostPower, Stops, Checkpointed, checkpointed_with}
@@ -47,7 +47,7 @@ use Rattle.mm_schedule.specs.declared.reply.Way.{Way}
 use Rattle.mm_schedule.specs.declared.reply.Reply.{Reply}
 use Rattle.mm_schedule.specs.declared.reply.Reply.TheVariants.{Told, No, Kept, Nothing, Closed, Checkpointed as CheckpointedReply, Power as PowerReply, Extended}
 use Rattle.mm_run.specs.Offered.{offered_bytes}
-use Rattle.mm_run.specs.Folds.{Outcome, way_of, after_stop, course_of, reply_of, moves_then, outcome_by, asked, closing_reply, closing_then, closed_outcome, outcome_of, Followed, followed, first_issued}
+use Rattle.mm_run.specs.Folds.{Outcome, way_of, after_stop, course_of, reply_of, moves_then, outcome_by, asked, closing_reply, closing_then, closed_outcome, event_outcome, Followed, followed, first_issued}
 use Rattle.mm_run.specs.Laws.{ExpectedRuns}
 
 -- a call commits nothing, or its batch
@@ -99,7 +99,7 @@ repeat_admitted Lost here repeat fits again e = λ _. cc
 
 -- a repeat is asked of the last batch
 repeats_from : (i : Instance) (y : History) (b : Batch) (parts : Result Snapshot PartsFault) (found : Found)
-    → found_from i (by_lists i) y b parts ≡ Ok found → found.again ≡ true → EndsWith y.batches b
+    → found_by_verdict i (by_lists i) y b parts ≡ Ok found → found.again ≡ true → EndsWith y.batches b
 repeats_from i y b (Err Form) found is again = cc
 repeats_from i y b (Err Kind) found is again = cc
 repeats_from i y b (Ok snapshot) found is again =
@@ -224,7 +224,7 @@ called_steps i y issued meddles stop bytes b =
     let seen : History = all_made (by_lists i) y moves in
     let same : seen.batches ≡ y.batches = same_batches i moves y (seen_none c.fates (reading_steps i.variant) 1) in
     let lists : Result Found Refusal = found_at i (by_lists i) seen b bytes in
-    let found : Result Found Refusal = found_in lists c.lacks in
+    let found : Result Found Refusal = found_unless_wanting lists c.lacks in
     let walked : Walked = walk c.fates 1 (ask_steps i.variant y.is_open (is_fresh found) b) in
     let o : Called History = called i (by_lists i) y c bytes b in
     let P : List Batch → Type 0 = λ v. EndsWith v b in
@@ -308,7 +308,7 @@ checkpointed_steps i y issued meddles stop is_lost =
     (ap requests_of (closing_none i stop o.ending o.state ∙ same_batches i o.moves y (checkpoint_none i.variant y.is_open is_lost c.fates)))
 
 event_steps : (i : Instance) (y : History) (issued : List (List ℕ)) (event : Event)
-    → (let o : Outcome History = outcome_of i (by_lists i) y issued event in
+    → (let o : Outcome History = event_outcome i (by_lists i) y issued event in
     Steps i.meaning (requests_of y.batches) event o.reply (requests_of o.state.batches))
 event_steps i y issued (Ask meddles stop offer b) = asked_steps i y issued meddles stop (offered_bytes issued offer) b
 event_steps i y issued (Checkpoint meddles stop) = checkpointed_steps i y issued meddles stop _
@@ -320,7 +320,7 @@ pub runs : (i : Instance) (events : List Event) (y : History) (issued : List (Li
     Runs i.meaning (requests_of y.batches) events f.replies (requests_of f.state.batches))
 runs i [] y issued = refl
 runs i (event ∷ events) y issued =
-    let o : Outcome History = outcome_of i (by_lists i) y issued event in
+    let o : Outcome History = event_outcome i (by_lists i) y issued event in
     (requests_of o.state.batches, event_steps i y issued event, runs i events o.state o.issued)
 
 pub expected_runs : ExpectedRuns

@@ -149,12 +149,12 @@ closed_outcome level stop issued o = record {
 }
 
 -- one event
-abbrev pub outcome_of : {S : Type 0} → Instance → Level S → S → List (List ℕ) → Event → Outcome S
-outcome_of i level s issued (Ask meddles stop offer b) = asked i level s issued meddles stop (offered_bytes issued offer) b
-outcome_of i level s issued (Checkpoint meddles stop) =
+abbrev pub event_outcome : {S : Type 0} → Instance → Level S → S → List (List ℕ) → Event → Outcome S
+event_outcome i level s issued (Ask meddles stop offer b) = asked i level s issued meddles stop (offered_bytes issued offer) b
+event_outcome i level s issued (Checkpoint meddles stop) =
     closed_outcome level stop issued (checkpointed i level s (course_of stop meddles))
-outcome_of i level s issued Power = uncalled (level.made s PowerMove) issued reply.Power
-outcome_of i level s issued (Extend value) = uncalled (level.made s (Foreign value)) issued reply.Extended
+event_outcome i level s issued Power = uncalled (level.made s PowerMove) issued reply.Power
+event_outcome i level s issued (Extend value) = uncalled (level.made s (Foreign value)) issued reply.Extended
 
 -- What stands after some events, with the replies so far and the counts of steps and of writes of the cell.
 pub record Followed (S : Type 0) : Type 0 where
@@ -164,8 +164,8 @@ pub record Followed (S : Type 0) : Type 0 where
   pub steps : ℕ
   pub writes : ℕ
 
-abbrev pub after_event : {S : Type 0} → Outcome S → Followed S → Followed S
-after_event o rest = record {
+abbrev pub followed_by : {S : Type 0} → Outcome S → Followed S → Followed S
+followed_by o rest = record {
   state = rest.state;
   issued = rest.issued;
   replies = o.reply ∷ rest.replies;
@@ -176,7 +176,7 @@ after_event o rest = record {
 abbrev pub followed : {S : Type 0} → Instance → Level S → S → List (List ℕ) → List Event → Followed S
 followed i level s issued [] = record { state = s; issued = issued; replies = []; steps = 0; writes = 0 }
 followed i level s issued (event ∷ events) =
-    let o = outcome_of i level s issued event in after_event o (followed i level o.state o.issued events)
+    let o = event_outcome i level s issued event in followed_by o (followed i level o.state o.issued events)
 
 -- the first snapshot of an instance, and its first digests
 abbrev pub first_issued : Instance → List (List ℕ)

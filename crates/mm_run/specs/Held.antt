@@ -12,7 +12,7 @@ use Rattle.mm_model.specs.Moves.{Digests}
 use Rattle.mm_call.specs.Levels.{by_digests}
 use Rattle.mm_call.specs.Called.{seen_at, reading_steps}
 use Rattle.mm_call.specs.Standing.{instance_by, counted_by}
-use Rattle.mm_run.specs.Folds.{Outcome, course_of, outcome_of, first_issued, first_digests}
+use Rattle.mm_run.specs.Folds.{Outcome, course_of, event_outcome, first_issued, first_digests}
 
 -- 32 bytes in rising order, from this one on
 unfoldable pub rising_from : ℕ → List ℕ
@@ -53,7 +53,7 @@ first_held header = record {
 
 -- what an event comes to in a world
 abbrev pub outcome_in : Held → Event → Outcome Digests
-outcome_in world event = outcome_of (instance_of world) (by_digests (instance_of world)) world.digests world.issued event
+outcome_in world event = event_outcome (instance_of world) (by_digests (instance_of world)) world.digests world.issued event
 
 -- a count of 64 bits stays at the greatest once it is there
 abbrev pub within_bits : Digests → Digests

@@ -18,7 +18,7 @@ use Rattle.mm_call.specs.Checkpoints.{checkpointed}
 use Rattle.mm_call.specs.Asked.{moves_messages, right_messages}
 use Rattle.mm_schedule.specs.Events.{Event, Ask, Checkpoint, Power, Extend}
 use Rattle.mm_run.specs.Offered.{offered_bytes}
-use Rattle.mm_run.specs.Folds.{course_of, outcome_of, first_issued}
+use Rattle.mm_run.specs.Folds.{course_of, event_outcome, first_issued}
 
 -- the moves of an event's call, by lists. The loss of power after one that was cut has no messages.
 abbrev pub ask_moves : Instance → History → List Meddle → Stop → Option (List ℕ) → Batch → List Move
@@ -47,7 +47,7 @@ event_messages i issued (Extend value) = []
 abbrev pub messages_from : Instance → History → List (List ℕ) → List Event → List (List ℕ)
 messages_from i y issued [] = []
 messages_from i y issued (event ∷ events) =
-    let o = outcome_of i (by_lists i) y issued event in
+    let o = event_outcome i (by_lists i) y issued event in
     event_messages i issued event ++ moves_messages i y (moves_of i y issued event) ++ messages_from i o.state o.issued events
 
 abbrev pub run_messages : Instance → List Event → List (List ℕ)
@@ -100,7 +100,7 @@ IsGenuineEvent i y issued (Extend value) = Unit {0}
 abbrev pub AreGenuine : Instance → History → List (List ℕ) → List Event → Type 0
 AreGenuine i y issued [] = Unit {0}
 AreGenuine i y issued (event ∷ events) =
-    let o = outcome_of i (by_lists i) y issued event in
+    let o = event_outcome i (by_lists i) y issued event in
     IsGenuineEvent i y issued event × AreGenuine i o.state o.issued events
 
 abbrev pub IsGenuineRun : Instance → List Event → Type 0

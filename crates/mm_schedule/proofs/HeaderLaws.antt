@@ -9,7 +9,7 @@ use Rattle.mm_modules.specs.declared.any.AnyModule.TheVariants.{Counter, Limiter
 use Rattle.mm_modules.specs.Modules.{module_named, name_of}
 use Rattle.mm_schedule.specs.declared.header.Header.{Header}
 use Rattle.mm_schedule.specs.Headers.{header_at, header_text, variant_at, variant_text}
-use Rattle.mm_schedule.specs.Words.{after, word_at}
+use Rattle.mm_schedule.specs.Words.{after_prefix, word_at}
 use Rattle.mm_schedule.proofs.ReadIsSpelled.{after-front, bind-some, chosen, some-same, text_is, word-front}
 
 variant-spelled : (word : List ℕ) (variant : Variant) → variant_at word ≡ Some variant → word ≡ variant_text variant
@@ -53,7 +53,7 @@ name-spelled word it is =
 pub header-spelled : (line : List ℕ) (header : Header) → header_at line ≡ Some header → line ≡ header_text header
 unfolding header_at
 header-spelled line header is =
-    let a = bind-some (after (codes "memoir 1 ") line) _ header is in
+    let a = bind-some (after_prefix (codes "memoir 1 ") line) _ header is in
     let b = bind-some (word_at a.0) _ header a.2 in
     let c = bind-some (variant_at b.0.0) _ header b.2 in
     let d = bind-some (module_named b.0.1) _ header c.2 in
@@ -65,7 +65,7 @@ header-spelled line header is =
 
 -- each of the sixteen lines is read as its header
 sixteen : (variant : Variant) (it : AnyModule) → header_at (header_text (record { variant = variant; «module» = it })) ≡ Some (record { variant = variant; «module» = it })
-unfolding header_at after word_at
+unfolding header_at after_prefix word_at
 sixteen Basic Counter = refl
 sixteen Basic Limiter = refl
 sixteen Basic Quota = refl

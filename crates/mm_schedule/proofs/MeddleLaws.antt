@@ -5,7 +5,7 @@ use Rattle.std.specs.Prelude.{Option, Some, None, codes}
 use Rattle.mm_platform.specs.declared.plan.Meddle.{Meddle}
 use Rattle.mm_schedule.specs.Grammar.{meddle_at, meddles_at}
 use Rattle.mm_schedule.specs.Texts.{behind}
-use Rattle.mm_schedule.specs.Words.{◌>>=◌, after}
+use Rattle.mm_schedule.specs.Words.{◌>>=◌, after_prefix}
 
 pub behind_none : (front : List Meddle) (line : List ℕ) → Some (front, line) ≡ behind front (Some ([], line))
 behind_none front line = rw (append-nil front) refl
@@ -22,20 +22,20 @@ unfolding meddles_at
 full front room least line none = rw none (behind_none front line)
 
 -- no further meddle stands there
-pub over : (front : List Meddle) (room rest least : ℕ) (line : List ℕ) → room ≡ suc rest → after (codes "meddle ") line ≡ None
+pub over : (front : List Meddle) (room rest least : ℕ) (line : List ℕ) → room ≡ suc rest → after_prefix (codes "meddle ") line ≡ None
     → Some (front, line) ≡ behind front (meddles_at room least line)
 unfolding meddles_at
 over front room rest least line some none = rw (some, none) (behind_none front line)
 
 -- what stands there is no meddle
-pub bad : (front : List Meddle) (room rest least : ℕ) (line words : List ℕ) → room ≡ suc rest → after (codes "meddle ") line ≡ Some words
+pub bad : (front : List Meddle) (room rest least : ℕ) (line words : List ℕ) → room ≡ suc rest → after_prefix (codes "meddle ") line ≡ Some words
     → meddle_at least words ≡ None → None ≡ behind front (meddles_at room least line)
 unfolding meddles_at
 bad front room rest least line words some found none = rw (some, found, none) refl
 
 -- one more meddle
 pub more : (front : List Meddle) (room rest least : ℕ) (line words later : List ℕ) (first : Meddle) → room ≡ suc rest
-    → after (codes "meddle ") line ≡ Some words → meddle_at least words ≡ Some (first, later)
+    → after_prefix (codes "meddle ") line ≡ Some words → meddle_at least words ≡ Some (first, later)
     → behind (front ++ first ∷ []) (meddles_at rest first.step later) ≡ behind front (meddles_at room least line)
 unfolding meddles_at
 more front room rest least line words later first some found read = rw (some, found, read) (behind_one front first (meddles_at rest first.step later))

@@ -5,7 +5,7 @@ use Rattle.std.specs.List.{AllByRecursion, range_with_len}
 use Rattle.std.proofs.lemmas.Bool.Decides.{nat_tests}
 use Rattle.std.proofs.lemmas.List.Sums.{sum_by-cons}
 use Rattle.mm_module.specs.Meaning.{outputs_from}
-use Rattle.mm_dispenser.specs.Places.{Places, places_told, places_at, RisesByPlaces}
+use Rattle.mm_dispenser.specs.Places.{PlacesFrom, places_told, places_at, RisesByPlaces}
 use Rattle.mm_dispenser.proofs.PlaceLaws.{places-once}
 use Rattle.mm_dispenser.specs.Table.{dispenser}
 use Rattle.mm_limiter.specs.Guesses.{is_wrong, GuessesAreLimited}
@@ -107,10 +107,10 @@ one-telling outputs a b one two same =
     let e : a.output ≡ b.output = some_same a.output b.output (sym one ∙ ap (λ n. slice_get outputs n) same ∙ two) in
     ap (λ n. record { before = n; output = a.output }) same ∙ ap (λ (l : List ℕ). record { before = b.before; output = l }) e
 
-places-are : (outputs : List (List ℕ)) (telling : Telling) (p : Places) → WasSaid outputs telling → places_told telling.output ≡ Some p → places_at outputs telling.before ≡ Some p
+places-are : (outputs : List (List ℕ)) (telling : Telling) (p : PlacesFrom) → WasSaid outputs telling → places_told telling.output ≡ Some p → places_at outputs telling.before ≡ Some p
 places-are outputs telling p said is = ap (λ (o : Option (List ℕ)). option_and_then places_told o) said ∙ is
 
-apart-by : (outputs : List (List ℕ)) → RisesByPlaces outputs → (a b : Telling) (p q : Places) (before behind : Bool) → nat_lt a.before b.before ≡ before → nat_lt b.before a.before ≡ behind
+apart-by : (outputs : List (List ℕ)) → RisesByPlaces outputs → (a b : Telling) (p q : PlacesFrom) (before behind : Bool) → nat_lt a.before b.before ≡ before → nat_lt b.before a.before ≡ behind
     → WasSaid outputs a → WasSaid outputs b → places_told a.output ≡ Some p → places_told b.output ≡ Some q
     → (a ≡ b) ⊎ ((p.from + p.size ≤ q.from) ⊎ (q.from + q.size ≤ p.from))
 apart-by outputs rises a b p q true behind is after one two pp qq =

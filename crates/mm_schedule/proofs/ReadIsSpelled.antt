@@ -13,7 +13,7 @@ use Rattle.std.specs.Result.{result_ok}
 use Rattle.std.specs.Str.{bytes_eq}
 use Rattle.hex.specs.declared.error.FromHexError.{FromHexError}
 use Rattle.hex.specs.Hex.{decode_of, decode_sized}
-use Rattle.mm_base.specs.Decimals.{number_of}
+use Rattle.mm_base.specs.Decimals.{decimal_number}
 use Rattle.mm_base.proofs.DecimalLemmas.{spelled_by_reading}
 use Rattle.mm_module.specs.Batch.{One, Many}
 use Rattle.mm_platform.specs.declared.plan.Meddle.{Meddle}
@@ -26,7 +26,7 @@ use Rattle.mm_schedule.specs.Events.{Event, Checkpoint, Power}
 use Rattle.mm_schedule.specs.Grammar.{call_at, event_at, failing_at, flip_at, meddle_at, meddles_at, offer_at, prefixed_at, raw_at, stop_at, stop_step_at}
 use Rattle.mm_schedule.specs.Spelling.{SpellsBytes, SpellsEvent, SpellsMeddles, SpellsNumber, SpellsOffer, SpellsPrefix, SpellsStep, SpellsStop, SpellsValue, asks}
 use Rattle.mm_module.specs.Values.{value_at}
-use Rattle.mm_schedule.specs.Words.{◌>>=◌, after, bytes_at, number_at, step_at, word_at}
+use Rattle.mm_schedule.specs.Words.{◌>>=◌, after_prefix, bytes_at, number_at, step_at, word_at}
 
 -- a reading that gave something gave something at its first part
 pub bind-some : {A B : Type 0} (first : Option A) (then : A → Option B) (y : B) → (first >>= then) ≡ Some y → (x : A) × (first ≡ Some x) × (then x ≡ Some y)
@@ -51,8 +51,8 @@ pub text_is : (text other : List ℕ) → bytes_eq text other ≡ true → text 
 text_is text other same = (bytes_eq-Decides text other).0 same
 
 -- a prefix stands in front
-pub after-front : (prefix line rest : List ℕ) → after prefix line ≡ Some rest → line ≡ prefix ++ rest
-unfolding after
+pub after-front : (prefix line rest : List ℕ) → after_prefix prefix line ≡ Some rest → line ≡ prefix ++ rest
+unfolding after_prefix
 after-front prefix line rest is =
     elim (chosen (bytes_eq (take (length prefix) line) prefix) (Some (drop (length prefix) line)) None rest is) [
       | inl w ↦ sym (take-append-drop (length prefix) line)
@@ -97,7 +97,7 @@ step-spelled (digit ∷ next ∷ rest) step is = cc
 number-spelled : (word : List ℕ) (number : ℕ) → number_at word ≡ Some number → SpellsNumber number word
 unfolding number_at
 number-spelled word number is =
-    let read = bind-some (number_of word) (λ (n : ℕ). cond (nat_lt 999999999 n) None (Some n)) number is in
+    let read = bind-some (decimal_number word) (λ (n : ℕ). cond (nat_lt 999999999 n) None (Some n)) number is in
     elim (chosen (nat_lt 999999999 read.0) None (Some read.0) number read.2) [
       | inl w ↦ cc
       | inr w ↦
@@ -169,7 +169,7 @@ meddles-spelled : (room least : ℕ) (line : List ℕ) (read : List Meddle × Li
 unfolding meddles_at
 meddles-spelled zero least line read is = no-meddles zero least line read is
 meddles-spelled (suc room) least line read is =
-    elim (found_or (after (codes "meddle ") line) _ (Some ([], line)) read is) [
+    elim (found_or (after_prefix (codes "meddle ") line) _ (Some ([], line)) read is) [
       | inl w ↦
           let a = bind-some (meddle_at least w.0) _ read w.2 in
           let b = bind-some (meddles_at room a.0.0.step a.0.1) _ read a.2 in
@@ -234,7 +234,7 @@ failing-spelled line read is =
 stop-spelled : (line : List ℕ) (read : Stop × List ℕ) → stop_at line ≡ Some read → ReadsStop line read
 unfolding stop_at
 stop-spelled line read is =
-    elim (found_or (after (codes "cut ") line) _ _ read is) [
+    elim (found_or (after_prefix (codes "cut ") line) _ _ read is) [
       | inl w ↦
           let a = bind-some (stop_step_at w.0) _ read w.2 in
           let at = stop_step-spelled w.0 a.0 a.1 in
@@ -243,7 +243,7 @@ stop-spelled line read is =
             spelled = (at.step, at.stepped, refl);
             parts = after-front (codes "cut ") line w.0 w.1 ∙ ap (λ (back : List ℕ). codes "cut " ++ back) at.parts ∙ simp append_assoc;
           })
-      | inr w ↦ elim (found_or (after (codes "drop ") line) _ _ read w.1) [
+      | inr w ↦ elim (found_or (after_prefix (codes "drop ") line) _ _ read w.1) [
         | inl v ↦
             let a = bind-some (stop_step_at v.0) _ read v.2 in
             let at = stop_step-spelled v.0 a.0 a.1 in
@@ -252,7 +252,7 @@ stop-spelled line read is =
               spelled = (at.step, at.stepped, refl);
               parts = after-front (codes "drop ") line v.0 v.1 ∙ ap (λ (back : List ℕ). codes "drop " ++ back) at.parts ∙ simp append_assoc;
             })
-        | inr v ↦ elim (found_or (after (codes "fail ") line) _ _ read v.1) [
+        | inr v ↦ elim (found_or (after_prefix (codes "fail ") line) _ _ read v.1) [
           | inl u ↦
               let failing = failing-spelled u.0 read u.2 in record {
                 text = codes "fail " ++ failing.0;
@@ -342,7 +342,7 @@ call-spelled meddles stop line rest text ending event few meddled stopped parts 
     } in
     elim (chosen (bytes_eq rest (codes "checkpoint")) (Some (Checkpoint meddles stop)) _ event is) [
       | inl w ↦ subst (λ (e : Event). SpellsEvent e line) (some-same _ event w.1) (front (codes "checkpoint") (text_is _ _ w.0))
-      | inr w ↦ elim (found_or (after (codes "ask ") rest) _ _ event w.1) [
+      | inr w ↦ elim (found_or (after_prefix (codes "ask ") rest) _ _ event w.1) [
         | inl v ↦
             let a = bind-some (offer_at v.0) _ event v.2 in
             let offer = offer-spelled v.0 a.0 a.1 in
@@ -352,7 +352,7 @@ call-spelled meddles stop line rest text ending event few meddled stopped parts 
               front (asks (One a.0.1) offer.text) (after-front (codes "ask ") rest v.0 v.1
                   ∙ ap (λ (back : List ℕ). codes "ask " ++ back) offer.parts ∙ simp append_assoc),
             )
-        | inr v ↦ elim (found_or (after (codes "batch ") rest) _ None event v.1) [
+        | inr v ↦ elim (found_or (after_prefix (codes "batch ") rest) _ None event v.1) [
           | inl u ↦
               let a = bind-some (offer_at u.0) _ event u.2 in
               let offer = offer-spelled u.0 a.0 a.1 in
@@ -382,7 +382,7 @@ unfolding event_at
 event_spelled line event is =
     elim (chosen (bytes_eq line (codes "power")) (Some Power) _ event is) [
       | inl w ↦ subst (λ (e : Event). SpellsEvent e line) (some-same _ event w.1) (text_is _ _ w.0)
-      | inr w ↦ elim (found_or (after (codes "extend ") line) _ (prefixed_at line) event w.1) [
+      | inr w ↦ elim (found_or (after_prefix (codes "extend ") line) _ (prefixed_at line) event w.1) [
         | inl v ↦
             let a = bind-some (value_at v.0) _ event v.2 in
             subst (λ (e : Event). SpellsEvent e line) (some-same _ event a.2)

@@ -14,7 +14,7 @@ use Rattle.std.specs.Prelude.{Option, Some, None, Ok, codes, nat_lt, ◌||◌, �
 use Rattle.std.specs.Str.{all_ascii_digits, bytes_eq}
 use Rattle.hex.specs.Hex.{decode_of, is_hex_digit}
 use Rattle.hex.proofs.HexLemmas.{decode_of-ok, decode_sized-ok, decode_sized-twice}
-use Rattle.mm_base.specs.Decimals.{number_of}
+use Rattle.mm_base.specs.Decimals.{decimal_number}
 use Rattle.mm_base.proofs.DecimalLemmas.{read_by_spelling}
 use Rattle.mm_module.specs.Batch.{Batch, One, Many}
 use Rattle.mm_platform.specs.declared.plan.Meddle.{Meddle}
@@ -27,7 +27,7 @@ use Rattle.mm_schedule.specs.Events.{Event, Ask, Checkpoint, Power, Extend}
 use Rattle.mm_schedule.specs.Grammar.{call_at, event_at, failing_at, flip_at, meddle_at, meddles_at, offer_at, prefixed_at, raw_at, stop_at, stop_step_at}
 use Rattle.mm_schedule.specs.Spelling.{SpellsBytes, SpellsEvent, SpellsMeddles, SpellsNumber, SpellsOffer, SpellsPrefix, SpellsStep, SpellsStop, SpellsValue, asks}
 use Rattle.mm_module.specs.Values.{value_at}
-use Rattle.mm_schedule.specs.Words.{after, bytes_at, number_at, step_at, word_at}
+use Rattle.mm_schedule.specs.Words.{after_prefix, bytes_at, number_at, step_at, word_at}
 use Rattle.mm_schedule.proofs.ReadIsSpelled.{after-front, text_is}
 
 -- no space is among the bytes
@@ -125,8 +125,8 @@ bytes-again bytes word (inr some) =
     let test : (length word == 0) ≡ false = grind (arith, nat_tests) in
     rw (no-dash word bytes (bytes_eq word (codes "-")) refl some.1, test, some.1) refl
 
-after-again-meddle : (rest : List ℕ) → after (codes "meddle ") (codes "meddle " ++ rest) ≡ Some rest
-unfolding after
+after-again-meddle : (rest : List ℕ) → after_prefix (codes "meddle ") (codes "meddle " ++ rest) ≡ Some rest
+unfolding after_prefix
 after-again-meddle rest = refl
 
 done-word : NoSpace (codes "done")
@@ -159,7 +159,7 @@ meddle-again least meddle step value rest rising stepped valued =
 
 -- meddles are read up to what is none
 meddles-again : (room least : ℕ) (meddles : List Meddle) (text rest : List ℕ) → SpellsMeddles least meddles text → length meddles ≤ room
-    → after (codes "meddle ") rest ≡ None → meddles_at room least (text ++ rest) ≡ Some (meddles, rest)
+    → after_prefix (codes "meddle ") rest ≡ None → meddles_at room least (text ++ rest) ≡ Some (meddles, rest)
 unfolding meddles_at
 meddles-again zero least [] text rest spelled few over = rw spelled refl
 meddles-again (suc room) least [] text rest spelled few over = rw (spelled, over) refl
@@ -179,9 +179,9 @@ meddles-again (suc room) least (meddle ∷ meddles) text rest spelled few over =
 
 -- what follows is no stop
 record IsNoStop (call : List ℕ) : Type 0 where
-  cut : after (codes "cut ") call ≡ None
-  dropped : after (codes "drop ") call ≡ None
-  failed : after (codes "fail ") call ≡ None
+  cut : after_prefix (codes "cut ") call ≡ None
+  dropped : after_prefix (codes "drop ") call ≡ None
+  failed : after_prefix (codes "fail ") call ≡ None
 
 stop_step-again : (at : ℕ) (step rest : List ℕ) → SpellsStep at step → stop_step_at (step ++ 32 ∷ rest) ≡ Some (at, rest)
 unfolding stop_step_at
@@ -198,7 +198,7 @@ undone-again at step rest stepped =
     rw (stop_step-again at step (codes "undone" ++ 32 ∷ rest) stepped, word-again (codes "undone") rest undone-word) refl
 
 stop-again : (stop : Stop) (text call : List ℕ) → SpellsStop stop text → IsNoStop call → stop_at (text ++ call) ≡ Some (stop, call)
-unfolding stop_at after
+unfolding stop_at after_prefix
 stop-again Quiet text call spelled over = rw (spelled, over.cut, over.dropped, over.failed) refl
 stop-again (Cut at) text call spelled over =
     let words : text ++ call ≡ codes "cut " ++ (spelled.0 ++ 32 ∷ call) = ap (λ (front : List ℕ). front ++ call) spelled.2 ∙ simp append_assoc in
@@ -222,15 +222,15 @@ not_word word other number true same is none =
 not_word word other number false same is none = refl
 
 no-number-last : number_at (codes "last") ≡ None
-unfolding number_at number_of
+unfolding number_at decimal_number
 no-number-last = refl
 
 no-number-flip : number_at (codes "flip") ≡ None
-unfolding number_at number_of
+unfolding number_at decimal_number
 no-number-flip = refl
 
 no-number-raw : number_at (codes "raw") ≡ None
-unfolding number_at number_of
+unfolding number_at decimal_number
 no-number-raw = refl
 
 flip-again : (number byte : ℕ) (first second rest : List ℕ) → SpellsNumber number first → SpellsNumber byte second
@@ -275,7 +275,7 @@ offer-again (Raw bytes) text rest spelled =
 
 asked-again : (meddles : List Meddle) (stop : Stop) (offer : Offer) (from : List ℕ) (batch : Batch) → SpellsOffer offer from
     → call_at meddles stop (asks batch from) ≡ Some (Ask meddles stop offer batch)
-unfolding call_at after
+unfolding call_at after_prefix
 asked-again meddles stop offer from (One request) spelled = rw (offer-again offer from request spelled) refl
 asked-again meddles stop offer from (Many text) spelled = rw (offer-again offer from text spelled) refl
 
@@ -288,7 +288,7 @@ no-power : (line : List ℕ) (same : Bool) → opens line ≡ false → bytes_eq
 no-power line true shut same = let clash : true ≡ false = sym (ap opens (text_is line (codes "power") same)) ∙ shut in cc
 no-power line false shut same = refl
 
-no-extend : (line : List ℕ) (found : Option (List ℕ)) → opens line ≡ false → after (codes "extend ") line ≡ found → found ≡ None
+no-extend : (line : List ℕ) (found : Option (List ℕ)) → opens line ≡ false → after_prefix (codes "extend ") line ≡ found → found ≡ None
 no-extend line None shut is = refl
 no-extend line (Some rest) shut is = let clash : true ≡ false = sym (ap opens (after-front (codes "extend ") line rest is)) ∙ shut in cc
 
@@ -303,8 +303,8 @@ prefix-shut [] (Fail at false) extensions ending call one two shut = rw (one, tw
 prefix-shut (meddle ∷ meddles) stop extensions ending call one two shut = rw one.7 refl
 
 -- a stop or a call is no meddle
-no-meddle : (stop : Stop) (ending call : List ℕ) → SpellsStop stop ending → after (codes "meddle ") call ≡ None → after (codes "meddle ") (ending ++ call) ≡ None
-unfolding after
+no-meddle : (stop : Stop) (ending call : List ℕ) → SpellsStop stop ending → after_prefix (codes "meddle ") call ≡ None → after_prefix (codes "meddle ") (ending ++ call) ≡ None
+unfolding after_prefix
 no-meddle Quiet ending call spelled over = rw spelled over
 no-meddle (Cut at) ending call spelled over = rw spelled.2 refl
 no-meddle (Drop at) ending call spelled over = rw spelled.2 refl
@@ -313,7 +313,7 @@ no-meddle (Fail at false) ending call spelled over = rw spelled.2 refl
 
 record IsCall (meddles : List Meddle) (stop : Stop) (call : List ℕ) (event : Event) : Type 0 where
   shut : opens call ≡ false
-  none : after (codes "meddle ") call ≡ None
+  none : after_prefix (codes "meddle ") call ≡ None
   last : IsNoStop call
   read : call_at meddles stop call ≡ Some event
 
@@ -330,14 +330,14 @@ prefixed-again meddles stop line call event spelled is =
     (no-meddle stop spelled.ending call spelled.stopped is.none) in
     rw (
       no-power line (bytes_eq line (codes "power")) shut refl,
-      no-extend line (after (codes "extend ") line) shut refl,
+      no-extend line (after_prefix (codes "extend ") line) shut refl,
       first,
       stop-again stop spelled.ending call spelled.stopped is.last,
     ) is.read
 
 ask-call : (meddles : List Meddle) (stop : Stop) (offer : Offer) (from : List ℕ) (batch : Batch) → SpellsOffer offer from
     → IsCall meddles stop (asks batch from) (Ask meddles stop offer batch)
-unfolding after
+unfolding after_prefix
 ask-call meddles stop offer from (One request) spelled = record {
   shut = refl;
   none = refl;
@@ -352,7 +352,7 @@ ask-call meddles stop offer from (Many text) spelled = record {
 }
 
 checkpoint-call : (meddles : List Meddle) (stop : Stop) → IsCall meddles stop (codes "checkpoint") (Checkpoint meddles stop)
-unfolding after call_at
+unfolding after_prefix call_at
 checkpoint-call meddles stop = record {
   shut = refl;
   none = refl;
@@ -361,7 +361,7 @@ checkpoint-call meddles stop = record {
 }
 
 pub spelled_is_read : (line : List ℕ) (event : Event) → SpellsEvent event line → event_at line ≡ Some event
-unfolding event_at after
+unfolding event_at after_prefix
 spelled_is_read line (Ask meddles stop offer batch) spelled =
     prefixed-again meddles stop line (asks batch spelled.0) (Ask meddles stop offer batch) spelled.2 (ask-call meddles stop offer spelled.0 batch spelled.1)
 spelled_is_read line (Checkpoint meddles stop) spelled =

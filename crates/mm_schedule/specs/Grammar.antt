@@ -10,7 +10,7 @@ use Rattle.mm_schedule.specs.declared.event.Offer.{Offer}
 use Rattle.mm_schedule.specs.declared.event.Offer.TheVariants.{Number, Last, Flip, Raw}
 use Rattle.mm_schedule.specs.Events.{Event, Ask, Checkpoint, Power, Extend}
 use Rattle.mm_module.specs.Values.{value_at}
-use Rattle.mm_schedule.specs.Words.{◌>>=◌, after, bytes_at, number_at, step_at, word_at}
+use Rattle.mm_schedule.specs.Words.{◌>>=◌, after_prefix, bytes_at, number_at, step_at, word_at}
 
 -- A meddle behind its first word: a step that is no lower than the one before, and a value.
 unfoldable pub meddle_at : ℕ → List ℕ → Option (Meddle × List ℕ)
@@ -27,7 +27,7 @@ meddles_at zero least line = Some ([], line)
 meddles_at (suc room) least line =
     option_map_or
     (λ words. meddle_at least words >>= λ first. meddles_at room first.0.step first.1 >>= λ others. Some (first.0 ∷ others.0, others.1))
-    (after (codes "meddle ") line) (Some ([], line))
+    (after_prefix (codes "meddle ") line) (Some ([], line))
 
 -- A step behind `cut` or `drop`.
 unfoldable pub stop_step_at : List ℕ → Option (ℕ × List ℕ)
@@ -45,9 +45,9 @@ failing_at line =
 -- At most one stop, and what follows it.
 unfoldable pub stop_at : List ℕ → Option (Stop × List ℕ)
 stop_at line =
-    option_map_or (λ words. stop_step_at words >>= λ at. Some (Cut at.0, at.1)) (after (codes "cut ") line)
-    (option_map_or (λ words. stop_step_at words >>= λ at. Some (Drop at.0, at.1)) (after (codes "drop ") line)
-    (option_map_or failing_at (after (codes "fail ") line) (Some (Quiet, line))))
+    option_map_or (λ words. stop_step_at words >>= λ at. Some (Cut at.0, at.1)) (after_prefix (codes "cut ") line)
+    (option_map_or (λ words. stop_step_at words >>= λ at. Some (Drop at.0, at.1)) (after_prefix (codes "drop ") line)
+    (option_map_or failing_at (after_prefix (codes "fail ") line) (Some (Quiet, line))))
 
 -- Two numbers behind `flip`.
 unfoldable pub flip_at : List ℕ → Option (Offer × List ℕ)
@@ -79,8 +79,8 @@ asked_at meddles stop batch line = offer_at line >>= λ offer. Some (Ask meddles
 unfoldable pub call_at : List Meddle → Stop → List ℕ → Option Event
 call_at meddles stop line =
     if bytes_eq line (codes "checkpoint") then Some (Checkpoint meddles stop)
-    else option_map_or (asked_at meddles stop One) (after (codes "ask ") line)
-    (option_map_or (asked_at meddles stop Many) (after (codes "batch ") line) None)
+    else option_map_or (asked_at meddles stop One) (after_prefix (codes "ask ") line)
+    (option_map_or (asked_at meddles stop Many) (after_prefix (codes "batch ") line) None)
 
 -- A call with what comes before it.
 unfoldable pub prefixed_at : List ℕ → Option Event
@@ -90,4 +90,4 @@ prefixed_at line = meddles_at 8 0 line >>= λ meddles. stop_at meddles.1 >>= λ 
 unfoldable pub event_at : List ℕ → Option Event
 event_at line =
     if bytes_eq line (codes "power") then Some Power
-    else option_map_or (λ word. value_at word >>= λ value. Some (Extend value)) (after (codes "extend ") line) (prefixed_at line)
+    else option_map_or (λ word. value_at word >>= λ value. Some (Extend value)) (after_prefix (codes "extend ") line) (prefixed_at line)

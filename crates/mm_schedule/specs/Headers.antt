@@ -5,7 +5,7 @@ use Rattle.mm_digest.specs.declared.variant.Variant.{Variant}
 use Rattle.mm_digest.specs.declared.variant.Variant.TheVariants.{Basic, Opt}
 use Rattle.mm_modules.specs.Modules.{module_named, name_of}
 use Rattle.mm_schedule.specs.declared.header.Header.{Header}
-use Rattle.mm_schedule.specs.Words.{◌>>=◌, after, word_at}
+use Rattle.mm_schedule.specs.Words.{◌>>=◌, after_prefix, word_at}
 
 abbrev pub variant_text : Variant → List ℕ
 variant_text Basic = codes "basic"
@@ -23,7 +23,7 @@ variant_at word =
 -- the header that a line is read as
 unfoldable pub header_at : List ℕ → Option Header
 header_at line =
-    after (codes "memoir 1 ") line >>= λ words.
+    after_prefix (codes "memoir 1 ") line >>= λ words.
     word_at words >>= λ variant_word.
     variant_at variant_word.0 >>= λ variant.
     module_named variant_word.1 >>= λ module_read.

@@ -2,7 +2,7 @@
 use Rattle.std.specs.Prelude.{◌≡◌, ℕ, ◌+◌, ◌≤◌, ◌==◌, ◌&&◌, ◌⊎◌, Bool, false, List, [], Some, count_by, slice_get}
 use Rattle.std.specs.List.{list_any, range_with_len}
 use Rattle.mm_module.specs.Meaning.{outputs_from}
-use Rattle.mm_dispenser.specs.Places.{Places, places_told, RisesByPlaces}
+use Rattle.mm_dispenser.specs.Places.{PlacesFrom, places_told, RisesByPlaces}
 use Rattle.mm_dispenser.specs.Table.{dispenser}
 use Rattle.mm_limiter.specs.Guesses.{is_renewal, is_wrong, allowed_by, stretch, LimitsGuesses}
 use Rattle.mm_limiter.specs.Table.{limiter}
@@ -33,7 +33,7 @@ pub record KeepsGuessesFew (requests : List (List ℕ)) (replies : List Reply) :
 
 -- two lines tell one request of the run, or no place in common
 abbrev pub TellsPlacesOnce : List Telling → Type 0
-TellsPlacesOnce tellings = (i j : ℕ) (a b : Telling) (p q : Places) → slice_get tellings i ≡ Some a → slice_get tellings j ≡ Some b
+TellsPlacesOnce tellings = (i j : ℕ) (a b : Telling) (p q : PlacesFrom) → slice_get tellings i ≡ Some a → slice_get tellings j ≡ Some b
     → places_told a.output ≡ Some p → places_told b.output ≡ Some q
     → (a ≡ b) ⊎ ((p.from + p.size ≤ q.from) ⊎ (q.from + q.size ≤ p.from))
 

@@ -43,15 +43,15 @@ told_lines again before [] = []
 told_lines again before (output ∷ outputs) = told_line again (before + 1) output ∷ told_lines again (before + 1) outputs
 
 -- the lines of a reply, each with its LF
-abbrev pub lines_of : Reply → List (List ℕ)
-lines_of (Told again before outputs) = told_lines again before outputs
-lines_of (No cause) = (codes "no " ++ cause_text cause ++ 10 ∷ []) ∷ []
-lines_of (Kept way position) = (way_text way ++ codes " kept " ++ decimal position ++ 10 ∷ []) ∷ []
-lines_of (Nothing way) = (way_text way ++ codes " lost" ++ 10 ∷ []) ∷ []
-lines_of (Closed way) = (way_text way ++ codes " closed" ++ 10 ∷ []) ∷ []
-lines_of Checkpointed = (codes "checkpointed" ++ 10 ∷ []) ∷ []
-lines_of Power = (codes "power" ++ 10 ∷ []) ∷ []
-lines_of Extended = (codes "extended" ++ 10 ∷ []) ∷ []
+abbrev pub lines_of_reply : Reply → List (List ℕ)
+lines_of_reply (Told again before outputs) = told_lines again before outputs
+lines_of_reply (No cause) = (codes "no " ++ cause_text cause ++ 10 ∷ []) ∷ []
+lines_of_reply (Kept way position) = (way_text way ++ codes " kept " ++ decimal position ++ 10 ∷ []) ∷ []
+lines_of_reply (Nothing way) = (way_text way ++ codes " lost" ++ 10 ∷ []) ∷ []
+lines_of_reply (Closed way) = (way_text way ++ codes " closed" ++ 10 ∷ []) ∷ []
+lines_of_reply Checkpointed = (codes "checkpointed" ++ 10 ∷ []) ∷ []
+lines_of_reply Power = (codes "power" ++ 10 ∷ []) ∷ []
+lines_of_reply Extended = (codes "extended" ++ 10 ∷ []) ∷ []
 
 -- the line `end N K`: how many requests were committed, and how many snapshots issued
 abbrev pub end_line : ℕ → ℕ → List ℕ

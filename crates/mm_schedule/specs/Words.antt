@@ -5,7 +5,7 @@ use Rattle.std.specs.Result.{result_ok}
 use Rattle.std.specs.Str.{bytes_eq}
 use Rattle.std.specs.Borrow.{Bor}
 use Rattle.hex.specs.Hex.{decode_of}
-use Rattle.mm_base.specs.Decimals.{number_of}
+use Rattle.mm_base.specs.Decimals.{decimal_number}
 use Rattle.mm_module.specs.Words.{is_space}
 
 -- one reading after another
@@ -19,8 +19,8 @@ abbrev pub in_place : Bor (List ℕ) × Bor (List ℕ) → List ℕ × List ℕ
 in_place parts = (parts.0.now, parts.1.now)
 
 -- what follows a prefix
-unfoldable pub after : List ℕ → List ℕ → Option (List ℕ)
-after prefix line = if bytes_eq (take (length prefix) line) prefix then Some (drop (length prefix) line) else None
+unfoldable pub after_prefix : List ℕ → List ℕ → Option (List ℕ)
+after_prefix prefix line = if bytes_eq (take (length prefix) line) prefix then Some (drop (length prefix) line) else None
 
 -- the first word, and what follows the space behind it
 unfoldable pub word_at : List ℕ → Option (List ℕ × List ℕ)
@@ -34,7 +34,7 @@ step_at (digit ∷ next ∷ rest) = None
 
 -- a decimal of at most 999999999
 unfoldable pub number_at : List ℕ → Option ℕ
-number_at word = number_of word >>= λ number. if nat_lt 999999999 number then None else Some number
+number_at word = decimal_number word >>= λ number. if nat_lt 999999999 number then None else Some number
 
 -- bytes in hexadecimal digits, or `-` for none
 unfoldable pub bytes_at : List ℕ → Option (List ℕ)

@@ -3,14 +3,14 @@
 ghost use Rattle.std.specs.Prelude.{◌≡◌, ◌+◌, ◌<◌, ◌≤◌, ◌++◌, [], ◌∷◌, Some, codes, length, take, slice_get};
 ghost use Rattle.std.specs.Fmt.{decimal};
 ghost use Rattle.mm_base.specs.Limits.{longest_request};
-ghost use Rattle.mm_schedule.specs.Replies.{IsPrintable, lines_of, told_line, told_text, way_text};
+ghost use Rattle.mm_schedule.specs.Replies.{IsPrintable, lines_of_reply, told_line, told_text, way_text};
 
 use crate::reply::{Reply, Way};
 use itoa::Buffer;
 
 /// The number of a reply's lines: one for each request of a batch that is told, else one.
 pub fn reply_lines(reply: &Reply) -> usize
-    ensures { result ≡ length (lines_of reply.now) }
+    ensures { result ≡ length (lines_of_reply reply.now) }
 {
     match reply {
         Reply::Told { outputs, .. } => outputs.len(),
@@ -20,10 +20,10 @@ pub fn reply_lines(reply: &Reply) -> usize
 
 /// Writes one line of a reply with its LF to the front of `into`, and answers its length. Takes no memory.
 pub fn print_line(reply: &Reply, index: usize, into: &mut [u8; 4200]) -> usize
-    requires index { index < length (lines_of reply.now) }
+    requires index { index < length (lines_of_reply reply.now) }
     requires printable { IsPrintable reply.now }
     ensures within { result ≤ 4200 }
-    ensures line { slice_get (lines_of reply.now) index ≡ Some (take result into.new) }
+    ensures line { slice_get (lines_of_reply reply.now) index ≡ Some (take result into.new) }
 {
     match reply {
         Reply::Told {

@@ -2,7 +2,7 @@
 
 ghost use Rattle.std.specs.Prelude.{◌≡◌, ◌+◌, ◌<◌, ◌≤◌, ◌++◌, [], ◌∷◌, ℕ, List, Some, codes, length, slice_get, OnOk};
 ghost use Rattle.std.specs.Fmt.{decimal};
-ghost use Rattle.mm_schedule.specs.Replies.{end_line, IsPrintable, lines_of, told_line, way_text};
+ghost use Rattle.mm_schedule.specs.Replies.{end_line, IsPrintable, lines_of_reply, told_line, way_text};
 
 use crate::print::told_word;
 use crate::reply::{Reply, Way};
@@ -10,9 +10,9 @@ use mm_base::{Bytes, Memory, put_decimal};
 
 /// Puts one line of a reply with its LF at the end.
 pub fn put_line(reply: &Reply, index: usize, into: &mut Bytes) -> Result<(), Memory>
-    requires index { index < length (lines_of reply.now) }
+    requires index { index < length (lines_of_reply reply.now) }
     requires printable { IsPrintable reply.now }
-    ensures { OnOk result ((line : List ℕ) × (slice_get (lines_of reply.now) index ≡ Some line)
+    ensures { OnOk result ((line : List ℕ) × (slice_get (lines_of_reply reply.now) index ≡ Some line)
         × (into.new ≡ into.old ++ line)) }
 {
     match reply {

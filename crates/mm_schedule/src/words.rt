@@ -6,7 +6,7 @@ ghost use Rattle.std.specs.Option.{option_map};
 ghost use Rattle.std.specs.Str.{bytes_eq};
 ghost use Rattle.hex.specs.Hex.{is_hex_digit};
 ghost use Rattle.mm_module.specs.Values.{value_at};
-ghost use Rattle.mm_schedule.specs.Words.{after, bytes_at, in_place, number_at, step_at, word_at};
+ghost use Rattle.mm_schedule.specs.Words.{after_prefix, bytes_at, in_place, number_at, step_at, word_at};
 
 use mm_base::read_decimal;
 use mm_digest::Digest;
@@ -23,9 +23,9 @@ pub fn is_text(bytes: &[u8], text: &[u8]) -> bool
 }
 
 /// What follows a prefix.
-#[tactic(auto, unfolding(crate::specs::Words::after))]
+#[tactic(auto, unfolding(crate::specs::Words::after_prefix))]
 pub fn after<'a>(prefix: &[u8], line: &'a [u8]) -> Option<&'a [u8]>
-    ensures { option_copied result ≡ after prefix.now line.now }
+    ensures { option_copied result ≡ after_prefix prefix.now line.now }
 {
     line.strip_prefix(prefix)
 }

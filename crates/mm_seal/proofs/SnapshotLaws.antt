@@ -14,7 +14,7 @@ use Rattle.mm_seal.specs.Snapshot.{Content, IsContent, IsPlace, Snapshot, snapsh
 use Rattle.mm_digest.proofs.Lengths.{length-hmac_of}
 use Rattle.mm_seal.specs.declared.snapshot.PartsFault.{PartsFault}
 use Rattle.mm_seal.specs.declared.snapshot.PartsFault.TheVariants.{Form, Kind}
-use Rattle.mm_seal.specs.Body.{IsNoFront, HasHead, place_length}
+use Rattle.mm_seal.specs.Body.{SpellsNoContent, HasHead, place_length}
 use Rattle.mm_base.proofs.FieldLaws.{append-injective, eight_bytes-injective, four_bytes-injective, length-eight_bytes, length-four_bytes}
 use Rattle.mm_seal.proofs.CellLaws.{variant_byte-injective}
 
@@ -45,16 +45,16 @@ unfolding snapshot_front
 front_variant x = refl
 
 -- why bytes are no content's
-pub no_front-short : (front : List ℕ) → length front < 50 → IsNoFront front
+pub no_front-short : (front : List ℕ) → length front < 50 → SpellsNoContent front
 no_front-short front h x is e =
     omega (arith, ap length e, length-snapshot_front x is, place_length-least (variant_of x.place))
 
-pub no_front-variant : (front : List ℕ) → ((v : Variant) → variant_byte v ≢ get_or front 4 0) → IsNoFront front
+pub no_front-variant : (front : List ℕ) → ((v : Variant) → variant_byte v ≢ get_or front 4 0) → SpellsNoContent front
 no_front-variant front h x is e =
     h (variant_of x.place) (front_variant x ∙ sym (ap (λ (f : List ℕ). get_or f 4 0) e))
 
 pub no_front-fields : (front : List ℕ) (v : Variant) → variant_byte v ≡ get_or front 4 0 →
-    length front < 18 + place_length v → IsNoFront front
+    length front < 18 + place_length v → SpellsNoContent front
 no_front-fields front v t h x is e =
     let same : v ≡ variant_of x.place =
     variant_byte-injective v (variant_of x.place)

@@ -17,12 +17,12 @@ content_of body = record {
 }
 
 -- the bytes are this content's, without a tag
-abbrev pub IsFrontOf : List ℕ → Content → Type 0
-IsFrontOf front content = IsContent content × (front ≡ snapshot_front content)
+abbrev pub SpellsContent : List ℕ → Content → Type 0
+SpellsContent front content = IsContent content × (front ≡ snapshot_front content)
 
 -- the bytes are no content's
-abbrev pub IsNoFront : List ℕ → Type 0
-IsNoFront front = (content : Content) → IsContent content → front ≢ snapshot_front content
+abbrev pub SpellsNoContent : List ℕ → Type 0
+SpellsNoContent front = (content : Content) → IsContent content → front ≢ snapshot_front content
 
 abbrev pub place_length : Variant → ℕ
 place_length Basic = 32

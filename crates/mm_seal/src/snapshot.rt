@@ -5,7 +5,7 @@ ghost use Rattle.mm_base.specs.Limits.{last_position, limit_of};
 ghost use Rattle.mm_digest.specs.Hmac.{hmac_of};
 ghost use Rattle.mm_seal.specs.Snapshot.{variant_of, place_spelling, IsPlace, front_head, snapshot_front, sealed_of, IsOfKind, IsNoSnapshot, Spells, ReadsParts, Opens, OneSpelling};
 ghost use Rattle.mm_seal.specs.Parts.{parts_of};
-ghost use Rattle.mm_seal.specs.Body.{content_of, IsNoFront, IsFrontOf, HasFieldsOf, HasHead, PlacedIn, place_length};
+ghost use Rattle.mm_seal.specs.Body.{content_of, SpellsNoContent, SpellsContent, HasFieldsOf, HasHead, PlacedIn, place_length};
 
 use crate::field::{split_digest, version};
 use mm_base::{Bytes, LAST_POSITION, Memory, bytes_of_u32, bytes_of_u64, split_u32, split_u64};
@@ -262,8 +262,8 @@ fn offered_in(bytes: &[u8]) -> Option<Offered<'_>>
 
 // The content that these bytes are the front of.
 fn body_of(front: &[u8]) -> Option<Body<'_>>
-    ensures { MatchOption result (IsNoFront front.now)
-        (λ body. IsFrontOf front.now (content_of body)) }
+    ensures { MatchOption result (SpellsNoContent front.now)
+        (λ body. SpellsContent front.now (content_of body)) }
 {
     let variant = variant_at(front)?;
     let (head, rest) = front.split_at(6);
@@ -285,7 +285,7 @@ fn body_of(front: &[u8]) -> Option<Body<'_>>
 
 // The variant that the bytes name, where they are long enough for its fields.
 fn variant_at(front: &[u8]) -> Option<Variant>
-    ensures { MatchOption result (IsNoFront front.now) (HasFieldsOf front.now) }
+    ensures { MatchOption result (SpellsNoContent front.now) (HasFieldsOf front.now) }
 {
     if front.len() < 50 {
         return None;

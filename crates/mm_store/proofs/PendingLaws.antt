@@ -4,7 +4,7 @@ use Rattle.std.proofs.lemmas.List.{append-nil}
 use Rattle.sha2.specs.Sha256.{sha256}
 use Rattle.sha2.proofs.Facts256.{length-sha256}
 use Rattle.mm_base.specs.Fields.{eight_bytes, four_bytes}
-use Rattle.mm_store.specs.Pending.{Pending, IsPending, record_word, pending_front, pending_spelling, ReadsPending, OneReading, IsFrontOf, IsNoFront}
+use Rattle.mm_store.specs.Pending.{Pending, IsPending, record_word, pending_front, pending_spelling, ReadsPending, OneReading, SpellsRecord, SpellsNoRecord}
 use Rattle.mm_base.proofs.FieldLaws.{joined, append-injective, eight_bytes-injective, four_bytes-injective, length-eight_bytes, length-four_bytes}
 
 -- four parts put at the end one after another
@@ -19,16 +19,16 @@ length-pending_front p =
     simp length-append (omega (arith, length-eight_bytes p.position, length-four_bytes (length p.request)))
 
 -- bytes that end before the fields of a record do are no record's
-pub no_front-word : (front : List ℕ) → length front < 4 → IsNoFront front
+pub no_front-word : (front : List ℕ) → length front < 4 → SpellsNoRecord front
 no_front-word front h p most e = omega (arith, ap length e, length-pending_front p)
 
 pub no_front-position : (front head rest : List ℕ) → front ≡ head ++ rest → length head ≡ 4 → length rest < 8 →
-    IsNoFront front
+    SpellsNoRecord front
 no_front-position front head rest e size h p most f =
     omega (arith, ap length e, length-append head rest, ap length f, length-pending_front p)
 
 pub no_front-size : (front head rest after : List ℕ) (position : ℕ) → front ≡ head ++ rest → length head ≡ 4 →
-    rest ≡ eight_bytes position ++ after → length after < 4 → IsNoFront front
+    rest ≡ eight_bytes position ++ after → length after < 4 → SpellsNoRecord front
 no_front-size front head rest after position e size d h p most f =
     omega (
       arith,
@@ -84,7 +84,7 @@ front_of_fields front rest after position size request e d f h =
 -- bytes with another word, or with another length than they name, are no record's
 pub no_front-fields : (front head rest after request : List ℕ) (position size : ℕ) → front ≡ head ++ rest →
     length head ≡ 4 → rest ≡ eight_bytes position ++ after → after ≡ four_bytes size ++ request → size < 2 ^ 32 →
-    (head ≡ record_word → length request ≡ size → ⊥) → IsNoFront front
+    (head ≡ record_word → length request ≡ size → ⊥) → SpellsNoRecord front
 no_front-fields front head rest after request position size e h d f below wrong p few g =
     let whole : head ++ (eight_bytes position ++ (four_bytes size ++ request)) ≡ pending_front p ++ [] =
     rw (← f) (rw (← d) (sym e ∙ g ∙ sym (append-nil (pending_front p)))) in
@@ -139,14 +139,14 @@ unfolding pending_spelling
 reads_none-short slot bytes h p is e =
     omega (arith, ap length e, length-append (pending_front p) (sha256 (pending_front p)), length-sha256 (pending_front p))
 
-pub reads_none-front : (slot : ℕ) (bytes front digest : List ℕ) → IsSplit bytes front digest → IsNoFront front →
+pub reads_none-front : (slot : ℕ) (bytes front digest : List ℕ) → IsSplit bytes front digest → SpellsNoRecord front →
     ReadsPending slot bytes None
 reads_none-front slot bytes front digest s none p is e =
     none p (omega (arith, is.line.short)) (split_record bytes front digest p s e).0
 
 -- so are those of a record that stands in no such slot, or whose digest is wrong
 pub reads_none-invalid : (slot : ℕ) (bytes front digest : List ℕ) (q : Pending) → IsSplit bytes front digest →
-    IsFrontOf front q → (IsPending slot q → digest ≡ sha256 front → ⊥) → ReadsPending slot bytes None
+    SpellsRecord front q → (IsPending slot q → digest ≡ sha256 front → ⊥) → ReadsPending slot bytes None
 reads_none-invalid slot bytes front digest q s f wrong p is e =
     let parts = split_record bytes front digest p s e in
     let fronts : pending_front q ++ [] ≡ pending_front p ++ [] =
@@ -156,7 +156,7 @@ reads_none-invalid slot bytes front digest q s f wrong p is e =
     wrong (subst (λ (x : Pending). IsPending slot x) same is) (parts.1 ∙ ap sha256 (sym parts.0))
 
 pub reads_some : (slot : ℕ) (bytes front digest : List ℕ) (q : Pending) → IsSplit bytes front digest →
-    IsFrontOf front q → IsPending slot q → digest ≡ sha256 front → ReadsPending slot bytes (Some q)
+    SpellsRecord front q → IsPending slot q → digest ≡ sha256 front → ReadsPending slot bytes (Some q)
 unfolding pending_spelling
 reads_some slot bytes front digest q s f is e = (
   is,

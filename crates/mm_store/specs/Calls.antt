@@ -5,8 +5,8 @@ use Rattle.mm_base.specs.Faults.{Rose}
 use Rattle.mm_store.specs.declared.fault.StoreFault.{StoreFault}
 use Rattle.mm_store.specs.declared.fault.StoreFault.TheVariants.{Memory, Failed}
 use Rattle.mm_store.specs.declared.store.TheConstants.{LONGEST_SLOT}
-use Rattle.mm_store.specs.Slots.{Slots, with_slot, seen_in}
-use Rattle.mm_store.specs.Kept.{Kept}
+use Rattle.mm_store.specs.Slots.{Slots, with_slot, slot_read}
+use Rattle.mm_store.specs.Kept.{StoreStanding}
 
 -- the count of faults rose where the call failed, and is as before after Ok and where memory was wanting
 abbrev pub CountsFailures : {T : Type 0} → ℕ → ℕ → Result T StoreFault → Type 0
@@ -15,11 +15,11 @@ CountsFailures before now (Err Memory) = now ≡ before
 CountsFailures before now (Err Failed) = Rose before now
 
 -- a read changes no slot, and gives the slot's first bytes where the slots are told
-pub record ReadsSlot (slot : ℕ) (old new : Kept) (result : Result (List ℕ) StoreFault) : Type 0 where
+pub record ReadsSlot (slot : ℕ) (old new : StoreStanding) (result : Result (List ℕ) StoreFault) : Type 0 where
   pub slots : new.slots ≡ old.slots
   pub honest : new.is_honest ≡ old.is_honest
   pub counted : CountsFailures old.faults new.faults result
-  pub gives : IfOk result (λ bytes. (slots : Slots) → old.slots ≡ Some slots → bytes ≡ seen_in slots slot)
+  pub gives : IfOk result (λ bytes. (slots : Slots) → old.slots ≡ Some slots → bytes ≡ slot_read slots slot)
   pub short : IfOk result (λ bytes. length bytes ≤ LONGEST_SLOT)
 
 -- the slots where they are told, with these bytes in one of them
@@ -27,14 +27,14 @@ abbrev pub putting : ℕ → List ℕ → Option Slots → Option Slots
 putting slot bytes slots = option_map (λ told. with_slot told slot bytes) slots
 
 -- what a write to an honest store leaves: its slot holds the bytes after Ok, and any bytes after it failed
-abbrev pub Leaves : ℕ → List ℕ → Option Slots → Option Slots → Result Unit StoreFault → Type 0
-Leaves slot bytes old new (Ok _) = new ≡ putting slot bytes old
-Leaves slot bytes old new (Err Memory) = new ≡ old
-Leaves slot bytes old new (Err Failed) = (left : List ℕ) × (new ≡ putting slot left old)
+abbrev pub LeavesInSlot : ℕ → List ℕ → Option Slots → Option Slots → Result Unit StoreFault → Type 0
+LeavesInSlot slot bytes old new (Ok _) = new ≡ putting slot bytes old
+LeavesInSlot slot bytes old new (Err Memory) = new ≡ old
+LeavesInSlot slot bytes old new (Err Failed) = (left : List ℕ) × (new ≡ putting slot left old)
 
 -- a write changes no other slot of an honest store, and none of any store where memory is wanting
-pub record WritesSlot (slot : ℕ) (bytes : List ℕ) (old new : Kept) (result : Result Unit StoreFault) : Type 0 where
+pub record WritesSlot (slot : ℕ) (bytes : List ℕ) (old new : StoreStanding) (result : Result Unit StoreFault) : Type 0 where
   pub honest : new.is_honest ≡ old.is_honest
   pub counted : CountsFailures old.faults new.faults result
-  pub leaves : old.is_honest ≡ true → Leaves slot bytes old.slots new.slots result
+  pub leaves : old.is_honest ≡ true → LeavesInSlot slot bytes old.slots new.slots result
   pub spared : result ≡ Err Memory → new.slots ≡ old.slots

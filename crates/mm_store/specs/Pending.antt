@@ -1,7 +1,7 @@
 -- The record of a request that is pending, and its bytes.
 use Rattle.std.specs.Prelude.{◌≡◌, ◌≢◌, ◌+◌, ◌<◌, ◌≤◌, ◌%◌, ◌^◌, ℕ, List, [], ◌∷◌, ◌++◌, length, Option, None, Some}
 use Rattle.sha2.specs.Sha256.{sha256}
-use Rattle.mm_base.specs.Lines.{IsWithin}
+use Rattle.mm_base.specs.Lines.{MayGrow}
 use Rattle.mm_base.specs.Fields.{eight_bytes, four_bytes}
 use Rattle.mm_base.specs.Limits.{last_position, longest_request}
 
@@ -14,7 +14,7 @@ pub record Pending : Type 0 where
 pub record IsPending (slot : ℕ) (p : Pending) : Type 0 where
   pub least : 1 ≤ p.position
   pub most : p.position ≤ last_position
-  pub line : IsWithin longest_request p.request
+  pub line : MayGrow longest_request p.request
   pub parity : slot ≡ 2 + p.position % 2
 
 -- `MMP1`
@@ -41,11 +41,11 @@ OneReading = (slot : ℕ) (bytes : List ℕ) (p q : Option Pending) → ReadsPen
     ReadsPending slot bytes q → p ≡ q
 
 -- the bytes are what is hashed of this record, whose numbers fit their fields
-pub record IsFrontOf (front : List ℕ) (p : Pending) : Type 0 where
+pub record SpellsRecord (front : List ℕ) (p : Pending) : Type 0 where
   pub position : p.position < 2 ^ 64
   pub size : length p.request < 2 ^ 32
   pub spelled : front ≡ pending_front p
 
 -- the bytes are what is hashed of no record
-abbrev pub IsNoFront : List ℕ → Type 0
-IsNoFront front = (p : Pending) → length p.request < 2 ^ 32 → front ≢ pending_front p
+abbrev pub SpellsNoRecord : List ℕ → Type 0
+SpellsNoRecord front = (p : Pending) → length p.request < 2 ^ 32 → front ≢ pending_front p

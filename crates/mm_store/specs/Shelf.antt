@@ -4,7 +4,7 @@ use Rattle.mm_base.specs.Faults.{counted}
 use Rattle.mm_store.specs.declared.fault.StoreFault.{StoreFault}
 use Rattle.mm_store.specs.declared.fault.StoreFault.TheVariants.{Memory, Failed}
 use Rattle.mm_store.specs.Slots.{Slots, with_slot}
-use Rattle.mm_store.specs.Kept.{Kept}
+use Rattle.mm_store.specs.Kept.{StoreStanding}
 
 -- The slots, whether the store is honest, its count of faults, the number of calls up to the one that is
 -- to fail (none where 0), and what that call leaves if it is a write.
@@ -16,8 +16,8 @@ pub record Shelf : Type 0 where
   pub leaves : List ℕ
 
 -- a new store in memory
-abbrev pub fresh : Shelf
-fresh = record {
+abbrev pub new_shelf : Shelf
+new_shelf = record {
   slots = record { zero = []; one = []; two = []; three = [] };
   is_honest = true;
   faults = 0;
@@ -26,24 +26,24 @@ fresh = record {
 }
 
 -- what of it each store has
-abbrev pub kept_by : Shelf → Kept
-kept_by shelf = record { slots = Some shelf.slots; is_honest = shelf.is_honest; faults = shelf.faults }
+abbrev pub shelf_standing : Shelf → StoreStanding
+shelf_standing shelf = record { slots = Some shelf.slots; is_honest = shelf.is_honest; faults = shelf.faults }
 
 -- one call fewer is ahead
-abbrev pub called : Shelf → Shelf
-called shelf = record shelf { ahead = shelf.ahead - 1 }
+abbrev pub call_made : Shelf → Shelf
+call_made shelf = record shelf { ahead = shelf.ahead - 1 }
 
 -- after a read with this result
 abbrev pub after_read : Shelf → Result (List ℕ) StoreFault → Shelf
-after_read shelf (Ok _) = called shelf
-after_read shelf (Err Memory) = called shelf
-after_read shelf (Err Failed) = record (called shelf) { faults = counted shelf.faults }
+after_read shelf (Ok _) = call_made shelf
+after_read shelf (Err Memory) = call_made shelf
+after_read shelf (Err Failed) = record (call_made shelf) { faults = counted shelf.faults }
 
 -- after a write of these bytes to a slot with this result
 abbrev pub after_write : Shelf → ℕ → List ℕ → Result Unit StoreFault → Shelf
-after_write shelf slot bytes (Ok _) = record (called shelf) { slots = with_slot shelf.slots slot bytes }
-after_write shelf slot bytes (Err Memory) = called shelf
-after_write shelf slot bytes (Err Failed) = record (called shelf) {
+after_write shelf slot bytes (Ok _) = record (call_made shelf) { slots = with_slot shelf.slots slot bytes }
+after_write shelf slot bytes (Err Memory) = call_made shelf
+after_write shelf slot bytes (Err Failed) = record (call_made shelf) {
   slots = with_slot shelf.slots slot shelf.leaves;
   faults = counted shelf.faults;
   leaves = [];

@@ -24,5 +24,5 @@ with_slot slots n bytes =
     else if n == 2 then record slots { two = bytes } else record slots { three = bytes }
 
 -- what a read of the slot gives
-abbrev pub seen_in : Slots → ℕ → List ℕ
-seen_in slots n = take longest_slot (slot_in slots n)
+abbrev pub slot_read : Slots → ℕ → List ℕ
+slot_read slots n = take longest_slot (slot_in slots n)

@@ -3,7 +3,7 @@
 ghost use Rattle.std.specs.Prelude.{◌≡◌, ◌↔◌, ◌<◌, ◌≤◌, IsTrue, false, Err, OnOk, OnErr, length, take, if◌then◌else◌};
 ghost use Rattle.mm_base.specs.Faults.{counted};
 ghost use Rattle.mm_store.specs.Slots.{longest_slot, slot_in, with_slot};
-ghost use Rattle.mm_store.specs.Shelf.{Shelf, fresh, kept_by, called, after_read, after_write};
+ghost use Rattle.mm_store.specs.Shelf.{Shelf, new_shelf, shelf_standing, call_made, after_read, after_write};
 ghost use Rattle.mm_store.specs.Calls.{ReadsSlot, WritesSlot};
 
 use crate::fault::StoreFault;
@@ -33,7 +33,7 @@ impl Model for FourSlots {
 impl FourSlots {
     // Four empty slots.
     fn new(alloc: Global) -> FourSlots
-        ensures { result ≡ fresh.slots }
+        ensures { result ≡ new_shelf.slots }
     {
         FourSlots {
             zero: Bytes::new(alloc),
@@ -96,7 +96,7 @@ impl Model for MemStore {
 impl MemStore {
     /// An honest store with four empty slots. Takes no memory.
     pub fn new(alloc: Global) -> MemStore
-        ensures { result ≡ fresh }
+        ensures { result ≡ new_shelf }
     {
         MemStore {
             alloc,
@@ -149,8 +149,8 @@ impl MemStore {
     fn is_to_fail(&mut self) -> bool
         ensures fails { IsTrue result ↔ (self.old.ahead ≡ 1) }
         ensures after { self.new
-            ≡ (if result then record (called self.old) { faults = counted self.old.faults }
-            else called self.old) }
+            ≡ (if result then record (call_made self.old) { faults = counted self.old.faults }
+            else call_made self.old) }
     {
         let fails = self.ahead == 1;
         self.ahead = self.ahead.saturating_sub(1);
@@ -162,11 +162,11 @@ impl MemStore {
 }
 
 impl Store for MemStore {
-    ghost kept = { kept_by };
+    ghost kept = { shelf_standing };
 
     fn read(&mut self, alloc: Global, slot: u8) -> Result<Bytes, StoreFault>
         requires { slot < 4 }
-        ensures reads { ReadsSlot slot (kept_by self.old) (kept_by self.new) result }
+        ensures reads { ReadsSlot slot (shelf_standing self.old) (shelf_standing self.new) result }
         ensures failing { (result ≡ Err StoreFault.Failed) ↔ (self.old.ahead ≡ 1) }
         ensures after { self.new ≡ after_read self.old result }
     {
@@ -180,7 +180,7 @@ impl Store for MemStore {
     fn write(&mut self, slot: u8, bytes: &[u8]) -> Result<(), StoreFault>
         requires slot { slot < 4 }
         requires short { length bytes.now ≤ LONGEST_SLOT }
-        ensures writes { WritesSlot slot bytes.now (kept_by self.old) (kept_by self.new) result }
+        ensures writes { WritesSlot slot bytes.now (shelf_standing self.old) (shelf_standing self.new) result }
         ensures failing { (result ≡ Err StoreFault.Failed) ↔ (self.old.ahead ≡ 1) }
         ensures after { self.new ≡ after_write self.old slot bytes.now result }
     {

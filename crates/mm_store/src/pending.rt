@@ -3,9 +3,9 @@
 ghost use Rattle.std.specs.Prelude.{◌≡◌, ◌≤◌, ◌+◌, ◌++◌, ◌↔◌, IsTrue, IfOk, OnOk, MatchOption, length};
 ghost use Rattle.std.specs.Option.{option_map};
 ghost use Rattle.sha2.specs.Sha256.{sha256};
-ghost use Rattle.mm_base.specs.Lines.{IsWithin};
+ghost use Rattle.mm_base.specs.Lines.{MayGrow};
 ghost use Rattle.mm_base.specs.Limits.{last_position, longest_request};
-ghost use Rattle.mm_store.specs.Pending.{IsPending, record_word, pending_front, pending_spelling, ReadsPending, OneReading, IsFrontOf, IsNoFront};
+ghost use Rattle.mm_store.specs.Pending.{IsPending, record_word, pending_front, pending_spelling, ReadsPending, OneReading, SpellsRecord, SpellsNoRecord};
 ghost use Rattle.mm_store.specs.Records.{pending_of};
 
 use mm_base::{
@@ -27,7 +27,7 @@ pub struct PendingRequest<'a> {
 pub fn pending_bytes(alloc: Global, position: u64, request: &[u8]) -> Result<Bytes, Memory>
     requires least { 1 ≤ position }
     requires most { position ≤ last_position + 1 }
-    requires line { IsWithin longest_request request.now }
+    requires line { MayGrow longest_request request.now }
     ensures { IfOk result (λ bytes. bytes
         ≡ pending_spelling (record { position = position; request = request.now })) }
 {
@@ -69,7 +69,7 @@ pub fn read_pending(slot: u8, bytes: &[u8]) -> Option<PendingRequest<'_>>
 
 // The position and the request that these bytes are the front of.
 fn front_of(front: &[u8]) -> Option<PendingRequest<'_>>
-    ensures { MatchOption result (IsNoFront front.now) (λ p. IsFrontOf front.now (pending_of p)) }
+    ensures { MatchOption result (SpellsNoRecord front.now) (λ p. SpellsRecord front.now (pending_of p)) }
 {
     let (word, rest) = front.split_first_chunk::<4>()?;
     let (position, rest) = split_u64(rest)?;
@@ -107,7 +107,7 @@ fn stands_in(pending: &PendingRequest<'_>, slot: u8) -> bool
 
 // Whether a request has at most 4,096 bytes and no LF.
 fn is_line(request: &[u8]) -> bool
-    ensures { IsTrue result ↔ IsWithin longest_request request.now }
+    ensures { IsTrue result ↔ MayGrow longest_request request.now }
 {
     request.len() <= LONGEST_REQUEST && !request.contains(&b'\n')
 }

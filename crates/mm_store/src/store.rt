@@ -1,7 +1,7 @@
 //! A store of four slots.
 
 ghost use Rattle.std.specs.Prelude.{◌<◌, ◌≤◌, length};
-ghost use Rattle.mm_store.specs.Kept.{Kept};
+ghost use Rattle.mm_store.specs.Kept.{StoreStanding};
 ghost use Rattle.mm_store.specs.Calls.{ReadsSlot, WritesSlot};
 
 use crate::fault::StoreFault;
@@ -16,7 +16,7 @@ pub const LONGEST_SLOT: usize = 1_100_000;
 /// `kept` is what the store holds: the slots where it tells them, whether it is honest, and its count of
 /// faults.
 pub trait Store {
-    ghost kept: { Self → Kept };
+    ghost kept: { Self → StoreStanding };
 
     /// The first 1,100,000 bytes of a slot. No slot changes.
     fn read(&mut self, alloc: Global, slot: u8) -> Result<Bytes, StoreFault>

@@ -1,7 +1,7 @@
 //! The bytes of a record, and what no clause says of the store in memory.
 
 ghost use Rattle.std.specs.Prelude.{◌≡◌, Some, true, OnOk};
-ghost use Rattle.mm_store.specs.Slots.{Slots, with_slot, seen_in};
+ghost use Rattle.mm_store.specs.Slots.{Slots, with_slot, slot_read};
 
 use super::*;
 use mm_base::{Bytes, read_decimal};
@@ -173,7 +173,7 @@ fn put(store: &mut MemStore, slot: u8, bytes: &[u8]) -> Result<(), StoreFault> {
 fn copy_slot<T: Store>(store: &mut T, alloc: Global) -> Result<(), StoreFault>
     ensures { OnOk result ((T.kept store.old).is_honest ≡ true → (slots : Slots)
         → (T.kept store.old).slots ≡ Some slots
-        → (T.kept store.new).slots ≡ Some (with_slot slots 1 (seen_in slots 0))) }
+        → (T.kept store.new).slots ≡ Some (with_slot slots 1 (slot_read slots 0))) }
 {
     let bytes = store.read(alloc, 0)?;
     store.write(1, bytes.as_slice())

@@ -5,8 +5,8 @@ use Rattle.mm_platform.specs.declared.fault.StepFault.{StepFault}
 use Rattle.mm_platform.specs.declared.plan.Stop.TheVariants.{Quiet}
 use Rattle.mm_platform.specs.Standing.{Plan, Standing, next_step, due}
 use Rattle.mm_platform.specs.Steps.{Act, ReadRegister, ResetRegister, ExtendRegister, beside, cell_after, items_after, fault_at, is_made_at, is_on_at, will_answer, will_be_made, will_be_on, will_bring, faults_after, Goes}
-use Rattle.mm_platform.specs.Told.{quiet_plan, answer_of, makes}
-use Rattle.mm_twocell.specs.Torn.{Torn, told_by, whole, StepsRegister, from_start, IsSteady}
+use Rattle.mm_platform.specs.Told.{quiet_plan, next_answer, makes}
+use Rattle.mm_twocell.specs.Torn.{Torn, told_by, whole_bytes, StepsRegister, from_start, IsSteady}
 
 -- what such a step does
 record Steadies {act : Act} {old new : Standing} {fault : Option StepFault} (g : Goes act old new fault) : Type 0 where
@@ -48,10 +48,10 @@ steps_by act old new fault bytes faults ahead leaves same steady g =
     let t : Standing = told_by (torn_of bytes faults ahead leaves old) in
     let made : makes t ≡ true = ap (λ (o : Bool). will_be_made o quiet_plan) steady.0 in
     let brings : will_bring old.is_on quiet_plan ≡ [] = ap (λ (o : Bool). will_bring o quiet_plan) steady.0 in
-    let answers : answer_of t ≡ None = ap (λ (o : Bool). will_answer o quiet_plan) steady.0 in
+    let answers : next_answer t ≡ None = ap (λ (o : Bool). will_answer o quiet_plan) steady.0 in
     record {
       stands = record {
-        cell = sym (same (makes t) (whole (Some bytes)));
+        cell = sym (same (makes t) (whole_bytes (Some bytes)));
         items = g.items ∙ ap (λ (m : Bool). items_after act m (beside g.others old.items)) (s.made ∙ sym made)
             ∙ ap (λ (o : List (List ℕ)). items_after act (makes t) (beside o old.items)) (s.others ∙ sym brings);
         is_on = s.on ∙ sym (ap (λ (o : Bool). will_be_on o quiet_plan) steady.0);

@@ -8,36 +8,36 @@ use Rattle.mm_base.specs.Faults.{counted, Rose}
 use Rattle.mm_platform.specs.declared.fault.StepFault.TheVariants.{Failed}
 use Rattle.mm_platform.specs.Raw.{range_of, spliced, WritesRaw}
 use Rattle.mm_platform.proofs.Calling.{beside-none}
-use Rattle.mm_twocell.specs.Torn.{Torn, whole, told_by, IsReady, will_fail, called, put_in}
+use Rattle.mm_twocell.specs.Torn.{Torn, whole_bytes, told_by, IsUsable, will_fail, call_made, put_in}
 use Rattle.mm_twocell.proofs.Cells.{behind, length-behind, put_behind, length-spliced}
 
 size_test : (bytes : List ℕ) → length bytes ≡ 209 → (length bytes == 209) ≡ true
 size_test bytes e = grind (arith, nat_tests)
 
-pub whole_is : (bytes : List ℕ) → length bytes ≡ 209 → whole (Some bytes) ≡ Some bytes
+pub whole_is : (bytes : List ℕ) → length bytes ≡ 209 → whole_bytes (Some bytes) ≡ Some bytes
 whole_is bytes e = ap (λ (b : Bool). if b then Some bytes else None) (size_test bytes e)
 
-pub told_is : (it : Torn) (r : IsReady it) → whole it.standing.cell ≡ Some r.bytes
-told_is it r = ap whole r.cell ∙ whole_is r.bytes r.size
+pub told_is : (it : Torn) (r : IsUsable it) → whole_bytes it.standing.cell ≡ Some r.bytes
+told_is it r = ap whole_bytes r.cell ∙ whole_is r.bytes r.size
 
-faults_rose : (it : Torn) → will_fail it ≡ true → Rose it.standing.faults (called it).standing.faults
+faults_rose : (it : Torn) → will_fail it ≡ true → Rose it.standing.faults (call_made it).standing.faults
 faults_rose it w =
     let f : ℕ = it.standing.faults in
     subst (λ (b : Bool). counted f ≤ (if b then counted f else f)) (sym w) (omega arith)
 
 -- the told bytes once a part was put in place
-told_put : (at : ℕ) (part : List ℕ) (it : Torn) (r : IsReady it) → at + length part ≤ 209
-    → whole (option_map (spliced at part) it.standing.cell) ≡ option_map (spliced at part) (whole it.standing.cell)
+told_put : (at : ℕ) (part : List ℕ) (it : Torn) (r : IsUsable it) → at + length part ≤ 209
+    → whole_bytes (option_map (spliced at part) it.standing.cell) ≡ option_map (spliced at part) (whole_bytes it.standing.cell)
 told_put at part it r h =
-    ap (λ c. whole (option_map (spliced at part) c)) r.cell
+    ap (λ c. whole_bytes (option_map (spliced at part) c)) r.cell
     ∙ whole_is (spliced at part r.bytes) (length-spliced at part r.bytes (omega (arith, h, r.size)) ∙ r.size)
     ∙ ap (option_map (spliced at part)) (sym (told_is it r))
 
 part_within : (n : ℕ) (leaves : List ℕ) → length (take n leaves) ≤ n
 part_within n leaves = omega (arith, length-take n leaves)
 
-pub write_fails : (at : ℕ) (bytes : List ℕ) (old mid new : Torn) → at + length bytes ≤ 209 → IsReady old → will_fail old ≡ true
-    → mid ≡ called old → new ≡ put_in at (take (length bytes) mid.leaves) mid → WritesRaw at bytes (told_by old) (told_by new) (Some Failed)
+pub write_fails : (at : ℕ) (bytes : List ℕ) (old mid new : Torn) → at + length bytes ≤ 209 → IsUsable old → will_fail old ≡ true
+    → mid ≡ call_made old → new ≡ put_in at (take (length bytes) mid.leaves) mid → WritesRaw at bytes (told_by old) (told_by new) (Some Failed)
 write_fails at bytes old mid new h r w e f =
     let n : ℕ = length bytes in
     let part : List ℕ = take n old.leaves in
@@ -46,7 +46,7 @@ write_fails at bytes old mid new h r w e f =
     let size : length range ≡ n = length-take-le n (drop at r.bytes) (omega (arith, length-drop at r.bytes, within)) in
     let fits : length part ≤ n = part_within n old.leaves in
     let all : length (behind part range) ≡ n = length-behind part range (omega (arith, size, fits)) ∙ size in
-    let after : new ≡ put_in at part (called old) = f ∙ ap (λ (t : Torn). put_in at (take n t.leaves) t) e in
+    let after : new ≡ put_in at part (call_made old) = f ∙ ap (λ (t : Torn). put_in at (take n t.leaves) t) e in
     subst (λ (t : Torn). WritesRaw at bytes (told_by old) (told_by t) (Some Failed)) (sym after) (record {
       written = behind part range;
       size = all;
@@ -54,7 +54,7 @@ write_fails at bytes old mid new h r w e f =
           ∙ ap (option_map (spliced at part)) (told_is old r)
           ∙ ap Some (put_behind at n part r.bytes fits within)
           ∙ ap (option_map (spliced at (behind part range))) (sym (told_is old r));
-      whole = λ none. absurd (cc);
+      whole_bytes = λ none. absurd (cc);
       still = λ off. let g : false ≡ true = sym off ∙ r.on in absurd (cc);
       rest = record {
         others = [];

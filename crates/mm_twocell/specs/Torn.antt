@@ -5,7 +5,7 @@ use Rattle.mm_base.specs.Faults.{counted}
 use Rattle.mm_platform.specs.Standing.{Plan, Standing}
 use Rattle.mm_platform.specs.Raw.{spliced}
 use Rattle.mm_platform.specs.Steps.{Act}
-use Rattle.mm_platform.specs.Told.{quiet_plan, stepped, AreAlike}
+use Rattle.mm_platform.specs.Told.{quiet_plan, step_made, AreAlike}
 
 -- what stands on it, how many calls of the memory or of power there are up to the one that fails (none at 0), and
 -- what that one leaves where it is a write
@@ -32,16 +32,16 @@ first_torn = record {
 }
 
 -- bytes are told where there are 209, as there always are
-abbrev pub whole : Option (List ℕ) → Option (List ℕ)
-whole None = None
-whole (Some bytes) = if length bytes == 209 then Some bytes else None
+abbrev pub whole_bytes : Option (List ℕ) → Option (List ℕ)
+whole_bytes None = None
+whole_bytes (Some bytes) = if length bytes == 209 then Some bytes else None
 
 -- what it tells of itself; it tells no plan
 abbrev pub told_by : Torn → Standing
-told_by it = record it.standing { cell = whole it.standing.cell; plan = None }
+told_by it = record it.standing { cell = whole_bytes it.standing.cell; plan = None }
 
 -- it is on, and its bytes are 209
-pub record IsReady (it : Torn) : Type 0 where
+pub record IsUsable (it : Torn) : Type 0 where
   pub on : it.standing.is_on ≡ true
   pub bytes : List ℕ
   pub cell : it.standing.cell ≡ Some bytes
@@ -52,8 +52,8 @@ abbrev pub will_fail : Torn → Bool
 will_fail it = it.ahead == 1
 
 -- what stands once such a call was made, before its effect
-abbrev pub called : Torn → Torn
-called it = record it {
+abbrev pub call_made : Torn → Torn
+call_made it = record it {
   standing = record it.standing { faults = if will_fail it then counted it.standing.faults else it.standing.faults };
   ahead = it.ahead - 1;
 }
@@ -63,12 +63,12 @@ abbrev pub put_in : ℕ → List ℕ → Torn → Torn
 put_in at part it = record it { standing = record it.standing { cell = option_map (spliced at part) it.standing.cell } }
 
 -- what stands after a write of these bytes: where it fails, what it leaves stands in front of the range, as far as that goes
-abbrev pub after_write : ℕ → List ℕ → Torn → Torn
-after_write at bytes it = put_in at (if will_fail it then take (length bytes) it.leaves else bytes) (called it)
+abbrev pub torn_after : ℕ → List ℕ → Torn → Torn
+torn_after at bytes it = put_in at (if will_fail it then take (length bytes) it.leaves else bytes) (call_made it)
 
 -- A step of the register is made: nobody else extends it, and what is to fail stays.
 pub record StepsRegister (act : Act) (old new : Torn) : Type 0 where
-  pub stands : AreAlike (told_by new) (stepped act (told_by old))
+  pub stands : AreAlike (told_by new) (step_made act (told_by old))
   pub ahead : new.ahead ≡ old.ahead
   pub leaves : new.leaves ≡ old.leaves
 

@@ -2,10 +2,10 @@
 
 ghost use Rattle.std.specs.Prelude.{◌≡◌, ◌↔◌, ◌≤◌, ◌+◌, ◌-◌, ℕ, List, Some, None, IsOk, IsErr, IfOk, OnOk, OnErr, length, take};
 ghost use Rattle.std.specs.Result.{result_err};
-ghost use Rattle.mm_platform.specs.Standing.{Item, register_of, values_of};
+ghost use Rattle.mm_platform.specs.Standing.{Item, register_after, item_values};
 ghost use Rattle.mm_platform.specs.Steps.{Cycles, Goes, Readies, ReadRegister, ResetRegister, ExtendRegister};
 ghost use Rattle.mm_platform.specs.Raw.{range_of, spliced, ReadsRaw, WritesRaw};
-ghost use Rattle.mm_twocell.specs.Torn.{Torn, IsReady, IsSteady, first_torn, told_by, will_fail, called, put_in, after_write, StepsRegister};
+ghost use Rattle.mm_twocell.specs.Torn.{Torn, IsUsable, IsSteady, first_torn, told_by, will_fail, call_made, put_in, torn_after, StepsRegister};
 ghost use Rattle.mm_twocell.specs.Wholes.{told_size};
 
 use mm_base::Memory;
@@ -73,9 +73,9 @@ impl MemRaw {
 
     // Counts a call of the memory or of power, and answers whether it fails.
     fn fails(&mut self) -> bool
-        ensures ready { IsReady self.old }
+        ensures ready { IsUsable self.old }
         ensures fails { result ≡ will_fail self.old }
-        ensures after { self.new ≡ called self.old }
+        ensures after { self.new ≡ call_made self.old }
     {
         let is_failing = self.ahead == 1;
         self.ahead = self.ahead.saturating_sub(1);
@@ -125,7 +125,7 @@ impl RawNv for MemRaw {
             → into.new ≡ range_of at (length into.old) bytes) }
         ensures unread { OnErr result (into.new ≡ into.old) }
         ensures failing { IsErr result ↔ (self.old.ahead ≡ 1) }
-        ensures after { self.new ≡ called self.old }
+        ensures after { self.new ≡ call_made self.old }
     {
         if self.fails() {
             return Err(StepFault::Failed);
@@ -140,7 +140,7 @@ impl RawNv for MemRaw {
         ensures goes { WritesRaw at bytes.now (told_by self.old) (told_by self.new)
             (result_err result) }
         ensures failing { IsErr result ↔ (self.old.ahead ≡ 1) }
-        ensures after { self.new ≡ after_write at bytes.now self.old }
+        ensures after { self.new ≡ torn_after at bytes.now self.old }
     {
         if self.fails() {
             self.put_leaves(at, bytes.len());
@@ -153,7 +153,7 @@ impl RawNv for MemRaw {
     fn raw_cycle(&mut self) -> Result<(), StepFault>
         ensures goes { Cycles (told_by self.old) (told_by self.new) (result_err result) }
         ensures failing { IsErr result ↔ (self.old.ahead ≡ 1) }
-        ensures failed { OnErr result (self.new ≡ called self.old) }
+        ensures failed { OnErr result (self.new ≡ call_made self.old) }
         ensures ahead { self.new.ahead ≡ self.old.ahead - 1 }
         ensures leaves { self.new.leaves ≡ self.old.leaves }
     {
@@ -181,7 +181,7 @@ impl Register for MemRaw {
         ensures goes { Goes ReadRegister (told_by self.old) (told_by self.new) (result_err result) }
         ensures read { IfOk result (λ value. (items : List Item)
             → (told_by self.new).items ≡ Some items
-            → value.bytes ≡ register_of (values_of items)) }
+            → value.bytes ≡ register_after (item_values items)) }
         ensures done { IsOk result }
         ensures steps { StepsRegister ReadRegister self.old self.new }
     {

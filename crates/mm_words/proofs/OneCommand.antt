@@ -4,7 +4,7 @@ use Rattle.std.specs.Prelude.{Option, Some, None, if◌then◌else◌}
 use Rattle.std.specs.Fmt.{decimal}
 use Rattle.std.specs.Option.{option_map_or}
 use Rattle.std.specs.Str.{bytes_eq}
-use Rattle.mm_base.specs.Decimals.{number_of}
+use Rattle.mm_base.specs.Decimals.{decimal_number}
 use Rattle.mm_base.proofs.DecimalLemmas.{read_by_spelling}
 use Rattle.mm_base.specs.Limits.{most_events}
 use Rattle.mm_module.specs.Values.{value_at}
@@ -23,7 +23,7 @@ header_by v m = variant_at v >>= λ variant. module_named m >>= λ module_read. 
 
 abbrev generated_by : List ℕ → List ℕ → List ℕ → List ℕ → Option Generated
 generated_by n c v m =
-    number_of n >>= λ number. number_of c >>= λ count. header_by v m >>= λ header.
+    decimal_number n >>= λ number. decimal_number c >>= λ count. header_by v m >>= λ header.
     Some (record { number = number; count = count; header = header })
 
 abbrev alone_by : List ℕ → Command

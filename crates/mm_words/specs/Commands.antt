@@ -1,7 +1,7 @@
 -- The commands and the words that spell them.
 use Rattle.std.specs.Prelude.{◌≡◌, ◌<◌, ◌≤◌, ◌^◌, ℕ, List, [], ◌∷◌, Some, codes}
 use Rattle.std.specs.Fmt.{decimal}
-use Rattle.mm_base.specs.Input.{joined}
+use Rattle.mm_base.specs.Input.{lines_joined}
 use Rattle.mm_base.specs.Limits.{most_events}
 use Rattle.mm_module.specs.Values.{value_at}
 use Rattle.mm_modules.specs.Modules.{name_of}
@@ -62,7 +62,7 @@ pub record SpellsCommand (command : Command) (words : List (List ℕ)) : Type 0 
 -- the help, a line for each form, and what its capital words stand for
 abbrev pub help_text : List ℕ
 help_text =
-    joined (codes "memoir init VARIANT MODULE"
+    lines_joined (codes "memoir init VARIANT MODULE"
     ∷ codes "memoir run"
     ∷ codes "memoir checkpoint"
     ∷ codes "memoir power"

@@ -3,7 +3,7 @@ use Rattle.std.specs.Prelude.{◌≡◌, ℕ, Bool, ◌||◌, ◌==◌, nat_lt, 
 use Rattle.std.specs.Str.{bytes_eq}
 use Rattle.clap.specs.Words.{first_value}
 use Rattle.clap.specs.declared.parser.matches.Found.{Found}
-use Rattle.mm_base.specs.Decimals.{number_of}
+use Rattle.mm_base.specs.Decimals.{decimal_number}
 use Rattle.mm_base.specs.Limits.{most_events}
 use Rattle.mm_module.specs.Values.{value_at}
 use Rattle.mm_modules.specs.Modules.{module_named}
@@ -23,7 +23,7 @@ is_refused (byte ∷ rest) = byte == 45 || bytes_eq (byte ∷ rest) (codes "help
 
 -- a count of events
 abbrev pub count_at : List ℕ → Option ℕ
-count_at word = number_of word >>= λ count. if nat_lt most_events count then None else Some count
+count_at word = decimal_number word >>= λ count. if nat_lt most_events count then None else Some count
 
 -- the words of a variant and a module, each read as what it has to be
 unfoldable pub header_in : Found → Option Header
@@ -39,7 +39,7 @@ unfoldable pub generated_in : Found → Option Generated
 generated_in found =
     first_value found (codes "NUMBER") >>= λ number_word.
     first_value found (codes "COUNT") >>= λ count_word.
-    number_of number_word >>= λ number.
+    decimal_number number_word >>= λ number.
     count_at count_word >>= λ count.
     header_in found >>= λ header.
     Some (record { number = number; count = count; header = header })

@@ -10,7 +10,7 @@ use Rattle.mm_module.specs.Batch.{Batch}
 use Rattle.mm_platform.specs.declared.fault.StepFault.{StepFault}
 use Rattle.mm_platform.specs.declared.plan.Stop.{Stop}
 use Rattle.mm_platform.specs.declared.plan.Stop.TheVariants.{Quiet, Cut, Drop, Fail}
-use Rattle.mm_platform.specs.Standing.{Item, Standing, values_of, register_of}
+use Rattle.mm_platform.specs.Standing.{Item, Standing, item_values, register_after}
 use Rattle.mm_platform.specs.Steps.{items_cycled}
 use Rattle.mm_model.specs.Instance.{Instance}
 use Rattle.mm_model.specs.History.{Move, Commit, Foreign, Power}
@@ -21,9 +21,9 @@ use Rattle.mm_model.specs.declared.answer.BatchAnswer.{BatchAnswer}
 use Rattle.mm_model.specs.declared.refusal.Refusal.{Refusal}
 use Rattle.mm_model.specs.declared.refusal.Refusal.TheVariants as refusal
 use Rattle.mm_call.specs.Levels.{by_digests, all_made}
-use Rattle.mm_call.specs.Found.{Found, found_at, found_in, is_fresh}
+use Rattle.mm_call.specs.Found.{Found, found_at, found_unless_wanting, is_fresh}
 use Rattle.mm_call.specs.Courses.{End, Done, Fails, Fate, Walked, walk, after_step, commits, seen_in}
-use Rattle.mm_call.specs.Called.{Ending, Answers, Refuses, Breaks, Called, called, called_by, position_of, told, ended_by, reading_steps, kept_at}
+use Rattle.mm_call.specs.Called.{Ending, Answers, Refuses, Breaks, Called, called, called_by, position_of, given_for, ended_by, reading_steps, kept_at}
 use Rattle.mm_call.specs.Standing.{RegisterAt, StandsAt, shown, counted_by}
 use Rattle.mm_call.specs.Ended.{StaysOn}
 use Rattle.mm_call.specs.Refusals.{fault_of}
@@ -32,7 +32,7 @@ use Rattle.mm_call.proofs.Walks.{changing, committed-foreign, foreign_first, com
 use Rattle.mm_run.specs.Folds.{way_of, after_stop, reply_of, snapshots_of, moves_then, outcome_by}
 use Rattle.mm_world.specs.declared.call.Called as code
 use Rattle.mm_world.specs.Stands.{Stands}
-use Rattle.mm_world.specs.Calls.{is_cut, Settles}
+use Rattle.mm_world.specs.Calls.{is_cut, SettlesPlan}
 use Rattle.mm_world.specs.Asks.{Came}
 use Rattle.mm_world.proofs.Committing.{committed_by, reads_shown}
 
@@ -190,8 +190,8 @@ read_only : (variant : Variant) (flag : Bool) (b : Batch) (fates : ℕ → Fate)
 read_only variant flag b fates = ap (walk fates 1) (ask_split variant flag false b ∙ append-nil (reading_steps variant))
 
 lacking : (i : Instance) (d seen : Digests) (b : Batch) (fates : ℕ → Fate) (found : Result Found Refusal)
-    → Lacking (call_of i d seen b (found_in found true) (walk fates 1 (ask_steps i.variant d.flag (is_fresh (found_in found true)) b)))
-    (call_of i d seen b (found_in found false) (walk fates 1 (ask_steps i.variant d.flag (is_fresh (found_in found false)) b)))
+    → Lacking (call_of i d seen b (found_unless_wanting found true) (walk fates 1 (ask_steps i.variant d.flag (is_fresh (found_unless_wanting found true)) b)))
+    (call_of i d seen b (found_unless_wanting found false) (walk fates 1 (ask_steps i.variant d.flag (is_fresh (found_unless_wanting found false)) b)))
 lacking i d seen b fates (Err why) = same refl
 lacking i d seen b fates (Ok f) =
     let fresh = is_fresh (Ok f) in
@@ -237,12 +237,12 @@ refused_read i d seen b fates found why e =
 
 -- what a result tells of an ending
 
-pub told_ok : (e : Ending) (a : BatchAnswer) → told e ≡ Ok a → e ≡ Answers a
+pub told_ok : (e : Ending) (a : BatchAnswer) → given_for e ≡ Ok a → e ≡ Answers a
 told_ok (Answers x) a e = let s : x ≡ a = cc in ap Answers s
 told_ok (Refuses why) a e = cc
 told_ok (Breaks fault kept) a e = cc
 
-pub told_err : (e : Ending) (why : Refusal) → told e ≡ Err why → fault_of why ≡ None → e ≡ Refuses why
+pub told_err : (e : Ending) (why : Refusal) → given_for e ≡ Err why → fault_of why ≡ None → e ≡ Refuses why
 told_err (Answers x) why e none = cc
 told_err (Refuses x) why e none = let s : x ≡ why = cc in ap Refuses s
 told_err (Breaks fault kept) why e none =
@@ -276,18 +276,18 @@ moves_power stop (Answers answer) = refl
 moves_power stop (Refuses why) = refl
 moves_power stop (Breaks fault kept) = stop_power stop
 
-reads_none : (items : Option (List Item)) (r : List ℕ) → option_map (λ xs. register_of (values_of xs)) items ≡ Some r
-    → option_map (λ xs. register_of (values_of xs)) (items_cycled true items) ≡ Some zero_bytes
+reads_none : (items : Option (List Item)) (r : List ℕ) → option_map (λ xs. register_after (item_values xs)) items ≡ Some r
+    → option_map (λ xs. register_after (item_values xs)) (items_cycled true items) ≡ Some zero_bytes
 reads_none None r e = cc
 reads_none (Some xs) r e = refl
 
 pub stands_settled : (i : Instance) (d : Digests) (mid new : Standing) (lost : Bool) → Stands i mid d → new.cell ≡ mid.cell
     → new.items ≡ items_cycled lost mid.items → Stands i new (all_made (by_digests i) d (power_if lost))
 stands_settled i d mid new false s cell items =
-    let r : register_reads new ≡ Some d.register = ap (λ x. option_map (λ xs. register_of (values_of xs)) x) items ∙ s.register in
+    let r : register_reads new ≡ Some d.register = ap (λ x. option_map (λ xs. register_after (item_values xs)) x) items ∙ s.register in
     record { at = record { spells = s.at.spells; cell = cell ∙ s.at.cell; reads = register_at i.variant (register_reads new) d.register r }; register = r }
 stands_settled i d mid new true s cell items =
-    let r : register_reads new ≡ Some zero_bytes = ap (λ x. option_map (λ xs. register_of (values_of xs)) x) items ∙ reads_none mid.items d.register s.register in
+    let r : register_reads new ≡ Some zero_bytes = ap (λ x. option_map (λ xs. register_after (item_values xs)) x) items ∙ reads_none mid.items d.register s.register in
     record { at = record { spells = s.at.spells; cell = cell ∙ s.at.cell; reads = register_at i.variant (register_reads new) zero_bytes r }; register = r }
 
 pub on_settled : (stop : Stop) (broken : Bool) (mid new : Standing) → StaysOn stop broken mid → new.is_on ≡ (if broken && is_cut stop then true else mid.is_on) → new.is_on ≡ true
@@ -314,13 +314,13 @@ power_count i d false = refl
 pub came_register : (i : Instance) (d : Digests) (o : Called Digests) (planned_at mid : Standing) → mid.items ≡ option_map (shown i d o.moves) planned_at.items
     → o.state ≡ all_made (by_digests i) d o.moves → register_reads planned_at ≡ Some d.register → register_reads mid ≡ Some o.state.register
 came_register i d o planned_at mid items state register =
-    ap (λ x. option_map (λ xs. register_of (values_of xs)) x) items ∙ reads_shown i o.moves d planned_at.items register ∙ ap (λ (e : Digests). Some e.register) (sym state)
+    ap (λ x. option_map (λ xs. register_after (item_values xs)) x) items ∙ reads_shown i o.moves d planned_at.items register ∙ ap (λ (e : Digests). Some e.register) (sym state)
 
 pub came : (i : Instance) (d : Digests) (stop : Stop) (issued : List (List ℕ)) (size : ℕ) (o : Called Digests) (old planned_at mid new : Standing) (it : code.Called)
     → StandsAt i mid o.state → mid.items ≡ option_map (shown i d o.moves) planned_at.items → o.state ≡ all_made (by_digests i) d o.moves
     → mid.steps ≡ counted_by o.steps planned_at.steps → mid.writes ≡ counted_by o.writes planned_at.writes
     → planned_at.steps ≡ old.steps → planned_at.writes ≡ old.writes → register_reads planned_at ≡ Some d.register
-    → o.state.count ≡ d.count + committed_by o.ending size → Settles stop (breaks o.ending) mid new → StaysOn stop (breaks o.ending) mid
+    → o.state.count ≡ d.count + committed_by o.ending size → SettlesPlan stop (breaks o.ending) mid new → StaysOn stop (breaks o.ending) mid
     → Tells stop size o.ending it
     → Came i (outcome_by (by_digests i) stop issued o) d.count issued old new it
 came i d stop issued size o old planned_at mid new it stands items state steps writes s w register counts settles stays tells =

@@ -25,7 +25,7 @@ use Rattle.mm_model.specs.declared.refusal.Refusal.TheVariants as refusal
 use Rattle.mm_call.specs.declared.ended.Ended.{Ended}
 use Rattle.mm_call.specs.declared.ended.Ended.TheVariants.{Answered, Refused, Broken}
 use Rattle.mm_call.specs.Levels.{by_digests, all_made}
-use Rattle.mm_call.specs.Found.{Found, found_at, found_in, is_fresh}
+use Rattle.mm_call.specs.Found.{Found, found_at, found_unless_wanting, is_fresh}
 use Rattle.mm_call.specs.Courses.{End, Done, Fails, Fate, Course, walk, end_of, planned, seen_in}
 use Rattle.mm_call.specs.Called.{Ending, Answers, Refuses, Breaks, Called, called, ended_by, seen_at, reading_steps}
 use Rattle.mm_call.specs.CallsOn.{GoesBy}
@@ -37,7 +37,7 @@ use Rattle.mm_schedule.specs.declared.reply.Cause.TheVariants as cause
 use Rattle.mm_run.specs.Folds.{way_of, plan_of, course_of, cause_of, broken_reply, outcome_by, uncalled}
 use Rattle.mm_world.specs.declared.call.Called as code
 use Rattle.mm_world.specs.Stands.{Stands, IsQuiet}
-use Rattle.mm_world.specs.Calls.{refused_as, told_as, broken_as, takes_effect, size_if, RefusedAs, CalledAs, Settles}
+use Rattle.mm_world.specs.Calls.{refused_call, answered_call, broken_as, takes_effect, size_if, RefusedAs, CalledAs, SettlesPlan}
 use Rattle.mm_world.specs.Asks.{Came, Lacks, AsksAs}
 use Rattle.mm_world.proofs.Committing.{call_commits, committed_by, counted_end}
 use Rattle.mm_world.proofs.Asking.{breaks_at, Lacking, refuses, same, lacks_or_same, refused_read, told_ok, told_err, breaks, stands_settled, on_settled, Tells, came_register, came}
@@ -49,7 +49,7 @@ pub record Over (i : Instance) (d : Digests) (stop : Stop) (meddles : List Meddl
   pub goes : GoesBy i d (called i (by_digests i) d course bytes b) (record old { plan = Some (plan_of stop meddles) }) mid (result_of ended)
   pub keeps : KeepsAs course.fates (called i (by_digests i) d course bytes b) ended
   pub register : register_reads old ≡ Some d.register
-  pub settles : Settles stop (is_broken ended) mid new
+  pub settles : SettlesPlan stop (is_broken ended) mid new
   pub stays : StaysOn stop (is_broken ended) mid
 
 abbrev called_on : Instance → Digests → Course → List ℕ → Batch → Called Digests
@@ -67,7 +67,7 @@ call_count : (i : Instance) (d : Digests) (c : Course) (bytes : List ℕ) (b : B
     → (called_on i d c bytes b).state.count ≡ d.count + committed_by (called_on i d c bytes b).ending (size_of b)
 call_count i d c bytes b =
     let seen = seen_at i (by_digests i) d c in
-    let found = found_in (found_at i (by_digests i) seen b bytes) c.lacks in
+    let found = found_unless_wanting (found_at i (by_digests i) seen b bytes) c.lacks in
     let w = walk c.fates 1 (ask_steps i.variant d.flag (is_fresh found) b) in
     counted_end i d seen b found w w.broken refl (call_commits i.variant c.fates d.flag (is_fresh found) b)
 
@@ -92,7 +92,7 @@ came_call i d stop meddles bytes b old mid new ended r issued it ending e alike 
     let broken : is_broken ended ≡ breaks o.ending = sym alike ∙ ap breaks (sym e) in
     subst (λ x. Came i (outcome_by (by_digests i) stop issued x) d.count issued old new it) is
     (came i d stop issued (size_of b) o old (record old { plan = Some (plan_of stop meddles) }) mid new it r.goes.stands r.goes.items refl r.goes.steps r.goes.writes refl refl
-    r.register (call_count i d r.course bytes b) (subst (λ x. Settles stop x mid new) broken r.settles) (subst (λ x. StaysOn stop x mid) broken r.stays)
+    r.register (call_count i d r.course bytes b) (subst (λ x. SettlesPlan stop x mid new) broken r.settles) (subst (λ x. StaysOn stop x mid) broken r.stays)
     (subst (λ x. Tells stop (size_of b) x it) (sym e) tells))
 
 -- the position that was kept
@@ -127,7 +127,7 @@ kept_planned : (i : Instance) (d : Digests) (c : Course) (stop : Stop) (meddles 
     → kept_by (c.fates (called_on i d c bytes b).steps).ends commits ≡ (if takes_effect stop then commits else None)
 kept_planned i d c stop meddles bytes b fault kept commits told e =
     let seen = seen_at i (by_digests i) d c in
-    let found = found_in (found_at i (by_digests i) seen b bytes) c.lacks in
+    let found = found_unless_wanting (found_at i (by_digests i) seen b bytes) c.lacks in
     let steps = ask_steps i.variant d.flag (is_fresh found) b in
     let w = walk c.fates 1 steps in
     let at = breaks_at c.fates 1 steps fault (ended_broken i seen (all_made (by_digests i) d w.moves) b found w.moves w.broken fault kept e) in
@@ -147,9 +147,9 @@ lacks_call i d stop meddles bytes b old mid new ended r unbroken e =
     let c = r.course in
     let o = called_on i d c bytes b in
     let seen = seen_at i (by_digests i) d c in
-    let found = found_in (found_at i (by_digests i) seen b bytes) c.lacks in
+    let found = found_unless_wanting (found_at i (by_digests i) seen b bytes) c.lacks in
     let h = refused_read i d seen b c.fates found refusal.Memory e in
-    let settles = subst (λ x. Settles stop x mid new) unbroken r.settles in
+    let settles = subst (λ x. SettlesPlan stop x mid new) unbroken r.settles in
     let stays = subst (λ x. StaysOn stop x mid) unbroken r.stays in
     let read = came_register i d o (record old { plan = Some (plan_of stop meddles) }) mid r.goes.items refl r.register in
     let stands : Stands i new o.state = stands_settled i o.state mid new false (record { at = r.goes.stands; register = read }) settles.cell settles.items in
@@ -178,11 +178,11 @@ ends_lacking i d stop meddles bytes b old new issued (Err memory) e l = l
 
 -- a call that was refused, but for want of memory
 ends_refused : (i : Instance) (d : Digests) (stop : Stop) (meddles : List Meddle) (bytes : List ℕ) (b : Batch) (old mid new : Standing) (why : Refusal) (issued : List (List ℕ)) (result : Result code.Called Memory)
-    → Over i d stop meddles bytes b old mid new (Refused why) → (why ≡ refusal.Memory → ⊥) → result ≡ Ok (refused_as (cause_of why))
+    → Over i d stop meddles bytes b old mid new (Refused why) → (why ≡ refusal.Memory → ⊥) → result ≡ Ok (refused_call (cause_of why))
     → Ends i d stop meddles bytes b old new issued result
 ends_refused i d stop meddles bytes b old mid new why issued result r never e =
-    ends_ok i d stop meddles bytes b old new issued (refused_as (cause_of why)) result e
-    (came_call i d stop meddles bytes b old mid new (Refused why) r issued (refused_as (cause_of why)) (Refuses why)
+    ends_ok i d stop meddles bytes b old new issued (refused_call (cause_of why)) result e
+    (came_call i d stop meddles bytes b old mid new (Refused why) r issued (refused_call (cause_of why)) (Refuses why)
     (told_err (called_on i d r.course bytes b).ending why (sym r.goes.gives) r.keeps) refl
     (λ x. never (refused_same why refusal.Memory x)) (record { reply = refl; snapshot = refl; committed = refl }))
 
@@ -207,8 +207,8 @@ ends_why i d stop meddles bytes b old mid new (refusal.Device fault) issued resu
 ends_all : (i : Instance) (d : Digests) (stop : Stop) (meddles : List Meddle) (bytes : List ℕ) (b : Batch) (old mid new : Standing) (size : ℕ) (ended : Ended) (issued : List (List ℕ)) (result : Result code.Called Memory)
     → Over i d stop meddles bytes b old mid new ended → size ≡ size_of b → CalledAs stop size ended result → Ends i d stop meddles bytes b old new issued result
 ends_all i d stop meddles bytes b old mid new size (Answered answer) issued result r n e =
-    ends_ok i d stop meddles bytes b old new issued (told_as answer) result e
-    (came_call i d stop meddles bytes b old mid new (Answered answer) r issued (told_as answer) (Answers answer)
+    ends_ok i d stop meddles bytes b old new issued (answered_call answer) result e
+    (came_call i d stop meddles bytes b old mid new (Answered answer) r issued (answered_call answer) (Answers answer)
     (told_ok (called_on i d r.course bytes b).ending answer (sym r.goes.gives)) refl (λ x. cc) (record { reply = refl; snapshot = refl; committed = refl }))
 ends_all i d stop meddles bytes b old mid new size (Refused why) issued result r n e = ends_why i d stop meddles bytes b old mid new why issued result r e
 ends_all i d stop meddles bytes b old mid new size (Broken fault commits) issued result r n e =
@@ -227,7 +227,7 @@ ends_all i d stop meddles bytes b old mid new size (Broken fault commits) issued
 -- a call that isn't too long, over a planned platform
 pub asks_planned : (variant : Variant) (meaning : Meaning) (old mid new : Standing) (meddles : List Meddle) (stop : Stop) (bytes : List ℕ) (b : Batch) (size : ℕ) (ended : Ended) (result : Result code.Called Memory)
     → is_long b ≡ false → size ≡ size_of b → CallsTo variant meaning (record old { plan = Some (plan_of stop meddles) }) mid bytes b ended
-    → (IsSome mid.plan → Settles stop (is_broken ended) mid new) → CalledAs stop size ended result
+    → (IsSome mid.plan → SettlesPlan stop (is_broken ended) mid new) → CalledAs stop size ended result
     → (issued : List (List ℕ)) → AsksAs variant meaning old new issued meddles stop (Some bytes) b result
 asks_planned variant meaning old mid new meddles stop bytes b size ended result short n calls settles told issued = λ key barrier d s q.
     let i = instance_by variant meaning key barrier in
@@ -250,16 +250,16 @@ asks_planned variant meaning old mid new meddles stop bytes b size ended result 
 -- the same, in the words of the code
 pub asks_over : (variant : Variant) (meaning : Meaning) (old planned_at mid new : Standing) (meddles : List Meddle) (stop : Stop) (bytes : List ℕ) (b : Batch) (size : ℕ) (broken : Bool) (ended : Ended) (result : Result code.Called Memory)
     → is_long b ≡ false → size ≡ size_of b → planned_at ≡ record old { plan = Some (plan_of stop meddles) } → CallsTo variant meaning planned_at mid bytes b ended
-    → broken ≡ is_broken ended → (IsSome mid.plan → Settles stop broken mid new) → CalledAs stop size ended result
+    → broken ≡ is_broken ended → (IsSome mid.plan → SettlesPlan stop broken mid new) → CalledAs stop size ended result
     → (issued : List (List ℕ)) → AsksAs variant meaning old new issued meddles stop (Some bytes) b result
 asks_over variant meaning old planned_at mid new meddles stop bytes b size broken ended result short n planned calls is settles told issued =
     asks_planned variant meaning old mid new meddles stop bytes b size ended result short n
-    (subst (λ (s : Standing). CallsTo variant meaning s mid bytes b ended) planned calls) (λ some. subst (λ x. Settles stop x mid new) is (settles some)) told issued
+    (subst (λ (s : Standing). CallsTo variant meaning s mid bytes b ended) planned calls) (λ some. subst (λ x. SettlesPlan stop x mid new) is (settles some)) told issued
 
 -- nothing was called
 
 pub uncalled_came : (i : Instance) (d : Digests) (issued : List (List ℕ)) (old : Standing) (why : Cause) → Stands i old d → IsQuiet old
-    → Came i (uncalled d issued (reply.No why)) d.count issued old old (refused_as why)
+    → Came i (uncalled d issued (reply.No why)) d.count issued old old (refused_call why)
 uncalled_came i d issued old why s q = record {
   reply = refl;
   issues = append-nil issued;
@@ -271,15 +271,15 @@ uncalled_came i d issued old why s q = record {
 }
 
 pub asks_long : (variant : Variant) (meaning : Meaning) (old : Standing) (meddles : List Meddle) (stop : Stop) (bytes : List ℕ) (b : Batch) → is_long b ≡ true
-    → (issued : List (List ℕ)) → AsksAs variant meaning old old issued meddles stop (Some bytes) b (Ok (refused_as cause.Long))
+    → (issued : List (List ℕ)) → AsksAs variant meaning old old issued meddles stop (Some bytes) b (Ok (refused_call cause.Long))
 asks_long variant meaning old meddles stop bytes b long issued = λ key barrier d s q.
     let i = instance_by variant meaning key barrier in
     subst (λ x. Came i (if x then uncalled d issued (reply.No cause.Long)
-    else outcome_by (by_digests i) stop issued (planned_call i d stop meddles bytes (normal b))) d.count issued old old (refused_as cause.Long)) (sym long)
+    else outcome_by (by_digests i) stop issued (planned_call i d stop meddles bytes (normal b))) d.count issued old old (refused_call cause.Long)) (sym long)
     (uncalled_came i d issued old cause.Long s q)
 
 pub asks_none : (variant : Variant) (meaning : Meaning) (old : Standing) (meddles : List Meddle) (stop : Stop) (b : Batch) (issued : List (List ℕ))
-    → AsksAs variant meaning old old issued meddles stop None b (Ok (refused_as cause.Snapshot))
+    → AsksAs variant meaning old old issued meddles stop None b (Ok (refused_call cause.Snapshot))
 asks_none variant meaning old meddles stop b issued = λ key barrier d s q. uncalled_came (instance_by variant meaning key barrier) d issued old cause.Snapshot s q
 
 -- want of memory before a call

@@ -13,7 +13,7 @@ use Rattle.mm_platform.specs.declared.fault.StepFault.TheVariants as step
 use Rattle.mm_platform.specs.declared.plan.Meddle.{Meddle}
 use Rattle.mm_platform.specs.declared.plan.Stop.{Stop}
 use Rattle.mm_platform.specs.declared.plan.Stop.TheVariants.{Quiet, Cut, Drop, Fail}
-use Rattle.mm_platform.specs.Standing.{Standing, values_of, register_of}
+use Rattle.mm_platform.specs.Standing.{Standing, item_values, register_after}
 use Rattle.mm_platform.specs.Steps.{fault_at, is_made_at}
 use Rattle.mm_model.specs.Instance.{Instance}
 use Rattle.mm_model.specs.History.{Move, Foreign, Close}
@@ -34,22 +34,22 @@ use Rattle.mm_call.proofs.Walks.{committed-foreign, foreign_first}
 use Rattle.mm_schedule.specs.declared.reply.Reply.{Reply}
 use Rattle.mm_run.specs.Folds.{way_of, plan_of, course_of, stopped_reply, closing_reply, closing_then, closed_outcome}
 use Rattle.mm_world.specs.Stands.{Stands}
-use Rattle.mm_world.specs.Calls.{takes_effect, is_cut, Settles, number_of, closes_at, closing_as, stops_in}
+use Rattle.mm_world.specs.Calls.{takes_effect, is_cut, SettlesPlan, stopped_step, closes_at, told_closing, stops_in}
 use Rattle.mm_world.specs.Asks.{Came, ChecksAs, quiet_as}
 use Rattle.mm_world.proofs.Committing.{reads_shown, count_none}
 use Rattle.mm_world.proofs.Asking.{stands_settled, on_settled, reads_commit_end, power_if, stop_power, power_count}
 
 -- the step at which a planned call is broken off
 record StoppedAt (stop : Stop) (n : ℕ) (made : Bool) : Type 0 where
-  pub number : number_of stop ≡ n
+  pub number : stopped_step stop ≡ n
   pub effect : made ≡ takes_effect stop
 
-stopped_off : (stop : Stop) (at n : ℕ) (here : Bool) (fault : StepFault) (made : Bool) → (at == n) ≡ here → number_of stop ≡ at → takes_effect stop ≡ true
+stopped_off : (stop : Stop) (at n : ℕ) (here : Bool) (fault : StepFault) (made : Bool) → (at == n) ≡ here → stopped_step stop ≡ at → takes_effect stop ≡ true
     → end_of (if here then Some step.Off else None) true ≡ Fails fault made → StoppedAt stop n made
 stopped_off stop at n true fault made here number effect e = record { number = number ∙ eqb-true at n here; effect = (let x : true ≡ made = cc in sym x ∙ sym effect) }
 stopped_off stop at n false fault made here number effect e = cc
 
-stopped_failed : (stop : Stop) (at n : ℕ) (here done : Bool) (fault : StepFault) (made : Bool) → (at == n) ≡ here → number_of stop ≡ at → takes_effect stop ≡ done
+stopped_failed : (stop : Stop) (at n : ℕ) (here done : Bool) (fault : StepFault) (made : Bool) → (at == n) ≡ here → stopped_step stop ≡ at → takes_effect stop ≡ done
     → end_of (if here then Some step.Failed else None) (if here then done else true) ≡ Fails fault made → StoppedAt stop n made
 stopped_failed stop at n true done fault made here number effect e = record { number = number ∙ eqb-true at n here; effect = (let x : done ≡ made = cc in sym x ∙ sym effect) }
 stopped_failed stop at n false done fault made here number effect e = cc
@@ -132,13 +132,13 @@ closing_commits fates Opt true false =
 
 closing_said : (stop : Stop) (variant : Variant) (is_open is_lost closed : Bool) (broken : Option StepFault) (result : Result Said CheckpointRefusal)
     → result ≡ closing_told (closed_by broken closed (closing_of variant is_open is_lost)) → ((fault : StepFault) → broken ≡ Some fault → closed ≡ closes_at stop)
-    → closing_as stop result ≡ closing_reply (way_of stop) (closed_by broken closed (closing_of variant is_open is_lost))
+    → told_closing stop result ≡ closing_reply (way_of stop) (closed_by broken closed (closing_of variant is_open is_lost))
 closing_said stop variant is_open is_lost closed (Some fault) result e known =
-    ap (closing_as stop) e ∙ ap (stopped_reply (way_of stop)) (sym (known fault refl))
-closing_said stop Basic is_open is_lost closed None result e known = ap (closing_as stop) e
-closing_said stop Opt false is_lost closed None result e known = ap (closing_as stop) e
-closing_said stop Opt true true closed None result e known = ap (closing_as stop) e
-closing_said stop Opt true false closed None result e known = ap (closing_as stop) e
+    ap (told_closing stop) e ∙ ap (stopped_reply (way_of stop)) (sym (known fault refl))
+closing_said stop Basic is_open is_lost closed None result e known = ap (told_closing stop) e
+closing_said stop Opt false is_lost closed None result e known = ap (told_closing stop) e
+closing_said stop Opt true true closed None result e known = ap (told_closing stop) e
+closing_said stop Opt true false closed None result e known = ap (told_closing stop) e
 
 stops_said : (variant : Variant) (is_open is_lost closed : Bool) (broken : Option StepFault) (result : Result Said CheckpointRefusal)
     → result ≡ closing_told (closed_by broken closed (closing_of variant is_open is_lost)) → (stop : Stop)
@@ -152,15 +152,15 @@ stops_said Opt true false closed None result e stop = sym (ap (λ x. power_if (s
 -- a checkpoint on the planned course
 closed_came : (i : Instance) (d : Digests) (stop : Stop) (meddles : List Meddle) (old mid new : Standing) (result : Result Said CheckpointRefusal) (issued : List (List ℕ))
     → ChecksBy i d (checkpointed i (by_digests i) d (course_of stop meddles)) (record old { plan = Some (plan_of stop meddles) }) mid result
-    → register_reads old ≡ Some d.register → Settles stop (stops_in result) mid new → StaysOn stop (stops_in result) mid
-    → Came i (closed_outcome (by_digests i) stop issued (checkpointed i (by_digests i) d (course_of stop meddles))) d.count issued old new (quiet_as (closing_as stop result))
+    → register_reads old ≡ Some d.register → SettlesPlan stop (stops_in result) mid new → StaysOn stop (stops_in result) mid
+    → Came i (closed_outcome (by_digests i) stop issued (checkpointed i (by_digests i) d (course_of stop meddles))) d.count issued old new (quiet_as (told_closing stop result))
 closed_came i d stop meddles old mid new result issued goes register settles stays =
     let c = course_of stop meddles in
     let is_lost = (by_digests i).is_lost (seen_at i (by_digests i) d c) in
     let o = checkpointed i (by_digests i) d c in
     let w = walk c.fates 1 (checkpoint_steps i.variant d.flag is_lost) in
     let read : register_reads mid ≡ Some o.state.register =
-    ap (λ x. option_map (λ xs. register_of (values_of xs)) x) goes.items ∙ reads_shown i o.moves d old.items register in
+    ap (λ x. option_map (λ xs. register_after (item_values xs)) x) goes.items ∙ reads_shown i o.moves d old.items register in
     let lost = stops_in result && is_cut stop in
     let power = stops_said i.variant d.flag is_lost (closes w.moves) w.broken result goes.gives stop in
     let P : List Move → Type 0 = λ ms. Stands i new (all_made (by_digests i) o.state ms) in
@@ -178,8 +178,8 @@ closed_came i d stop meddles old mid new result issued goes register settles sta
 
 -- a checkpoint over a planned platform
 pub checks_planned : (old mid new : Standing) (meddles : List Meddle) (stop : Stop) (result : Result Said CheckpointRefusal)
-    → ChecksOn (record old { plan = Some (plan_of stop meddles) }) mid result → (IsSome mid.plan → Settles stop (stops_in result) mid new)
-    → (variant : Variant) (meaning : Meaning) (issued : List (List ℕ)) → ChecksAs variant meaning old new issued meddles stop (Ok (closing_as stop result))
+    → ChecksOn (record old { plan = Some (plan_of stop meddles) }) mid result → (IsSome mid.plan → SettlesPlan stop (stops_in result) mid new)
+    → (variant : Variant) (meaning : Meaning) (issued : List (List ℕ)) → ChecksAs variant meaning old new issued meddles stop (Ok (told_closing stop result))
 checks_planned old mid new meddles stop result checks settles variant meaning issued = λ key barrier d s q.
     let i = instance_by variant meaning key barrier in
     let at : Standing = record old { plan = Some (plan_of stop meddles) } in
@@ -198,9 +198,9 @@ checks_wanting old new meddles stop memory e variant meaning issued = λ key bar
 -- the same, in the words of the code
 pub checks_over : (old planned_at mid new : Standing) (meddles : List Meddle) (stop : Stop) (broken : Bool) (said : Reply) (result : Result Said CheckpointRefusal)
     → planned_at ≡ record old { plan = Some (plan_of stop meddles) } → ChecksOn planned_at mid result → broken ≡ stops_in result
-    → (IsSome mid.plan → Settles stop broken mid new) → said ≡ closing_as stop result
+    → (IsSome mid.plan → SettlesPlan stop broken mid new) → said ≡ told_closing stop result
     → (variant : Variant) (meaning : Meaning) (issued : List (List ℕ)) → ChecksAs variant meaning old new issued meddles stop (Ok said)
 checks_over old planned_at mid new meddles stop broken said result planned checks is settles told variant meaning issued =
     subst (λ r. ChecksAs variant meaning old new issued meddles stop (Ok r)) (sym told)
     (checks_planned old mid new meddles stop result (subst (λ (s : Standing). ChecksOn s mid result) planned checks)
-    (λ some. subst (λ x. Settles stop x mid new) is (settles some)) variant meaning issued)
+    (λ some. subst (λ x. SettlesPlan stop x mid new) is (settles some)) variant meaning issued)

@@ -11,7 +11,7 @@ use Rattle.mm_module.specs.Batch.{Batch, members_of, size_of}
 use Rattle.mm_module.specs.Meaning.{outputs_from}
 use Rattle.mm_module.proofs.RunLaws.{length-outputs_from}
 use Rattle.mm_platform.specs.declared.fault.StepFault.{StepFault}
-use Rattle.mm_platform.specs.Standing.{Item, own_item, foreign_item, values_of, register_of}
+use Rattle.mm_platform.specs.Standing.{Item, own_item, foreign_item, item_values, register_after}
 use Rattle.mm_model.specs.Chains.{guard}
 use Rattle.mm_model.specs.Instance.{Instance}
 use Rattle.mm_model.specs.History.{Move, Commit, Foreign, Placed, Reset, Close, Power}
@@ -110,12 +110,12 @@ counted_end i d seen b (Ok f) walked None e (batch one fresh) =
 
 -- the register reads what its items show of moves
 
-read_push : (items : List Item) (item : Item) → register_of (values_of (items ++ item ∷ [])) ≡ extended_of (register_of (values_of items)) item.value
+read_push : (items : List Item) (item : Item) → register_after (item_values (items ++ item ∷ [])) ≡ extended_of (register_after (item_values items)) item.value
 read_push items item =
-    ap register_of (map-append (λ (it : Item). it.value) items (item ∷ [])) ∙ fold-append extended_of zero_bytes (values_of items) (item.value ∷ [])
+    ap register_after (map-append (λ (it : Item). it.value) items (item ∷ [])) ∙ fold-append extended_of zero_bytes (item_values items) (item.value ∷ [])
 
 shown_reads : (variant : Variant) (flag : Bool) (i : Instance) (d : Digests) (m : Move) (items : List Item) → i.variant ≡ variant → d.flag ≡ flag
-    → register_of (values_of items) ≡ d.register → register_of (values_of (shown_by variant flag i m items)) ≡ (made i d m).register
+    → register_after (item_values items) ≡ d.register → register_after (item_values (shown_by variant flag i m items)) ≡ (made i d m).register
 shown_reads Basic flag i d (Commit b) items v f e = e ∙ rw v refl
 shown_reads Opt true i d (Commit b) items v f e = read_push items (own_item (guard i.barrier b)) ∙ rw (e, v, f) refl
 shown_reads Opt false i d (Commit b) items v f e = e ∙ rw (v, f) refl
@@ -125,15 +125,15 @@ shown_reads variant flag i d Reset items v f e = refl
 shown_reads variant flag i d Close items v f e = e
 shown_reads variant flag i d Power items v f e = refl
 
-shown_all : (i : Instance) (moves : List Move) (d : Digests) (items : List Item) → register_of (values_of items) ≡ d.register
-    → register_of (values_of (shown i d moves items)) ≡ (all_made (by_digests i) d moves).register
+shown_all : (i : Instance) (moves : List Move) (d : Digests) (items : List Item) → register_after (item_values items) ≡ d.register
+    → register_after (item_values (shown i d moves items)) ≡ (all_made (by_digests i) d moves).register
 shown_all i [] d items e = e
 shown_all i (m ∷ moves) d items e =
     shown_all i moves (made i d m) (shown_by i.variant d.flag i m items) (shown_reads i.variant d.flag i d m items refl refl e)
 
 pub reads_shown : (i : Instance) (moves : List Move) (d : Digests) (items : Option (List Item))
-    → option_map (λ xs. register_of (values_of xs)) items ≡ Some d.register
-    → option_map (λ xs. register_of (values_of xs)) (option_map (shown i d moves) items) ≡ Some (all_made (by_digests i) d moves).register
+    → option_map (λ xs. register_after (item_values xs)) items ≡ Some d.register
+    → option_map (λ xs. register_after (item_values xs)) (option_map (shown i d moves) items) ≡ Some (all_made (by_digests i) d moves).register
 reads_shown i moves d None e = cc
 reads_shown i moves d (Some xs) e =
-    let f : register_of (values_of xs) ≡ d.register = cc in ap Some (shown_all i moves d xs f)
+    let f : register_after (item_values xs) ≡ d.register = cc in ap Some (shown_all i moves d xs f)

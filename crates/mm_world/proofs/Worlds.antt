@@ -15,9 +15,9 @@ use Rattle.mm_seal.proofs.Fields.{take_front}
 use Rattle.mm_platform.specs.declared.fault.StepFault.{StepFault}
 use Rattle.mm_platform.specs.declared.plan.Meddle.{Meddle}
 use Rattle.mm_platform.specs.declared.plan.Stop.{Stop}
-use Rattle.mm_platform.specs.Standing.{Item, Standing, values_of, register_of}
+use Rattle.mm_platform.specs.Standing.{Item, Standing, item_values, register_after}
 use Rattle.mm_platform.specs.Steps.{beside, Cycles, EndsCycle, items_cycled}
-use Rattle.mm_platform.specs.Memory.{fresh}
+use Rattle.mm_platform.specs.Memory.{new_platform}
 use Rattle.mm_model.specs.Instance.{Instance}
 use Rattle.mm_model.specs.History.{Foreign, Power as PowerMove, first_history}
 use Rattle.mm_model.specs.Moves.{Digests, made}
@@ -41,7 +41,7 @@ use Rattle.mm_run.specs.Offered.{offered_bytes}
 use Rattle.mm_world.specs.declared.call.Called.{Called}
 use Rattle.mm_world.specs.Stands.{Stands, IsQuiet}
 use Rattle.mm_world.specs.Asks.{Came, Lacks, AsksAs, ChecksAs, quiet_as}
-use Rattle.mm_world.specs.Held.{digest_in, flag_in, value_in, digests_in, held_in, IsSettled}
+use Rattle.mm_world.specs.Held.{digest_in, flag_in, value_in, digests_in, held_in, KeepsWorld}
 use Rattle.mm_world.proofs.Committing.{reads_shown, count_none}
 use Rattle.mm_world.proofs.Asking.{register_at, stands_settled}
 
@@ -71,7 +71,7 @@ counting : (i : Instance) (d : Digests) (s : Standing) (count : ℕ) → Stands 
 counting i d s count a = record { at = record { spells = a.at.spells; cell = a.at.cell; reads = a.at.reads }; register = a.register }
 
 pub settles : (h : Header) (s : Standing) (d : Digests) (issued : List (List ℕ)) (committed : ℕ) → Stands (world_of h) s d → IsQuiet s
-    → length issued ≤ 2 ^ 32 - 1 → committed ≤ 2 ^ 64 - 1 → IsSettled h s issued committed
+    → length issued ≤ 2 ^ 32 - 1 → committed ≤ 2 ^ 64 - 1 → KeepsWorld h s issued committed
 settles h s d issued committed a q few fits = record {
   stands = subst (Stands (world_of h) s) (sym (digests_are (world_of h) d s committed a)) (counting (world_of h) d s committed a);
   quiet = q;
@@ -125,7 +125,7 @@ wants h old new issued issued' committed meddles stop l i =
 
 -- an ask that is answered, over the fields of a world
 pub follows_ask : (h : Header) (old new : Standing) (issued lent issued' : List (List ℕ)) (committed committed' : ℕ) (meddles : List Meddle) (stop : Stop) (offer : Offer) (b : Batch) (it : Called) (world : Held)
-    → held_in h old issued committed ≡ world → IsSettled h old issued committed → lent ≡ issued
+    → held_in h old issued committed ≡ world → KeepsWorld h old issued committed → lent ≡ issued
     → AsksAs h.variant (meaning_of h.«module») old new lent meddles stop (offered_bytes lent offer) b (Ok it)
     → issued' ≡ issued ++ option_to_list it.snapshot → committed' ≡ min (committed + it.committed) (2 ^ 64 - 1)
     → Follows (outcome_in world (Ask meddles stop offer b)) world (held_in h new issued' committed') it.reply
@@ -137,46 +137,46 @@ follows_ask h old new issued lent issued' committed committed' meddles stop offe
     (there world_key world_barrier (digests_in old committed) s.stands s.quiet) i n)
 
 pub settled_ask : (h : Header) (old new : Standing) (issued lent issued' : List (List ℕ)) (committed committed' : ℕ) (meddles : List Meddle) (stop : Stop) (offer : Offer) (b : Batch) (it : Called)
-    → IsSettled h old issued committed → AsksAs h.variant (meaning_of h.«module») old new lent meddles stop (offered_bytes lent offer) b (Ok it)
+    → KeepsWorld h old issued committed → AsksAs h.variant (meaning_of h.«module») old new lent meddles stop (offered_bytes lent offer) b (Ok it)
     → issued' ≡ issued ++ option_to_list it.snapshot → committed' ≡ min (committed + it.committed) (2 ^ 64 - 1) → length issued < 2 ^ 32 - 1
-    → IsSettled h new issued' committed'
+    → KeepsWorld h new issued' committed'
 settled_ask h old new issued lent issued' committed committed' meddles stop offer b it s asks i n room =
     let c = asks world_key world_barrier (digests_in old committed) s.stands s.quiet in
-    subst (λ (x : List (List ℕ)). IsSettled h new x committed') (sym i)
+    subst (λ (x : List (List ℕ)). KeepsWorld h new x committed') (sym i)
     (settles h new _ (issued ++ option_to_list it.snapshot) committed' c.stands c.quiet (few_more issued it.snapshot room) (omega (arith, n)))
 
 pub wants_ask : (h : Header) (old new : Standing) (issued lent issued' : List (List ℕ)) (committed : ℕ) (meddles : List Meddle) (stop : Stop) (offer : Offer) (b : Batch) (memory : Memory) (world : Held)
-    → held_in h old issued committed ≡ world → IsSettled h old issued committed
+    → held_in h old issued committed ≡ world → KeepsWorld h old issued committed
     → AsksAs h.variant (meaning_of h.«module») old new lent meddles stop (offered_bytes lent offer) b (Err memory) → issued' ≡ issued
     → Wants (Ask meddles stop offer b) world (held_in h new issued' committed)
 wants_ask h old new issued lent issued' committed meddles stop offer b memory world is s asks i =
     subst (λ (w : Held). Wants (Ask meddles stop offer b) w (held_in h new issued' committed)) is
     (wants h old new issued issued' committed meddles stop (asks world_key world_barrier (digests_in old committed) s.stands s.quiet) i)
 
-settled_wanting : (h : Header) (old new : Standing) (issued : List (List ℕ)) (committed : ℕ) (meddles : List Meddle) (stop : Stop) → IsSettled h old issued committed
-    → Lacks (world_of h) (digests_in old committed) meddles stop old new → IsSettled h new issued committed
+settled_wanting : (h : Header) (old new : Standing) (issued : List (List ℕ)) (committed : ℕ) (meddles : List Meddle) (stop : Stop) → KeepsWorld h old issued committed
+    → Lacks (world_of h) (digests_in old committed) meddles stop old new → KeepsWorld h new issued committed
 settled_wanting h old new issued committed meddles stop s l = elim l.called [
-  | inl e ↦ subst (λ (x : Standing). IsSettled h x issued committed) (sym e) s
+  | inl e ↦ subst (λ (x : Standing). KeepsWorld h x issued committed) (sym e) s
   | inr e ↦ settles h new _ issued committed e.0 l.quiet s.few s.fits
 ]
 
 pub settled_lacking : (h : Header) (old new : Standing) (issued lent issued' : List (List ℕ)) (committed : ℕ) (meddles : List Meddle) (stop : Stop) (offer : Offer) (b : Batch) (memory : Memory)
-    → IsSettled h old issued committed
-    → AsksAs h.variant (meaning_of h.«module») old new lent meddles stop (offered_bytes lent offer) b (Err memory) → issued' ≡ issued → IsSettled h new issued' committed
+    → KeepsWorld h old issued committed
+    → AsksAs h.variant (meaning_of h.«module») old new lent meddles stop (offered_bytes lent offer) b (Err memory) → issued' ≡ issued → KeepsWorld h new issued' committed
 settled_lacking h old new issued lent issued' committed meddles stop offer b memory s asks i =
-    subst (λ (x : List (List ℕ)). IsSettled h new x committed) (sym i)
+    subst (λ (x : List (List ℕ)). KeepsWorld h new x committed) (sym i)
     (settled_wanting h old new issued committed meddles stop s (asks world_key world_barrier (digests_in old committed) s.stands s.quiet))
 
 -- a checkpoint, over the fields of a world
 pub settled_checked : (h : Header) (old new : Standing) (issued : List (List ℕ)) (committed : ℕ) (meddles : List Meddle) (stop : Stop) (result : Result Reply Memory)
-    → IsSettled h old issued committed → ChecksAs h.variant (meaning_of h.«module») old new issued meddles stop result → IsSettled h new issued committed
+    → KeepsWorld h old issued committed → ChecksAs h.variant (meaning_of h.«module») old new issued meddles stop result → KeepsWorld h new issued committed
 settled_checked h old new issued committed meddles stop (Ok said) s checks =
     let c = checks world_key world_barrier (digests_in old committed) s.stands s.quiet in settles h new _ issued committed c.stands c.quiet s.few s.fits
 settled_checked h old new issued committed meddles stop (Err memory) s checks =
-    let e : new ≡ old = checks world_key world_barrier (digests_in old committed) s.stands s.quiet in subst (λ (x : Standing). IsSettled h x issued committed) (sym e) s
+    let e : new ≡ old = checks world_key world_barrier (digests_in old committed) s.stands s.quiet in subst (λ (x : Standing). KeepsWorld h x issued committed) (sym e) s
 
 pub follows_checked : (h : Header) (old new : Standing) (issued : List (List ℕ)) (committed : ℕ) (meddles : List Meddle) (stop : Stop) (result : Result Reply Memory) (world : Held)
-    → held_in h old issued committed ≡ world → IsSettled h old issued committed
+    → held_in h old issued committed ≡ world → KeepsWorld h old issued committed
     → ChecksAs h.variant (meaning_of h.«module») old new issued meddles stop result
     → IfOk result (Follows (outcome_in world (Checkpoint meddles stop)) world (held_in h new issued committed))
 follows_checked h old new issued committed meddles stop (Ok said) world is s checks =
@@ -189,7 +189,7 @@ follows_checked h old new issued committed meddles stop (Ok said) world is s che
 follows_checked h old new issued committed meddles stop (Err memory) world is s checks = tt
 
 pub same_checked : (h : Header) (old new : Standing) (issued : List (List ℕ)) (committed : ℕ) (meddles : List Meddle) (stop : Stop) (result : Result Reply Memory) (world : Held)
-    → held_in h old issued committed ≡ world → IsSettled h old issued committed
+    → held_in h old issued committed ≡ world → KeepsWorld h old issued committed
     → ChecksAs h.variant (meaning_of h.«module») old new issued meddles stop result → OnErr result (held_in h new issued committed ≡ world)
 same_checked h old new issued committed meddles stop (Ok said) world is s checks = tt
 same_checked h old new issued committed meddles stop (Err memory) world is s checks =
@@ -209,13 +209,13 @@ stands_cycled i d old new fault s q c =
       record { is_on = all.1; plan = c.plan ∙ q.plan },
     )
 
-pub settled_power : (h : Header) (old new : Standing) (issued : List (List ℕ)) (committed : ℕ) (fault : Option StepFault) → IsSettled h old issued committed → Cycles old new fault
-    → IsSettled h new issued committed
+pub settled_power : (h : Header) (old new : Standing) (issued : List (List ℕ)) (committed : ℕ) (fault : Option StepFault) → KeepsWorld h old issued committed → Cycles old new fault
+    → KeepsWorld h new issued committed
 settled_power h old new issued committed fault s c =
     let t = stands_cycled (world_of h) (digests_in old committed) old new fault s.stands s.quiet c in settles h new _ issued committed t.0 t.1 s.few s.fits
 
 pub follows_power : (h : Header) (old new : Standing) (issued : List (List ℕ)) (committed : ℕ) (fault : Option StepFault) (world : Held)
-    → held_in h old issued committed ≡ world → IsSettled h old issued committed → Cycles old new fault
+    → held_in h old issued committed ≡ world → KeepsWorld h old issued committed → Cycles old new fault
     → Follows (outcome_in world Power) world (held_in h new issued committed) reply.Power
 follows_power h old new issued committed fault world is s c =
     let d = digests_in old committed in
@@ -243,20 +243,20 @@ beside_shown i d value (Some items) = refl
 stands_extended : (i : Instance) (d : Digests) (value : List ℕ) (old : Standing) → Stands i old d → Stands i (extended_by old value) (made i d (Foreign value))
 stands_extended i d value old s =
     let r : register_reads (extended_by old value) ≡ Some (made i d (Foreign value)).register =
-    ap (λ x. option_map (λ xs. register_of (values_of xs)) x) (beside_shown i d value old.items) ∙ reads_shown i (Foreign value ∷ []) d old.items s.register in
+    ap (λ x. option_map (λ xs. register_after (item_values xs)) x) (beside_shown i d value old.items) ∙ reads_shown i (Foreign value ∷ []) d old.items s.register in
     record {
       at = record { spells = s.at.spells; cell = s.at.cell; reads = register_at i.variant (register_reads (extended_by old value)) (made i d (Foreign value)).register r };
       register = r;
     }
 
-pub settled_extend : (h : Header) (old new : Standing) (issued : List (List ℕ)) (committed : ℕ) (value : List ℕ) → IsSettled h old issued committed → new ≡ extended_by old value
-    → IsSettled h new issued committed
+pub settled_extend : (h : Header) (old new : Standing) (issued : List (List ℕ)) (committed : ℕ) (value : List ℕ) → KeepsWorld h old issued committed → new ≡ extended_by old value
+    → KeepsWorld h new issued committed
 settled_extend h old new issued committed value s e =
-    subst (λ (x : Standing). IsSettled h x issued committed) (sym e)
+    subst (λ (x : Standing). KeepsWorld h x issued committed) (sym e)
     (settles h (extended_by old value) _ issued committed (stands_extended (world_of h) (digests_in old committed) value old s.stands)
     (record { is_on = s.quiet.is_on; plan = s.quiet.plan }) s.few s.fits)
 
-follows_extended : (h : Header) (old : Standing) (issued : List (List ℕ)) (committed : ℕ) (value : List ℕ) → IsSettled h old issued committed
+follows_extended : (h : Header) (old : Standing) (issued : List (List ℕ)) (committed : ℕ) (value : List ℕ) → KeepsWorld h old issued committed
     → Follows (outcome_in (held_in h old issued committed) (Extend value)) (held_in h old issued committed) (held_in h (extended_by old value) issued committed) reply.Extended
 follows_extended h old issued committed value s =
     let d = digests_in old committed in
@@ -273,7 +273,7 @@ follows_extended h old issued committed value s =
     }
 
 pub follows_extend : (h : Header) (old new : Standing) (issued : List (List ℕ)) (committed : ℕ) (value : List ℕ) (world : Held)
-    → held_in h old issued committed ≡ world → IsSettled h old issued committed → new ≡ extended_by old value
+    → held_in h old issued committed ≡ world → KeepsWorld h old issued committed → new ≡ extended_by old value
     → Follows (outcome_in world (Extend value)) world (held_in h new issued committed) reply.Extended
 follows_extend h old new issued committed value world is s e =
     subst (λ (w : Held). Follows (outcome_in w (Extend value)) w (held_in h new issued committed) reply.Extended) is
@@ -291,7 +291,7 @@ unfolding world_barrier rising_from
 length-world_barrier = refl
 
 stands_new : (variant : Variant) (meaning : Meaning) (cell : List ℕ) → cell ≡ cell_spelling (cell_of (instance_by variant meaning world_key world_barrier) first_history)
-    → Stands (instance_by variant meaning world_key world_barrier) (fresh cell) (first_digests (instance_by variant meaning world_key world_barrier))
+    → Stands (instance_by variant meaning world_key world_barrier) (new_platform cell) (first_digests (instance_by variant meaning world_key world_barrier))
 stands_new Basic meaning cell e =
     let i = instance_by Basic meaning world_key world_barrier in
     record {
@@ -313,23 +313,23 @@ stands_new Opt meaning cell e =
       register = refl;
     }
 
-pub stands_first : (h : Header) (cell : List ℕ) → cell ≡ cell_spelling (cell_of (world_of h) first_history) → Stands (world_of h) (fresh cell) (first_digests (world_of h))
+pub stands_first : (h : Header) (cell : List ℕ) → cell ≡ cell_spelling (cell_of (world_of h) first_history) → Stands (world_of h) (new_platform cell) (first_digests (world_of h))
 stands_first h cell e = stands_new h.variant (meaning_of h.«module») cell e
 
 settled_first : (h : Header) (cell : List ℕ) (standing : Standing) (issued : List (List ℕ)) → cell ≡ cell_spelling (cell_of (world_of h) first_history)
-    → standing ≡ fresh cell → length issued ≤ 2 ^ 32 - 1 → IsSettled h standing issued 0
+    → standing ≡ new_platform cell → length issued ≤ 2 ^ 32 - 1 → KeepsWorld h standing issued 0
 settled_first h cell standing issued e f few =
-    subst (λ (x : Standing). IsSettled h x issued 0) (sym f)
-    (settles h (fresh cell) (first_digests (world_of h)) issued 0 (stands_first h cell e) (record { is_on = refl; plan = refl }) few (omega arith))
+    subst (λ (x : Standing). KeepsWorld h x issued 0) (sym f)
+    (settles h (new_platform cell) (first_digests (world_of h)) issued 0 (stands_first h cell e) (record { is_on = refl; plan = refl }) few (omega arith))
 
 first_there : (h : Header) (cell : List ℕ) (issued : List (List ℕ)) → cell ≡ cell_spelling (cell_of (world_of h) first_history)
-    → issued ≡ first_issued (world_of h) → held_in h (fresh cell) issued 0 ≡ first_held h
+    → issued ≡ first_issued (world_of h) → held_in h (new_platform cell) issued 0 ≡ first_held h
 first_there h cell issued e i =
-    let there : digests_in (fresh cell) 0 ≡ first_digests (world_of h) = digests_are (world_of h) (first_digests (world_of h)) (fresh cell) 0 (stands_first h cell e) in
+    let there : digests_in (new_platform cell) 0 ≡ first_digests (world_of h) = digests_are (world_of h) (first_digests (world_of h)) (new_platform cell) 0 (stands_first h cell e) in
     λ j. record { header = h; digests = there j; issued = i j; steps = 0; writes = 0 }
 
 first_world : (h : Header) (cell : List ℕ) (standing : Standing) (issued : List (List ℕ)) → cell ≡ cell_spelling (cell_of (world_of h) first_history)
-    → standing ≡ fresh cell → issued ≡ first_issued (world_of h) → held_in h standing issued 0 ≡ first_held h
+    → standing ≡ new_platform cell → issued ≡ first_issued (world_of h) → held_in h standing issued 0 ≡ first_held h
 first_world h cell standing issued e f i = ap (λ (x : Standing). held_in h x issued 0) f ∙ first_there h cell issued e i
 
 -- the room for one more snapshot
@@ -342,10 +342,10 @@ few_first issued snapshot e = omega (arith, ap (λ (x : List (List ℕ)). length
 
 -- a world that was provisioned
 pub settled_provisioned : (h : Header) (cell snapshot : List ℕ) (standing : Standing) (issued : List (List ℕ)) → cell ≡ cell_spelling (cell_of (world_of h) first_history)
-    → standing ≡ fresh cell → issued ≡ snapshot ∷ [] → IsSettled h standing issued 0
+    → standing ≡ new_platform cell → issued ≡ snapshot ∷ [] → KeepsWorld h standing issued 0
 settled_provisioned h cell snapshot standing issued e f i = settled_first h cell standing issued e f (few_first issued snapshot i)
 
 pub world_provisioned : (h : Header) (cell snapshot : List ℕ) (standing : Standing) (issued : List (List ℕ)) → cell ≡ cell_spelling (cell_of (world_of h) first_history)
-    → snapshot ≡ issued_bytes (world_of h) first_history → standing ≡ fresh cell → issued ≡ snapshot ∷ [] → held_in h standing issued 0 ≡ first_held h
+    → snapshot ≡ issued_bytes (world_of h) first_history → standing ≡ new_platform cell → issued ≡ snapshot ∷ [] → held_in h standing issued 0 ≡ first_held h
 world_provisioned h cell snapshot standing issued e s f i =
     first_world h cell standing issued e f (i ∙ ap (λ (x : List ℕ). x ∷ []) s)

@@ -24,12 +24,12 @@ use Rattle.mm_run.specs.Folds.{way_of, cause_of, told_reply, broken_reply, stopp
 use Rattle.mm_world.specs.declared.call.Called.{Called}
 
 -- a call that was refused
-abbrev pub refused_as : Cause → Called
-refused_as cause = record { reply = reply.No cause; snapshot = None; committed = 0 }
+abbrev pub refused_call : Cause → Called
+refused_call cause = record { reply = reply.No cause; snapshot = None; committed = 0 }
 
 -- a call that was answered
-abbrev pub told_as : BatchAnswer → Called
-told_as answer = record {
+abbrev pub answered_call : BatchAnswer → Called
+answered_call answer = record {
   reply = told_reply answer;
   snapshot = Some answer.snapshot;
   committed = if answer.again then 0 else length answer.outputs;
@@ -58,11 +58,11 @@ takes_effect (stop.Fail step done) = done
 -- what a call came to that was refused: want of memory is the caller's
 abbrev pub RefusedAs : Refusal → Result Called Memory → Type 0
 RefusedAs refusal.Memory result = IsErr result
-RefusedAs why result = result ≡ Ok (refused_as (cause_of why))
+RefusedAs why result = result ≡ Ok (refused_call (cause_of why))
 
 -- what a call of a batch of this size came to, that ended so
 abbrev pub CalledAs : Stop → ℕ → Ended → Result Called Memory → Type 0
-CalledAs stop size (Answered answer) result = result ≡ Ok (told_as answer)
+CalledAs stop size (Answered answer) result = result ≡ Ok (answered_call answer)
 CalledAs stop size (Refused why) result = RefusedAs why result
 CalledAs stop size (Broken fault commits) result = result ≡ Ok (broken_as stop (if takes_effect stop then commits else None) size)
 
@@ -82,7 +82,7 @@ pub record Restores (stop : Stop) (old new : Standing) : Type 0 where
   pub writes : new.writes ≡ old.writes
 
 -- The plan is over, and where the call was broken off by a cut power was lost and is back.
-pub record Settles (stop : Stop) (is_broken : Bool) (old new : Standing) : Type 0 where
+pub record SettlesPlan (stop : Stop) (is_broken : Bool) (old new : Standing) : Type 0 where
   pub cell : new.cell ≡ old.cell
   pub items : new.items ≡ items_cycled (is_broken && is_cut stop) old.items
   pub is_on : new.is_on ≡ (if is_broken && is_cut stop then true else old.is_on)
@@ -91,25 +91,25 @@ pub record Settles (stop : Stop) (is_broken : Bool) (old new : Standing) : Type 
   pub writes : new.writes ≡ old.writes
 
 -- the number of the step at which a call is stopped
-abbrev pub number_of : Stop → ℕ
-number_of stop.Quiet = 0
-number_of (stop.Cut step) = step
-number_of (stop.Drop step) = step
-number_of (stop.Fail step done) = step
+abbrev pub stopped_step : Stop → ℕ
+stopped_step stop.Quiet = 0
+stopped_step (stop.Cut step) = step
+stopped_step (stop.Drop step) = step
+stopped_step (stop.Fail step done) = step
 
 -- whether a checkpoint that is stopped so has closed its segment: its third step does that, by writing the cell
 abbrev pub closes_at : Stop → Bool
-closes_at stop = (number_of stop == 3) && takes_effect stop
+closes_at stop = (stopped_step stop == 3) && takes_effect stop
 
 -- what a checkpoint that ended so and was stopped so is told as
-abbrev pub closing_as : Stop → Result Checkpointed CheckpointRefusal → Reply
-closing_as stop (Ok Done) = reply.Checkpointed
-closing_as stop (Ok NoSegment) = reply.No cause.Segment
-closing_as stop (Err closing.Lost) = reply.No cause.Lost
-closing_as stop (Err (closing.Device fault)) = stopped_reply (way_of stop) (closes_at stop)
-closing_as stop (Err closing.Kind) = reply.No cause.Kind
-closing_as stop (Err closing.Blank) = reply.No cause.Kind
-closing_as stop (Err closing.Cell) = reply.No cause.Kind
+abbrev pub told_closing : Stop → Result Checkpointed CheckpointRefusal → Reply
+told_closing stop (Ok Done) = reply.Checkpointed
+told_closing stop (Ok NoSegment) = reply.No cause.Segment
+told_closing stop (Err closing.Lost) = reply.No cause.Lost
+told_closing stop (Err (closing.Device fault)) = stopped_reply (way_of stop) (closes_at stop)
+told_closing stop (Err closing.Kind) = reply.No cause.Kind
+told_closing stop (Err closing.Blank) = reply.No cause.Kind
+told_closing stop (Err closing.Cell) = reply.No cause.Kind
 
 -- whether a checkpoint was broken off by a fault
 abbrev pub stops_in : Result Checkpointed CheckpointRefusal → Bool

@@ -11,7 +11,7 @@ ghost use Rattle.mm_call.specs.Ended.{CallsTo, is_broken};
 ghost use Rattle.mm_run.specs.Folds.{way_of, cause_of};
 ghost use Rattle.mm_run.specs.Offered.{offered_bytes};
 ghost use Rattle.mm_world.specs.Asks.{AsksAs, ChecksAs};
-ghost use Rattle.mm_world.specs.Calls.{refused_as, told_as, broken_as, takes_effect, CalledAs, Restores, Settles, closes_at, closing_as, stops_in};
+ghost use Rattle.mm_world.specs.Calls.{refused_call, answered_call, broken_as, takes_effect, CalledAs, Restores, SettlesPlan, closes_at, told_closing, stops_in};
 
 use mm_base::{Bytes, Memory};
 use mm_call::{Ended, KeptKey};
@@ -36,10 +36,10 @@ pub struct Called {
 
 impl Called {
     ghost use Rattle.std.specs.Prelude.{◌≡◌};
-    ghost use Rattle.mm_world.specs.Calls.{refused_as, told_as, broken_as};
+    ghost use Rattle.mm_world.specs.Calls.{refused_call, answered_call, broken_as};
 
     fn refused(cause: Cause) -> Called
-        ensures { result ≡ refused_as cause }
+        ensures { result ≡ refused_call cause }
     {
         Called {
             reply: Reply::No(cause),
@@ -49,7 +49,7 @@ impl Called {
     }
 
     fn told(answer: BatchAnswer) -> Called
-        ensures { result ≡ told_as answer }
+        ensures { result ≡ answered_call answer }
     {
         let BatchAnswer {
             again,
@@ -129,7 +129,7 @@ fn cause(refusal: Refusal) -> Cause
 
 // The plan of a call is over, and power is back where the call was broken off by a cut.
 fn settle(platform: &mut MemPlatform, stop: Stop, is_broken: bool)
-    ensures { IsSome platform.old.plan → Settles stop is_broken platform.old platform.new }
+    ensures { IsSome platform.old.plan → SettlesPlan stop is_broken platform.old platform.new }
 {
     if is_broken {
         restore(platform, stop);
@@ -303,7 +303,7 @@ fn closes(stop: Stop) -> bool
 
 // What a checkpoint that was stopped so is told as.
 fn closing(stop: Stop, ended: Result<Checkpointed, CheckpointRefusal>) -> Reply
-    ensures { result ≡ closing_as stop ended }
+    ensures { result ≡ told_closing stop ended }
 {
     match ended {
         Ok(Checkpointed::Done) => Reply::Checkpointed,

@@ -31,13 +31,13 @@ pub struct World {
 
 impl Model for World {
     ghost use Rattle.mm_run.specs.Held.{Held};
-    ghost use Rattle.mm_world.specs.Held.{held_in, IsSettled};
+    ghost use Rattle.mm_world.specs.Held.{held_in, KeepsWorld};
 
     ghost Value = { Held };
 
     ghost view = { λ w. held_in w.header w.platform w.issued.items w.committed };
 
-    ghost invariant = { λ w. IsSettled w.header w.platform w.issued.items w.committed };
+    ghost invariant = { λ w. KeepsWorld w.header w.platform w.issued.items w.committed };
 }
 
 // The first cell and snapshot of a world.

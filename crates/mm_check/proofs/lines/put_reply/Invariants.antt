@@ -1,6 +1,6 @@
 use Rattle.std.proofs.Common.{◌≡◌, ◌++◌, take}
-use Rattle.mm_schedule.specs.Replies.{lines_of}
+use Rattle.mm_schedule.specs.Replies.{lines_of_reply}
 use Rattle.mm_check.proofs.lines.put_reply.Given as goal
 
 abbrev pub invariant-lines : goal.invariant-lines
-invariant-lines l = l.lines.items ≡ l.fn.lines.items ++ take l.index (lines_of l.reply)
+invariant-lines l = l.lines.items ≡ l.fn.lines.items ++ take l.index (lines_of_reply l.reply)

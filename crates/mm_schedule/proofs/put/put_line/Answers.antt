@@ -2,7 +2,7 @@ use Rattle.std.proofs.Common.{◌≡◌, ◌+◌, ◌<◌, ◌++◌, ℕ, List, 
 use Rattle.std.specs.Option.{option_map}
 use Rattle.std.specs.Prelude.{Option, Some, slice_get}
 use Rattle.mm_base.specs.declared.fault.Memory.{Memory}
-use Rattle.mm_schedule.specs.Replies.{lines_of, told_line, told_lines}
+use Rattle.mm_schedule.specs.Replies.{lines_of_reply, told_line, told_lines}
 use Rattle.mm_schedule.proofs.PrintLaws.{length-told_lines, not_missing, told_lines-at}
 use Rattle.mm_schedule.proofs.put.put_line.Goals as goal
 
@@ -22,7 +22,7 @@ unreachable-requires c =
 
 pub returns-in-Some : goal.returns-in-Some
 returns-in-Some c =
-    let at : slice_get (lines_of c.args.reply.now) c.args.index ≡ Some (told_line c.in-Told.again (c.in-Told.before + c.args.index + 1) c.in-Some.output.now) =
+    let at : slice_get (lines_of_reply c.args.reply.now) c.args.index ≡ Some (told_line c.in-Told.again (c.in-Told.before + c.args.index + 1) c.in-Some.output.now) =
     rw c.in-Told.is (told_lines-at c.in-Told.again c.in-Told.before c.in-Told.outputs c.args.index
     ∙ ap (λ (output : Option (List ℕ)). option_map (told_line c.in-Told.again (c.in-Told.before + c.args.index + 1)) output) (sym c.in-Some.ensures)) in
     with_line c.put_told.result _ _ _ _ at c.put_told.ensures

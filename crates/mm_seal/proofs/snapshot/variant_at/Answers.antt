@@ -1,5 +1,5 @@
 use Rattle.std.proofs.Common.{arith}
-use Rattle.mm_seal.specs.Body.{IsNoFront}
+use Rattle.mm_seal.specs.Body.{SpellsNoContent}
 use Rattle.mm_seal.proofs.SnapshotLaws.{no_front-short, no_front-variant, no_front-fields}
 use Rattle.mm_seal.proofs.snapshot.variant_at.Goals as goal
 
@@ -8,7 +8,7 @@ returns-then-front-lt50 c = no_front-short c.args.front.now c.if-front-lt50.true
 
 pub returns-in_err-variant : goal.returns-in_err-variant
 returns-in_err-variant c =
-    let none : IsNoFront c.args.front.now = no_front-variant c.args.front.now c.in_err-variant.ensures in
+    let none : SpellsNoContent c.args.front.now = no_front-variant c.args.front.now c.in_err-variant.ensures in
     rw c.from_residual.ensures none
 
 pub returns-then-front-place_len : goal.returns-then-front-place_len

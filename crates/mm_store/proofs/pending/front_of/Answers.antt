@@ -1,6 +1,6 @@
 use Rattle.std.proofs.Common.{◌≡◌, ◌∙◌, ap, refl, arith, List, ℕ, ◌++◌, length, true, false}
 use Rattle.std.proofs.lemmas.List.{length-take-le}
-use Rattle.mm_store.specs.Pending.{record_word, IsNoFront}
+use Rattle.mm_store.specs.Pending.{record_word, SpellsNoRecord}
 use Rattle.mm_base.proofs.FieldLaws.{joined}
 use Rattle.mm_store.proofs.PendingLaws.{no_front-word, no_front-position, no_front-size, no_front-fields, front_of_fields}
 use Rattle.mm_store.proofs.pending.front_of.Goals as goal
@@ -8,13 +8,13 @@ use Rattle.mm_store.proofs.pending.front_of.Goals.{else-begins_record-via-then-b
 
 pub returns-in_err-word : goal.returns-in_err-word
 returns-in_err-word c =
-    let none : IsNoFront c.args.front.now = no_front-word c.args.front.now c.in_err-word.ensures.cases in
+    let none : SpellsNoRecord c.args.front.now = no_front-word c.args.front.now c.in_err-word.ensures.cases in
     rw c.from_residual.ensures none
 
 pub returns-in_err-position : goal.returns-in_err-position
 returns-in_err-position c =
     let parts = c.in_ok-word.ensures.cases in
-    let none : IsNoFront c.args.front.now =
+    let none : SpellsNoRecord c.args.front.now =
     no_front-position c.args.front.now _ _ (joined 4 _ _ _ parts.0 parts.1)
     (ap length parts.0 ∙ length-take-le 4 c.args.front.now (omega arith)) c.in_err-position.ensures in
     rw c.from_residual-in_err-position.ensures none
@@ -22,7 +22,7 @@ returns-in_err-position c =
 pub returns-in_err-length : goal.returns-in_err-length
 returns-in_err-length c =
     let parts = c.in_ok-word.ensures.cases in
-    let none : IsNoFront c.args.front.now =
+    let none : SpellsNoRecord c.args.front.now =
     no_front-size c.args.front.now _ _ _ _ (joined 4 _ _ _ parts.0 parts.1)
     (ap length parts.0 ∙ length-take-le 4 c.args.front.now (omega arith)) c.in_ok-position.ensures.0
     c.in_err-length.ensures in

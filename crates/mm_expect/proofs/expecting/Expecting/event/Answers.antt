@@ -4,7 +4,7 @@ use Rattle.mm_schedule.specs.declared.reply.Reply.{Reply}
 use Rattle.mm_schedule.specs.Events.{event_of}
 use Rattle.mm_schedule.specs.Replies.{IsPrintable}
 use Rattle.mm_expect.specs.Coming.{WentByEvent}
-use Rattle.mm_expect.specs.Recorded.{instance_of}
+use Rattle.mm_expect.specs.Recorded.{recorded_instance}
 use Rattle.mm_run.specs.Held.{world_of}
 use Rattle.mm_run.specs.Premises.{IsGenuineEvent}
 use Rattle.mm_expect.specs.Judged.{DecidesEvent}
@@ -31,12 +31,12 @@ returns-clause-after c = λ header events at.
 pub returns-clause-printable : goal.returns-clause-printable
 returns-clause-printable c =
     subst (λ (r : Reply). IsPrintable r) (sym c.in_ok-reply.ensures.reply)
-    (printable (instance_of c.self.inside.chronicle) (any_is_lawful c.self.inside.chronicle.«module») c.self.inside.chronicle.history
+    (printable (recorded_instance c.self.inside.chronicle) (any_is_lawful c.self.inside.chronicle.«module») c.self.inside.chronicle.history
     c.as_slice-2.result.now (event_of c.args.event.now))
 
 pub returns-clause-genuine : goal.returns-clause-genuine
 returns-clause-genuine c = λ header events at.
-    let So : List (List ℕ) → Type 0 = λ v. DecidesEvent (instance_of c.self.inside.chronicle) c.self.inside.chronicle.history v (event_of c.args.event.now)
+    let So : List (List ℕ) → Type 0 = λ v. DecidesEvent (recorded_instance c.self.inside.chronicle) c.self.inside.chronicle.history v (event_of c.args.event.now)
     c.in_ok-is_genuine.is_genuine in
     let To : Traced → Type 0 = λ t. IsDecided c.in_ok-is_genuine.is_genuine (IsGenuineEvent (world_of header) t.history t.issued (event_of c.args.event.now)) in
     subst To c.self.view_is
