@@ -25,15 +25,16 @@ use Rattle.mm_call.specs.Levels.{by_digests, all_made}
 use Rattle.mm_call.specs.Courses.{End, Done, Fails, Fate, Course, Walked, after_step, walk, closes}
 use Rattle.mm_call.specs.Called.{called}
 use Rattle.mm_call.specs.Standing.{cell_at, StandsAt, shown}
-use Rattle.mm_call.specs.Asked.{from_reset, counted_part, counted_moves, moves_messages, foreign_in}
-use Rattle.mm_call.specs.Tied.{foreign_of, standing_items, IsTied, Tied, shows, nothing}
+use Rattle.mm_call.specs.Asked.{from_reset, counted_part, counted_moves}
+use Rattle.mm_call.specs.Premises.{AreShown}
+use Rattle.mm_call.specs.Tied.{foreign_of, standing_items, Tied, shows, nothing}
 use Rattle.mm_call.proofs.Moving.{committed_in}
 use Rattle.mm_call.proofs.OptShapes.{Shape, still, reset}
 use Rattle.mm_call.proofs.OptShut.{bare, bare_digests, counted_open, counted_shut}
+use Rattle.mm_call.proofs.Showing.{Counts}
 use Rattle.mm_call.proofs.Tied.{opt_tied}
 use Rattle.mm_call.proofs.Walks.{nothing as none, batch, finished, changing, opt_commits, taking, committed-foreign, from_reset-foreign}
 use Rattle.mm_model.specs.Steps.{Reads}
-use Rattle.mm_callers.specs.Opt.{AreShown}
 
 -- The ways of a call: it makes its reading steps alone; it is broken off before it commits; or it commits the batch.
 pub data Way (b : Batch) (w : Walked) : Type 0 where
@@ -79,22 +80,6 @@ pub pushed_open : (meaning : Meaning) (key barrier : List ℕ) (d : Digests) (c 
 pushed_open meaning key barrier d c offer b f =
     pushed_by (opt meaning key barrier) d (called (opt meaning key barrier) (by_digests (opt meaning key barrier)) d c offer b).moves
     (opt_tied meaning key barrier some_open d c offer b f)
-
--- What counts of a call's moves is these items more.
-pub record Counts (i : Instance) (y : History) (d : Digests) (moves : List Move) : Type 0 where
-  pub more : List Item
-  pub tied : IsTied i y moves more
-  pub are : (items : List Item) → shown i d moves items ≡ standing_items y.is_open items ++ more
-
-pub counts_open : (i : Instance) (y : History) (d : Digests) (moves : List Move) → y.is_open ≡ true → Tied i y d moves → Counts i y d moves
-counts_open i y d moves e (shows more tied are) = record { more = more; tied = tied; are = are }
-counts_open i y d moves e (nothing is) =
-    let empty : moves ≡ [] = ap (λ (f : Bool). counted_moves f moves) (sym e) ∙ is in
-    record {
-      more = [];
-      tied = record { messages = ap (moves_messages i (counted_part y)) is; values = ap foreign_in is };
-      are = λ items. ap (λ (ms : List Move). shown i d ms items) empty ∙ sym (append-nil items) ∙ ap (λ (f : Bool). standing_items f items ++ []) (sym e);
-    }
 
 -- a commit with no segment open comes behind a reset
 resets : (fates : ℕ → Fate) (fresh : Bool) (b : Batch) (moves : List Move) → Shape fates fresh b moves → committed_in moves ≡ b ∷ [] → from_reset moves ≡ [] → ⊥
