@@ -77,7 +77,7 @@ left_of r events = followed (world_of r.header) (by_digests (world_of r.header))
 -- the whole is what was counted and written, and then what is left
 record Rests (r : Running) (counts : Counts) (text : List ℕ) (left whole : Followed Digests) : Type 0 where
   replies : text ++ texts_of left.replies ≡ texts_of whole.replies
-  counted_reply : fold counted_reply counts left.replies ≡ counts_of whole.replies
+  counted : fold counted_reply counts left.replies ≡ counts_of whole.replies
   state : left.state ≡ whole.state
   issued : left.issued ≡ whole.issued
 
@@ -155,7 +155,7 @@ answered_on lines more line r counts text event events all are read whole few ov
       over = over;
       rests = record {
         replies = append_assoc text (text_of_replies said) (texts_of behind.replies) ∙ rests.replies;
-        counted_reply = rests.counted;
+        counted = rests.counted;
         state = rests.state;
         issued = rests.issued;
       };
