@@ -124,7 +124,7 @@ found_examined meaning key digest register count o id position state b (Ok false
 found_basic : (meaning : Meaning) (key digest register : List ℕ) (count : ℕ) (o : Digest) (id position : ℕ) (state tag : List ℕ) (b : Batch) (found : Result Found Refusal)
     → OrMemory (found_in meaning (seen_by (cell_at (basic meaning key) (shut digest register count)) (Ok (record { content = content_with id o position state; tag = tag }))) b) found
     → IsFound (basic meaning key) (shut digest register count) (normal b)
-    (call.found_from (basic meaning key) (by_digests (basic meaning key)) (shut digest register count) (normal b)
+    (call.found_by_verdict (basic meaning key) (by_digests (basic meaning key)) (shut digest register count) (normal b)
     (Ok (record { content = content_with id o position state; tag = tag }))) found
 found_basic meaning key digest register count o id position state tag b found m =
     let offered : Content = content_with id o position state in
@@ -143,7 +143,7 @@ found_placed : (meaning : Meaning) (key digest register : List ℕ) (count : ℕ
     → variant_of place ≡ Basic
     → OrMemory (found_in meaning (seen_by (cell_at (basic meaning key) (shut digest register count)) (Ok (record { content = record { id = id; place = place; position = position; state = state }; tag = tag }))) b) found
     → IsFound (basic meaning key) (shut digest register count) (normal b)
-    (call.found_from (basic meaning key) (by_digests (basic meaning key)) (shut digest register count) (normal b)
+    (call.found_by_verdict (basic meaning key) (by_digests (basic meaning key)) (shut digest register count) (normal b)
     (Ok (record { content = record { id = id; place = place; position = position; state = state }; tag = tag }))) found
 found_placed meaning key digest register count (InBasic o) id position state tag b found v m =
     found_basic meaning key digest register count o id position state tag b found m
@@ -153,7 +153,7 @@ found_taken : (meaning : Meaning) (key digest register : List ℕ) (count : ℕ)
     → ReadsParts offer Basic meaning.id taken
     → OrMemory (found_in meaning (seen_by (cell_at (basic meaning key) (shut digest register count)) taken) b) found
     → IsFound (basic meaning key) (shut digest register count) (normal b)
-    (call.found_from (basic meaning key) (by_digests (basic meaning key)) (shut digest register count) (normal b) taken) found
+    (call.found_by_verdict (basic meaning key) (by_digests (basic meaning key)) (shut digest register count) (normal b) taken) found
 found_taken meaning key digest register count b (Err Form) offer found r m = m
 found_taken meaning key digest register count b (Err Kind) offer found r m = m
 found_taken meaning key digest register count b (Ok s) offer found r m =
@@ -246,10 +246,10 @@ lacks_by refusal.Tag = false
 lacks_by refusal.Stale = false
 lacks_by refusal.Full = false
 
-lacking : (it : call.Found) (why : Refusal) → why ≡ refusal.Memory → call.found_in (Ok it) (lacks_by why) ≡ Err why
-lacking it why e = subst (λ (w : Refusal). call.found_in (Ok it) (lacks_by w) ≡ Err w) (sym e) refl
+lacking : (it : call.Found) (why : Refusal) → why ≡ refusal.Memory → call.found_unless_wanting (Ok it) (lacks_by why) ≡ Err why
+lacking it why e = subst (λ (w : Refusal). call.found_unless_wanting (Ok it) (lacks_by w) ≡ Err w) (sym e) refl
 
-pub refused : (i : Instance) (d : Digests) (b : Batch) (found : Result call.Found Refusal) (why : Refusal) → IsFound i d b found (Err why) → call.found_in found (lacks_by why) ≡ Err why
+pub refused : (i : Instance) (d : Digests) (b : Batch) (found : Result call.Found Refusal) (why : Refusal) → IsFound i d b found (Err why) → call.found_unless_wanting found (lacks_by why) ≡ Err why
 refused i d b (Err other) why f = let e : why ≡ other = cc in ap (λ (w : Refusal). Err w) (sym e)
 refused i d b (Ok it) why (inl f) = absurd (cc)
 refused i d b (Ok it) why (inr f) = let e : why ≡ refusal.Memory = cc in lacking it why e

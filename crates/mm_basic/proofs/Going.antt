@@ -110,7 +110,7 @@ repeat_goes meaning key d plan offer b old new answer g f s =
     let a = answered i (sees i d c) (normal b) (call.found_at i (by_digests i) (sees i d c) (normal b) offer) answer
     (found_seen meaning key d fate [] plan false old offer b (Ok (Repeat answer)) s f) in
     went i d c offer (normal b) old new (Ok answer) (Ok (record { offered = a.offered; again = true })) None
-    (ap (λ (x : Result call.Found Refusal). call.found_in x false) a.found_is)
+    (ap (λ (x : Result call.Found Refusal). call.found_unless_wanting x false) a.found_is)
     s (reads_trail false d.flag i d (normal b) c.fates old new refl g refl)
     (λ (moves : List Move). ap (λ (x : BatchAnswer). Ok x) a.answer_is)
 
@@ -145,7 +145,7 @@ change_goes meaning key d plan offer b old middle new ready written g f h gives 
     let writes : IsWrite i e ready.next (Commit (normal b)) =
     subst (λ (x : Digests). IsWrite i x ready.next (Commit (normal b))) (sym (brought_digests i d fate.brings)) (is_write meaning key d r (normal b) ready.next s.spells next) in
     went i d c offer (normal b) old new (handed_on written) (Ok (record { offered = a.offered; again = false })) (result_err written)
-    (ap (λ (x : Result call.Found Refusal). call.found_in x false) a.found_is)
+    (ap (λ (x : Result call.Found Refusal). call.found_unless_wanting x false) a.found_is)
     s
     (trail_on i d c.fates 1 Reading (Writing (Commit (normal b)) ∷ []) old middle new (result_err written)
     (stepped i d ReadCell Reading old middle None g tt)
@@ -237,7 +237,7 @@ change_keeps (Err fault) meaning key d plan offer b old middle new ready g f h s
     let c : Course = course (fate ∷ last ∷ []) plan false in
     let a = is_ready i (sees i d c) (normal b) (call.found_at i (by_digests i) (sees i d c) (normal b) offer) ready
     (found_seen meaning key d fate (last ∷ []) plan false old offer b (Ok (Change ready)) s f) in
-    let e : finds i d c offer (normal b) ≡ Ok (record { offered = a.offered; again = false }) = ap (λ (x : Result call.Found Refusal). call.found_in x false) a.found_is in
+    let e : finds i d c offer (normal b) ≡ Ok (record { offered = a.offered; again = false }) = ap (λ (x : Result call.Found Refusal). call.found_unless_wanting x false) a.found_is in
     subst (λ (x : Result call.Found Refusal). KeepsAs c.fates (called_with i (by_digests i) d (sees i d c) c (normal b) x) (Broken fault (Some ready.answer.position))) (sym e)
     (broken_ends i d (sees i d c) d.flag (normal b) a.offered plan old middle new ready.next ready.answer.position fault g h
     (ap (λ (x : BatchAnswer). x.position) a.answer_is))

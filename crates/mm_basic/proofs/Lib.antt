@@ -6,6 +6,7 @@ pub mod Reading
 pub mod Verdicts
 pub mod Continuing
 pub mod Completeness
+pub mod Asked
 pub mod Turning
 pub mod Calling
 pub mod Ending

@@ -5,3 +5,5 @@ pub mod Steps
 pub mod Turns
 pub mod Asks
 pub mod Continuity
+pub mod Asked
+pub mod Moved

@@ -54,17 +54,14 @@ pub fn begin(batch: Batch<'_>) -> Result<Call, Refusal>
 }
 
 impl Call {
-    ghost use Rattle.std.specs.Prelude.{◌≡◌, None, false};
-    ghost use Rattle.mm_digest.specs.declared.variant.Variant.TheVariants.{Basic};
-    ghost use Rattle.mm_call.specs.Refusals.{fault_in};
-    ghost use Rattle.mm_call.specs.Ended.{CallsTo, result_of};
+    ghost use Rattle.std.specs.Prelude.{◌≡◌, false};
     ghost use Rattle.mm_basic.specs.Asks.{Finishes};
+    ghost use Rattle.mm_basic.specs.Moved.{AdvancedInBasic, FinishedInBasic};
     ghost use Rattle.std.specs.Option.{option_map};
     ghost use Rattle.mm_module.specs.Batches.{batch_of};
     ghost use Rattle.mm_model.specs.Long.{is_long};
     ghost use Rattle.mm_basic.specs.Steps.{step_number};
-    ghost use Rattle.mm_call.specs.Leaving.{Blames};
-    ghost use Rattle.mm_basic.specs.Turns.{Turns, TurnContinues, turn_fault};
+    ghost use Rattle.mm_basic.specs.Turns.{Turns};
 
     /// The number of the next device step, from 1.
     pub fn next_step(&self) -> u8
@@ -98,11 +95,7 @@ impl Call {
         batch: Batch<'_>,
     ) -> Turn
         requires { is_long (batch_of batch) ≡ false }
-        ensures turns { Turns (M.meaning «module».now) self (P.standing platform.old)
-            (P.standing platform.new) offer.now (batch_of batch.entry) result }
-        ensures faults { Blames (turn_fault result) (P.standing platform.old).faults
-            (P.standing platform.new).faults }
-        ensures continuity { TurnContinues (M.meaning «module».now) self (P.standing platform.old)
+        ensures { AdvancedInBasic (M.meaning «module».now) self (P.standing platform.old)
             (P.standing platform.new) offer.now (batch_of batch.entry) result }
     {
         self.advance_keeping(alloc, module, platform, offer, batch, &mut KeptKey::new())
@@ -119,11 +112,7 @@ impl Call {
         keys: &mut KeptKey,
     ) -> Turn
         requires { is_long (batch_of batch) ≡ false }
-        ensures turns { Turns (M.meaning «module».now) self (P.standing platform.old)
-            (P.standing platform.new) offer.now (batch_of batch.entry) result }
-        ensures faults { Blames (turn_fault result) (P.standing platform.old).faults
-            (P.standing platform.new).faults }
-        ensures continuity { TurnContinues (M.meaning «module».now) self (P.standing platform.old)
+        ensures { AdvancedInBasic (M.meaning «module».now) self (P.standing platform.old)
             (P.standing platform.new) offer.now (batch_of batch.entry) result }
     {
         self.make_step(alloc, module, platform, offer, batch, keys)
@@ -139,13 +128,8 @@ impl Call {
         batch: Batch<'_>,
     ) -> Ended
         requires short { is_long (batch_of batch) ≡ false }
-        ensures finishes { Finishes (M.meaning «module».now) self (P.standing platform.old)
+        ensures { FinishedInBasic (M.meaning «module».now) self (P.standing platform.old)
             (P.standing platform.new) offer.now (batch_of batch.entry) result }
-        ensures ends { self ≡ None
-            → CallsTo Basic (M.meaning «module».now) (P.standing platform.old)
-            (P.standing platform.new) offer.now (batch_of batch.entry) result }
-        ensures faults { Blames (fault_in (result_of result)) (P.standing platform.old).faults
-            (P.standing platform.new).faults }
     {
         self.finish_keeping(alloc, module, platform, offer, batch, &mut KeptKey::new())
     }
@@ -161,13 +145,8 @@ impl Call {
         keys: &mut KeptKey,
     ) -> Ended
         requires short { is_long (batch_of batch) ≡ false }
-        ensures finishes { Finishes (M.meaning «module».now) self (P.standing platform.old)
+        ensures { FinishedInBasic (M.meaning «module».now) self (P.standing platform.old)
             (P.standing platform.new) offer.now (batch_of batch.entry) result }
-        ensures ends { self ≡ None
-            → CallsTo Basic (M.meaning «module».now) (P.standing platform.old)
-            (P.standing platform.new) offer.now (batch_of batch.entry) result }
-        ensures faults { Blames (fault_in (result_of result)) (P.standing platform.old).faults
-            (P.standing platform.new).faults }
     {
         self.make_steps(alloc, module, platform, offer, batch, keys)
     }

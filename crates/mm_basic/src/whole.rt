@@ -6,13 +6,13 @@ ghost use Rattle.mm_digest.specs.declared.variant.Variant.TheVariants.{Basic};
 ghost use Rattle.mm_module.specs.Batch.{One};
 ghost use Rattle.mm_module.specs.Batches.{batch_of};
 ghost use Rattle.mm_model.specs.Long.{is_long};
-ghost use Rattle.mm_model.specs.Fit.{IsFit};
 ghost use Rattle.mm_call.specs.Refusals.{fault_in};
 ghost use Rattle.mm_call.specs.CallsOn.{CallsOn};
 ghost use Rattle.mm_basic.specs.Steps.{Reads};
-ghost use Rattle.mm_basic.specs.Continuity.{ReadContinues, CommitContinues, Continues, IsComplete};
-ghost use Rattle.mm_basic.specs.Asks.{Calls, Commits, CommitsFound, StepsBy};
-ghost use Rattle.mm_call.specs.Leaving.{LeavesUntouched, Blames, whole, whole_in};
+ghost use Rattle.mm_basic.specs.Continuity.{ReadContinues, CommitContinues};
+ghost use Rattle.mm_basic.specs.Asked.{AskedInBasic};
+ghost use Rattle.mm_basic.specs.Asks.{Calls, CommitsFound};
+ghost use Rattle.mm_call.specs.Leaving.{Blames, whole_in};
 
 use crate::call::begin;
 use crate::found::Found;
@@ -160,18 +160,7 @@ pub fn ask_batch<M: Module, P: Platform>(
     offer: &[u8],
     batch: Batch<'_>,
 ) -> Result<BatchAnswer, Refusal>
-    ensures calls { Calls (M.meaning «module».now) (P.standing platform.old) (P.standing platform.new)
-        offer.now (batch_of batch.entry) result }
-    ensures untouched { LeavesUntouched result (P.standing platform.old) (P.standing platform.new) }
-    ensures faults { Blames (fault_in result) (P.standing platform.old).faults (P.standing platform.new).faults }
-    ensures steps { is_long (batch_of batch.entry) ≡ false →
-        StepsBy result (P.standing platform.old) (P.standing platform.new) }
-    ensures fits { IfOk result (λ answer. IsFit (batch_of batch.entry) answer) }
-    ensures goes { is_long (batch_of batch.entry) ≡ false → CallsOn Basic (M.meaning «module».now)
-        (P.standing platform.old) (P.standing platform.new) offer.now (batch_of batch.entry) result }
-    ensures continuity { Continues (M.meaning «module».now) (P.standing platform.old) (P.standing platform.new)
-        offer.now (batch_of batch.entry) result }
-    ensures complete { IsComplete (M.meaning «module».now) (P.standing platform.old) (P.standing platform.new)
+    ensures { AskedInBasic (M.meaning «module».now) (P.standing platform.old) (P.standing platform.new)
         offer.now (batch_of batch.entry) result }
 {
     call(alloc, module, platform, offer, batch)
@@ -185,18 +174,7 @@ pub fn ask<M: Module, P: Platform>(
     offer: &[u8],
     request: &[u8],
 ) -> Result<Answer, Refusal>
-    ensures calls { Calls (M.meaning «module».now) (P.standing platform.old) (P.standing platform.new)
-        offer.now (One request.now) (whole_in result) }
-    ensures untouched { LeavesUntouched (whole_in result) (P.standing platform.old) (P.standing platform.new) }
-    ensures faults { Blames (fault_in result) (P.standing platform.old).faults (P.standing platform.new).faults }
-    ensures steps { is_long (One request.now) ≡ false →
-        StepsBy (whole_in result) (P.standing platform.old) (P.standing platform.new) }
-    ensures fits { IfOk result (λ answer. IsFit (One request.now) (whole answer)) }
-    ensures goes { is_long (One request.now) ≡ false → CallsOn Basic (M.meaning «module».now)
-        (P.standing platform.old) (P.standing platform.new) offer.now (One request.now) (whole_in result) }
-    ensures continuity { Continues (M.meaning «module».now) (P.standing platform.old) (P.standing platform.new)
-        offer.now (One request.now) (whole_in result) }
-    ensures complete { IsComplete (M.meaning «module».now) (P.standing platform.old) (P.standing platform.new)
+    ensures { AskedInBasic (M.meaning «module».now) (P.standing platform.old) (P.standing platform.new)
         offer.now (One request.now) (whole_in result) }
 {
     match call_one(alloc, module, platform, offer, request) {
@@ -213,11 +191,9 @@ fn call_one<M: Module, P: Platform>(
     offer: &[u8],
     request: &[u8],
 ) -> Result<BatchAnswer, Refusal>
-    ensures calls { Calls (M.meaning «module».now) (P.standing platform.old) (P.standing platform.new)
+    ensures asked { AskedInBasic (M.meaning «module».now) (P.standing platform.old) (P.standing platform.new)
         offer.now (One request.now) result }
-    ensures goes { is_long (One request.now) ≡ false → CallsOn Basic (M.meaning «module».now)
-        (P.standing platform.old) (P.standing platform.new) offer.now (One request.now) result }
     ensures one { IfOk result (λ answer. length answer.outputs ≡ 1) }
 {
-    call(alloc, module, platform, offer, Batch::One(request))
+    ask_batch(alloc, module, platform, offer, Batch::One(request))
 }

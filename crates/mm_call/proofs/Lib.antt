@@ -25,3 +25,4 @@ pub mod Continuing
 pub mod Checkpoints
 pub mod Keeping
 pub mod Tied
+pub mod Showing

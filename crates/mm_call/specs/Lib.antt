@@ -15,3 +15,4 @@ pub mod Laws
 pub mod Checkpoints
 pub mod Ended
 pub mod Tied
+pub mod Premises

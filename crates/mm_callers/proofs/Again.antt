@@ -18,7 +18,8 @@ use Rattle.mm_call.specs.Levels.{by_lists}
 use Rattle.mm_call.specs.Asked.{IsWithin}
 use Rattle.mm_call.specs.Called.{called}
 use Rattle.mm_call.specs.CallsOn.{CallsOn}
-use Rattle.mm_callers.specs.Basic.{AreAsked, IsOnce, AnswersOnce}
+use Rattle.mm_call.specs.Premises.{AreAsked}
+use Rattle.mm_callers.specs.Basic.{IsOnce, AnswersOnce}
 use Rattle.mm_callers.proofs.Calls.{is_asked, names_made, one_content, Comes, kept, grown, comes}
 
 -- what one call leaves: the history after it, and what is asked of that

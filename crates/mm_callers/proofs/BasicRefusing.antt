@@ -21,10 +21,11 @@ use Rattle.mm_call.specs.Courses.{End, Done, Fails as FailsAs, Fate, Walked, aft
 use Rattle.mm_call.specs.Found.{Found, found_at, found_unless_wanting, is_fresh}
 use Rattle.mm_call.specs.Leaving.{Blames, whole, whole_in}
 use Rattle.mm_call.specs.Levels.{by_lists, all_made}
+use Rattle.mm_call.specs.Premises.{AreAsked}
 use Rattle.mm_call.specs.Refusals.{fault_of, fault_in}
 use Rattle.mm_call.proofs.Walks.{finished, taking, foreign_made}
 use Rattle.mm_basic.specs.Asks.{Calls}
-use Rattle.mm_callers.specs.Basic.{AreAsked, AsksAgain, AsksTwice, in_first}
+use Rattle.mm_callers.specs.Basic.{AsksAgain, AsksTwice, in_first}
 use Rattle.mm_callers.proofs.Calls.{is_asked, names_made, Comes, comes}
 use Rattle.mm_callers.proofs.Refusing.{Fails, fails, said_by, calm_then, IsCalm, Fell, fell_long, refuses_once, refuses_again, refuses_next}
 use Rattle.mm_callers.proofs.Again.{one_call}
@@ -117,7 +118,7 @@ refused_again meaning old middle new offer request first fault why is rose befor
     (fell meaning key all others asked o.after middle new offer request why calls goes o.stands next)
 
 pub asked_again : (meaning : Meaning) (old middle new : Standing) (offer request : List ℕ) (first : Refusal) (fault : StepFault) (result : Result Answer Refusal) → first ≡ Device fault → Blames (fault_of first) old.faults middle.faults → Calls meaning old middle offer (One request) (Err first)
-    → (is_long (One request) ≡ false → CallsOn Basic meaning old middle offer (One request) (Err first)) → Blames (fault_in result) middle.faults new.faults → Calls meaning middle new offer (One request) (whole_in result)
+    → (is_long (One request) ≡ false → CallsOn Basic meaning old middle offer (One request) (Err first)) → Blames (fault_in (whole_in result)) middle.faults new.faults → Calls meaning middle new offer (One request) (whole_in result)
     → (is_long (One request) ≡ false → CallsOn Basic meaning middle new offer (One request) (whole_in result)) → AsksAgain meaning old new offer request result
 asked_again meaning old middle new offer request first fault (Err why) is rose before f blames calls goes =
     refused_again meaning old middle new offer request first fault why is rose before f blames calls goes
@@ -143,7 +144,7 @@ refused_second meaning lawful old middle new offer next first second one why sam
     (fell meaning key all others asked o.after middle new next second why then goes_on o.stands asked_so.1)
 
 pub asked_twice : (meaning : Meaning) → IsLawful meaning → (old middle new : Standing) (offer next first second : List ℕ) (one : Answer) (result : Result Answer Refusal) → middle.faults ≡ old.faults → Calls meaning old middle offer (One first) (Ok (whole one))
-    → (is_long (One first) ≡ false → CallsOn Basic meaning old middle offer (One first) (Ok (whole one))) → IsFit (One first) (whole one) → next ≡ one.snapshot → Blames (fault_in result) middle.faults new.faults
+    → (is_long (One first) ≡ false → CallsOn Basic meaning old middle offer (One first) (Ok (whole one))) → IsFit (One first) (whole one) → next ≡ one.snapshot → Blames (fault_in (whole_in result)) middle.faults new.faults
     → Calls meaning middle new next (One second) (whole_in result) → (is_long (One second) ≡ false → CallsOn Basic meaning middle new next (One second) (whole_in result)) → AsksTwice meaning old new offer first second result
 asked_twice meaning lawful old middle new offer next first second one (Err why) same calls goes fit e blames then goes_on =
     refused_second meaning lawful old middle new offer next first second one why same calls goes fit e blames then goes_on

@@ -29,13 +29,14 @@ use Rattle.mm_call.specs.Found.{Found, found_at, found_by_verdict, found_unless_
 use Rattle.mm_call.specs.Courses.{End, Done, Fails, Fate, Course, Walked, after_step, step_moves, walk}
 use Rattle.mm_call.specs.Called.{called, ended_by, given_for}
 use Rattle.mm_call.specs.Asked.{from_reset, counted_part, counted_moves, moves_messages, foreign_in, IsAsked}
+use Rattle.mm_call.specs.Premises.{AreAsked}
 use Rattle.mm_call.proofs.BasicLaw.{AreBasic, basic-append, basic-foreign, unlacked}
 use Rattle.mm_call.proofs.Endings.{again_of, fresh_of}
 use Rattle.mm_call.proofs.Finding.{Asking, placed, found_with_tells, weighed_tells}
 use Rattle.mm_call.proofs.Reading.{is_right}
 use Rattle.mm_call.proofs.Moving.{same_batches, more_batches}
 use Rattle.mm_call.proofs.Walks.{Commits, nothing, batch, basic_commits, finished, foreign_first}
-use Rattle.mm_callers.specs.Basic.{AreAsked, EndsWith}
+use Rattle.mm_callers.specs.Basic.{EndsWith}
 
 -- Nothing is asked of the moves of a call of Basic.
 

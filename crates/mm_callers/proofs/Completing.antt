@@ -32,7 +32,7 @@ use Rattle.mm_callers.specs.Complete.{IsSmooth, IsOfferedAt, IsWelcome, batches_
 use Rattle.mm_callers.proofs.Twice.{not_again}
 
 -- the verdict on a welcome offer
-abbrev verdict_of : Bool → Verdict
+abbrev pub verdict_of : Bool → Verdict
 verdict_of true = Again
 verdict_of false = Fresh
 
@@ -51,7 +51,7 @@ not_here false batches front b is e = refl
 not_here true batches front b is e =
     absurd (not_again batches front b is (ap total_of (sym ((at_the_end batches front (b ∷ []) (sym is)).0 e))))
 
-verdict_is : (variant : Variant) (y : History) (p : ℕ) (b : Batch) (again : Bool) → life_of variant y ≡ Live → IsOfferedAt again y.batches p b → judge variant y p b ≡ verdict_of again
+pub verdict_is : (variant : Variant) (y : History) (p : ℕ) (b : Batch) (again : Bool) → life_of variant y ≡ Live → IsOfferedAt again y.batches p b → judge variant y p b ≡ verdict_of again
 verdict_is variant y p b false live offered =
     let repeat : Bool = nat_eq (p + size_of b) (total_of y.batches) && is_last y.batches b in
     ap (λ (l : Life). judged l (nat_eq p (total_of y.batches)) repeat) live

@@ -29,22 +29,18 @@ steps_by true variant old new result long short =
     let l = long refl in (l.gives, ap (λ (s : Standing). s.steps) l.same, ap (λ (s : Standing). s.writes) l.same)
 steps_by false variant old new result long short = short refl
 
-blames_whole : (result : Result Answer Refusal) (old new : Standing) → Blames (fault_in result) old.faults new.faults → Blames (fault_in (whole_in result)) old.faults new.faults
-blames_whole (Ok answer) old new b = b
-blames_whole (Err why) old new b = b
-
 pub basic_counts : (meaning : Meaning) (old new : Standing) (offer request : List ℕ) (result : Result Answer Refusal) → BasicCalls meaning old new offer (One request) (whole_in result)
-    → (is_long (One request) ≡ false → BasicSteps (whole_in result) old new) → Blames (fault_in result) old.faults new.faults → CountsCall Basic (One request) old new (whole_in result)
+    → (is_long (One request) ≡ false → BasicSteps (whole_in result) old new) → Blames (fault_in (whole_in result)) old.faults new.faults → CountsCall Basic (One request) old new (whole_in result)
 basic_counts meaning old new offer request result calls steps blames = record {
   steps = steps_by (is_long (One request)) Basic old new (whole_in result) (λ e. record { same = (calls.long e).0; gives = (calls.long e).1 }) steps;
-  faults = blames_whole result old new blames;
+  faults = blames;
 }
 
 pub opt_counts : (meaning : Meaning) (old new : Standing) (offer request : List ℕ) (result : Result Answer Refusal) → OptCalls meaning old new offer (One request) (whole_in result)
-    → (is_long (One request) ≡ false → OptSteps (whole_in result) old new) → Blames (fault_in result) old.faults new.faults → CountsCall Opt (One request) old new (whole_in result)
+    → (is_long (One request) ≡ false → OptSteps (whole_in result) old new) → Blames (fault_in (whole_in result)) old.faults new.faults → CountsCall Opt (One request) old new (whole_in result)
 opt_counts meaning old new offer request result calls steps blames = record {
   steps = steps_by (is_long (One request)) Opt old new (whole_in result) (λ e. record { same = (calls.long e).0; gives = (calls.long e).1 }) steps;
-  faults = blames_whole result old new blames;
+  faults = blames;
 }
 
 pub counted_again : (variant : Variant) (b : Batch) (old middle new : Standing) (first : Refusal) (fault : StepFault) (result : Result BatchAnswer Refusal) → first ≡ Device fault

@@ -28,10 +28,11 @@ use Rattle.mm_call.specs.Asked.{right_messages}
 use Rattle.mm_call.specs.CallsOn.{CallsOn}
 use Rattle.mm_call.specs.Found.{right_content}
 use Rattle.mm_call.specs.Leaving.{whole}
+use Rattle.mm_call.specs.Premises.{AreAsked, AreShown}
 use Rattle.mm_call.specs.Tied.{standing_items}
 use Rattle.mm_opt.specs.Asks.{Calls}
-use Rattle.mm_callers.specs.Basic.{AreAsked, IsOnce, AnswersNext}
-use Rattle.mm_callers.specs.Opt.{AreShown, AsksOnce, AreAskedNext, AsksTwice}
+use Rattle.mm_callers.specs.Basic.{IsOnce, AnswersNext}
+use Rattle.mm_callers.specs.Opt.{AsksOnce, AreAskedNext, AsksTwice}
 use Rattle.mm_callers.proofs.Calls.{Comes, kept, grown}
 use Rattle.mm_callers.proofs.Again.{twice_by}
 use Rattle.mm_callers.proofs.Twice.{right_of, listed_by, once_after, answered_at, not_again}

@@ -1,25 +1,20 @@
 -- What one call of Opt comes to by lists, where what others did is known by the register's items.
-use Rattle.std.proofs.Common.{◌≡◌, ℕ, Bool, true, false, List, [], ◌∷◌, ◌++◌, map, Option, None, Some, Result, Ok, Err, refl, sym, ap, ◌∙◌, subst}
+use Rattle.std.proofs.Common.{◌≡◌, ℕ, Bool, true, false, List, [], ◌∷◌, ◌++◌, map, Some, Result, Ok, Err, refl, sym, ap, ◌∙◌, subst}
 use Rattle.std.specs.Prelude.{if◌then◌else◌}
 use Rattle.std.specs.Str.{bytes_eq}
-use Rattle.std.specs.List.{AllByRecursion, Contains}
-use Rattle.std.specs.Option.{option_map}
 use Rattle.mm_digest.specs.declared.variant.Variant.TheVariants.{Opt}
-use Rattle.mm_digest.specs.Messages.{extended_message}
-use Rattle.mm_platform.specs.Standing.{Item, Standing, item_values}
+use Rattle.mm_platform.specs.Standing.{Item, Standing}
 use Rattle.mm_module.specs.Meaning.{Meaning}
 use Rattle.mm_module.specs.Batch.{Batch, One}
 use Rattle.mm_seal.specs.declared.snapshot.PartsFault.{PartsFault}
 use Rattle.mm_seal.specs.declared.snapshot.PartsFault.TheVariants.{Form, Kind}
 use Rattle.mm_seal.specs.Snapshot.{Content, Snapshot, tag_of}
 use Rattle.mm_seal.specs.Parts.{parts_of}
-use Rattle.mm_model.specs.Chains.{trail}
 use Rattle.mm_model.specs.Instance.{Instance, opt}
-use Rattle.mm_model.specs.History.{History, Move, Foreign, moved, total_of, register_value_of}
+use Rattle.mm_model.specs.History.{History, Move, Foreign, moved, total_of}
 use Rattle.mm_model.specs.Judge.{judge}
 use Rattle.mm_model.specs.Life.{life_of, is_lost}
 use Rattle.mm_model.specs.Long.{is_long}
-use Rattle.mm_model.specs.Messages.{Within}
 use Rattle.mm_model.specs.Moves.{MayMove, digests_of}
 use Rattle.mm_model.specs.Places.{Names}
 use Rattle.mm_model.specs.Sound.{IsSound}
@@ -38,9 +33,9 @@ use Rattle.mm_call.specs.Courses.{Course, Walked, walk}
 use Rattle.mm_call.specs.Called.{called, ended_by, given_for}
 use Rattle.mm_call.specs.CallsOn.{CallsOn}
 use Rattle.mm_call.specs.Leaving.{whole}
-use Rattle.mm_call.specs.Standing.{shown}
-use Rattle.mm_call.specs.Asked.{counted_part, counted_moves, moves_messages, foreign_in, IsAsked}
-use Rattle.mm_call.specs.Tied.{foreign_items, standing_items, Tied, shows, nothing}
+use Rattle.mm_call.specs.Asked.{IsAsked}
+use Rattle.mm_call.specs.Premises.{AreAsked, AreShown}
+use Rattle.mm_call.specs.Tied.{standing_items}
 use Rattle.mm_call.proofs.BasicLaw.{unlacked}
 use Rattle.mm_call.proofs.Continuing.{stands_at}
 use Rattle.mm_call.proofs.Finding.{Asking, found_with_tells, weighed_tells}
@@ -48,54 +43,14 @@ use Rattle.mm_call.proofs.Moving.{same_batches, more_batches}
 use Rattle.mm_call.proofs.OptFinding.{placed}
 use Rattle.mm_call.proofs.OptHolding.{foreign_may}
 use Rattle.mm_call.proofs.Reading.{is_right}
+use Rattle.mm_call.proofs.Showing.{asked_of}
 use Rattle.mm_call.proofs.Tied.{opt_tied}
 use Rattle.mm_call.proofs.Walks.{Commits, nothing as none, batch, asks, opt_commits, foreign_first}
 use Rattle.mm_opt.specs.Asks.{Calls}
-use Rattle.mm_callers.specs.Basic.{AreAsked, AnswersOnce}
-use Rattle.mm_callers.specs.Opt.{AreShown, AsksOnce}
+use Rattle.mm_callers.specs.Basic.{AnswersOnce}
+use Rattle.mm_callers.specs.Opt.{AsksOnce}
 use Rattle.mm_callers.proofs.Calls.{Comes, kept, grown, answered_only, answer_again, fresh_found, again_found, fresh_again}
 use Rattle.mm_callers.proofs.Again.{answers_by}
-
--- What counts of the moves is what the register shows
-
-pub same_rest : (front more other : List Item) → front ++ more ≡ front ++ other → more ≡ other
-same_rest [] more other e = e
-same_rest (item ∷ front) more other e = same_rest front more other (cc)
-
-pub shown_same : (items : Option (List Item)) (f : List Item → List Item) (xs front more other : List Item) → items ≡ Some xs → f xs ≡ front ++ other → option_map f items ≡ Some (front ++ more) → other ≡ more
-shown_same None f xs front more other e g h = cc
-shown_same (Some ys) f xs front more other e g h =
-    let same : ys ≡ xs = cc in
-    let there : f ys ≡ front ++ more = cc in
-    same_rest front other more (sym g ∙ ap f (sym same) ∙ there)
-
-pub asked_by : (i : Instance) (all others : List (List ℕ)) (asked : List Batch) (y : History) (moves : List Move) (offer : List ℕ) (b : Batch) → AreAsked all others asked i y offer b
-    → Within (moves_messages i (counted_part y) (counted_moves y.is_open moves)) all → AllByRecursion (Contains others) (foreign_in (counted_moves y.is_open moves))
-    → IsAsked all others asked i y moves offer b
-asked_by i all others asked y moves offer b a messages values = record {
-  clear = a.clear;
-  apart = a.apart;
-  within = a.within;
-  is_asked = a.is_asked;
-  genuine = a.genuine;
-  offered = a.offered;
-  messages = messages;
-  values = values;
-}
-
-pub asked_of : (meaning : Meaning) (key barrier : List ℕ) (all others : List (List ℕ)) (asked : List Batch) (y : History) (moves : List Move) (offer : List ℕ) (b : Batch) (old new : Standing) (items more : List Item) → AreAsked all others asked (opt meaning key barrier) y offer b → AreShown all others (opt meaning key barrier) y more → old.items ≡ Some items
-    → new.items ≡ option_map (shown (opt meaning key barrier) (digests_of (opt meaning key barrier) y) moves) old.items → new.items ≡ Some (standing_items y.is_open items ++ more) → Tied (opt meaning key barrier) y (digests_of (opt meaning key barrier) y) moves → IsAsked all others asked (opt meaning key barrier) y moves offer b
-asked_of meaning key barrier all others asked y moves offer b old new items more a s known goes ends (shows other tied shown_is) =
-    let i : Instance = opt meaning key barrier in
-    let same : other ≡ more = shown_same old.items (shown i (digests_of i y) moves) items (standing_items y.is_open items) more other known (shown_is items) (sym goes ∙ ends) in
-    asked_by i all others asked y moves offer b a
-    (subst (λ (ms : List (List ℕ)). Within ms all) (sym (tied.messages ∙ ap (λ (x : List Item). trail extended_message (register_value_of i (counted_part y)) (item_values x)) same)) s.messages)
-    (subst (λ (vs : List (List ℕ)). AllByRecursion (Contains others) vs) (sym (tied.values ∙ ap foreign_items same)) s.values)
-asked_of meaning key barrier all others asked y moves offer b old new items more a s known goes ends (nothing is) =
-    let i : Instance = opt meaning key barrier in
-    asked_by i all others asked y moves offer b a
-    (subst (λ (ms : List Move). Within (moves_messages i (counted_part y) ms) all) (sym is) tt)
-    (subst (λ (ms : List Move). AllByRecursion (Contains others) (foreign_in ms)) (sym is) tt)
 
 -- What a call finds by lists
 

@@ -24,20 +24,20 @@ use Rattle.mm_call.specs.Called.{seen_at}
 use Rattle.mm_call.specs.Checkpoints.{closing_of, closed_by, checkpointed, IsClosedWithin}
 use Rattle.mm_call.specs.Courses.{End, Done, Fails, Fate, Walked, after_step, walk, closes}
 use Rattle.mm_call.specs.Levels.{by_lists, by_digests, all_made}
+use Rattle.mm_call.specs.Premises.{AreShown}
 use Rattle.mm_call.specs.Standing.{shown}
 use Rattle.mm_call.specs.Tied.{foreign_items, standing_items}
 use Rattle.mm_call.proofs.Checkpoints.{read_moves}
 use Rattle.mm_call.proofs.Continuing.{stands_at}
 use Rattle.mm_call.proofs.Moving.{committed_in, same_batches}
 use Rattle.mm_call.proofs.OptShut.{bare, counted_open}
+use Rattle.mm_call.proofs.Showing.{same_rest}
 use Rattle.mm_call.proofs.Walks.{finished, foreign_first, committed-foreign, foreign_in-foreign}
 use Rattle.mm_opt.specs.ChecksOn.{ChecksOn, closing_told}
 use Rattle.mm_opt.specs.declared.segment.Checkpointed.{Checkpointed as Said}
 use Rattle.mm_opt.specs.declared.segment.CheckpointRefusal.{CheckpointRefusal}
 use Rattle.mm_opt.specs.declared.segment.CheckpointRefusal.TheVariants as refusal
 use Rattle.mm_callers.specs.Closing.{MayClose, SaysClosing}
-use Rattle.mm_callers.specs.Opt.{AreShown}
-use Rattle.mm_callers.proofs.OptCalls.{same_rest}
 use Rattle.mm_callers.proofs.OptAlike.{closes_foreign, alike_still, names_alike}
 use Rattle.mm_callers.proofs.OptShown.{none_counted}
 use Rattle.mm_callers.proofs.OptLeaves.{GoesOn}

@@ -30,17 +30,18 @@ use Rattle.mm_call.specs.Called.{seen_at}
 use Rattle.mm_call.specs.Checkpoints.{closing_of, closed_by, checkpointed, IsClosedWithin}
 use Rattle.mm_call.specs.Standing.{StandsAt, shown}
 use Rattle.mm_call.specs.Asked.{counted_part, counted_moves, moves_messages, foreign_in, IsWithin}
+use Rattle.mm_call.specs.Premises.{AreShown}
 use Rattle.mm_call.specs.Tied.{foreign_items, standing_items}
 use Rattle.mm_call.proofs.Checkpoints.{read_moves, opt_checkpoints_agree}
 use Rattle.mm_call.proofs.Continuing.{stands_at}
 use Rattle.mm_call.proofs.OptHolding.{is_agrees}
 use Rattle.mm_call.proofs.OptShut.{bare, counted_open}
+use Rattle.mm_call.proofs.Showing.{same_rest}
 use Rattle.mm_call.proofs.Walks.{finished, made-append, messages-made, foreign_in-first, foreign_in-foreign, committed-foreign}
 use Rattle.mm_opt.specs.declared.segment.Checkpointed.{Checkpointed as Said}
 use Rattle.mm_opt.specs.ChecksOn.{ChecksOn, closing_told}
-use Rattle.mm_callers.specs.Opt.{AreShown}
 use Rattle.mm_callers.specs.Closing.{closing_messages, MayClose}
-use Rattle.mm_callers.proofs.OptCalls.{same_rest, sound_then, named_then}
+use Rattle.mm_callers.proofs.OptCalls.{sound_then, named_then}
 use Rattle.mm_callers.proofs.OptAlike.{closes_foreign, alike_still, names_alike}
 use Rattle.mm_callers.proofs.OptShown.{none_counted}
 use Rattle.mm_callers.proofs.OptLeaves.{GoesOn}

@@ -27,13 +27,13 @@ use Rattle.mm_call.specs.Called.{Called, Refuses, called, called_by, called_with
 use Rattle.mm_call.specs.CallsOn.{CallsOn, CallContinues}
 use Rattle.mm_call.specs.Leaving.{whole_in}
 use Rattle.mm_call.specs.Asked.{counted_part, counted_moves, moves_messages, foreign_in, IsAsked}
+use Rattle.mm_call.specs.Premises.{AreAsked}
 use Rattle.mm_call.proofs.OptLaw.{reset_messages}
 use Rattle.mm_call.proofs.OptShut.{counted_shut}
-use Rattle.mm_callers.specs.Basic.{AreAsked}
+use Rattle.mm_call.proofs.Showing.{asked_by}
 use Rattle.mm_callers.specs.Complete.{IsWelcome}
 use Rattle.mm_callers.specs.Opt.{AnswersOrLacks, AsksByQuietPlan, AsksInMemory}
 use Rattle.mm_callers.proofs.Completing.{opt_complete, welcome_found}
-use Rattle.mm_callers.proofs.OptCalls.{asked_by}
 
 -- the course of a call that nothing disturbs
 abbrev still_fates : ℕ → Fate

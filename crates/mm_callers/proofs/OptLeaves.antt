@@ -25,6 +25,7 @@ use Rattle.mm_call.specs.Called.{called, seen_at, ended_by, given_for}
 use Rattle.mm_call.specs.CallsOn.{CallsOn}
 use Rattle.mm_call.specs.Standing.{StandsAt, shown}
 use Rattle.mm_call.specs.Asked.{counted_part, counted_moves, moves_messages, foreign_in, IsWithin, IsAsked}
+use Rattle.mm_call.specs.Premises.{AreAsked, AreShown}
 use Rattle.mm_call.specs.Tied.{standing_items}
 use Rattle.mm_call.proofs.BasicLaw.{unlacked}
 use Rattle.mm_call.proofs.Continuing.{stands_at}
@@ -34,14 +35,13 @@ use Rattle.mm_call.proofs.OptHolding.{is_agrees}
 use Rattle.mm_call.proofs.OptLaw.{opt_calls_agree}
 use Rattle.mm_call.proofs.OptShapes.{Shape, shape}
 use Rattle.mm_call.proofs.OptShut.{bare, within_items}
+use Rattle.mm_call.proofs.Showing.{asked_by, asked_of, same_rest, Counts, counts_open}
 use Rattle.mm_call.proofs.Tied.{opt_tied}
 use Rattle.mm_call.proofs.Walks.{Commits, nothing, batch, changing, asks, opt_commits, taking, foreign_first, committed-foreign}
-use Rattle.mm_callers.specs.Basic.{AreAsked}
-use Rattle.mm_callers.specs.Opt.{AreShown}
 use Rattle.mm_callers.proofs.Calls.{Comes, kept, answered_only}
-use Rattle.mm_callers.proofs.OptCalls.{asked_by, asked_of, same_rest, seen_asking, comes}
+use Rattle.mm_callers.proofs.OptCalls.{seen_asking, comes}
 use Rattle.mm_callers.proofs.OptAlike.{opt_closes, foreign_closes, alike_still, alike_one, digests_still, closes_foreign, Alike, still, grown_by, same_closed, names_after}
-use Rattle.mm_callers.proofs.OptShown.{Way, only_reads, breaks_off, commits_it, way, pushed_open, Counts, counts_open, counts_opening, none_counted, flag_kept, flag_set, shown_front, shown_back, shown_shut, register_then, stands_with}
+use Rattle.mm_callers.proofs.OptShown.{Way, only_reads, breaks_off, commits_it, way, pushed_open, counts_opening, none_counted, flag_kept, flag_set, shown_front, shown_back, shown_shut, register_then, stands_with}
 
 -- what one call leaves: the history after it, and what is asked of that
 pub record OptAfter (all others : List (List ℕ)) (asked : List Batch) (meaning : Meaning) (key barrier : List ℕ) (y : History) (new : Standing) (offer : List ℕ) (b : Batch) (result : Result BatchAnswer Refusal) : Type 0 where

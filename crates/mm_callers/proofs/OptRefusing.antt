@@ -26,20 +26,22 @@ use Rattle.mm_call.specs.Courses.{End, Done, Fails as FailsAs, Fate, Walked, wal
 use Rattle.mm_call.specs.Found.{Found, found_at, found_unless_wanting, is_fresh}
 use Rattle.mm_call.specs.Leaving.{Blames, whole, whole_in}
 use Rattle.mm_call.specs.Levels.{by_lists, all_made}
+use Rattle.mm_call.specs.Premises.{AreAsked, AreShown}
 use Rattle.mm_call.specs.Refusals.{fault_of, fault_in}
 use Rattle.mm_call.specs.Tied.{standing_items}
 use Rattle.mm_call.proofs.Continuing.{stands_at}
 use Rattle.mm_call.proofs.OptShapes.{two_reads}
 use Rattle.mm_call.proofs.OptShut.{bare}
+use Rattle.mm_call.proofs.Showing.{asked_of}
 use Rattle.mm_call.proofs.Tied.{opt_tied}
 use Rattle.mm_call.proofs.Walks.{finished, changing, asks, opt_commits, foreign_first}
 use Rattle.mm_opt.specs.Asks.{Calls}
-use Rattle.mm_callers.specs.Basic.{AreAsked, in_first}
-use Rattle.mm_callers.specs.Opt.{AreShown, AsksOnce, AsksTwice}
+use Rattle.mm_callers.specs.Basic.{in_first}
+use Rattle.mm_callers.specs.Opt.{AsksOnce, AsksTwice}
 use Rattle.mm_callers.proofs.Calls.{Comes}
 use Rattle.mm_callers.proofs.Refusing.{Fails, fails, said_by, calm_then, IsCalm, Fell, fell_long, refuses_once, refuses_again, refuses_next}
 use Rattle.mm_callers.proofs.Twice.{once_after, answered_at}
-use Rattle.mm_callers.proofs.OptCalls.{asked_of, comes, answered_short, answered_once}
+use Rattle.mm_callers.proofs.OptCalls.{comes, answered_short, answered_once}
 use Rattle.mm_callers.proofs.OptAlike.{opt_closes, alike_still, Alike, names_after, issued_alike}
 use Rattle.mm_callers.proofs.OptLeaves.{alike_of, seen_closes, DigestMoves, GoesOn, call_goes_on, hands, asked_again}
 use Rattle.mm_callers.proofs.OptAsking.{asked_next, answered_after_fault, answered_twice}
@@ -139,7 +141,7 @@ refused_once meaning old new offer request why blames calls goes key barrier y a
     refuses_once all others asked (opt meaning key barrier) y old new offer (One request) why blames
     (fell_by meaning key barrier all others asked (is_long (One request)) y old new offer request why items more refl calls goes s known ends a shown_so)
 
-pub asked_once : (meaning : Meaning) (old new : Standing) (offer request : List ℕ) (result : Result Answer Refusal) → Blames (fault_in result) old.faults new.faults → Calls meaning old new offer (One request) (whole_in result)
+pub asked_once : (meaning : Meaning) (old new : Standing) (offer request : List ℕ) (result : Result Answer Refusal) → Blames (fault_in (whole_in result)) old.faults new.faults → Calls meaning old new offer (One request) (whole_in result)
     → (is_long (One request) ≡ false → CallsOn Opt meaning old new offer (One request) (whole_in result)) → AsksOnce meaning old new offer request result
 asked_once meaning old new offer request (Err why) blames calls goes = refused_once meaning old new offer request why blames calls goes
 asked_once meaning old new offer request (Ok answer) blames calls goes = answered_once meaning old new offer request answer calls goes
@@ -164,7 +166,7 @@ refused_after_fault meaning old middle new offer request first fault why is rose
     (asked_again meaning key barrier all others asked y middle offer request (Err first) h.left a) h.shown_are)
 
 pub asked_after_fault : (meaning : Meaning) (old middle new : Standing) (offer request : List ℕ) (first : Refusal) (fault : StepFault) (result : Result Answer Refusal) → first ≡ Device fault → Blames (fault_of first) old.faults middle.faults → Calls meaning old middle offer (One request) (Err first)
-    → (is_long (One request) ≡ false → CallsOn Opt meaning old middle offer (One request) (Err first)) → Blames (fault_in result) middle.faults new.faults → Calls meaning middle new offer (One request) (whole_in result)
+    → (is_long (One request) ≡ false → CallsOn Opt meaning old middle offer (One request) (Err first)) → Blames (fault_in (whole_in result)) middle.faults new.faults → Calls meaning middle new offer (One request) (whole_in result)
     → (is_long (One request) ≡ false → CallsOn Opt meaning middle new offer (One request) (whole_in result)) → AsksOnce meaning old new offer request result
 asked_after_fault meaning old middle new offer request first fault (Err why) is rose before f blames calls goes =
     refused_after_fault meaning old middle new offer request first fault why is rose before f blames calls goes
@@ -194,7 +196,7 @@ refused_second meaning lawful old middle new offer next first second one why sam
     (fell_by meaning key barrier all others asked t after middle new next second why h.items h.more refl then goes_on h.left.stands h.known h.ends asked_so.1 h.shown_are)
 
 pub asked_twice : (meaning : Meaning) → IsLawful meaning → (old middle new : Standing) (offer next first second : List ℕ) (one : Answer) (result : Result Answer Refusal) → middle.faults ≡ old.faults → Calls meaning old middle offer (One first) (Ok (whole one))
-    → (is_long (One first) ≡ false → CallsOn Opt meaning old middle offer (One first) (Ok (whole one))) → IsFit (One first) (whole one) → next ≡ one.snapshot → Blames (fault_in result) middle.faults new.faults
+    → (is_long (One first) ≡ false → CallsOn Opt meaning old middle offer (One first) (Ok (whole one))) → IsFit (One first) (whole one) → next ≡ one.snapshot → Blames (fault_in (whole_in result)) middle.faults new.faults
     → Calls meaning middle new next (One second) (whole_in result) → (is_long (One second) ≡ false → CallsOn Opt meaning middle new next (One second) (whole_in result)) → AsksTwice meaning old new offer first second result
 asked_twice meaning lawful old middle new offer next first second one (Err why) same calls goes fit e blames then goes_on =
     refused_second meaning lawful old middle new offer next first second one why same calls goes fit e blames then goes_on

@@ -24,20 +24,21 @@ use Rattle.mm_call.specs.Courses.{Walked, walk}
 use Rattle.mm_call.specs.Found.{Found, found_at, found_unless_wanting, is_fresh}
 use Rattle.mm_call.specs.Leaving.{Blames, whole}
 use Rattle.mm_call.specs.Levels.{by_digests, all_made}
+use Rattle.mm_call.specs.Premises.{AreAsked, AreShown}
 use Rattle.mm_call.specs.Refusals.{fault_of}
 use Rattle.mm_call.specs.Tied.{standing_items}
 use Rattle.mm_call.proofs.Continuing.{stands_at}
+use Rattle.mm_call.proofs.Showing.{asked_by}
 use Rattle.mm_opt.specs.Asks.{Calls}
 use Rattle.mm_opt.specs.ChecksOn.{ChecksOn}
 use Rattle.mm_opt.specs.declared.segment.Checkpointed.{Checkpointed as Said}
 use Rattle.mm_opt.specs.declared.segment.CheckpointRefusal.{CheckpointRefusal}
 use Rattle.mm_callers.specs.declared.closing.Halted.TheVariants.{Asking, Closing}
-use Rattle.mm_callers.specs.Basic.{AreAsked, finds, SaysUnlessFault}
+use Rattle.mm_callers.specs.Basic.{finds, SaysUnlessFault}
 use Rattle.mm_callers.specs.Closing.{MayClose, RepeatsBehind, EndsBehind, in_first, in_closing, in_second}
-use Rattle.mm_callers.specs.Opt.{AreShown}
 use Rattle.mm_callers.proofs.Twice.{once_after}
 use Rattle.mm_callers.proofs.Refusing.{Fell}
-use Rattle.mm_callers.proofs.OptCalls.{asked_by, answered_short}
+use Rattle.mm_callers.proofs.OptCalls.{answered_short}
 use Rattle.mm_callers.proofs.OptAlike.{names_after}
 use Rattle.mm_callers.proofs.OptShown.{none_counted}
 use Rattle.mm_callers.proofs.OptLeaves.{DigestMoves, hands}

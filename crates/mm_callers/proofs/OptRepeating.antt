@@ -24,6 +24,7 @@ use Rattle.mm_call.specs.Found.{Found, found_at, found_unless_wanting, is_fresh}
 use Rattle.mm_call.specs.Courses.{Fate, Walked, walk, closes}
 use Rattle.mm_call.specs.Called.{called, seen_at, ended_by, given_for}
 use Rattle.mm_call.specs.CallsOn.{CallsOn}
+use Rattle.mm_call.specs.Premises.{AreAsked, AreShown}
 use Rattle.mm_call.specs.Standing.{StandsAt, shown}
 use Rattle.mm_call.specs.Tied.{standing_items}
 use Rattle.mm_call.proofs.BasicLaw.{unlacked}
@@ -32,15 +33,15 @@ use Rattle.mm_call.proofs.Finding.{Asking}
 use Rattle.mm_call.proofs.OptFinding.{found_same, placed}
 use Rattle.mm_call.proofs.OptHolding.{is_agrees}
 use Rattle.mm_call.proofs.OptShut.{bare, bare_digests, found_digests, foreign_digests, holds_shut}
+use Rattle.mm_call.proofs.Showing.{same_rest}
 use Rattle.mm_call.proofs.Walks.{asks}
 use Rattle.mm_opt.specs.declared.segment.Checkpointed.{Checkpointed as Said}
 use Rattle.mm_opt.specs.ChecksOn.{ChecksOn}
-use Rattle.mm_callers.specs.Basic.{AreAsked, IsOnce, EndsWith}
+use Rattle.mm_callers.specs.Basic.{IsOnce, EndsWith}
 use Rattle.mm_callers.specs.Closing.{MayClose, RepeatsReply}
-use Rattle.mm_callers.specs.Opt.{AreShown}
 use Rattle.mm_callers.proofs.Calls.{Comes, kept, grown, one_content, fresh_found}
 use Rattle.mm_callers.proofs.Twice.{once_after, answered_at, not_again}
-use Rattle.mm_callers.proofs.OptCalls.{same_rest, right_at}
+use Rattle.mm_callers.proofs.OptCalls.{right_at}
 use Rattle.mm_callers.proofs.OptAlike.{opt_closes, Alike, still, grown_by, same_closed, names_alike}
 use Rattle.mm_callers.proofs.OptShown.{Brought, reads_only, flag_kept, shown_front}
 use Rattle.mm_callers.proofs.OptLeaves.{Left, DigestMoves, hands, left_reading, asked_again, call_goes_on}

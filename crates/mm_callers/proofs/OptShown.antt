@@ -25,15 +25,16 @@ use Rattle.mm_call.specs.Levels.{by_digests, all_made}
 use Rattle.mm_call.specs.Courses.{End, Done, Fails, Fate, Course, Walked, after_step, walk, closes}
 use Rattle.mm_call.specs.Called.{called}
 use Rattle.mm_call.specs.Standing.{cell_at, StandsAt, shown}
-use Rattle.mm_call.specs.Asked.{from_reset, counted_part, counted_moves, moves_messages, foreign_in}
-use Rattle.mm_call.specs.Tied.{foreign_items, standing_items, IsTied, Tied, shows, nothing}
+use Rattle.mm_call.specs.Asked.{from_reset, counted_part, counted_moves}
+use Rattle.mm_call.specs.Premises.{AreShown}
+use Rattle.mm_call.specs.Tied.{foreign_items, standing_items, Tied, shows, nothing}
 use Rattle.mm_call.proofs.Moving.{committed_in}
 use Rattle.mm_call.proofs.OptShapes.{Shape, still, reset}
 use Rattle.mm_call.proofs.OptShut.{bare, bare_digests, counted_open, counted_shut}
+use Rattle.mm_call.proofs.Showing.{Counts}
 use Rattle.mm_call.proofs.Tied.{opt_tied}
 use Rattle.mm_call.proofs.Walks.{nothing as none, batch, finished, changing, opt_commits, taking, committed-foreign, from_reset-foreign}
 use Rattle.mm_model.specs.Steps.{Reads}
-use Rattle.mm_callers.specs.Opt.{AreShown}
 
 -- The ways of a call: it makes its reading steps alone; it is broken off before it commits; or it commits the batch.
 pub data Way (b : Batch) (w : Walked) : Type 0 where
@@ -79,22 +80,6 @@ pub pushed_open : (meaning : Meaning) (key barrier : List ℕ) (d : Digests) (c 
 pushed_open meaning key barrier d c offer b f =
     pushed_by (opt meaning key barrier) d (called (opt meaning key barrier) (by_digests (opt meaning key barrier)) d c offer b).moves
     (opt_tied meaning key barrier some_open d c offer b f)
-
--- What counts of a call's moves is these items more.
-pub record Counts (i : Instance) (y : History) (d : Digests) (moves : List Move) : Type 0 where
-  pub more : List Item
-  pub tied : IsTied i y moves more
-  pub are : (items : List Item) → shown i d moves items ≡ standing_items y.is_open items ++ more
-
-pub counts_open : (i : Instance) (y : History) (d : Digests) (moves : List Move) → y.is_open ≡ true → Tied i y d moves → Counts i y d moves
-counts_open i y d moves e (shows more tied are) = record { more = more; tied = tied; are = are }
-counts_open i y d moves e (nothing is) =
-    let empty : moves ≡ [] = ap (λ (f : Bool). counted_moves f moves) (sym e) ∙ is in
-    record {
-      more = [];
-      tied = record { messages = ap (moves_messages i (counted_part y)) is; values = ap foreign_in is };
-      are = λ items. ap (λ (ms : List Move). shown i d ms items) empty ∙ sym (append-nil items) ∙ ap (λ (f : Bool). standing_items f items ++ []) (sym e);
-    }
 
 -- a commit with no segment open comes behind a reset
 resets : (fates : ℕ → Fate) (fresh : Bool) (b : Batch) (moves : List Move) → Shape fates fresh b moves → committed_in moves ≡ b ∷ [] → from_reset moves ≡ [] → ⊥
@@ -186,13 +171,13 @@ shown_shut all others i y z more e f a =
 
 -- The register's value, by the items that a platform shows.
 
-pub reads_value : (meaning : Meaning) (key barrier : List ℕ) (standing : Standing) (y : History) (items : List Item) → StandsFor (opt meaning key barrier) standing y → standing.items ≡ Some items → platform.register_of (item_values items) ≡ register_value_of (opt meaning key barrier) y
+pub reads_value : (meaning : Meaning) (key barrier : List ℕ) (standing : Standing) (y : History) (items : List Item) → StandsFor (opt meaning key barrier) standing y → standing.items ≡ Some items → platform.register_after (item_values items) ≡ register_value_of (opt meaning key barrier) y
 reads_value meaning key barrier standing y items s known =
-    let reads : Some (platform.register_of (item_values items)) ≡ Some (register_value_of (opt meaning key barrier) y) =
-    ap (λ (x : Option (List Item)). option_map (λ xs. platform.register_of (item_values xs)) x) (sym known) ∙ s.register in
+    let reads : Some (platform.register_after (item_values items)) ≡ Some (register_value_of (opt meaning key barrier) y) =
+    ap (λ (x : Option (List Item)). option_map (λ xs. platform.register_after (item_values xs)) x) (sym known) ∙ s.register in
     cc
 
-start_value : (flag : Bool) (i : Instance) (y : History) (items : List Item) → platform.register_of (item_values items) ≡ register_value_of i y → platform.register_of (item_values (standing_items flag items)) ≡ register_value_of i (record y { items = if flag then y.items else [] })
+start_value : (flag : Bool) (i : Instance) (y : History) (items : List Item) → platform.register_after (item_values items) ≡ register_value_of i y → platform.register_after (item_values (standing_items flag items)) ≡ register_value_of i (record y { items = if flag then y.items else [] })
 start_value true i y items e = e
 start_value false i y items e = sym reads_zero
 
@@ -200,9 +185,9 @@ register-append : (xs ys : List (List ℕ)) → register_of (xs ++ ys) ≡ after
 unfolding register_of
 register-append xs ys = after-append extended_message zero_bytes xs ys
 
-more_value : (xs more : List Item) → platform.register_of (item_values (xs ++ more)) ≡ after extended_message (platform.register_of (item_values xs)) (item_values more)
+more_value : (xs more : List Item) → platform.register_after (item_values (xs ++ more)) ≡ after extended_message (platform.register_after (item_values xs)) (item_values more)
 more_value xs more =
-    ap platform.register_of (map-append (λ (item : Item). item.value) xs more)
+    ap platform.register_after (map-append (λ (item : Item). item.value) xs more)
     ∙ register_folds (item_values xs ++ item_values more)
     ∙ register-append (item_values xs) (item_values more)
     ∙ ap (λ (s : List ℕ). after extended_message s (item_values more)) (sym (register_folds (item_values xs)))
@@ -226,10 +211,10 @@ pub stands_with : (meaning : Meaning) (key barrier : List ℕ) (y : History) (d 
     → StandsFor (opt meaning key barrier) standing (taking (bare y) (item_values items))
 stands_with meaning key barrier y d standing items s e known =
     let i : Instance = opt meaning key barrier in
-    let value : platform.register_of (item_values items) ≡ register_value_of i (taking (bare y) (item_values items)) =
+    let value : platform.register_after (item_values items) ≡ register_value_of i (taking (bare y) (item_values items)) =
     register_folds (item_values items) ∙ ap register_of (sym (entry_values_of barrier (item_values items))) in
     record {
       spells = subst (λ (x : Digests). IsCell (cell_at i x)) e s.spells;
       cell = s.cell ∙ ap (λ (x : Digests). Some (cell_spelling (cell_at i x))) e;
-      register = ap (λ (x : Option (List Item)). option_map (λ xs. platform.register_of (item_values xs)) x) known ∙ ap (λ (r : List ℕ). Some r) value;
+      register = ap (λ (x : Option (List Item)). option_map (λ xs. platform.register_after (item_values xs)) x) known ∙ ap (λ (r : List ℕ). Some r) value;
     }

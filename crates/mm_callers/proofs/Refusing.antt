@@ -19,8 +19,9 @@ use Rattle.mm_call.specs.Called.{ended_by, given_for}
 use Rattle.mm_call.specs.Found.{Found, found_at, found_unless_wanting, is_fresh}
 use Rattle.mm_call.specs.Leaving.{Blames}
 use Rattle.mm_call.specs.Levels.{by_lists}
+use Rattle.mm_call.specs.Premises.{AreAsked}
 use Rattle.mm_call.specs.Refusals.{fault_of}
-use Rattle.mm_callers.specs.Basic.{AreAsked, IsOnce, finds, SaysFound, SaysUnlessFault, Stays, IsLeft, Refuses, RefusesNext, in_second}
+use Rattle.mm_callers.specs.Basic.{IsOnce, finds, SaysFound, SaysUnlessFault, Stays, IsLeft, Refuses, RefusesNext, in_second}
 use Rattle.mm_callers.proofs.Calls.{Comes, kept, grown, one_content}
 use Rattle.mm_callers.proofs.Again.{apart}
 

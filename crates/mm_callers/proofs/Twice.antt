@@ -30,8 +30,9 @@ use Rattle.mm_model.specs.declared.answer.BatchAnswer.{BatchAnswer}
 use Rattle.mm_call.specs.Asked.{right_messages}
 use Rattle.mm_call.specs.CallsOn.{CallsOn}
 use Rattle.mm_call.specs.Found.{content_if_right, right_content}
+use Rattle.mm_call.specs.Premises.{AreAsked}
 use Rattle.mm_call.proofs.Reading.{is_right}
-use Rattle.mm_callers.specs.Basic.{AreAsked, AreAskedNext, IsOnce, AnswersNext}
+use Rattle.mm_callers.specs.Basic.{AreAskedNext, IsOnce, AnswersNext}
 use Rattle.mm_callers.proofs.Calls.{Comes, kept, grown}
 use Rattle.mm_callers.proofs.Again.{After, one_call}
 

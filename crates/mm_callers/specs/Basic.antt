@@ -10,29 +10,17 @@ use Rattle.mm_model.specs.Chains.{link_message, summary_of}
 use Rattle.mm_model.specs.Instance.{Instance, basic}
 use Rattle.mm_model.specs.History.{History}
 use Rattle.mm_model.specs.Long.{is_long}
-use Rattle.mm_model.specs.Messages.{Within, IsClear, AreNoGuards}
-use Rattle.mm_model.specs.Standing.{StandsFor, IsGenuine, issued_bytes}
+use Rattle.mm_model.specs.Standing.{StandsFor, issued_bytes}
 use Rattle.mm_model.specs.declared.answer.Answer.{Answer}
 use Rattle.mm_model.specs.declared.answer.BatchAnswer.{BatchAnswer}
 use Rattle.mm_model.specs.declared.refusal.Refusal.{Refusal}
 use Rattle.mm_model.specs.declared.refusal.Refusal.TheVariants.{Memory, Long}
 use Rattle.mm_call.specs.Answers.{answer_on}
-use Rattle.mm_call.specs.Asked.{IsWithin, right_messages}
-use Rattle.mm_call.specs.Found.{Found, found_at, right_content}
+use Rattle.mm_call.specs.Found.{Found, found_at}
 use Rattle.mm_call.specs.Leaving.{whole}
 use Rattle.mm_call.specs.Levels.{by_lists}
+use Rattle.mm_call.specs.Premises.{AreAsked}
 use Rattle.mm_call.specs.Refusals.{fault_of}
-
--- What is asked of a history, an offer and a batch. Nothing is asked of what others do, nor of steps: Basic never reads
--- the register.
-pub record AreAsked (all others : List (List ℕ)) (asked : List Batch) (i : Instance) (y : History) (offer : List ℕ)
-    (b : Batch) : Type 0 where
-  pub clear : IsClear all
-  pub apart : AreNoGuards i.barrier others asked
-  pub within : IsWithin all others asked i y
-  pub is_asked : Contains asked b
-  pub genuine : IsGenuine i y offer
-  pub offered : Within (right_messages i b (right_content i offer)) all
 
 -- the batches end with this one
 pub record EndsWith (batches : List Batch) (b : Batch) : Type 0 where

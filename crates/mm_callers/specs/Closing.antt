@@ -17,14 +17,14 @@ use Rattle.mm_model.specs.declared.refusal.Refusal.{Refusal}
 use Rattle.mm_call.specs.Asked.{counted_part}
 use Rattle.mm_call.specs.CallsOn.{CallsOn}
 use Rattle.mm_call.specs.Leaving.{whole}
+use Rattle.mm_call.specs.Premises.{AreAsked, AreShown}
 use Rattle.mm_call.specs.Refusals.{fault_of}
 use Rattle.mm_call.specs.Tied.{standing_items}
 use Rattle.mm_opt.specs.declared.segment.Checkpointed.{Checkpointed}
 use Rattle.mm_opt.specs.declared.segment.CheckpointRefusal.{CheckpointRefusal}
 use Rattle.mm_opt.specs.declared.segment.CheckpointRefusal.TheVariants.{Device, Blank, Cell, Kind, Lost}
 use Rattle.mm_opt.specs.ChecksOn.{ChecksOn}
-use Rattle.mm_callers.specs.Basic.{AreAsked, IsOnce, AnswersOnce, finds, SaysFound, Stays, Refuses}
-use Rattle.mm_callers.specs.Opt.{AreShown}
+use Rattle.mm_callers.specs.Basic.{IsOnce, AnswersOnce, finds, SaysFound, Stays, Refuses}
 use Rattle.mm_callers.specs.declared.closing.Replies.{Replies}
 use Rattle.mm_callers.specs.declared.closing.Halted.{Halted}
 use Rattle.mm_callers.specs.declared.closing.Halted.TheVariants.{Asking, Closing}

@@ -1,12 +1,12 @@
 -- What callers of Opt get, by lists alone. What is asked of what others do is asked of the register's items at exit.
 use Rattle.std.specs.Prelude.{◌≡◌, ℕ, Bool, true, false, List, [], ◌++◌, Some, Result, Ok, Err}
-use Rattle.std.specs.List.{AllByRecursion, Contains}
+use Rattle.std.specs.List.{Contains}
 use Rattle.mm_digest.specs.Messages.{extended_message}
-use Rattle.mm_platform.specs.Standing.{Item, Standing, item_values}
+use Rattle.mm_platform.specs.Standing.{Item, Standing}
 use Rattle.mm_platform.specs.Told.{quiet_plan}
 use Rattle.mm_module.specs.Meaning.{Meaning}
 use Rattle.mm_module.specs.Batch.{Batch, One}
-use Rattle.mm_model.specs.Chains.{trail, guard}
+use Rattle.mm_model.specs.Chains.{guard}
 use Rattle.mm_model.specs.Instance.{Instance, opt}
 use Rattle.mm_model.specs.History.{History, Commit, moved, register_value_of}
 use Rattle.mm_model.specs.Long.{is_long}
@@ -19,15 +19,10 @@ use Rattle.mm_model.specs.declared.refusal.Refusal.{Refusal}
 use Rattle.mm_model.specs.declared.refusal.Refusal.TheVariants.{Memory}
 use Rattle.mm_call.specs.Asked.{counted_part}
 use Rattle.mm_call.specs.Leaving.{whole, whole_in, IsAnswered}
+use Rattle.mm_call.specs.Premises.{AreAsked, AreShown}
 use Rattle.mm_call.specs.Tied.{standing_items, foreign_items}
-use Rattle.mm_callers.specs.Basic.{AreAsked, AnswersOnce, AnswersNext, IsOfRun, Refuses, RefusesNext}
+use Rattle.mm_callers.specs.Basic.{AnswersOnce, AnswersNext, IsOfRun, Refuses, RefusesNext}
 use Rattle.mm_callers.specs.Complete.{IsWelcome, batches_then}
-
--- What is asked of the items that the register shows at exit, behind those that counted at entry: their messages, one
--- after another, are in the clear list, and the values that aren't the platform's own are among those of others.
-pub record AreShown (all others : List (List ℕ)) (i : Instance) (y : History) (more : List Item) : Type 0 where
-  pub messages : Within (trail extended_message (register_value_of i (counted_part y)) (item_values more)) all
-  pub values : AllByRecursion (Contains others) (foreign_items more)
 
 -- One call, or one that is made again after a device's fault; inside a segment or across an opening.
 abbrev pub AsksOnce : Meaning → Standing → Standing → List ℕ → List ℕ → Result Answer Refusal → Type 0

@@ -20,6 +20,7 @@ use Rattle.mm_call.specs.Called.{called, given_for}
 use Rattle.mm_call.specs.CallsOn.{CallsOn}
 use Rattle.mm_call.specs.Levels.{by_lists, by_digests, all_made}
 use Rattle.mm_call.specs.Leaving.{whole_in}
+use Rattle.mm_call.specs.Premises.{AreAsked, AreShown}
 use Rattle.mm_call.specs.Refusals.{fault_of}
 use Rattle.mm_call.specs.Tied.{standing_items}
 use Rattle.mm_call.proofs.Continuing.{stands_at}
@@ -27,12 +28,11 @@ use Rattle.mm_call.proofs.Moving.{same_batches}
 use Rattle.mm_call.proofs.OptLaw.{before as seen_before}
 use Rattle.mm_call.proofs.Tied.{opt_tied}
 use Rattle.mm_call.proofs.OptShut.{bare}
+use Rattle.mm_call.proofs.Showing.{asked_of as asked_by_items}
 use Rattle.mm_call.proofs.Walks.{foreign_first}
-use Rattle.mm_callers.specs.Basic.{AreAsked}
-use Rattle.mm_callers.specs.Opt.{AreShown}
 use Rattle.mm_callers.proofs.Calls.{is_asked as basic_asked, names_made, Comes, comes as basic_comes}
 use Rattle.mm_callers.proofs.OptAlike.{Alike, still, grown_by}
-use Rattle.mm_callers.proofs.OptCalls.{asked_of as asked_by_items, comes}
+use Rattle.mm_callers.proofs.OptCalls.{comes}
 use Rattle.mm_store.specs.Kept.{StoreStanding}
 use Rattle.mm_store.specs.Pending.{Pending}
 use Rattle.mm_store.specs.Slots.{Slots, slot_read}

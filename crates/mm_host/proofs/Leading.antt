@@ -34,12 +34,11 @@ use Rattle.mm_call.specs.CallsOn.{CallsOn}
 use Rattle.mm_call.specs.Courses.{walk, closes}
 use Rattle.mm_call.specs.Found.{found_at, found_unless_wanting, is_fresh}
 use Rattle.mm_call.specs.Levels.{by_digests, all_made}
+use Rattle.mm_call.specs.Premises.{AreAsked, AreShown}
 use Rattle.mm_call.specs.Standing.{StandsAt, shown}
 use Rattle.mm_call.specs.Tied.{standing_items}
 use Rattle.mm_call.proofs.OptShut.{bare, counted_open}
 use Rattle.mm_call.proofs.Walks.{asks}
-use Rattle.mm_callers.specs.Basic.{AreAsked}
-use Rattle.mm_callers.specs.Opt.{AreShown}
 use Rattle.mm_callers.proofs.OptAlike.{Alike, still, grown_by, alike_commit, clean_open, issued_alike, names_after, opened, opt_closes, same_closed}
 use Rattle.mm_callers.proofs.OptAsking.{issued_content}
 use Rattle.mm_callers.proofs.OptLeaves.{GoesOn, Hands, hands}

@@ -25,7 +25,7 @@ use Rattle.mm_call.specs.Answers.{answer_on}
 use Rattle.mm_call.specs.Asked.{IsWithin as IsWithinAll, right_messages}
 use Rattle.mm_call.specs.Found.{right_content}
 use Rattle.mm_call.specs.Leaving.{whole, whole_in}
-use Rattle.mm_callers.specs.Basic.{AreAsked}
+use Rattle.mm_call.specs.Premises.{AreAsked}
 use Rattle.mm_callers.proofs.Twice.{right_of, listed_by}
 use Rattle.mm_schedule.specs.Machine.{StepsOn}
 use Rattle.mm_store.specs.declared.fault.StoreFault.{StoreFault}

@@ -17,9 +17,9 @@ use Rattle.mm_model.specs.declared.refusal.Refusal.{Refusal}
 use Rattle.mm_model.specs.declared.refusal.Refusal.TheVariants as refusal
 use Rattle.mm_call.specs.Asked.{IsWithin}
 use Rattle.mm_call.specs.Leaving.{whole, whole_in}
+use Rattle.mm_call.specs.Premises.{AreAsked}
 use Rattle.mm_call.specs.Refusals.{fault_of}
 use Rattle.mm_platform.specs.declared.fault.StepFault.{StepFault}
-use Rattle.mm_callers.specs.Basic.{AreAsked}
 use Rattle.mm_callers.proofs.Calls.{one_content, Comes}
 use Rattle.mm_store.specs.declared.fault.StoreFault.{StoreFault}
 use Rattle.mm_store.specs.declared.fault.StoreFault.TheVariants as fault

@@ -18,9 +18,9 @@ use Rattle.mm_model.specs.Places.{issued}
 use Rattle.mm_model.specs.Standing.{StandsFor}
 use Rattle.mm_model.specs.declared.answer.Answer.{Answer}
 use Rattle.mm_call.specs.Asked.{IsWithin}
+use Rattle.mm_call.specs.Premises.{AreShown}
 use Rattle.mm_call.specs.Refusals.{fault_of}
 use Rattle.mm_call.specs.Tied.{standing_items}
-use Rattle.mm_callers.specs.Opt.{AreShown}
 use Rattle.mm_schedule.specs.declared.reply.Reply.{Reply}
 use Rattle.mm_schedule.specs.declared.reply.Reply.TheVariants.{Told}
 use Rattle.mm_schedule.specs.Machine.{StepsOn}

@@ -155,6 +155,6 @@ folded s [] = refl
 folded s (v ∷ values) = folded (sha256 (extended_message s v)) values
 
 -- what a platform's register reads is the value of its items
-pub register_folds : (values : List (List ℕ)) → platform.register_of values ≡ register_of values
+pub register_folds : (values : List (List ℕ)) → platform.register_after values ≡ register_of values
 unfolding register_of
 register_folds values = folded zero_bytes values

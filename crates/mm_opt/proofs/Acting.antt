@@ -1,5 +1,5 @@
 -- Each turn makes exactly the device step that comes next.
-use Rattle.std.proofs.Common.{◌≡◌, ℕ, Bool, List, Option, None, Some, Result, Ok, Err, refl, sym, ap, ◌∙◌, subst}
+use Rattle.std.proofs.Common.{◌≡◌, ℕ, Bool, List, Option, None, Some, Result, Ok, Err, refl, sym, ap, ◌∙◌, subst, arith}
 use Rattle.std.specs.Result.{result_err}
 use Rattle.mm_platform.specs.declared.fault.StepFault.{StepFault}
 use Rattle.mm_platform.specs.declared.fault.StepFault.TheVariants.{Failed, Off}
@@ -26,8 +26,8 @@ use Rattle.mm_opt.specs.declared.stage.CheckpointStage.{CheckpointStage}
 use Rattle.mm_opt.specs.declared.stage.CheckpointStage.TheVariants as checkpoint_stage
 use Rattle.mm_opt.specs.declared.call.Turn.{Turn}
 use Rattle.mm_opt.specs.declared.closing.CheckpointTurn.{CheckpointTurn}
-use Rattle.mm_opt.specs.Steps.{MakesRoom}
-use Rattle.mm_opt.specs.Turns.{seen_turn, found_turn, emptied_turn, placed_turn, last_turn, Turns, fault_turned, ActsAt}
+use Rattle.mm_opt.specs.Steps.{IsReady, MayGoOn, MakesRoom}
+use Rattle.mm_opt.specs.Turns.{seen_turn, found_turn, emptied_turn, placed_turn, last_turn, Turns, TurnMayGoOn, fault_turned, ActsAt}
 use Rattle.mm_opt.specs.Checkpoints.{closing_fault_in}
 use Rattle.mm_opt.specs.CheckpointTurns.{looked_turn, weighed_turn, closed_turn, ClosingTurns, closing_fault_turned, ClosingActsAt}
 
@@ -94,6 +94,44 @@ acts_at (stage.Changing (change.Writing opening)) meaning old new offer b turn t
   goes = handed (WriteCell opening.next) old new (result_err t.outcome) (last_turn t.outcome) turn (last_fault t.outcome) t.gives t.step.goes;
   room = refl;
 }
+
+-- a call that goes on has the room that its extension takes
+seen_room : (cell : Result Cell Refusal) (new : Standing) → TurnMayGoOn (seen_turn cell) new
+seen_room (Ok cell) new = tt
+seen_room (Err why) new = tt
+
+found_room : (found : Result Found Refusal) (middle new : Standing) → MakesRoom found middle new → TurnMayGoOn (found_turn found) new
+found_room (Err why) middle new r = tt
+found_room (Ok (Repeat answer)) middle new r = tt
+found_room (Ok (Inside ready)) middle new r = r.room
+found_room (Ok (Opens opening)) middle new r = r.room
+
+emptied_room : (emptied : Result Opening StepFault) (old new : Standing) → IsReady old → Goes ResetRegister old new (result_err emptied) → TurnMayGoOn (emptied_turn emptied) new
+emptied_room (Err fault) old new ready g = tt
+emptied_room (Ok opening) old new ready g = omega (arith, ready, g.room)
+
+placed_room : (placed : Result Opening StepFault) (new : Standing) → TurnMayGoOn (placed_turn placed) new
+placed_room (Err fault) new = tt
+placed_room (Ok opening) new = tt
+
+last_room : (written : Result BatchAnswer StepFault) (new : Standing) → TurnMayGoOn (last_turn written) new
+last_room (Err fault) new = tt
+last_room (Ok answer) new = tt
+
+pub may_go_on : (call : Stage) (meaning : Meaning) (old new : Standing) (offer : List ℕ) (b : Batch) (turn : Turn)
+    → MayGoOn call old → Turns meaning call old new offer b turn → TurnMayGoOn turn new
+may_go_on stage.Begun meaning old new offer b turn ready t =
+    subst (λ (x : Turn). TurnMayGoOn x new) (sym t.gives) (seen_room t.outcome new)
+may_go_on (stage.Seen cell) meaning old new offer b turn ready t =
+    subst (λ (x : Turn). TurnMayGoOn x new) (sym t.gives) (found_room t.outcome t.step.middle new t.step.room)
+may_go_on (stage.Changing (change.Inside it)) meaning old new offer b turn ready t =
+    subst (λ (x : Turn). TurnMayGoOn x new) (sym t.gives) (last_room t.outcome new)
+may_go_on (stage.Changing (change.Emptying it)) meaning old new offer b turn ready t =
+    subst (λ (x : Turn). TurnMayGoOn x new) (sym t.gives) (emptied_room t.outcome old new ready t.step.goes)
+may_go_on (stage.Changing (change.Placing it)) meaning old new offer b turn ready t =
+    subst (λ (x : Turn). TurnMayGoOn x new) (sym t.gives) (placed_room t.outcome new)
+may_go_on (stage.Changing (change.Writing it)) meaning old new offer b turn ready t =
+    subst (λ (x : Turn). TurnMayGoOn x new) (sym t.gives) (last_room t.outcome new)
 
 -- the count of faults rises where a turn hands one on
 blamed : (fault : Option StepFault) (old new : Standing) (made : Bool) → EndsBy fault old new made → Blames fault old.faults new.faults

@@ -11,7 +11,8 @@ use Rattle.mm_platform.specs.Steps.{ReadCell, ReadRegister, Goes}
 use Rattle.mm_seal.specs.declared.cell.Cell.{Cell}
 use Rattle.mm_seal.specs.declared.cell.CellFault.{CellFault}
 use Rattle.mm_seal.specs.declared.cell.CellFault.TheVariants as fault
-use Rattle.mm_call.specs.Leaving.{IsUntouched}
+use Rattle.mm_call.specs.Leaving.{IsUntouched, Blames}
+use Rattle.mm_call.proofs.Leaving.{blamed, blamed_later}
 use Rattle.mm_opt.specs.declared.segment.Checkpointed.{Checkpointed}
 use Rattle.mm_opt.specs.declared.segment.CheckpointRefusal.{CheckpointRefusal}
 use Rattle.mm_opt.specs.declared.segment.CheckpointRefusal.TheVariants as refusal
@@ -46,6 +47,45 @@ looked_still (Ok (Open cell)) old middle new result g e = weighed_still e.found 
 
 pub leaves_still : (old new : Standing) (result : Result Checkpointed CheckpointRefusal) → ClosesSegment old new result → LeavesStill result old new
 leaves_still old new result c = looked_still c.found old c.middle new result c.looks.goes c.ends
+
+-- whom a checkpoint blames
+abbrev BlamesFor : Result Checkpointed CheckpointRefusal → Standing → Standing → Type 0
+BlamesFor result old new = Blames (closing_fault_in result) old.faults new.faults
+
+closed_blamed : (written : Result Checkpointed StepFault) (next : List ℕ) (old middle new : Standing) → middle.faults ≡ old.faults
+    → Closes next middle new written → BlamesFor (closing_handed_on written) old new
+closed_blamed (Ok it) next old middle new same c = c.goes.ends.faults ∙ same
+closed_blamed (Err why) next old middle new same c =
+    blamed_later (Some why) old.faults middle.faults new.faults same (blamed (Some why) middle new c.goes.is_made c.goes.ends)
+
+weighed_blamed : (found : Result (List ℕ) CheckpointRefusal) (cell : Cell) (old one two new : Standing)
+    (result : Result Checkpointed CheckpointRefusal) → one.faults ≡ old.faults → Weighs cell one two found
+    → EndsClosing found two new result → BlamesFor result old new
+weighed_blamed (Err why) cell old one two new result same w e =
+    subst (λ (r : Result Checkpointed CheckpointRefusal). BlamesFor r old new) (sym e.1)
+    (subst (λ (s : Standing). BlamesFor (Err why) old s) (sym e.0)
+    (blamed_later (closing_fault_of why) old.faults one.faults two.faults same
+    (blamed (closing_fault_of why) one two w.goes.is_made w.goes.ends)))
+weighed_blamed (Ok next) cell old one two new result same w e =
+    subst (λ (r : Result Checkpointed CheckpointRefusal). BlamesFor r old new) (sym e.gives)
+    (closed_blamed e.written next old two new (w.goes.ends.faults ∙ same) e.closes)
+
+looked_blamed : (found : Result Segment CheckpointRefusal) (old middle new : Standing)
+    (result : Result Checkpointed CheckpointRefusal) → Goes ReadCell old middle (closing_fault_in found)
+    → EndsLooking found middle new result → BlamesFor result old new
+looked_blamed (Err why) old middle new result g e =
+    subst (λ (r : Result Checkpointed CheckpointRefusal). BlamesFor r old new) (sym e.1)
+    (subst (λ (s : Standing). BlamesFor (Err why) old s) (sym e.0)
+    (blamed (closing_fault_of why) old middle g.is_made g.ends))
+looked_blamed (Ok Shut) old middle new result g e =
+    subst (λ (r : Result Checkpointed CheckpointRefusal). BlamesFor r old new) (sym e.1)
+    (subst (λ (s : Standing). s.faults ≡ old.faults) (sym e.0) g.ends.faults)
+looked_blamed (Ok (Open cell)) old middle new result g e =
+    weighed_blamed e.found cell old middle e.middle new result g.ends.faults e.weighs e.ends
+
+pub closing_blamed : (old new : Standing) (result : Result Checkpointed CheckpointRefusal) → ClosesSegment old new result
+    → Blames (closing_fault_in result) old.faults new.faults
+closing_blamed old new result c = looked_blamed c.found old c.middle new result c.looks.goes c.ends
 
 -- what the first step refuses, and what the second does
 abbrev IsFirst : CheckpointRefusal → Type 0

@@ -13,3 +13,5 @@ pub mod Going
 pub mod Calling
 pub mod Checking
 pub mod Finishing
+pub mod Completeness
+pub mod Asked

@@ -10,3 +10,7 @@ pub mod TurnsOn
 pub mod ChecksOn
 pub mod CheckpointTurnsOn
 pub mod Finishes
+pub mod Complete
+pub mod Asked
+pub mod Moved
+pub mod Closed

@@ -63,13 +63,9 @@ impl Call {
     ghost use Rattle.mm_module.specs.Batches.{batch_of};
     ghost use Rattle.mm_model.specs.Long.{is_long};
     ghost use Rattle.mm_opt.specs.Steps.{step_number, MayGoOn};
-    ghost use Rattle.mm_opt.specs.Turns.{Turns, ActsAt, TurnMayGoOn, stage_position, fault_turned};
-    ghost use Rattle.mm_call.specs.Leaving.{Blames};
-    ghost use Rattle.mm_opt.specs.TurnsOn.{TurnsOn};
+    ghost use Rattle.mm_opt.specs.Turns.{Turns, stage_position};
     ghost use Rattle.mm_opt.specs.Finishes.{Finishes};
-    ghost use Rattle.mm_call.specs.Ended.{result_of, CallsTo};
-    ghost use Rattle.mm_call.specs.Refusals.{fault_in};
-    ghost use Rattle.mm_digest.specs.declared.variant.Variant.TheVariants.{Opt};
+    ghost use Rattle.mm_opt.specs.Moved.{AdvancedInOpt, FinishedInOpt};
 
     /// The number of the next device step, from 1.
     pub fn next_step(&self) -> u8
@@ -107,13 +103,7 @@ impl Call {
     ) -> Turn
         requires short { is_long (batch_of batch) ≡ false }
         requires room { MayGoOn self (P.standing platform.old) }
-        ensures turns { Turns (M.meaning «module».now) self (P.standing platform.old)
-            (P.standing platform.new) offer.now (batch_of batch.entry) result }
-        ensures acts { ActsAt self (P.standing platform.old) (P.standing platform.new) result }
-        ensures room { TurnMayGoOn result (P.standing platform.new) }
-        ensures faults { Blames (fault_turned result) (P.standing platform.old).faults
-            (P.standing platform.new).faults }
-        ensures goes { TurnsOn (M.meaning «module».now) self (P.standing platform.old)
+        ensures { AdvancedInOpt (M.meaning «module».now) self (P.standing platform.old)
             (P.standing platform.new) offer.now (batch_of batch.entry) result }
     {
         self.advance_keeping(alloc, module, platform, offer, batch, &mut KeptKey::new())
@@ -131,13 +121,7 @@ impl Call {
     ) -> Turn
         requires short { is_long (batch_of batch) ≡ false }
         requires room { MayGoOn self (P.standing platform.old) }
-        ensures turns { Turns (M.meaning «module».now) self (P.standing platform.old)
-            (P.standing platform.new) offer.now (batch_of batch.entry) result }
-        ensures acts { ActsAt self (P.standing platform.old) (P.standing platform.new) result }
-        ensures room { TurnMayGoOn result (P.standing platform.new) }
-        ensures faults { Blames (fault_turned result) (P.standing platform.old).faults
-            (P.standing platform.new).faults }
-        ensures goes { TurnsOn (M.meaning «module».now) self (P.standing platform.old)
+        ensures { AdvancedInOpt (M.meaning «module».now) self (P.standing platform.old)
             (P.standing platform.new) offer.now (batch_of batch.entry) result }
     {
         self.make_step(alloc, module, platform, offer, batch, keys)
@@ -154,12 +138,8 @@ impl Call {
     ) -> Ended
         requires short { is_long (batch_of batch) ≡ false }
         requires room { MayGoOn self (P.standing platform.old) }
-        ensures finishes { Finishes (M.meaning «module».now) self (P.standing platform.old)
+        ensures { FinishedInOpt (M.meaning «module».now) self (P.standing platform.old)
             (P.standing platform.new) offer.now (batch_of batch.entry) result }
-        ensures ends { self ≡ Begun → CallsTo Opt (M.meaning «module».now) (P.standing platform.old)
-            (P.standing platform.new) offer.now (batch_of batch.entry) result }
-        ensures faults { Blames (fault_in (result_of result)) (P.standing platform.old).faults
-            (P.standing platform.new).faults }
     {
         self.finish_keeping(alloc, module, platform, offer, batch, &mut KeptKey::new())
     }
@@ -176,12 +156,8 @@ impl Call {
     ) -> Ended
         requires short { is_long (batch_of batch) ≡ false }
         requires room { MayGoOn self (P.standing platform.old) }
-        ensures finishes { Finishes (M.meaning «module».now) self (P.standing platform.old)
+        ensures { FinishedInOpt (M.meaning «module».now) self (P.standing platform.old)
             (P.standing platform.new) offer.now (batch_of batch.entry) result }
-        ensures ends { self ≡ Begun → CallsTo Opt (M.meaning «module».now) (P.standing platform.old)
-            (P.standing platform.new) offer.now (batch_of batch.entry) result }
-        ensures faults { Blames (fault_in (result_of result)) (P.standing platform.old).faults
-            (P.standing platform.new).faults }
     {
         self.make_steps(alloc, module, platform, offer, batch, keys)
     }

@@ -1,10 +1,9 @@
 //! A checkpoint, which closes the open segment: in one, or moved one device step at a time.
 
 ghost use Rattle.std.specs.Prelude.{◌≡◌, None};
-ghost use Rattle.mm_call.specs.Leaving.{Blames};
 ghost use Rattle.mm_opt.specs.declared.stage.CheckpointStage.TheVariants.{Begun};
-ghost use Rattle.mm_opt.specs.ChecksOn.{ChecksOn};
-ghost use Rattle.mm_opt.specs.Checkpoints.{SeesSegment, segment_by, closing_fault_in, closing_in, Looks, Weighs, Closes, ClosesBy, WeighsAndCloses, ClosesSegment, LeavesStill, ClosingStepsBy};
+ghost use Rattle.mm_opt.specs.Checkpoints.{SeesSegment, segment_by, closing_fault_in, closing_in, Looks, Weighs, Closes, ClosesBy, WeighsAndCloses, ClosesSegment};
+ghost use Rattle.mm_opt.specs.Closed.{ClosedInOpt};
 
 use crate::segment::{CheckpointRefusal, Checkpointed, Segment};
 use crate::stage::CheckpointStage;
@@ -135,12 +134,7 @@ impl CheckpointTurn {
 /// One checkpoint: closes the open segment, so that power may be lost. Takes no memory. After every refusal but
 /// Device nothing has changed, but for the count of steps and what others put into the register.
 pub fn checkpoint<P: Platform>(platform: &mut P) -> Result<Checkpointed, CheckpointRefusal>
-    ensures closes { ClosesSegment (P.standing platform.old) (P.standing platform.new) result }
-    ensures untouched { LeavesStill result (P.standing platform.old) (P.standing platform.new) }
-    ensures faults { Blames (closing_fault_in result) (P.standing platform.old).faults
-        (P.standing platform.new).faults }
-    ensures steps { ClosingStepsBy result (P.standing platform.old) (P.standing platform.new) }
-    ensures goes { ChecksOn (P.standing platform.old) (P.standing platform.new) result }
+    ensures { ClosedInOpt (P.standing platform.old) (P.standing platform.new) result }
 {
     look_and_close(platform)
 }

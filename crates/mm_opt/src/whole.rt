@@ -2,16 +2,14 @@
 
 ghost use Rattle.std.specs.Prelude.{◌≡◌, true, false, Err, IfOk, length};
 ghost use Rattle.std.specs.Result.{result_err};
-ghost use Rattle.mm_digest.specs.declared.variant.Variant.TheVariants.{Opt};
 ghost use Rattle.mm_module.specs.Batch.{One};
 ghost use Rattle.mm_module.specs.Batches.{batch_of};
-ghost use Rattle.mm_model.specs.Fit.{IsFit};
 ghost use Rattle.mm_model.specs.Long.{is_long};
 ghost use Rattle.mm_call.specs.Refusals.{fault_in};
-ghost use Rattle.mm_call.specs.Leaving.{LeavesUntouched, Blames, whole_in};
-ghost use Rattle.mm_call.specs.CallsOn.{CallsOn};
+ghost use Rattle.mm_call.specs.Leaving.{Blames, whole_in};
 ghost use Rattle.mm_opt.specs.declared.stage.Stage.TheVariants.{Begun};
-ghost use Rattle.mm_opt.specs.Asks.{Reads, ReadsOn, MayCommit, LeavesRoom, CommitsFound, Calls, StepsBy, WritesBy};
+ghost use Rattle.mm_opt.specs.Asked.{AskedInOpt};
+ghost use Rattle.mm_opt.specs.Asks.{Reads, ReadsOn, MayCommit, LeavesRoom, CommitsFound, Calls};
 
 use crate::call::{Call, begin};
 use crate::finish::finish_found;
@@ -176,8 +174,9 @@ fn call<M: Module, P: Platform>(
     offer: &[u8],
     batch: Batch<'_>,
 ) -> Result<BatchAnswer, Refusal>
-    ensures { Calls (M.meaning «module».now) (P.standing platform.old) (P.standing platform.new)
+    ensures calls { Calls (M.meaning «module».now) (P.standing platform.old) (P.standing platform.new)
         offer.now (batch_of batch.entry) result }
+    ensures faults { Blames (fault_in result) (P.standing platform.old).faults (P.standing platform.new).faults }
 {
     match begin(batch) {
         Err(refusal) => Err(refusal),
@@ -196,8 +195,9 @@ fn finished<M: Module, P: Platform>(
 ) -> Result<BatchAnswer, Refusal>
     requires short { is_long (batch_of batch) ≡ false }
     requires begun { call ≡ Begun }
-    ensures { Calls (M.meaning «module».now) (P.standing platform.old) (P.standing platform.new)
+    ensures calls { Calls (M.meaning «module».now) (P.standing platform.old) (P.standing platform.new)
         offer.now (batch_of batch.entry) result }
+    ensures faults { Blames (fault_in result) (P.standing platform.old).faults (P.standing platform.new).faults }
 {
     call.finish(alloc, module, platform, offer, batch).result()
 }
@@ -212,16 +212,8 @@ pub fn ask_batch<M: Module, P: Platform>(
     offer: &[u8],
     batch: Batch<'_>,
 ) -> Result<BatchAnswer, Refusal>
-    ensures calls { Calls (M.meaning «module».now) (P.standing platform.old) (P.standing platform.new)
+    ensures { AskedInOpt (M.meaning «module».now) (P.standing platform.old) (P.standing platform.new)
         offer.now (batch_of batch.entry) result }
-    ensures untouched { LeavesUntouched result (P.standing platform.old) (P.standing platform.new) }
-    ensures faults { Blames (fault_in result) (P.standing platform.old).faults (P.standing platform.new).faults }
-    ensures steps { is_long (batch_of batch.entry) ≡ false →
-        StepsBy result (P.standing platform.old) (P.standing platform.new) }
-    ensures writes { WritesBy result (P.standing platform.old) (P.standing platform.new) }
-    ensures fits { IfOk result (λ answer. IsFit (batch_of batch.entry) answer) }
-    ensures goes { is_long (batch_of batch.entry) ≡ false → CallsOn Opt (M.meaning «module».now) (P.standing platform.old)
-        (P.standing platform.new) offer.now (batch_of batch.entry) result }
 {
     call(alloc, module, platform, offer, batch)
 }
@@ -234,29 +226,7 @@ pub fn ask<M: Module, P: Platform>(
     offer: &[u8],
     request: &[u8],
 ) -> Result<Answer, Refusal>
-    ensures calls { Calls (M.meaning «module».now) (P.standing platform.old) (P.standing platform.new)
-        offer.now (One request.now) (whole_in result) }
-    ensures untouched { LeavesUntouched (whole_in result) (P.standing platform.old) (P.standing platform.new) }
-    ensures faults { Blames (fault_in result) (P.standing platform.old).faults (P.standing platform.new).faults }
-    ensures steps { is_long (One request.now) ≡ false →
-        StepsBy (whole_in result) (P.standing platform.old) (P.standing platform.new) }
-    ensures writes { WritesBy (whole_in result) (P.standing platform.old) (P.standing platform.new) }
-    ensures fits { IfOk (whole_in result) (λ answer. IsFit (One request.now) answer) }
-    ensures goes { is_long (One request.now) ≡ false → CallsOn Opt (M.meaning «module».now) (P.standing platform.old)
-        (P.standing platform.new) offer.now (One request.now) (whole_in result) }
-{
-    ask_one(alloc, module, platform, offer, request)
-}
-
-// One call that asks for one request, from the offer to the answer.
-fn ask_one<M: Module, P: Platform>(
-    alloc: Global,
-    module: &M,
-    platform: &mut P,
-    offer: &[u8],
-    request: &[u8],
-) -> Result<Answer, Refusal>
-    ensures { Calls (M.meaning «module».now) (P.standing platform.old) (P.standing platform.new)
+    ensures { AskedInOpt (M.meaning «module».now) (P.standing platform.old) (P.standing platform.new)
         offer.now (One request.now) (whole_in result) }
 {
     match call_one(alloc, module, platform, offer, request) {
@@ -273,9 +243,9 @@ fn call_one<M: Module, P: Platform>(
     offer: &[u8],
     request: &[u8],
 ) -> Result<BatchAnswer, Refusal>
-    ensures calls { Calls (M.meaning «module».now) (P.standing platform.old) (P.standing platform.new)
+    ensures asked { AskedInOpt (M.meaning «module».now) (P.standing platform.old) (P.standing platform.new)
         offer.now (One request.now) result }
     ensures one { IfOk result (λ answer. length answer.outputs ≡ 1) }
 {
-    call(alloc, module, platform, offer, Batch::One(request))
+    ask_batch(alloc, module, platform, offer, Batch::One(request))
 }

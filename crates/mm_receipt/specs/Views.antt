@@ -2,5 +2,5 @@
 use Rattle.mm_receipt.specs.Table as table
 use Rattle.mm_receipt.specs.declared.receipted.Kept.{Kept}
 
-abbrev pub as_kept : Kept → table.Kept
+abbrev pub as_kept : Kept → table.ReceiptState
 as_kept kept = record { count = kept.count; key = kept.key; inner = kept.inner.now }

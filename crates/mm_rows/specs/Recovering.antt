@@ -10,8 +10,8 @@ use Rattle.mm_model.specs.History.{History}
 use Rattle.mm_model.specs.Messages.{IsClear, AreNoGuards}
 use Rattle.mm_model.specs.Standing.{StandsFor}
 use Rattle.mm_call.specs.Asked.{IsWithin}
+use Rattle.mm_call.specs.Premises.{AreShown}
 use Rattle.mm_call.specs.Tied.{standing_items}
-use Rattle.mm_callers.specs.Opt.{AreShown}
 use Rattle.mm_host.specs.declared.fault.HostFault.{HostFault}
 use Rattle.mm_host.specs.declared.resuming.Resumed.{Resumed}
 use Rattle.mm_host.specs.Fitting.{FitsHistory}

@@ -54,7 +54,7 @@ write_fails at bytes old mid new h r w e f =
           ∙ ap (option_map (spliced at part)) (told_is old r)
           ∙ ap Some (put_behind at n part r.bytes fits within)
           ∙ ap (option_map (spliced at (behind part range))) (sym (told_is old r));
-      whole_bytes = λ none. absurd (cc);
+      whole = λ none. absurd (cc);
       still = λ off. let g : false ≡ true = sym off ∙ r.on in absurd (cc);
       rest = record {
         others = [];

@@ -12,7 +12,7 @@ returns-clause-once g c =
 pub returns-clause-welcome : goal.returns-clause-welcome
 returns-clause-welcome g c =
     asked_welcome (g.M.Module.meaning c.args.module.now) (g.P.Device.standing c.args.platform.now) (g.P.Device.standing c.ask.new.platform)
-    c.args.offer.now c.args.request.now c.ask.result c.ask.ensures.faults c.ask.ensures.goes
+    c.args.offer.now c.args.request.now c.ask.result c.ask.ensures.complete
 
 pub returns-clause-complete : goal.returns-clause-complete
 returns-clause-complete g c =

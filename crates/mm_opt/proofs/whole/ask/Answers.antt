@@ -1,32 +1,15 @@
+use Rattle.std.proofs.Common.{Ok, subst}
 use Rattle.mm_module.specs.Batch.{One}
-use Rattle.mm_call.specs.Leaving.{whole_in}
-use Rattle.mm_opt.proofs.Asking.{untouched, steps}
-use Rattle.mm_opt.proofs.Writing.{writes}
-use Rattle.mm_opt.proofs.Fits.{fits}
-use Rattle.mm_opt.proofs.Calling.{calls_on}
+use Rattle.mm_model.specs.declared.answer.BatchAnswer.{BatchAnswer}
+use Rattle.mm_call.proofs.Leaving.{wholly}
+use Rattle.mm_opt.specs.Asked.{AskedInOpt}
 use Rattle.mm_opt.proofs.whole.ask.Goals as goal
 
-pub returns-clause-untouched : goal.returns-clause-untouched
-returns-clause-untouched g c =
-    untouched (g.M.Module.meaning c.args.module.now) (g.P.Device.standing c.args.platform.now)
-    (g.P.Device.standing c.ask_one.new.platform) c.args.offer.now (One c.args.request.now) (whole_in c.ask_one.result) c.ask_one.ensures
-
-pub returns-clause-steps : goal.returns-clause-steps
-returns-clause-steps g c =
-    steps (g.M.Module.meaning c.args.module.now) (g.P.Device.standing c.args.platform.now)
-    (g.P.Device.standing c.ask_one.new.platform) c.args.offer.now (One c.args.request.now) (whole_in c.ask_one.result) c.ask_one.ensures
-
-pub returns-clause-writes : goal.returns-clause-writes
-returns-clause-writes g c =
-    writes (g.M.Module.meaning c.args.module.now) (g.P.Device.standing c.args.platform.now)
-    (g.P.Device.standing c.ask_one.new.platform) c.args.offer.now (One c.args.request.now) (whole_in c.ask_one.result) c.ask_one.ensures
-
-pub returns-clause-fits : goal.returns-clause-fits
-returns-clause-fits g c =
-    fits (g.M.Module.meaning c.args.module.now) (g.met.M.Module.is_lawful c.args.module.now) (g.P.Device.standing c.args.platform.now)
-    (g.P.Device.standing c.ask_one.new.platform) c.args.offer.now (One c.args.request.now) (whole_in c.ask_one.result) c.ask_one.ensures
-
-pub returns-clause-goes : goal.returns-clause-goes
-returns-clause-goes g c =
-    calls_on (g.M.Module.meaning c.args.module.now) (g.P.Device.standing c.args.platform.now)
-    (g.P.Device.standing c.ask_one.new.platform) c.args.offer.now (One c.args.request.now) (whole_in c.ask_one.result) c.ask_one.ensures
+pub returns-in-Ok : goal.returns-in-Ok
+returns-in-Ok g c =
+    subst
+    (λ (a : BatchAnswer). AskedInOpt (g.M.Module.meaning c.args.module.now) (g.P.Device.standing c.args.platform.now)
+    (g.P.Device.standing c.call_one.new.platform) c.args.offer.now (One c.args.request.now) (Ok a))
+    (wholly c.in-Ok.answer c.into_one.result c.into_one.ensures.again c.into_one.ensures.position
+    c.into_one.ensures.output c.into_one.ensures.snapshot)
+    c.in-Ok.ensures.asked

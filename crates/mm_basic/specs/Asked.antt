@@ -1,0 +1,35 @@
+-- What a whole call of Basic promises.
+use Rattle.std.specs.Prelude.{◌≡◌, ℕ, false, List, Result, IfOk}
+use Rattle.mm_digest.specs.declared.variant.Variant.TheVariants.{Basic}
+use Rattle.mm_platform.specs.Standing.{Standing}
+use Rattle.mm_module.specs.Meaning.{Meaning}
+use Rattle.mm_module.specs.Batch.{Batch}
+use Rattle.mm_model.specs.Fit.{IsFit}
+use Rattle.mm_model.specs.Long.{is_long}
+use Rattle.mm_model.specs.declared.answer.BatchAnswer.{BatchAnswer}
+use Rattle.mm_model.specs.declared.refusal.Refusal.{Refusal}
+use Rattle.mm_call.specs.CallsOn.{CallsOn}
+use Rattle.mm_call.specs.Leaving.{LeavesUntouched, Blames}
+use Rattle.mm_call.specs.Refusals.{fault_in}
+use Rattle.mm_basic.specs.Asks.{Calls, StepsBy}
+use Rattle.mm_basic.specs.Continuity.{Continues, IsComplete}
+
+-- One call over a platform, that offered these bytes and asked for the batch.
+pub record AskedInBasic (meaning : Meaning) (old new : Standing) (offer : List ℕ) (b : Batch)
+    (result : Result BatchAnswer Refusal) : Type 0 where
+  -- the steps that were made, and what each gave; none where the batch is too long
+  pub calls : Calls meaning old new offer b result
+  -- a refusal that hands on no device's fault has changed nothing
+  pub untouched : LeavesUntouched result old new
+  -- the count of faults rose exactly where a device's fault is handed on
+  pub faults : Blames (fault_in result) old.faults new.faults
+  -- how many steps that were, and how many of them write the cell
+  pub steps : is_long b ≡ false → StepsBy result old new
+  -- an answer has its sizes: a position, a line for each request, and a snapshot within its bounds
+  pub fits : IfOk result (λ answer. IsFit b answer)
+  -- the call is the one that the definitions give, on some course: by digests, and by lists
+  pub goes : is_long b ≡ false → CallsOn Basic meaning old new offer b result
+  -- state continuity: from each history that the platform stands for, the answer is the history's
+  pub continuity : Continues meaning old new offer b result
+  -- a right offer that the history accepts is answered
+  pub complete : IsComplete meaning old new offer b result

@@ -1,0 +1,34 @@
+-- What a call of Basic promises that is moved by one step, or to its end.
+use Rattle.std.specs.Prelude.{◌≡◌, ℕ, List, Option, None}
+use Rattle.mm_digest.specs.declared.variant.Variant.TheVariants.{Basic}
+use Rattle.mm_platform.specs.Standing.{Standing}
+use Rattle.mm_module.specs.Meaning.{Meaning}
+use Rattle.mm_module.specs.Batch.{Batch}
+use Rattle.mm_call.specs.declared.ended.Ended.{Ended}
+use Rattle.mm_call.specs.Ended.{CallsTo, result_of}
+use Rattle.mm_call.specs.Leaving.{Blames}
+use Rattle.mm_call.specs.Refusals.{fault_in}
+use Rattle.mm_basic.specs.declared.call.Turn.{Turn}
+use Rattle.mm_basic.specs.declared.found.Ready.{Ready}
+use Rattle.mm_basic.specs.Asks.{Finishes}
+use Rattle.mm_basic.specs.Turns.{Turns, TurnContinues, turn_fault}
+
+-- One turn of a call, by what is ready to be committed.
+pub record AdvancedInBasic (meaning : Meaning) (ready : Option Ready) (old new : Standing) (offer : List ℕ) (b : Batch)
+    (turn : Turn) : Type 0 where
+  -- what its step did, and what the turn gives
+  pub turns : Turns meaning ready old new offer b turn
+  -- the count of faults rose exactly where a device's fault is handed on
+  pub faults : Blames (turn_fault turn) old.faults new.faults
+  -- state continuity of the step
+  pub continuity : TurnContinues meaning ready old new offer b turn
+
+-- What was left of a call, by what was ready to be committed.
+pub record FinishedInBasic (meaning : Meaning) (ready : Option Ready) (old new : Standing) (offer : List ℕ) (b : Batch)
+    (ended : Ended) : Type 0 where
+  -- the steps that were made, and what each gave
+  pub finishes : Finishes meaning ready old new offer b ended
+  -- from its beginning it is the call that the definitions give, on some course: by digests, and by lists
+  pub ends : ready ≡ None → CallsTo Basic meaning old new offer b ended
+  -- the count of faults rose exactly where a device's fault is handed on
+  pub faults : Blames (fault_in (result_of ended)) old.faults new.faults

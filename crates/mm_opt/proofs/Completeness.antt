@@ -1,0 +1,199 @@
+-- A right offer that the verdict on the history accepts is answered, where a call's steps bring nothing into a segment.
+use Rattle.std.proofs.Common.{◌≡◌, ℕ, ◌+◌, ◌≤◌, ◌^◌, ◌&&◌, Bool, true, false, List, [], ◌∷◌, ◌++◌, length, map, Option, None, Some, Result, Ok, Err, refl, sym, ap, ◌∙◌, subst, inl, inr, le-leb}
+use Rattle.std.specs.Prelude.{if◌then◌else◌, nat_eq, nat_le}
+use Rattle.std.specs.Str.{bytes_eq}
+use Rattle.std.proofs.lemmas.Slice.Eq.{bytes_eq-Decides}
+use Rattle.mm_digest.specs.declared.variant.Variant.TheVariants.{Opt}
+use Rattle.mm_platform.specs.declared.fault.StepFault.{StepFault}
+use Rattle.mm_platform.specs.Standing.{Item, Standing}
+use Rattle.mm_module.specs.Meaning.{Meaning}
+use Rattle.mm_module.specs.Batch.{Batch, size_of, normal}
+use Rattle.mm_module.proofs.BatchLaws.{members_of-normal}
+use Rattle.mm_seal.specs.Parts.{parts_of}
+use Rattle.mm_seal.specs.Snapshot.{Content, tag_of, offered_of}
+use Rattle.mm_seal.proofs.SealLaws.{sealed_parts}
+use Rattle.mm_model.specs.Instance.{Instance, opt}
+use Rattle.mm_model.specs.History.{History, Move, Foreign, Value, total_of}
+use Rattle.mm_model.specs.Judge.{judge, judged, is_last}
+use Rattle.mm_model.specs.Life.{Life, Live, Spoiled, Lost, life_of, is_lost}
+use Rattle.mm_model.specs.Moves.{Digests, digests_of}
+use Rattle.mm_model.specs.Standing.{StandsFor, IsRight}
+use Rattle.mm_model.specs.Steps.{ask_steps}
+use Rattle.mm_model.specs.declared.answer.BatchAnswer.{BatchAnswer}
+use Rattle.mm_model.specs.declared.refusal.Refusal.{Refusal}
+use Rattle.mm_model.specs.declared.refusal.Refusal.TheVariants as refusal
+use Rattle.mm_call.specs.Asked.{counted_moves, foreign_in, IsAsked}
+use Rattle.mm_call.specs.Called.{called, ended_by, given_for}
+use Rattle.mm_call.specs.CallsOn.{CallsOn}
+use Rattle.mm_call.specs.Courses.{End, Done, Course, Walked, walk}
+use Rattle.mm_call.specs.Found.{Found, found_with, found_by_verdict, found_at, found_unless_wanting, is_fresh}
+use Rattle.mm_call.specs.Leaving.{Blames, IsAccepted, IsAnswered}
+use Rattle.mm_call.specs.Levels.{by_lists, by_digests, all_made}
+use Rattle.mm_call.specs.Premises.{AreAsked, AreShown}
+use Rattle.mm_call.specs.Refusals.{fault_in}
+use Rattle.mm_call.specs.Standing.{shown}
+use Rattle.mm_call.specs.Tied.{standing_items, foreign_items}
+use Rattle.mm_call.proofs.Continuing.{stands_at}
+use Rattle.mm_call.proofs.Moving.{same_batches}
+use Rattle.mm_call.proofs.OptHolding.{is_agrees}
+use Rattle.mm_call.proofs.OptLaw.{before, sight_is, opt_calls_agree}
+use Rattle.mm_call.proofs.OptShapes.{two_reads, reading, past, cut}
+use Rattle.mm_call.proofs.OptShut.{life_bare}
+use Rattle.mm_call.proofs.Showing.{asked_of, shown_same, counts_open}
+use Rattle.mm_call.proofs.Tied.{opt_tied}
+use Rattle.mm_call.proofs.Walks.{changing, asks, foreign_first, foreign_in-first}
+use Rattle.mm_call.proofs.Weighing.{weighs}
+use Rattle.mm_opt.specs.Asks.{Calls}
+use Rattle.mm_opt.specs.Complete.{AnswersAccepted}
+use Rattle.mm_opt.proofs.Calling.{calls_on}
+
+-- What the verdict accepts.
+
+-- a history on which an offer is accepted is live
+live_if : (l : Life) (here repeat : Bool) → IsAccepted (judged l here repeat) → l ≡ Live
+live_if Live here repeat a = refl
+live_if Spoiled here repeat a = absurd a
+live_if Lost here repeat a = absurd a
+
+-- the verdict by this life and these batches
+abbrev IsAcceptedBy : Life → List Batch → ℕ → Batch → Type 0
+IsAcceptedBy l batches p b =
+    IsAccepted (judged l (nat_eq p (total_of batches)) (nat_eq (p + size_of b) (total_of batches) && is_last batches b))
+
+-- and so it is accepted on another live history of the same batches
+accepted_then : (y sees : History) (p : ℕ) (b : Batch) → sees.batches ≡ y.batches → life_of Opt sees ≡ Live
+    → life_of Opt y ≡ Live → IsAccepted (judge Opt y p b) → IsAccepted (judge Opt sees p b)
+accepted_then y sees p b same there live a =
+    subst (λ (l : Life). IsAcceptedBy l sees.batches p b) (sym there)
+    (subst (λ (bs : List Batch). IsAcceptedBy Live bs p b) (sym same)
+    (subst (λ (l : Life). IsAcceptedBy l y.batches p b) live a))
+
+-- it was found
+record IsFound (x : Result Found Refusal) : Type 0 where
+  found : Found
+  is : x ≡ Ok found
+
+accepted_found : (i : Instance) (y : History) (offer : List ℕ) (b : Batch) (content : Content) → life_of i.variant y ≡ Live
+    → IsRight i offer content → IsAccepted (judge i.variant y content.position b) → content.position + size_of b ≤ 2 ^ 48
+    → IsFound (found_at i (by_lists i) y b offer)
+accepted_found i y offer b content live right accepted fits =
+    let parts : parts_of i.variant i.meaning.id offer ≡ Ok (offered_of i.key content) =
+    ap (parts_of i.variant i.meaning.id) right.sealed
+    ∙ sealed_parts i.key content i.variant i.meaning.id right.formed right.variant right.id in
+    let spelled : i.meaning.is_spelled content.state ≡ true = right.state in
+    let tag : List ℕ = tag_of i.key content in
+    let e = weighs (i.meaning.is_spelled content.state) (bytes_eq tag tag) (nat_le (content.position + size_of b) (2 ^ 48))
+    (judge i.variant y content.position b) spelled ((bytes_eq-Decides tag tag).1 refl)
+    (le-leb (content.position + size_of b) (2 ^ 48) fits) accepted in
+    record {
+      found = record { offered = content; again = e.again };
+      is = ap (λ (l : Life). if is_lost l then Err refusal.Lost else found_by_verdict i (by_lists i) y b (parts_of i.variant i.meaning.id offer)) live
+          ∙ ap (found_by_verdict i (by_lists i) y b) parts
+          ∙ ap (found_with content) e.is;
+    }
+
+-- What a call sees.
+
+-- a walk that isn't broken off has made both reading steps
+both_done : (v : List (List ℕ)) (e : End) (w : List (List ℕ)) (f : End) (rest : Walked) → (two_reads v e w f rest).broken ≡ None → (e ≡ Done) × (f ≡ Done)
+both_done v e w f rest whole =
+    elim (reading v w e f) [
+      | past p q ↦ (p, q)
+      | cut walked brought fault is moves broken ↦
+          let clash : None ≡ Some fault = sym whole ∙ ap (λ (x : Walked). x.broken) (is rest) ∙ broken in absurd (cc)
+    ]
+
+nil_front : (xs ys : List (List ℕ)) → xs ++ ys ≡ [] → (xs ≡ []) × (ys ≡ [])
+nil_front [] ys e = (refl, e)
+nil_front (x ∷ xs) ys e = absurd (cc)
+
+no_values : (v w : List (List ℕ)) (rest : List Move) → foreign_in (map Foreign v ++ (map Foreign w ++ rest)) ≡ [] → (v ≡ []) × (w ≡ [])
+no_values v w rest e =
+    let one = nil_front v (foreign_in (map Foreign w ++ rest)) (sym (foreign_in-first v (map Foreign w ++ rest)) ∙ e) in
+    let two = nil_front w (foreign_in rest) (sym (foreign_in-first w rest) ∙ one.1) in
+    (one.0, two.0)
+
+-- what a call sees is live, where nobody brought values inside a segment
+sees_open : (i : Instance) (y : History) (c : Course) → (c.fates 1).brings ≡ [] → (c.fates 2).brings ≡ [] → all_made (by_lists i) y (before c) ≡ y
+sees_open i y c p q =
+    ap (λ (v : List (List ℕ)). all_made (by_lists i) y (map Foreign v ++ (map Foreign (c.fates 2).brings ++ []))) p
+    ∙ ap (λ (w : List (List ℕ)). all_made (by_lists i) y (map Foreign w ++ [])) q
+
+sees_shut : (meaning : Meaning) (key barrier : List ℕ) (y : History) (c : Course) → y.is_open ≡ false → life_of Opt (all_made (by_lists (opt meaning key barrier)) y (before c)) ≡ life_of Opt y
+sees_shut meaning key barrier y c e =
+    let items = (y.items ++ map Value (c.fates 1).brings) ++ map Value (c.fates 2).brings in
+    ap (life_of Opt) (sight_is (opt meaning key barrier) y c) ∙ life_bare y items e ∙ sym (life_bare y y.items e)
+
+sees_live : (flag : Bool) (meaning : Meaning) (key barrier : List ℕ) (y : History) (c : Course) → life_of Opt y ≡ Live → y.is_open ≡ flag → (flag ≡ true → ((c.fates 1).brings ≡ []) × ((c.fates 2).brings ≡ []))
+    → life_of Opt (all_made (by_lists (opt meaning key barrier)) y (before c)) ≡ Live
+sees_live true meaning key barrier y c live e none =
+    ap (life_of Opt) (sees_open (opt meaning key barrier) y c (none refl).0 (none refl).1) ∙ live
+sees_live false meaning key barrier y c live e none = sees_shut meaning key barrier y c e ∙ live
+
+-- a call that wasn't broken off, and found an offer that is accepted, or lacked memory
+whole_answers : (lacks : Bool) (i : Instance) (sees end : History) (b : Batch) (found : Found) (moves : List Move) (result : Result BatchAnswer Refusal) (old new : Standing) → result ≡ given_for (ended_by (by_lists i) sees end b (found_unless_wanting (Ok found) lacks) moves None) → IsAnswered result old new
+whole_answers false i sees end b found moves result old new e = subst (λ (r : Result BatchAnswer Refusal). IsAnswered r old new) (sym e) (inl refl)
+whole_answers true i sees end b found moves result old new e = subst (λ (r : Result BatchAnswer Refusal). IsAnswered r old new) (sym e) (inr (inl refl))
+
+answered_by : (broken : Option StepFault) (i : Instance) (sees end : History) (b : Batch) (lacks : Bool) (moves : List Move)
+    (result : Result BatchAnswer Refusal) (old new : Standing) → Blames (fault_in result) old.faults new.faults
+    → (x : Result Found Refusal) → (broken ≡ None → IsFound x)
+    → result ≡ given_for (ended_by (by_lists i) sees end b (found_unless_wanting x lacks) moves broken) → IsAnswered result old new
+answered_by (Some fault) i sees end b lacks moves result old new blames x finds e =
+    inr (inr (subst (λ (r : Result BatchAnswer Refusal). Blames (fault_in r) old.faults new.faults) e blames))
+answered_by None i sees end b lacks moves result old new blames x finds e =
+    let f = finds refl in
+    whole_answers lacks i sees end b f.found moves result old new
+    (e ∙ ap (λ (r : Result Found Refusal). given_for (ended_by (by_lists i) sees end b (found_unless_wanting r lacks) moves None)) f.is)
+
+accepted_answers : (meaning : Meaning) (key barrier : List ℕ) (all others : List (List ℕ)) (asked : List Batch) (y : History)
+    (old new : Standing) (offer : List ℕ) (batch : Batch) (result : Result BatchAnswer Refusal) (items more : List Item)
+    (content : Content) → Blames (fault_in result) old.faults new.faults → CallsOn Opt meaning old new offer batch result
+    → StandsFor (opt meaning key barrier) old y → old.items ≡ Some items
+    → new.items ≡ Some (standing_items y.is_open items ++ more) → (y.is_open ≡ true → foreign_items more ≡ [])
+    → AreAsked all others asked (opt meaning key barrier) y offer (normal batch)
+    → AreShown all others (opt meaning key barrier) y more → IsRight (opt meaning key barrier) offer content
+    → IsAccepted (judge Opt y content.position (normal batch)) → content.position + size_of (normal batch) ≤ 2 ^ 48
+    → IsAnswered result old new
+accepted_answers meaning key barrier all others asked y old new offer batch result items more content blames c s known ends alone a shown_so right accepted fits =
+    let i : Instance = opt meaning key barrier in
+    let b : Batch = normal batch in
+    let d : Digests = digests_of i y in
+    let moves : List Move = (called i (by_digests i) d c.course offer b).moves in
+    let g = c.goes key barrier d (stands_at i old y s) in
+    let tie = opt_tied meaning key barrier y d c.course offer b refl in
+    let is_asked : IsAsked all others asked i y moves offer b = asked_of meaning key barrier all others asked y moves offer b old new items more a shown_so known g.items ends tie in
+    let k = c.continues key barrier y all others asked s is_asked in
+    let same = opt_calls_agree meaning key barrier all others asked y d c.course offer b (is_agrees i y d refl) is_asked in
+    let v : List (List ℕ) = (c.course.fates 1).brings in
+    let u : List (List ℕ) = (c.course.fates 2).brings in
+    let sees : History = all_made (by_lists i) y (before c.course) in
+    let at : Result Found Refusal = found_at i (by_lists i) sees b offer in
+    let found : Result Found Refusal = found_unless_wanting at c.course.lacks in
+    let walked : Walked = walk c.course.fates 1 (ask_steps Opt y.is_open (is_fresh found) b) in
+    let rest : Walked = walk c.course.fates 3 (changing y.is_open (is_fresh found) b) in
+    let steps : walked ≡ two_reads v (c.course.fates 1).ends u (c.course.fates 2).ends rest = ap (walk c.course.fates 1) (asks y.is_open (is_fresh found) b) in
+    let brought : walked.broken ≡ None → y.is_open ≡ true → (v ≡ []) × (u ≡ []) = λ whole e.
+    let t = counts_open i y d moves e tie in
+    let more_is : t.more ≡ more = shown_same old.items (shown i d moves) items (standing_items y.is_open items) more t.more known (t.are items) (sym g.items ∙ ends) in
+    let empty : foreign_in moves ≡ [] = ap (λ (f : Bool). foreign_in (counted_moves f moves)) (sym e) ∙ t.tied.values ∙ ap foreign_items more_is ∙ alone e in
+    let done = both_done v (c.course.fates 1).ends u (c.course.fates 2).ends rest (ap (λ (x : Walked). x.broken) (sym steps) ∙ whole) in
+    let there : foreign_in (two_reads v Done u Done rest).moves ≡ [] =
+    ap (λ (z : End). foreign_in (two_reads v Done u z rest).moves) (sym done.1) ∙ ap (λ (z : End). foreign_in (two_reads v z u (c.course.fates 2).ends rest).moves) (sym done.0)
+    ∙ ap (λ (x : Walked). foreign_in x.moves) (sym steps) ∙ ap foreign_in (sym same.moves) ∙ empty in
+    no_values v u rest.moves there in
+    let batches : sees.batches ≡ y.batches = same_batches i (before c.course) y (foreign_first v (map Foreign u ++ []) ∙ foreign_first u []) in
+    let live : life_of Opt y ≡ Live = live_if (life_of Opt y) (nat_eq content.position (total_of y.batches))
+    (nat_eq (content.position + size_of b) (total_of y.batches) && is_last y.batches b) accepted in
+    let finds : walked.broken ≡ None → IsFound at = λ whole.
+    let there = sees_live y.is_open meaning key barrier y c.course live refl (brought whole) in
+    accepted_found i sees offer b content there right (accepted_then y sees content.position b batches there live accepted) fits in
+    answered_by walked.broken i sees (all_made (by_lists i) y walked.moves) b c.course.lacks walked.moves result old new blames at finds k.gives
+
+pub complete : (meaning : Meaning) (old new : Standing) (offer : List ℕ) (b : Batch) (result : Result BatchAnswer Refusal)
+    → Calls meaning old new offer b result → Blames (fault_in result) old.faults new.faults
+    → AnswersAccepted meaning old new offer b result
+complete meaning old new offer b result calls blames short key barrier y all others asked items more content s known ends alone a shown_so right accepted fits =
+    accepted_answers meaning key barrier all others asked y old new offer b result items more content blames
+    (calls_on meaning old new offer b result calls short) s known ends alone a shown_so right accepted
+    (subst (λ (members : List (List ℕ)). content.position + length members ≤ 2 ^ 48) (sym (members_of-normal b)) fits)

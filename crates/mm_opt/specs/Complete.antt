@@ -1,0 +1,33 @@
+-- When a call of Opt is answered.
+use Rattle.std.specs.Prelude.{◌≡◌, ℕ, ◌+◌, ◌≤◌, ◌^◌, true, false, List, [], ◌++◌, Some, Result}
+use Rattle.mm_digest.specs.declared.variant.Variant.TheVariants.{Opt}
+use Rattle.mm_platform.specs.Standing.{Item, Standing}
+use Rattle.mm_module.specs.Meaning.{Meaning}
+use Rattle.mm_module.specs.Batch.{Batch, size_of, normal}
+use Rattle.mm_seal.specs.Snapshot.{Content}
+use Rattle.mm_model.specs.Instance.{opt}
+use Rattle.mm_model.specs.History.{History}
+use Rattle.mm_model.specs.Judge.{judge}
+use Rattle.mm_model.specs.Long.{is_long}
+use Rattle.mm_model.specs.Standing.{StandsFor, IsRight}
+use Rattle.mm_model.specs.declared.answer.BatchAnswer.{BatchAnswer}
+use Rattle.mm_model.specs.declared.refusal.Refusal.{Refusal}
+use Rattle.mm_call.specs.Leaving.{IsAccepted, IsAnswered}
+use Rattle.mm_call.specs.Premises.{AreAsked, AreShown}
+use Rattle.mm_call.specs.Tied.{standing_items, foreign_items}
+
+-- Completeness: a right offer of the last position of a live history, or of the one before the batch that was committed
+-- last and is asked again, is answered, while there are positions left; where nobody else extended the register inside a
+-- segment.
+abbrev pub AnswersAccepted : Meaning → Standing → Standing → List ℕ → Batch → Result BatchAnswer Refusal → Type 0
+AnswersAccepted meaning old new offer b result =
+    is_long b ≡ false → (key barrier : List ℕ) (y : History) (all others : List (List ℕ)) (asked : List Batch)
+    (items more : List Item) (content : Content) →
+    StandsFor (opt meaning key barrier) old y →
+    old.items ≡ Some items → new.items ≡ Some (standing_items y.is_open items ++ more) →
+    (y.is_open ≡ true → foreign_items more ≡ []) →
+    AreAsked all others asked (opt meaning key barrier) y offer (normal b) →
+    AreShown all others (opt meaning key barrier) y more →
+    IsRight (opt meaning key barrier) offer content →
+    IsAccepted (judge Opt y content.position (normal b)) → content.position + size_of b ≤ 2 ^ 48 →
+    IsAnswered result old new

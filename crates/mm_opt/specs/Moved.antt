@@ -1,0 +1,40 @@
+-- What a call of Opt promises that is moved by one step, or to its end.
+use Rattle.std.specs.Prelude.{◌≡◌, ℕ, List}
+use Rattle.mm_digest.specs.declared.variant.Variant.TheVariants.{Opt}
+use Rattle.mm_platform.specs.Standing.{Standing}
+use Rattle.mm_module.specs.Meaning.{Meaning}
+use Rattle.mm_module.specs.Batch.{Batch}
+use Rattle.mm_call.specs.declared.ended.Ended.{Ended}
+use Rattle.mm_call.specs.Ended.{CallsTo, result_of}
+use Rattle.mm_call.specs.Leaving.{Blames}
+use Rattle.mm_call.specs.Refusals.{fault_in}
+use Rattle.mm_opt.specs.declared.call.Turn.{Turn}
+use Rattle.mm_opt.specs.declared.stage.Stage.{Stage}
+use Rattle.mm_opt.specs.declared.stage.Stage.TheVariants.{Begun}
+use Rattle.mm_opt.specs.Finishes.{Finishes}
+use Rattle.mm_opt.specs.Turns.{Turns, ActsAt, TurnMayGoOn, fault_turned}
+use Rattle.mm_opt.specs.TurnsOn.{TurnsOn}
+
+-- One turn of a call that stands at this stage.
+pub record AdvancedInOpt (meaning : Meaning) (stage : Stage) (old new : Standing) (offer : List ℕ) (b : Batch)
+    (turn : Turn) : Type 0 where
+  -- what its step did, and what the turn gives
+  pub turns : Turns meaning stage old new offer b turn
+  -- the step is the one that comes next
+  pub acts : ActsAt stage old new turn
+  -- a call that goes on has the room that its extension takes
+  pub room : TurnMayGoOn turn new
+  -- the count of faults rose exactly where a device's fault is handed on
+  pub faults : Blames (fault_turned turn) old.faults new.faults
+  -- the step is the next one of the walk, from any digests that the platform stands at
+  pub goes : TurnsOn meaning stage old new offer b turn
+
+-- What was left of a call that stood at this stage.
+pub record FinishedInOpt (meaning : Meaning) (stage : Stage) (old new : Standing) (offer : List ℕ) (b : Batch)
+    (ended : Ended) : Type 0 where
+  -- the steps that were made, and what each gave
+  pub finishes : Finishes meaning stage old new offer b ended
+  -- from its beginning it is the call that the definitions give, on some course: by digests, and by lists
+  pub ends : stage ≡ Begun → CallsTo Opt meaning old new offer b ended
+  -- the count of faults rose exactly where a device's fault is handed on
+  pub faults : Blames (fault_in (result_of ended)) old.faults new.faults
