@@ -43,11 +43,12 @@ impl Deciding {
         let expecting = Expecting::new(alloc, header)?;
         let mut numbers = Numbers::new(alloc);
         numbers.list(alloc, &[0, header.variant.byte(), header.module.id()])?;
+        let lines = Vec::new(alloc);
         Ok(Deciding {
             expecting,
             numbers,
             forged: None,
-            lines: Vec::new(alloc),
+            lines,
         })
     }
 
