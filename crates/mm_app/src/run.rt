@@ -5,7 +5,7 @@ ghost use Rattle.mm_app.specs.Running.{LooksAtInstance, RunsInstance, SeesInstan
 use crate::status::Status;
 use crate::stop::write_stop;
 use crate::telling::stopped;
-use mm_base::{Sink, Source};
+use mm_base::{CELL_LENGTH, Sink, Source};
 use mm_host::session;
 use mm_modules::by_id;
 use mm_platform::Platform;
@@ -37,7 +37,7 @@ pub fn run_instance<P: Platform, T: Store, S: Source, K: Sink>(
 fn look<P: Platform>(platform: &mut P) -> Result<Header, Status>
     ensures { LooksAtInstance (P.standing platform.old) (P.standing platform.new) result }
 {
-    let mut bytes = [0; 104];
+    let mut bytes = [0; CELL_LENGTH];
     match platform.nv_read(&mut bytes) {
         Err(_) => Err(Status::PlatformFault),
         Ok(()) => instance_in(&bytes),
@@ -45,7 +45,7 @@ fn look<P: Platform>(platform: &mut P) -> Result<Header, Status>
 }
 
 // What these bytes of a cell hold: a variant and a module.
-fn instance_in(bytes: &[u8; 104]) -> Result<Header, Status>
+fn instance_in(bytes: &[u8; CELL_LENGTH]) -> Result<Header, Status>
     ensures { SeesInstance bytes.now result }
 {
     match read_cell(bytes) {

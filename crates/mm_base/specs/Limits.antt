@@ -17,6 +17,10 @@ most_members = 64
 abbrev pub last_position : ℕ
 last_position = 2 ^ 48
 
+-- the bytes of a cell
+abbrev pub cell_length : ℕ
+cell_length = 104
+
 -- the most events of a schedule
 abbrev pub most_events : ℕ
 most_events = 20000

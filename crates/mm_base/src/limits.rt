@@ -12,5 +12,8 @@ pub const MOST_MEMBERS: usize = 64;
 /// The greatest position, 2^48: the most requests that are counted.
 pub const LAST_POSITION: u64 = 281474976710656;
 
+/// The bytes of a cell.
+pub const CELL_LENGTH: usize = 104;
+
 /// The most events of a schedule.
 pub const MOST_EVENTS: u32 = 20_000;

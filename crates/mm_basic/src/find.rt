@@ -18,6 +18,7 @@ ghost use Rattle.mm_basic.specs.Steps.{FindsIn};
 ghost use Rattle.mm_call.specs.Refusals.{OrMemory, fault_in};
 
 use crate::found::{Found, Ready};
+use mm_base::CELL_LENGTH;
 use mm_call::{KeptKey, answer, examine};
 use mm_digest::{Digest, Variant, successor, successor_batch};
 use mm_model::{Refusal, Verdict, has_tab};
@@ -29,7 +30,7 @@ use std::alloc::Global;
 pub fn find<M: Module>(
     alloc: Global,
     module: &M,
-    bytes: &[u8; 104],
+    bytes: &[u8; CELL_LENGTH],
     offer: &[u8],
     batch: Batch<'_>,
     keys: &mut KeptKey,

@@ -1,12 +1,13 @@
 //! What a call finds when it has read the cell.
 
+use mm_base::CELL_LENGTH;
 use mm_model::BatchAnswer;
 
 /// A batch that has run in memory.
 #[derive(Drop)]
 pub struct Ready {
     /// The cell's bytes that commit it.
-    pub next: [u8; 104],
+    pub next: [u8; CELL_LENGTH],
     /// The answer, which is handed out once the cell is written.
     pub answer: BatchAnswer,
 }

@@ -8,6 +8,7 @@ ghost use Rattle.mm_basic.specs.Asks.{WritesTo};
 
 use crate::find::find;
 use crate::found::{Found, Ready};
+use mm_base::CELL_LENGTH;
 use mm_call::{Ended, KeptKey};
 use mm_model::{BatchAnswer, Refusal};
 use mm_module::{Batch, Module};
@@ -27,7 +28,7 @@ pub fn read<M: Module, P: Platform>(
     ensures { Reads (M.meaning «module».now) (P.standing platform.old) (P.standing platform.new)
         offer.now (batch_of batch.entry) result }
 {
-    let mut bytes = [0; 104];
+    let mut bytes = [0; CELL_LENGTH];
     match platform.nv_read(&mut bytes) {
         Err(fault) => Err(Refusal::Device(fault)),
         Ok(()) => find(alloc, module, &bytes, offer, batch, keys),

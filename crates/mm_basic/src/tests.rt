@@ -4,7 +4,7 @@ ghost use Rattle.std.specs.Prelude.{◌≤◌, length};
 ghost use Rattle.mm_base.specs.Limits.{last_position};
 
 use super::*;
-use mm_base::{Bytes, read_decimal};
+use mm_base::{Bytes, CELL_LENGTH, read_decimal};
 use mm_digest::{Variant, start, zero};
 use mm_model::{Answer, BatchAnswer, Refusal};
 use mm_module::{Batch, Counter, Outputs};
@@ -141,7 +141,7 @@ impl Host {
     fn blank(alloc: Global) -> Host {
         Host {
             alloc,
-            platform: MemPlatform::new(alloc, &[0; 104]),
+            platform: MemPlatform::new(alloc, &[0; CELL_LENGTH]),
             snapshots: Vec::new(alloc),
         }
     }
@@ -218,8 +218,8 @@ impl Host {
     /// Another platform, with this cell.
     fn set(&mut self, cell: &str) -> Result<(), Fail> {
         match cell {
-            "blank" => self.platform = MemPlatform::new(self.alloc, &[0; 104]),
-            "noise" => self.platform = MemPlatform::new(self.alloc, &[1; 104]),
+            "blank" => self.platform = MemPlatform::new(self.alloc, &[0; CELL_LENGTH]),
+            "noise" => self.platform = MemPlatform::new(self.alloc, &[1; CELL_LENGTH]),
             _ => self.begin()?,
         }
         Ok(())

@@ -11,7 +11,7 @@ ghost use Rattle.mm_host.specs.Begins.{Leaves, TellsUse, BlamesDevice};
 ghost use Rattle.mm_host.specs.Init.{devices, LooksAtCell, TakesBytes, taken_into, instance_from, PutsAll, first_puts, SetsUp, SetsUpBoth, TakesAndSetsUp, Inits};
 
 use crate::init_fault::InitFault;
-use mm_base::{Failed, Memory, Source};
+use mm_base::{CELL_LENGTH, Failed, Memory, Source};
 use mm_call::Provisioned;
 use mm_digest::Variant;
 use mm_module::Module;
@@ -79,9 +79,9 @@ fn init_by_steps<M: Module, P: Platform, T: Store, E: Source>(
 fn is_blank<P: Platform>(platform: &mut P) -> Result<bool, StepFault>
     ensures { LooksAtCell (P.standing platform.old) (P.standing platform.new) result }
 {
-    let mut cell = [0; 104];
+    let mut cell = [0; CELL_LENGTH];
     platform.nv_read(&mut cell)?;
-    Ok(cell == [0; 104])
+    Ok(cell == [0; CELL_LENGTH])
 }
 
 // Takes the bytes, and sets both up.

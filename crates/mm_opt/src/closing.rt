@@ -8,6 +8,7 @@ ghost use Rattle.mm_opt.specs.Closed.{ClosedInOpt};
 use crate::segment::{CheckpointRefusal, Checkpointed, Segment};
 use crate::stage::CheckpointStage;
 use crate::verdicts::is_zero;
+use mm_base::CELL_LENGTH;
 use mm_digest::{Digest, Variant, anchored};
 use mm_platform::{Platform, StepFault};
 use mm_seal::{Cell, CellFault, cell_bytes, read_cell};
@@ -105,7 +106,7 @@ impl CheckpointTurn {
     }
 
     // What the second step comes to.
-    fn weighed(found: Result<[u8; 104], CheckpointRefusal>) -> CheckpointTurn
+    fn weighed(found: Result<[u8; CELL_LENGTH], CheckpointRefusal>) -> CheckpointTurn
         ensures { result ≡ weighed_turn found }
     {
         match found {
@@ -164,7 +165,7 @@ fn weigh_and_close<P: Platform>(
 
 // The last step of a checkpoint, whose fault is handed on.
 fn close_by<P: Platform>(
-    next: &[u8; 104],
+    next: &[u8; CELL_LENGTH],
     platform: &mut P,
 ) -> Result<Checkpointed, CheckpointRefusal>
     ensures { ClosesBy next.now (P.standing platform.old) (P.standing platform.new) result }
@@ -179,7 +180,7 @@ fn close_by<P: Platform>(
 fn look<P: Platform>(platform: &mut P) -> Result<Segment, CheckpointRefusal>
     ensures { Looks (P.standing platform.old) (P.standing platform.new) result }
 {
-    let mut bytes = [0; 104];
+    let mut bytes = [0; CELL_LENGTH];
     match platform.nv_read(&mut bytes) {
         Err(fault) => Err(CheckpointRefusal::Device(fault)),
         Ok(()) => find_segment(&bytes),
@@ -187,7 +188,7 @@ fn look<P: Platform>(platform: &mut P) -> Result<Segment, CheckpointRefusal>
 }
 
 // The segment of the cell that these bytes are.
-fn find_segment(bytes: &[u8; 104]) -> Result<Segment, CheckpointRefusal>
+fn find_segment(bytes: &[u8; CELL_LENGTH]) -> Result<Segment, CheckpointRefusal>
     ensures sees { SeesSegment bytes.now result }
     ensures no_fault { closing_fault_in result ≡ None }
 {
@@ -211,7 +212,7 @@ fn segment_of(cell: Cell) -> Result<Segment, CheckpointRefusal>
 }
 
 // The second step: reads the register.
-fn weigh<P: Platform>(cell: &Cell, platform: &mut P) -> Result<[u8; 104], CheckpointRefusal>
+fn weigh<P: Platform>(cell: &Cell, platform: &mut P) -> Result<[u8; CELL_LENGTH], CheckpointRefusal>
     ensures { Weighs cell.now (P.standing platform.old) (P.standing platform.new) result }
 {
     match platform.reg_read() {
@@ -221,7 +222,7 @@ fn weigh<P: Platform>(cell: &Cell, platform: &mut P) -> Result<[u8; 104], Checkp
 }
 
 // The bytes that close the segment.
-fn closed_cell(cell: &Cell, register: &Digest) -> Result<[u8; 104], CheckpointRefusal>
+fn closed_cell(cell: &Cell, register: &Digest) -> Result<[u8; CELL_LENGTH], CheckpointRefusal>
     ensures closing { result ≡ closing_in cell.now register.now.bytes }
     ensures no_fault { closing_fault_in result ≡ None }
 {
@@ -238,7 +239,7 @@ fn closed_cell(cell: &Cell, register: &Digest) -> Result<[u8; 104], CheckpointRe
 }
 
 // The last step: writes the cell, which closes the segment.
-fn close<P: Platform>(next: &[u8; 104], platform: &mut P) -> Result<Checkpointed, StepFault>
+fn close<P: Platform>(next: &[u8; CELL_LENGTH], platform: &mut P) -> Result<Checkpointed, StepFault>
     ensures { Closes next.now (P.standing platform.old) (P.standing platform.new) result }
 {
     match platform.nv_write(next) {

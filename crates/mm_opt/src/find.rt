@@ -17,6 +17,7 @@ ghost use Rattle.mm_opt.specs.Steps.{FindsIn};
 
 use crate::found::{Found, Opening, Ready};
 use crate::verdicts::{has_lost_power, verdict};
+use mm_base::CELL_LENGTH;
 use mm_call::{KeptKey, answer, examine};
 use mm_digest::{Digest, Variant, extended, secured, secured_batch, zero};
 use mm_model::{BatchAnswer, Refusal, Verdict, has_tab};
@@ -25,7 +26,7 @@ use mm_seal::{Cell, CellFault, Offered, PartsFault, Place, cell_bytes, parts, re
 use std::alloc::Global;
 
 /// The cell of the module with this id that these bytes are.
-pub fn find_cell(bytes: &[u8; 104], id: u8) -> Result<Cell, Refusal>
+pub fn find_cell(bytes: &[u8; CELL_LENGTH], id: u8) -> Result<Cell, Refusal>
     ensures sees { SeesCell id bytes.now result }
     ensures no_fault { fault_in result ≡ None }
 {

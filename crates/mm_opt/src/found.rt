@@ -1,5 +1,6 @@
 //! What a call finds when it has read the cell and the register.
 
+use mm_base::CELL_LENGTH;
 use mm_digest::Digest;
 use mm_model::BatchAnswer;
 
@@ -18,7 +19,7 @@ pub struct Opening {
     /// The value by which the batch extends the register.
     pub value: Digest,
     /// The cell's bytes with the flag set, which commit the batch.
-    pub next: [u8; 104],
+    pub next: [u8; CELL_LENGTH],
     /// The answer, which is handed out once the cell is written.
     pub answer: BatchAnswer,
 }

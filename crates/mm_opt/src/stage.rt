@@ -1,6 +1,7 @@
 //! Where a call stands between two of its device steps.
 
 use crate::found::{Opening, Ready};
+use mm_base::CELL_LENGTH;
 use mm_seal::Cell;
 
 /// Where a call stands.
@@ -35,5 +36,5 @@ pub enum CheckpointStage {
     /// The cell was read, and a segment is open.
     Seen(Cell),
     /// The register was read, and these bytes of a cell close the segment.
-    Closing([u8; 104]),
+    Closing([u8; CELL_LENGTH]),
 }

@@ -8,6 +8,7 @@ ghost use Rattle.mm_opt.specs.Steps.{IsReady, ReadsOwnCell, ReadsRegister, Makes
 
 use crate::find::{find, find_cell};
 use crate::found::{Found, Opening, Ready};
+use mm_base::CELL_LENGTH;
 use mm_call::KeptKey;
 use mm_model::{BatchAnswer, Refusal};
 use mm_module::{Batch, Module};
@@ -19,7 +20,7 @@ use std::alloc::Global;
 pub fn read_cell<P: Platform>(id: u8, platform: &mut P) -> Result<Cell, Refusal>
     ensures { ReadsOwnCell id (P.standing platform.old) (P.standing platform.new) result }
 {
-    let mut bytes = [0; 104];
+    let mut bytes = [0; CELL_LENGTH];
     match platform.nv_read(&mut bytes) {
         Err(fault) => Err(Refusal::Device(fault)),
         Ok(()) => find_cell(&bytes, id),

@@ -4,7 +4,7 @@ ghost use Rattle.std.specs.Prelude.{◌≤◌, length};
 ghost use Rattle.mm_base.specs.Limits.{last_position};
 
 use super::*;
-use mm_base::{Bytes, read_decimal};
+use mm_base::{Bytes, CELL_LENGTH, read_decimal};
 use mm_digest::{Digest, Variant, start, zero};
 use mm_model::{Answer, BatchAnswer, Refusal};
 use mm_module::{Batch, Counter, Outputs};
@@ -206,7 +206,7 @@ impl Host {
     fn blank(alloc: Global) -> Host {
         Host {
             alloc,
-            platform: MemPlatform::new(alloc, &[0; 104]),
+            platform: MemPlatform::new(alloc, &[0; CELL_LENGTH]),
             snapshots: Vec::new(alloc),
         }
     }
@@ -506,7 +506,7 @@ fn words_of(text: &str) -> Option<(&str, &str, &str)> {
     Some((first, second, third))
 }
 
-fn opt_cell(module: u8, flag: bool) -> [u8; 104] {
+fn opt_cell(module: u8, flag: bool) -> [u8; CELL_LENGTH] {
     cell_bytes(&Cell {
         variant: Variant::Opt,
         module,
@@ -517,7 +517,7 @@ fn opt_cell(module: u8, flag: bool) -> [u8; 104] {
     })
 }
 
-fn basic_cell() -> [u8; 104] {
+fn basic_cell() -> [u8; CELL_LENGTH] {
     let barrier = zero().bytes;
     cell_bytes(&Cell {
         variant: Variant::Basic,
@@ -529,10 +529,10 @@ fn basic_cell() -> [u8; 104] {
     })
 }
 
-fn cell_of(word: &str) -> [u8; 104] {
+fn cell_of(word: &str) -> [u8; CELL_LENGTH] {
     match word {
-        "blank" => [0; 104],
-        "noise" => [1; 104],
+        "blank" => [0; CELL_LENGTH],
+        "noise" => [1; CELL_LENGTH],
         "basic" => basic_cell(),
         "module-2" => opt_cell(2, false),
         "open" => opt_cell(1, true),

@@ -6,7 +6,7 @@ ghost use Rattle.mm_platform.specs.Standing.{Item, Standing, item_values, regist
 ghost use Rattle.mm_platform.specs.Steps.{ReadCell, WriteCell, ReadRegister, ResetRegister, ExtendRegister, Goes, Readies, Cycles};
 
 use crate::fault::StepFault;
-use mm_base::Memory;
+use mm_base::{CELL_LENGTH, Memory};
 use mm_digest::Digest;
 
 /// The devices of one platform. It has no call: it carries what stands on the platform, so that a
@@ -20,7 +20,7 @@ pub trait Device {
 /// device step.
 pub trait Nv: Device {
     /// Reads the cell. After a fault `into` is as before.
-    fn nv_read(&mut self, into: &mut [u8; 104]) -> Result<(), StepFault>
+    fn nv_read(&mut self, into: &mut [u8; CELL_LENGTH]) -> Result<(), StepFault>
         ensures goes { Goes ReadCell (Self.standing self.old) (Self.standing self.new)
             (result_err result) }
         ensures read { OnOk result ((cell : List ℕ) → (Self.standing self.old).cell ≡ Some cell
@@ -28,7 +28,7 @@ pub trait Nv: Device {
         ensures unread { OnErr result (into.new ≡ into.old) };
 
     /// Writes the cell.
-    fn nv_write(&mut self, bytes: &[u8; 104]) -> Result<(), StepFault>
+    fn nv_write(&mut self, bytes: &[u8; CELL_LENGTH]) -> Result<(), StepFault>
         ensures { Goes (WriteCell bytes.now) (Self.standing self.old) (Self.standing self.new)
             (result_err result) };
 }

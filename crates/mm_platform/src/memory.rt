@@ -14,7 +14,7 @@ use crate::extensions::{Entry, Extensions};
 use crate::fate::Fate;
 use crate::fault::StepFault;
 use crate::plan::{Meddle, Stop};
-use mm_base::Memory;
+use mm_base::{CELL_LENGTH, Memory};
 use mm_digest::Digest;
 use std::alloc::Global;
 use std::marker::Model;
@@ -22,7 +22,7 @@ use std::marker::Model;
 /// A platform in memory, which contracts see as what stands on it. It tells all of it, and its plan.
 #[derive(Drop)]
 pub struct MemPlatform {
-    cell: [u8; 104],
+    cell: [u8; CELL_LENGTH],
     register: Extensions,
     spare: usize,
     is_on: bool,
@@ -54,7 +54,7 @@ impl Model for MemPlatform {
 
 impl MemPlatform {
     /// A platform with this cell of 104 bytes: on, with an empty register, no faults and a quiet plan.
-    pub fn new(alloc: Global, cell: &[u8; 104]) -> MemPlatform
+    pub fn new(alloc: Global, cell: &[u8; CELL_LENGTH]) -> MemPlatform
         ensures { result ≡ new_platform cell.now }
     {
         MemPlatform {
@@ -111,7 +111,7 @@ impl MemPlatform {
     }
 
     /// The cell's 104 bytes.
-    pub fn cell(&self) -> &[u8; 104]
+    pub fn cell(&self) -> &[u8; CELL_LENGTH]
         ensures { self.now.cell ≡ Some result.now }
     {
         &self.cell
@@ -195,7 +195,7 @@ impl Device for MemPlatform {
 }
 
 impl Nv for MemPlatform {
-    fn nv_read(&mut self, into: &mut [u8; 104]) -> Result<(), StepFault> {
+    fn nv_read(&mut self, into: &mut [u8; CELL_LENGTH]) -> Result<(), StepFault> {
         let fate = self.begin_step();
         if let Some(fault) = fate.fault {
             return Err(fault);
@@ -204,7 +204,7 @@ impl Nv for MemPlatform {
         Ok(())
     }
 
-    fn nv_write(&mut self, bytes: &[u8; 104]) -> Result<(), StepFault> {
+    fn nv_write(&mut self, bytes: &[u8; CELL_LENGTH]) -> Result<(), StepFault> {
         let fate = self.begin_step();
         self.writes = self.writes.saturating_add(1);
         if !fate.is_made {

@@ -6,6 +6,7 @@ ghost use Rattle.mm_platform.specs.Standing.{Plan};
 ghost use Rattle.mm_platform.specs.Calls.{read_extend_write, ActsAsTold, ActsUntold};
 
 use super::*;
+use mm_base::CELL_LENGTH;
 use mm_digest::{Digest, extended, zero};
 use std::test::Fail;
 
@@ -13,7 +14,7 @@ use std::test::Fail;
 fn read_extend_write<P: Platform>(
     platform: &mut P,
     value: &Digest,
-    bytes: &[u8; 104],
+    bytes: &[u8; CELL_LENGTH],
 ) -> Result<(), StepFault>
     requires { 1 ≤ (P.standing platform.old).spare }
     ensures told { (plan : Plan) → (P.standing platform.old).plan ≡ Some plan
@@ -22,7 +23,7 @@ fn read_extend_write<P: Platform>(
     ensures untold { ActsUntold value.now.bytes bytes.now (P.standing platform.old)
         (P.standing platform.new) (result_err result) }
 {
-    let mut cell = [0; 104];
+    let mut cell = [0; CELL_LENGTH];
     if let Err(fault) = platform.nv_read(&mut cell) {
         return Err(fault);
     }
@@ -114,12 +115,12 @@ fn stops(rt: HostRuntime) -> Result<(), Fail> {
         ),
     ];
     for (stop, answer, written, own, is_on) in rows {
-        let mut platform = MemPlatform::new(rt.alloc(), &[0; 104]);
+        let mut platform = MemPlatform::new(rt.alloc(), &[0; CELL_LENGTH]);
         platform.reg_ready()?;
         platform.plan(stop, &[])?;
         let faults = if answer.is_ok() { 0 } else { 1 };
         assert_eq!(rt;
-            read_extend_write(&mut platform, &digest_of(7), &[1; 104]),
+            read_extend_write(&mut platform, &digest_of(7), &[1; CELL_LENGTH]),
             answer,
             "{stop:?}"
         );
@@ -140,7 +141,7 @@ fn stops(rt: HostRuntime) -> Result<(), Fail> {
 // Others extend the register before each step; what isn't reached lapses.
 #[test]
 fn meddles(rt: HostRuntime) -> Result<(), Fail> {
-    let mut platform = MemPlatform::new(rt.alloc(), &[0; 104]);
+    let mut platform = MemPlatform::new(rt.alloc(), &[0; CELL_LENGTH]);
     platform.reg_ready()?;
     let meddle = |step: u8, byte: u8| Meddle {
         step,
@@ -157,7 +158,7 @@ fn meddles(rt: HostRuntime) -> Result<(), Fail> {
         ],
     )?;
     assert_eq!(rt;
-        read_extend_write(&mut platform, &digest_of(9), &[1; 104]),
+        read_extend_write(&mut platform, &digest_of(9), &[1; CELL_LENGTH]),
         Err(StepFault::Off)
     );
     platform.end_plan();

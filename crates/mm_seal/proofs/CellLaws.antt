@@ -11,8 +11,9 @@ use Rattle.mm_seal.specs.declared.cell.CellFault.TheVariants.{Blank, Cell as Uns
 use Rattle.mm_seal.specs.Fields.{version_of}
 use Rattle.mm_seal.specs.Cell.{IsCell, ReadsCell, flag_byte, cell_spelling, blank_cell}
 use Rattle.mm_base.proofs.FieldLaws.{append-injective}
+use Rattle.mm_base.specs.Limits.{cell_length}
 
-pub length-cell_spelling : (cell : Cell) → IsCell cell → length (cell_spelling cell) ≡ 104
+pub length-cell_spelling : (cell : Cell) → IsCell cell → length (cell_spelling cell) ≡ cell_length
 unfolding cell_spelling
 length-cell_spelling cell h =
     simp length-append (omega (arith, h.summary, h.key, h.barrier))

@@ -1,5 +1,6 @@
 -- The bytes of the non-volatile cell.
 use Rattle.std.specs.Prelude.{◌≡◌, ◌≢◌, ℕ, Bool, true, false, List, ◌∷◌, ◌++◌, length, replicate, Result, Ok, Err}
+use Rattle.mm_base.specs.Limits.{cell_length}
 use Rattle.mm_digest.specs.declared.variant.Variant.{Variant}
 use Rattle.mm_digest.specs.declared.variant.Variant.TheVariants.{Basic, Opt}
 use Rattle.mm_digest.specs.Messages.{variant_byte, zero_bytes}
@@ -32,7 +33,7 @@ cell_spelling cell =
 
 -- what a device holds before it is provisioned
 unfoldable pub blank_cell : List ℕ
-blank_cell = replicate 104 0
+blank_cell = replicate cell_length 0
 
 -- the bytes are this cell's
 abbrev pub SpellsCell : List ℕ → Cell → Type 0

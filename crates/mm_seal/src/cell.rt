@@ -4,6 +4,7 @@ ghost use Rattle.std.specs.Prelude.{◌≡◌, ◌↔◌, IsTrue, MatchOption};
 ghost use Rattle.mm_seal.specs.Cell.{FitsVariant, cell_spelling, IsNoCell, SpellsCell, ReadsCell};
 
 use crate::field::{split_digest, split_key, version};
+use mm_base::CELL_LENGTH;
 use mm_digest::{Digest, Variant};
 use thiserror::Error;
 
@@ -48,11 +49,11 @@ pub enum CellFault {
 
 /// The cell's 104 bytes. A Basic cell has a clear flag and a zero barrier.
 #[tactic(auto, unfolding(crate::specs::Cell::cell_spelling))]
-pub fn cell_bytes(cell: &Cell) -> [u8; 104]
+pub fn cell_bytes(cell: &Cell) -> [u8; CELL_LENGTH]
     requires { FitsVariant cell.now.variant cell.now.flag cell.now.barrier }
     ensures { result ≡ cell_spelling cell.now }
 {
-    let mut bytes = [0; 104];
+    let mut bytes = [0; CELL_LENGTH];
     let head = [
         b'M',
         b'M',
@@ -76,10 +77,10 @@ pub fn cell_bytes(cell: &Cell) -> [u8; 104]
 /// The cell that these bytes are. Blank exactly on 104 zero bytes, Cell exactly on bytes that are
 /// neither blank nor a cell's.
 #[tactic(auto, unfolding(crate::specs::Cell::blank_cell))]
-pub fn read_cell(bytes: &[u8; 104]) -> Result<Cell, CellFault>
+pub fn read_cell(bytes: &[u8; CELL_LENGTH]) -> Result<Cell, CellFault>
     ensures { ReadsCell bytes.now result }
 {
-    if *bytes == [0; 104] {
+    if *bytes == [0; CELL_LENGTH] {
         return Err(CellFault::Blank);
     }
     match cell_of(bytes) {
@@ -89,7 +90,7 @@ pub fn read_cell(bytes: &[u8; 104]) -> Result<Cell, CellFault>
 }
 
 // The cell that these bytes spell: the fields at their offsets, where their cell is spelled so.
-fn cell_of(bytes: &[u8; 104]) -> Option<Cell>
+fn cell_of(bytes: &[u8; CELL_LENGTH]) -> Option<Cell>
     ensures { MatchOption result (IsNoCell bytes.now) (SpellsCell bytes.now) }
 {
     let (head, rest) = bytes.split_at(8);
@@ -113,7 +114,7 @@ fn cell_of(bytes: &[u8; 104]) -> Option<Cell>
 }
 
 // Whether these bytes are the cell's.
-fn is_spelled(cell: &Cell, bytes: &[u8; 104]) -> bool
+fn is_spelled(cell: &Cell, bytes: &[u8; CELL_LENGTH]) -> bool
     requires { FitsVariant cell.now.variant cell.now.flag cell.now.barrier }
     ensures { IsTrue result ↔ (bytes.now ≡ cell_spelling cell.now) }
 {

@@ -1,5 +1,5 @@
 use super::*;
-use mm_base::Memory;
+use mm_base::{CELL_LENGTH, Memory};
 use mm_digest::{Digest, Variant};
 use std::alloc::{AllocError, Global};
 use std::process::Abort;
@@ -25,7 +25,7 @@ fn cell_of(variant: Variant, module: u8) -> Cell {
 }
 
 // The bytes of a cell that fits its variant.
-fn bytes_of_cell(rt: &impl Abort, cell: &Cell) -> [u8; 104] {
+fn bytes_of_cell(rt: &impl Abort, cell: &Cell) -> [u8; CELL_LENGTH] {
     assert!(rt; cell.fits_variant());
     cell_bytes(cell)
 }
@@ -41,8 +41,8 @@ fn changed(alloc: Global, bytes: &[u8], at: usize, byte: u8) -> Result<Vec<u8>, 
 
 // What reading these bytes as a cell gives, where there are 104.
 fn read_bytes(rt: &impl Abort, bytes: &[u8]) -> Result<Cell, CellFault> {
-    assert_eq!(rt; bytes.len(), 104);
-    let mut cell = [0; 104];
+    assert_eq!(rt; bytes.len(), CELL_LENGTH);
+    let mut cell = [0; CELL_LENGTH];
     cell.copy_from_slice(bytes);
     read_cell(&cell)
 }
@@ -55,7 +55,7 @@ fn cells_are_read_as_they_are_spelled(rt: HostRuntime) -> Result<(), Fail> {
             assert_eq!(rt; read_cell(&bytes_of_cell(&rt, &cell)), Ok(cell));
         }
     }
-    assert_eq!(rt; read_cell(&[0; 104]), Err(CellFault::Blank));
+    assert_eq!(rt; read_cell(&[0; CELL_LENGTH]), Err(CellFault::Blank));
     let opt = bytes_of_cell(&rt, &cell_of(Variant::Opt, 1));
     let basic = bytes_of_cell(&rt, &cell_of(Variant::Basic, 1));
     assert_eq!(rt; &opt[..8], b"MMN1\x02\x01\x01\x00".as_slice());

@@ -5,6 +5,7 @@ use Rattle.std.proofs.Math.Seq.{take-append_seam, drop-append_seam, drop-append-
 use Rattle.std.proofs.lemmas.Bool.{cases_lt}
 use Rattle.std.proofs.lemmas.List.{take-append-drop, length-take-le, get_or-append-add, drop-drop}
 use Rattle.std.proofs.lemmas.Nat.{mod_below}
+use Rattle.mm_base.specs.Limits.{cell_length}
 use Rattle.mm_platform.specs.Raw.{range_of, spliced}
 use Rattle.mm_twocell.specs.Pairs.{picked}
 
@@ -54,22 +55,22 @@ in_three size bytes l =
       second_size = length-take-le size after (omega (arith, la));
     }
 
-pub selector_of : (a b : List ℕ) (n : ℕ) → length a ≡ 104 → length b ≡ 104 → slice_index (three a b n) 208 ≡ n
+pub selector_of : (a b : List ℕ) (n : ℕ) → length a ≡ cell_length → length b ≡ cell_length → slice_index (three a b n) 208 ≡ n
 selector_of a b n la lb =
-    at_past 104 104 a (b ++ n ∷ []) la ∙ at_past 104 0 b (n ∷ []) lb
+    at_past cell_length cell_length a (b ++ n ∷ []) la ∙ at_past cell_length 0 b (n ∷ []) lb
 
-pub picks_first : (a b : List ℕ) (n : ℕ) → length a ≡ 104 → length b ≡ 104 → n % 2 ≡ 0 → picked (three a b n) ≡ a
+pub picks_first : (a b : List ℕ) (n : ℕ) → length a ≡ cell_length → length b ≡ cell_length → n % 2 ≡ 0 → picked (three a b n) ≡ a
 picks_first a b n la lb e =
-    ap (λ (k : ℕ). take 104 (drop (104 * (k % 2)) (three a b n))) (selector_of a b n la lb)
-    ∙ ap (λ (k : ℕ). take 104 (drop (104 * k) (three a b n))) e
-    ∙ take_front 104 a (b ++ n ∷ []) la
+    ap (λ (k : ℕ). take cell_length (drop (cell_length * (k % 2)) (three a b n))) (selector_of a b n la lb)
+    ∙ ap (λ (k : ℕ). take cell_length (drop (cell_length * k) (three a b n))) e
+    ∙ take_front cell_length a (b ++ n ∷ []) la
 
-pub picks_second : (a b : List ℕ) (n : ℕ) → length a ≡ 104 → length b ≡ 104 → n % 2 ≡ 1 → picked (three a b n) ≡ b
+pub picks_second : (a b : List ℕ) (n : ℕ) → length a ≡ cell_length → length b ≡ cell_length → n % 2 ≡ 1 → picked (three a b n) ≡ b
 picks_second a b n la lb e =
-    ap (λ (k : ℕ). take 104 (drop (104 * (k % 2)) (three a b n))) (selector_of a b n la lb)
-    ∙ ap (λ (k : ℕ). take 104 (drop (104 * k) (three a b n))) e
-    ∙ ap (take 104) (drop_front 104 a (b ++ n ∷ []) la)
-    ∙ take_front 104 b (n ∷ []) lb
+    ap (λ (k : ℕ). take cell_length (drop (cell_length * (k % 2)) (three a b n))) (selector_of a b n la lb)
+    ∙ ap (λ (k : ℕ). take cell_length (drop (cell_length * k) (three a b n))) e
+    ∙ ap (take cell_length) (drop_front cell_length a (b ++ n ∷ []) la)
+    ∙ take_front cell_length b (n ∷ []) lb
 
 pub parity : (n : ℕ) → (n % 2 ≡ 0) ⊎ (n % 2 ≡ 1)
 parity n = elim (cases_lt (n % 2) 1) [
@@ -86,13 +87,13 @@ put_in_place at front part range rest l m =
     ∙ ap (λ (r : List ℕ). (front ++ part) ++ r) (drop_past at (length part) front (range ++ rest) l ∙ drop_front (length part) range rest m)
     ∙ append_assoc front part rest
 
-pub put_first : (a b w : List ℕ) (n : ℕ) → length a ≡ 104 → length w ≡ 104 → spliced 0 w (three a b n) ≡ three w b n
+pub put_first : (a b w : List ℕ) (n : ℕ) → length a ≡ cell_length → length w ≡ cell_length → spliced 0 w (three a b n) ≡ three w b n
 put_first a b w n la lw = put_in_place 0 [] w a (b ++ n ∷ []) refl (la ∙ sym lw)
 
-pub put_second : (a b w : List ℕ) (n : ℕ) → length a ≡ 104 → length b ≡ 104 → length w ≡ 104 → spliced 104 w (three a b n) ≡ three a w n
-put_second a b w n la lb lw = put_in_place 104 a w b (n ∷ []) la (lb ∙ sym lw)
+pub put_second : (a b w : List ℕ) (n : ℕ) → length a ≡ cell_length → length b ≡ cell_length → length w ≡ cell_length → spliced cell_length w (three a b n) ≡ three a w n
+put_second a b w n la lb lw = put_in_place cell_length a w b (n ∷ []) la (lb ∙ sym lw)
 
-pub put_selector : (a b : List ℕ) (m n : ℕ) → length a ≡ 104 → length b ≡ 104 → spliced 208 (m ∷ []) (three a b n) ≡ three a b m
+pub put_selector : (a b : List ℕ) (m n : ℕ) → length a ≡ cell_length → length b ≡ cell_length → spliced 208 (m ∷ []) (three a b n) ≡ three a b m
 put_selector a b m n la lb =
     ap (spliced 208 (m ∷ [])) (sym (append_assoc a b (n ∷ [])))
     ∙ put_in_place 208 (a ++ b) (m ∷ []) (n ∷ []) [] (length-append a b ∙ omega (arith, la, lb)) refl

@@ -4,6 +4,7 @@ use Rattle.std.specs.Prelude.{◌%◌, ◌==◌, slice_index}
 use Rattle.std.specs.Option.{option_map}
 use Rattle.std.proofs.lemmas.Bool.Decides.{nat_tests}
 use Rattle.mm_base.specs.Faults.{Rose}
+use Rattle.mm_base.specs.Limits.{cell_length}
 use Rattle.mm_platform.specs.declared.fault.StepFault.{StepFault}
 use Rattle.mm_platform.specs.declared.fault.StepFault.TheVariants.{Failed, Off}
 use Rattle.mm_platform.specs.Standing.{Standing}
@@ -71,16 +72,16 @@ pub record IsRead (cell : Option (List ℕ)) (selector other : ℕ) : Type 0 whe
 
 -- the two cells, by which of them is picked
 record Picks (bytes : List ℕ) (other : ℕ) : Type 0 where
-  parts : InThree 104 bytes
+  parts : InThree cell_length bytes
   which : ((parts.selector % 2 ≡ 0) × (other ≡ 1)) ⊎ ((parts.selector % 2 ≡ 1) × (other ≡ 0))
 
-selector_told : (bytes : List ℕ) (p : InThree 104 bytes) → slice_index bytes 208 ≡ p.selector
+selector_told : (bytes : List ℕ) (p : InThree cell_length bytes) → slice_index bytes 208 ≡ p.selector
 selector_told bytes p =
     ap (λ (b : List ℕ). slice_index b 208) p.whole ∙ selector_of p.first p.second p.selector p.first_size p.second_size
 
 picks : (bytes : List ℕ) (selector other : ℕ) → length bytes ≡ 209 → selector ≡ slice_index bytes 208 → other ≡ 1 - selector % 2 → Picks bytes other
 picks bytes selector other l s o =
-    let p = in_three 104 bytes l in
+    let p = in_three cell_length bytes l in
     let same : selector ≡ p.selector = s ∙ selector_told bytes p in
     let o2 : other ≡ 1 - p.selector % 2 = o ∙ ap (λ (k : ℕ). 1 - k % 2) same in
     record {
@@ -92,18 +93,18 @@ picks bytes selector other l s o =
     }
 
 -- a write of the other cell leaves the picked one
-other_left : (bytes w : List ℕ) (other : ℕ) → Picks bytes other → length w ≡ 104 → picked (spliced (104 * other) w bytes) ≡ picked bytes
+other_left : (bytes w : List ℕ) (other : ℕ) → Picks bytes other → length w ≡ cell_length → picked (spliced (cell_length * other) w bytes) ≡ picked bytes
 other_left bytes w other p lw =
     let a : List ℕ = p.parts.first in
     let b : List ℕ = p.parts.second in
     let n : ℕ = p.parts.selector in
     let la = p.parts.first_size in
     let lb = p.parts.second_size in
-    ap (λ (x : List ℕ). picked (spliced (104 * other) w x)) p.parts.whole
+    ap (λ (x : List ℕ). picked (spliced (cell_length * other) w x)) p.parts.whole
     ∙ elim p.which [
-      | inl e ↦ ap (λ (k : ℕ). picked (spliced (104 * k) w (three a b n))) e.1 ∙ ap picked (put_second a b w n la lb lw)
+      | inl e ↦ ap (λ (k : ℕ). picked (spliced (cell_length * k) w (three a b n))) e.1 ∙ ap picked (put_second a b w n la lb lw)
           ∙ picks_first a w n la lw e.0 ∙ sym (picks_first a b n la lb e.0)
-      | inr e ↦ ap (λ (k : ℕ). picked (spliced (104 * k) w (three a b n))) e.1 ∙ ap picked (put_first a b w n la lw)
+      | inr e ↦ ap (λ (k : ℕ). picked (spliced (cell_length * k) w (three a b n))) e.1 ∙ ap picked (put_first a b w n la lw)
           ∙ picks_second w b n lw lb e.0 ∙ sym (picks_second a b n la lb e.0)
     ]
     ∙ ap picked (sym p.parts.whole)
@@ -122,8 +123,8 @@ cell_by : List ℕ → List ℕ → Bool → Option (List ℕ)
 cell_by w old made = cell_after (WriteCell w) made (Some old)
 
 -- a selector that is written then picks the written cell or the old one
-selector_picks : (bytes w : List ℕ) (other m : ℕ) → Picks bytes other → length w ≡ 104
-    → Some (picked (spliced 208 (m ∷ []) (spliced (104 * other) w bytes))) ≡ cell_by w (picked bytes) (m % 2 == other)
+selector_picks : (bytes w : List ℕ) (other m : ℕ) → Picks bytes other → length w ≡ cell_length
+    → Some (picked (spliced 208 (m ∷ []) (spliced (cell_length * other) w bytes))) ≡ cell_by w (picked bytes) (m % 2 == other)
 unfolding cell_by
 selector_picks bytes w other m p lw =
     let a : List ℕ = p.parts.first in
@@ -131,11 +132,11 @@ selector_picks bytes w other m p lw =
     let n : ℕ = p.parts.selector in
     let la = p.parts.first_size in
     let lb = p.parts.second_size in
-    ap (λ (x : List ℕ). Some (picked (spliced 208 (m ∷ []) (spliced (104 * other) w x)))) p.parts.whole
+    ap (λ (x : List ℕ). Some (picked (spliced 208 (m ∷ []) (spliced (cell_length * other) w x)))) p.parts.whole
     ∙ elim p.which [
       | inl e ↦
-          let written : spliced 208 (m ∷ []) (spliced (104 * other) w (three a b n)) ≡ three a w m =
-          ap (λ (k : ℕ). spliced 208 (m ∷ []) (spliced (104 * k) w (three a b n))) e.1
+          let written : spliced 208 (m ∷ []) (spliced (cell_length * other) w (three a b n)) ≡ three a w m =
+          ap (λ (k : ℕ). spliced 208 (m ∷ []) (spliced (cell_length * k) w (three a b n))) e.1
           ∙ ap (spliced 208 (m ∷ [])) (put_second a b w n la lb lw) ∙ put_selector a w m n la lw in
           ap (λ (x : List ℕ). Some (picked x)) written
           ∙ elim (parity m) [
@@ -145,8 +146,8 @@ selector_picks bytes w other m p lw =
                 ∙ ap (cell_by w (picked (three a b n))) (sym (equal_is (m % 2) other (odd ∙ sym e.1)))
           ]
       | inr e ↦
-          let written : spliced 208 (m ∷ []) (spliced (104 * other) w (three a b n)) ≡ three w b m =
-          ap (λ (k : ℕ). spliced 208 (m ∷ []) (spliced (104 * k) w (three a b n))) e.1
+          let written : spliced 208 (m ∷ []) (spliced (cell_length * other) w (three a b n)) ≡ three w b m =
+          ap (λ (k : ℕ). spliced 208 (m ∷ []) (spliced (cell_length * k) w (three a b n))) e.1
           ∙ ap (spliced 208 (m ∷ [])) (put_first a b w n la lw) ∙ put_selector w b m n lw lb in
           ap (λ (x : List ℕ). Some (picked x)) written
           ∙ elim (parity m) [
@@ -162,14 +163,14 @@ none_after : (w : List ℕ) (made : Bool) → None ≡ cell_after (WriteCell w) 
 none_after w true = refl
 none_after w false = refl
 
-told_left : (cell : Option (List ℕ)) (w : List ℕ) (selector other : ℕ) → IsRead cell selector other → length w ≡ 104
-    → option_map picked (option_map (spliced (104 * other) w) cell) ≡ option_map picked cell
+told_left : (cell : Option (List ℕ)) (w : List ℕ) (selector other : ℕ) → IsRead cell selector other → length w ≡ cell_length
+    → option_map picked (option_map (spliced (cell_length * other) w) cell) ≡ option_map picked cell
 told_left None w selector other r lw = refl
 told_left (Some bytes) w selector other r lw =
     ap Some (other_left bytes w other (picks bytes selector other (r.size bytes refl) (r.read bytes refl) r.other_is) lw)
 
-told_picks : (cell : Option (List ℕ)) (w : List ℕ) (selector other m : ℕ) → IsRead cell selector other → length w ≡ 104
-    → option_map picked (option_map (spliced 208 (m ∷ [])) (option_map (spliced (104 * other) w) cell))
+told_picks : (cell : Option (List ℕ)) (w : List ℕ) (selector other m : ℕ) → IsRead cell selector other → length w ≡ cell_length
+    → option_map picked (option_map (spliced 208 (m ∷ [])) (option_map (spliced (cell_length * other) w) cell))
     ≡ cell_after (WriteCell w) (m % 2 == other) (option_map picked cell)
 unfolding cell_by
 told_picks None w selector other m r lw = none_after w (m % 2 == other)
@@ -177,12 +178,12 @@ told_picks (Some bytes) w selector other m r lw =
     selector_picks bytes w other m (picks bytes selector other (r.size bytes refl) (r.read bytes refl) r.other_is) lw
 
 -- the other cell was torn
-pub write_torn : (bytes : List ℕ) (selector other : ℕ) (old one two : Standing) (fault : StepFault) → length bytes ≡ 104
-    → IsRead old.cell selector other → ReadsRaw old one None → WritesRaw (104 * other) bytes one two (Some fault)
+pub write_torn : (bytes : List ℕ) (selector other : ℕ) (old one two : Standing) (fault : StepFault) → length bytes ≡ cell_length
+    → IsRead old.cell selector other → ReadsRaw old one None → WritesRaw (cell_length * other) bytes one two (Some fault)
     → WritesPicked bytes old two (Some fault)
 write_torn bytes selector other old one two fault l r a b = record {
   is_made = false;
-  cell = ap (option_map picked) (b.cell ∙ ap (option_map (spliced (104 * other) b.written)) a.cell)
+  cell = ap (option_map picked) (b.cell ∙ ap (option_map (spliced (cell_length * other) b.written)) a.cell)
       ∙ told_left old.cell b.written selector other r (b.size ∙ l);
   rest = leaves_then old one two a.rest b.rest;
   ends = ends_with (Some fault) old one two false b.is_made a.ends.was_on a.ends.faults (failed_not fault false) b.ends;
@@ -195,16 +196,16 @@ other_below selector other o = elim (parity selector) [
 ]
 
 -- the selector was written, or torn
-pub write_ends : (bytes : List ℕ) (selector other : ℕ) (old one two three : Standing) (fault : Option StepFault) → length bytes ≡ 104
-    → IsRead old.cell selector other → ReadsRaw old one None → WritesRaw (104 * other) bytes one two None
+pub write_ends : (bytes : List ℕ) (selector other : ℕ) (old one two three : Standing) (fault : Option StepFault) → length bytes ≡ cell_length
+    → IsRead old.cell selector other → ReadsRaw old one None → WritesRaw (cell_length * other) bytes one two None
     → (value : ℕ) → value ≡ other → WritesRaw 208 (value ∷ []) two three fault → WritesPicked bytes old three fault
 write_ends bytes selector other old one two three fault l r a b value same c =
     let m : ℕ = get_or c.written 0 0 in
     let byte : c.written ≡ m ∷ [] = one_item c.written c.size in
-    let cells : three.cell ≡ option_map (spliced 208 (m ∷ [])) (option_map (spliced (104 * other) bytes) old.cell) =
+    let cells : three.cell ≡ option_map (spliced 208 (m ∷ [])) (option_map (spliced (cell_length * other) bytes) old.cell) =
     c.cell ∙ ap (λ (w : List ℕ). option_map (spliced 208 w) two.cell) byte
-    ∙ ap (option_map (spliced 208 (m ∷ []))) (b.cell ∙ ap (λ (w : List ℕ). option_map (spliced (104 * other) w) one.cell) (b.whole refl)
-    ∙ ap (option_map (spliced (104 * other) bytes)) a.cell) in
+    ∙ ap (option_map (spliced 208 (m ∷ []))) (b.cell ∙ ap (λ (w : List ℕ). option_map (spliced (cell_length * other) w) one.cell) (b.whole refl)
+    ∙ ap (option_map (spliced (cell_length * other) bytes)) a.cell) in
     record {
       is_made = m % 2 == other;
       cell = ap (option_map picked) cells ∙ told_picks old.cell bytes selector other m r l;

@@ -1,6 +1,7 @@
 -- Two cells of 104 bytes and a selector, seen as one cell.
 use Rattle.std.specs.Prelude.{◌≡◌, ℕ, ◌*◌, ◌%◌, Bool, List, take, drop, slice_index, Option, None}
 use Rattle.std.specs.Option.{option_map}
+use Rattle.mm_base.specs.Limits.{cell_length}
 use Rattle.mm_platform.specs.declared.fault.StepFault.{StepFault}
 use Rattle.mm_platform.specs.Standing.{Standing}
 use Rattle.mm_platform.specs.Steps.{WriteCell, cell_after, EndsBy}
@@ -8,7 +9,7 @@ use Rattle.mm_platform.specs.Raw.{LeavesRest}
 
 -- the cell that the last of 209 bytes picks: the first one where it is even, the second where it is odd
 abbrev pub picked : List ℕ → List ℕ
-picked bytes = take 104 (drop (104 * (slice_index bytes 208 % 2)) bytes)
+picked bytes = take cell_length (drop (cell_length * (slice_index bytes 208 % 2)) bytes)
 
 -- what stands on the platform, by what stands on that of its memory and its own counts of steps and of writes
 abbrev pub as_one : Standing → ℕ → ℕ → Standing

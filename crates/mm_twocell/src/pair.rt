@@ -5,7 +5,7 @@ ghost use Rattle.std.specs.Result.{result_err};
 ghost use Rattle.mm_platform.specs.Raw.{ReadsRaw};
 ghost use Rattle.mm_twocell.specs.Pairs.{as_one, picked, WritesPicked};
 
-use mm_base::Memory;
+use mm_base::{CELL_LENGTH, Memory};
 use mm_digest::Digest;
 use mm_platform::{Device, Nv, Platform, RawNv, Register, StepFault};
 
@@ -47,12 +47,12 @@ impl<R: RawNv + Register> Device for TwoCell<R> {
 }
 
 impl<R: RawNv + Register> Nv for TwoCell<R> {
-    fn nv_read(&mut self, into: &mut [u8; 104]) -> Result<(), StepFault> {
+    fn nv_read(&mut self, into: &mut [u8; CELL_LENGTH]) -> Result<(), StepFault> {
         self.steps = self.steps.saturating_add(1);
         read_picked(&mut self.raw, into)
     }
 
-    fn nv_write(&mut self, bytes: &[u8; 104]) -> Result<(), StepFault> {
+    fn nv_write(&mut self, bytes: &[u8; CELL_LENGTH]) -> Result<(), StepFault> {
         self.steps = self.steps.saturating_add(1);
         self.writes = self.writes.saturating_add(1);
         write_other(&mut self.raw, bytes)
@@ -99,23 +99,23 @@ fn read_selector<R: RawNv>(raw: &mut R) -> Result<u8, StepFault>
 }
 
 // Reads the cell that the selector picks.
-fn read_picked<R: RawNv>(raw: &mut R, into: &mut [u8; 104]) -> Result<(), StepFault>
+fn read_picked<R: RawNv>(raw: &mut R, into: &mut [u8; CELL_LENGTH]) -> Result<(), StepFault>
     ensures goes { ReadsRaw (R.standing raw.old) (R.standing raw.new) (result_err result) }
     ensures read { OnOk result ((bytes : List ℕ) → (R.standing raw.old).cell ≡ Some bytes
         → into.new ≡ picked bytes) }
     ensures unread { OnErr result (into.new ≡ into.old) }
 {
     let selector = read_selector(raw)?;
-    raw.raw_read(104 * u16::from(selector % 2), into)
+    raw.raw_read(CELL_LENGTH as u16 * u16::from(selector % 2), into)
 }
 
 // Writes the cell that the selector doesn't pick, and then lets it pick that one.
-fn write_other<R: RawNv>(raw: &mut R, bytes: &[u8; 104]) -> Result<(), StepFault>
+fn write_other<R: RawNv>(raw: &mut R, bytes: &[u8; CELL_LENGTH]) -> Result<(), StepFault>
     ensures { WritesPicked bytes.now (R.standing raw.old) (R.standing raw.new) (result_err result) }
 {
     let selector = read_selector(raw)?;
     let other = 1 - selector % 2;
-    let start = 104 * u16::from(other);
+    let start = CELL_LENGTH as u16 * u16::from(other);
     raw.raw_write(start, bytes)?;
     raw.raw_write(208, &[other])
 }

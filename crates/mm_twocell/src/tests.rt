@@ -1,19 +1,20 @@
 //! Writes that tear, and a register below two cells.
 
 use super::*;
+use mm_base::CELL_LENGTH;
 use mm_digest::{Digest, extended, zero};
 use mm_platform::{Nv, Platform, RawNv, Register, StepFault};
 use std::test::Fail;
 
-const OLD: [u8; 104] = [1; 104];
+const OLD: [u8; CELL_LENGTH] = [1; CELL_LENGTH];
 
-const NEW: [u8; 104] = [2; 104];
+const NEW: [u8; CELL_LENGTH] = [2; CELL_LENGTH];
 
 // The first write takes the memory's calls 1 to 3, and the second one 4 to 6: it reads the selector, writes
 // the first cell, and writes the selector. One of its calls fails and leaves some bytes.
 #[test]
 fn a_torn_write_leaves_the_old_cell_or_the_new_one(rt: HostRuntime) -> Result<(), Fail> {
-    let table: [(u64, &[u8], [u8; 104]); 9] = [
+    let table: [(u64, &[u8], [u8; CELL_LENGTH]); 9] = [
         (0, &[], NEW),
         (4, &[], OLD),
         (5, &[], OLD),
@@ -29,7 +30,10 @@ fn a_torn_write_leaves_the_old_cell_or_the_new_one(rt: HostRuntime) -> Result<()
         memory.stop_at(call, leaves)?;
         let mut cell = TwoCell::new(memory);
         assert_eq!(rt; cell.nv_write(&OLD), Ok(()));
-        assert_eq!(rt; &cell.raw().bytes()[104..208], OLD.as_slice());
+        assert_eq!(rt;
+            &cell.raw().bytes()[CELL_LENGTH..2 * CELL_LENGTH],
+            OLD.as_slice()
+        );
         assert_eq!(rt; cell.raw().bytes()[208], 1);
         let answer = if call == 0 {
             Ok(())
@@ -37,7 +41,7 @@ fn a_torn_write_leaves_the_old_cell_or_the_new_one(rt: HostRuntime) -> Result<()
             Err(StepFault::Failed)
         };
         assert_eq!(rt; cell.nv_write(&NEW), answer, "{call}");
-        let mut read = [0; 104];
+        let mut read = [0; CELL_LENGTH];
         assert_eq!(rt; cell.nv_read(&mut read), Ok(()));
         assert!(rt; read == expected, "{call}");
     }
@@ -76,8 +80,8 @@ fn a_failed_read_gives_nothing(rt: HostRuntime) -> Result<(), Fail> {
     assert_eq!(rt; read, [0, 1, 2]);
     memory.stop_at(2, &[])?;
     let mut cell = TwoCell::new(memory);
-    let mut picked = [9; 104];
+    let mut picked = [9; CELL_LENGTH];
     assert_eq!(rt; cell.nv_read(&mut picked), Err(StepFault::Failed));
-    assert!(rt; picked == [9; 104]);
+    assert!(rt; picked == [9; CELL_LENGTH]);
     Ok(())
 }

@@ -8,7 +8,7 @@ ghost use Rattle.mm_platform.specs.Raw.{range_of, spliced, ReadsRaw, WritesRaw};
 ghost use Rattle.mm_twocell.specs.Torn.{Torn, IsUsable, IsSteady, first_torn, told_by, will_fail, call_made, put_in, torn_after, StepsRegister};
 ghost use Rattle.mm_twocell.specs.Wholes.{told_size};
 
-use mm_base::Memory;
+use mm_base::{CELL_LENGTH, Memory};
 use mm_digest::Digest;
 use mm_platform::{Device, MemPlatform, Platform, RawNv, Register, StepFault};
 use std::alloc::Global;
@@ -44,7 +44,7 @@ impl MemRaw {
     {
         MemRaw {
             bytes: [0; 209],
-            register: MemPlatform::new(alloc, &[0; 104]),
+            register: MemPlatform::new(alloc, &[0; CELL_LENGTH]),
             faults: 0,
             ahead: 0,
             leaves: Vec::new(alloc),
