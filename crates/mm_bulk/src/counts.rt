@@ -35,7 +35,7 @@ impl Counts {
     /// Counts one reply more. A reply of several lines is one.
     pub fn count(&mut self, reply: &Reply)
         requires { total self.old < most_events }
-        ensures counted_reply { self.new ≡ counted_reply self.old reply.now }
+        ensures counted { self.new ≡ counted_reply self.old reply.now }
         ensures total { total self.new ≡ total self.old + 1 }
     {
         match reply {
