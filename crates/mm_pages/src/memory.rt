@@ -287,7 +287,8 @@ impl MemPages {
     fn is_to_fail_in(&mut self, slot: u8) -> bool
         requires { slot < 4 }
         ensures fails { IsTrue result ↔ (self.old.ahead ≡ 1) }
-        ensures after { self.new ≡ (if result then failed_in slot self.old else call_made self.old) }
+        ensures after { self.new
+            ≡ (if result then failed_in slot self.old else call_made self.old) }
         ensures later { self.old.faults ≤ self.new.faults }
     {
         if !self.is_to_fail() {
