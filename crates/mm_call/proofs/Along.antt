@@ -7,6 +7,7 @@ use Rattle.mm_model.specs.Instance.{Instance}
 use Rattle.mm_model.specs.History.{History, Move, Commit, Foreign, Placed, Reset, Close, Power, moved, committed}
 use Rattle.mm_model.specs.Steps.{Step, Reads, Changes, Writes, checkpoint_steps}
 use Rattle.mm_call.specs.Levels.{by_lists, all_made}
+use Rattle.mm_call.specs.Called.{reading_steps}
 use Rattle.mm_call.specs.Courses.{End, Done, Fails, Fate, Walked, step_moves, after_step, walk, closes}
 use Rattle.mm_call.proofs.Moving.{committed_in}
 use Rattle.mm_call.proofs.Walks.{committed-append, committed-foreign, changing}
@@ -48,14 +49,19 @@ walk_along P g fates n (Writes m ∷ steps) h =
 
 -- what is committed
 
-abbrev pub CommitsNone : List Move → Type 0
+abbrev CommitsNone : List Move → Type 0
 CommitsNone moves = committed_in moves ≡ []
 
-pub none_along : GoesAlong CommitsNone
+none_along : GoesAlong CommitsNone
 none_along = record {
   more = λ xs ys e f. committed-append xs ys ∙ ap (λ v. v ++ committed_in ys) e ∙ f;
   others = committed-foreign;
 }
+
+-- the reading steps of a call commit nothing, nor does a checkpoint
+pub reading_none : (variant : Variant) (fates : ℕ → Fate) → committed_in (walk fates 1 (reading_steps variant)).moves ≡ []
+reading_none Basic fates = walk_along CommitsNone none_along fates 1 (reading_steps Basic) tt
+reading_none Opt fates = walk_along CommitsNone none_along fates 1 (reading_steps Opt) tt
 
 checkpoint_each : (variant : Variant) (is_open lost : Bool) → EachMove CommitsNone (checkpoint_steps variant is_open lost)
 checkpoint_each Basic is_open lost = tt
@@ -89,7 +95,7 @@ closes_first values rest = closes-append (map Foreign values) rest (closes-forei
 abbrev pub ClosesNone : List Move → Type 0
 ClosesNone moves = closes moves ≡ false
 
-shut_along : GoesAlong ClosesNone
+pub shut_along : GoesAlong ClosesNone
 shut_along = record { more = λ xs ys e f. closes-append xs ys e ∙ f; others = closes-foreign }
 
 changing_each : (flag fresh : Bool) (b : Batch) → EachMove ClosesNone (changing flag fresh b)
