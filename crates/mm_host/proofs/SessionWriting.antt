@@ -188,7 +188,7 @@ none_of (host.Refused why) = none_at (fault_of why)
 fault_rests : (variant : Variant) (fault : HostFault) (before after : Standing) → after ≡ before → CameWrites variant (Err fault) before after
 fault_rests variant fault before after e = record { requests = 0; is_new = none_of fault; writes = rests variant before after e; leads = tt }
 
-started_rests : (variant : Variant) (zero : Result (List ℕ) StoreFault) (before after : Standing) → after ≡ before → CameWrites variant (started zero) before after
+started_rests : (variant : Variant) (first : Result (List ℕ) StoreFault) (before after : Standing) → after ≡ before → CameWrites variant (started first) before after
 started_rests variant (Ok first) before after e = record { requests = 0; is_new = refl; writes = rests variant before after e; leads = leads_rest variant before after e }
 started_rests variant (Err why) before after e = fault_rests variant (store_fault_as why) before after e
 
