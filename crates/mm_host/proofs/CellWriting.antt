@@ -1,5 +1,5 @@
 -- How often one call of either core is to write the cell, and what flag it leaves.
-use Rattle.std.proofs.Common.{◌≡◌, ◌∙◌, ◌+◌, ◌≤◌, ℕ, zero, suc, Bool, true, false, List, Option, None, Some, Result, Ok, Err, refl, sym, ap, subst, inl, inr, arith}
+use Rattle.std.proofs.Common.{◌≡◌, ◌∙◌, ◌+◌, ◌≤◌, ℕ, Bool, true, false, List, Option, None, Some, Result, Ok, Err, refl, sym, ap, subst, inl, inr, arith}
 use Rattle.std.specs.Prelude.{◌⊎◌}
 use Rattle.std.specs.Option.{option_map}
 use Rattle.mm_base.specs.Faults.{counted}
@@ -28,19 +28,18 @@ use Rattle.mm_call.specs.Refusals.{fault_of, handed_on, OrMemory}
 use Rattle.mm_call.specs.Standing.{counted_by}
 use Rattle.mm_basic.specs.Asks.{StepsBy as BasicSteps, StepsAnswered as BasicAnswered, StepsRefused as BasicRefused}
 use Rattle.mm_basic.specs.Asked.{AskedInBasic}
-use Rattle.mm_opt.specs.declared.found.Ready.{Ready}
 use Rattle.mm_opt.specs.declared.found.Opening.{Opening}
 use Rattle.mm_opt.specs.declared.found.Found.{Found}
 use Rattle.mm_opt.specs.declared.found.Found.TheVariants.{Repeat, Inside, Opens}
 use Rattle.mm_opt.specs.Seen.{is_cell_of, own_cell, cell_in}
 use Rattle.mm_opt.specs.Order.{batch_value, has_lost_power, verdict_of}
 use Rattle.mm_opt.specs.Answers.{answer_of, change_by, opened_cell, found_from, found_in_offer, found_unless, found_in}
-use Rattle.mm_opt.specs.Steps.{ReadsOwnCell, FindsCell, FindsIn, MakesRoom, Extends, Empties, Places, Writes}
-use Rattle.mm_opt.specs.Asks.{ReadsOn, Reads, PlacedOn, EmptiedOn, CommitsFound, Ends, Calls, StepsAnswered, StepsRefused, StepsFrom, WritesAtMostOnce}
+use Rattle.mm_opt.specs.Steps.{ReadsOwnCell, FindsCell, FindsIn, MakesRoom, Empties, Places, Writes}
+use Rattle.mm_opt.specs.Asks.{ReadsOn, Reads, PlacedOn, EmptiedOn, CommitsFound, Ends, StepsAnswered, StepsRefused, StepsFrom, WritesAtMostOnce}
 use Rattle.mm_opt.specs.Asked.{AskedInOpt}
 use Rattle.mm_opt.proofs.Findings.{IsShaped}
 use Rattle.mm_opt.proofs.Asking.{reads_shaped}
-use Rattle.mm_host.specs.CellWrites.{CallWrites, IsNewAt, LeavesFlag, TellsFlag, WritesByOpening, is_open_after, new_by, openings}
+use Rattle.mm_host.specs.CellWrites.{CallWrites, IsNewAt, LeavesFlag, TellsFlag, is_open_after, new_by, openings}
 
 -- counts
 count_same : (before after n : ℕ) → after ≡ before → after ≤ before + n

@@ -1,6 +1,6 @@
 -- How often a session is to write the cell: its calls one after another.
-use Rattle.std.proofs.Common.{◌≡◌, ◌≢◌, ◌∙◌, ◌+◌, ◌≤◌, ◌<◌, ℕ, zero, suc, Bool, true, false, List, [], ◌∷◌, ◌++◌, length, Option, None, Some, Result, Ok, Err, refl, sym, ap, subst, inl, inr, arith, append_assoc, length-append}
-use Rattle.std.specs.Prelude.{◌⊎◌, is_some, IsSome}
+use Rattle.std.proofs.Common.{◌≡◌, ◌≢◌, ◌∙◌, ◌+◌, ◌≤◌, ℕ, zero, suc, Bool, true, false, List, [], ◌∷◌, ◌++◌, length, Option, None, Some, Result, Ok, Err, refl, sym, ap, subst, inl, inr, arith, length-append}
+use Rattle.std.specs.Prelude.{◌⊎◌, IsSome}
 use Rattle.mm_base.specs.Faults.{counted}
 use Rattle.mm_base.specs.Input.{lines_joined, lines_of}
 use Rattle.mm_base.proofs.Input.{lines_of-joined, lines_of-line}
@@ -25,10 +25,10 @@ use Rattle.mm_host.specs.declared.fault.SessionFault.{SessionFault}
 use Rattle.mm_host.specs.declared.fault.SessionFault.TheVariants.{Memory, Store, Refused, ReadFault, WriteFault, LineLong, BadLine, TooMuch}
 use Rattle.mm_host.specs.declared.resuming.Resumed.{Resumed}
 use Rattle.mm_host.specs.declared.resuming.Resumed.TheVariants.{Start, Answered}
-use Rattle.mm_host.specs.CellWrites.{CallWrites, IsNewAt, IsNewIn, LeavesFlag, LeavesOpen, TellsFlag, WritesByOpening, WritesFor, is_open_after, new_by, openings}
+use Rattle.mm_host.specs.CellWrites.{CallWrites, IsNewAt, LeavesOpen, TellsFlag, WritesByOpening, WritesFor, is_open_after, new_by, openings}
 use Rattle.mm_host.specs.Continuing.{MayBeUntold}
 use Rattle.mm_host.specs.Faults.{as_session_fault, refusal_fault, store_fault_as}
-use Rattle.mm_host.specs.Resumes.{AfterAsk, AfterFinding, AfterOffer, AsksAndKeeps, Resumes, kept_as, started}
+use Rattle.mm_host.specs.Resumes.{AfterAsk, AfterFinding, AfterOffer, Resumes, kept_as, started}
 use Rattle.mm_host.specs.Saying.{SendsReply, comes_as}
 use Rattle.mm_host.specs.Serving.{AfterRecord, AsksLine, Place, Served, Serves, lines_served}
 use Rattle.mm_host.specs.SessionWrites.{IsNewOf, RecoveryWrites, SessionWrites, new_first, new_lines, new_told}
@@ -52,7 +52,7 @@ counted_most (suc n) count = let rest = counted_most n (counted count) in omega 
 
 openings_sum : (flag : Bool) (n m : ℕ) → openings flag n + openings (is_open_after flag n) m ≡ openings flag (n + m)
 openings_sum true n m = refl
-openings_sum false zero m = ap (openings false) (none m)
+openings_sum false zero m = sym (none (openings false m)) ∙ ap (openings false) (none m)
   where
     none : (m : ℕ) → m ≡ 0 + m
     none m = omega arith
@@ -316,7 +316,7 @@ came_most (Err (host.Refused why)) n h = at_most_one (fault_of why) n h
 
 some_at : (broken : Option StepFault) (n : ℕ) → IsNewAt broken n → n ≢ 0 → IsSome broken
 some_at None n h k = absurd (k h)
-some_at (Some fault) n h k = tt
+some_at (Some fault) n h k = refl
 
 untold_at : (fault : HostFault) (n : ℕ) → IsNewOf (Err fault) n → n ≢ 0 → MayBeUntold {T = Unit} (Err (as_session_fault fault))
 untold_at host.Memory n h k = tt
