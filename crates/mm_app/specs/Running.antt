@@ -78,7 +78,8 @@ pub record LooksAtInstance (before after : Standing) (found : Result Header Stat
 
 -- A session over the instance, which ended with an answer of this status: its steps; that lines within the limits aren't to
 -- blame; and from which history to which it went, by one run of the module, with slots to go on from. Each count of faults rose exactly where its object is to blame.
-pub record ServedInstance (header : Header) (before after : Standing) (old new : StoreStanding) (left left' received received' : Option (List ℕ))
+pub record ServedInstance (header : Header) (before after : Standing) (old new : StoreStanding)
+    (left left' received received' : Option (List ℕ))
     (reads reads' writes writes' : ℕ) (status : Status) : Type 0 where
   pub answer : Result (Unit {0}) SessionFault
   pub sessions : Sessions header.variant (meaning_of header.module) before after old new left left' received received' answer
@@ -92,7 +93,8 @@ pub record ServedInstance (header : Header) (before after : Standing) (old new :
   pub ends : status ≡ session_status answer
 
 -- Such a session, and then its stop line. `between` is what the output had received between the two, and `count` its count.
-pub record ServesAndStops (header : Header) (before after : Standing) (old new : StoreStanding) (left left' received received' : Option (List ℕ))
+pub record ServesAndStops (header : Header) (before after : Standing) (old new : StoreStanding)
+    (left left' received received' : Option (List ℕ))
     (reads reads' writes writes' : ℕ) (status : Status) : Type 0 where
   pub between : Option (List ℕ)
   pub count : ℕ
@@ -109,7 +111,8 @@ pub record FindsNone (end : Status) (before after : Standing) (old new : StoreSt
   pub stops : StopsAs end received received' writes writes' status
 
 abbrev pub ServesIfFound : Result Header Status
-    → (before after : Standing) (old new : StoreStanding) (left left' received received' : Option (List ℕ)) (reads reads' writes writes' : ℕ)
+    → (before after : Standing) (old new : StoreStanding) (left left' received received' : Option (List ℕ))
+    (reads reads' writes writes' : ℕ)
     → Status → Type 0
 ServesIfFound (Err end) before after old new left left' received received' reads reads' writes writes' status =
     FindsNone end before after old new left left' received received' reads reads' writes writes' status

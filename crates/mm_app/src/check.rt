@@ -1,7 +1,7 @@
 //! The command `check`: a recorded run is checked.
 
 ghost use Rattle.std.specs.Prelude.{◌≡◌, ℕ, List, Some, Ok};
-ghost use Rattle.mm_check.specs.Checking.{Stage, AtHeader, check_answer, check_closing};
+ghost use Rattle.mm_check.specs.Checking.{CheckStage, AtHeader, check_answer, check_closing};
 ghost use Rattle.mm_play.specs.Play.{run_of};
 ghost use Rattle.mm_schedule.specs.Headers.{header_at};
 ghost use Rattle.mm_app.specs.Checking.{ChecksRunAndStops, RunChecked};
@@ -18,7 +18,7 @@ fn checked<S: Source, K: Sink>(alloc: Global, input: &mut S, out: &mut K) -> Sta
     ensures checked { RunChecked (S.left input.old) (S.left input.new) (K.received out.old)
         (K.received out.new) (S.faults input.old) (S.faults input.new) (K.faults out.old)
         (K.faults out.new) result }
-    ensures complete { (bytes : List ℕ) → (next : Stage) → S.left input.old ≡ Some bytes
+    ensures complete { (bytes : List ℕ) → (next : CheckStage) → S.left input.old ≡ Some bytes
         → (run_of (check_answer header_at) check_closing AtHeader bytes).outcome ≡ Ok next
         → EndsUnrefused result }
 {
@@ -33,7 +33,7 @@ pub fn check_run<S: Source, K: Sink>(alloc: Global, input: &mut S, out: &mut K) 
     ensures checks { ChecksRunAndStops (S.left input.old) (S.left input.new) (K.received out.old)
         (K.received out.new) (S.faults input.old) (S.faults input.new) (K.faults out.old)
         (K.faults out.new) result }
-    ensures complete { (bytes : List ℕ) → (next : Stage) → S.left input.old ≡ Some bytes
+    ensures complete { (bytes : List ℕ) → (next : CheckStage) → S.left input.old ≡ Some bytes
         → (run_of (check_answer header_at) check_closing AtHeader bytes).outcome ≡ Ok next
         → EndsUnrefused result }
 {

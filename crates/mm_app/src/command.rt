@@ -5,7 +5,7 @@ ghost use Rattle.mm_check.specs.Checking as checked;
 ghost use Rattle.mm_play.specs.Play.{run_of};
 ghost use Rattle.mm_play.specs.Plays.{IsBlamed};
 ghost use Rattle.mm_receipts.specs.Checking.{Checking, first_checking, receipts_answer, receipts_closing};
-ghost use Rattle.mm_replay.specs.Schedule.{Stage, AtHeader, schedule_answer, schedule_closing};
+ghost use Rattle.mm_replay.specs.Schedule.{ReplayStage, AtHeader, schedule_answer, schedule_closing};
 ghost use Rattle.mm_schedule.specs.Headers.{header_at};
 ghost use Rattle.mm_words.specs.Commands.{IsInBounds, SpellsCommand};
 ghost use Rattle.mm_words.specs.declared.command.Command.{Command as Told};
@@ -53,7 +53,7 @@ fn done<P: Platform, T: Store, S: Source, E: Source, K: Sink>(
         (S.faults input.new) (E.left entropy.new) (E.faults entropy.new) (K.received out.new)
         (K.faults out.new) in
         DoesOrLacks command.now old new result }
-    ensures complete { command.now ≡ Replay → (bytes : List ℕ) → (next : Stage)
+    ensures complete { command.now ≡ Replay → (bytes : List ℕ) → (next : ReplayStage)
         → S.left input.old ≡ Some bytes
         → (run_of (schedule_answer header_at) schedule_closing AtHeader bytes).outcome ≡ Ok next
         → EndsUnrefused result }
@@ -61,7 +61,7 @@ fn done<P: Platform, T: Store, S: Source, E: Source, K: Sink>(
         → (bytes : List ℕ) → (next : Checking) → S.left input.old ≡ Some bytes
         → (run_of receipts_answer receipts_closing (first_checking key) bytes).outcome ≡ Ok next
         → EndsUnrefused result }
-    ensures check { command.now ≡ Check → (bytes : List ℕ) → (next : checked.Stage)
+    ensures check { command.now ≡ Check → (bytes : List ℕ) → (next : checked.CheckStage)
         → S.left input.old ≡ Some bytes
         → (run_of (checked.check_answer header_at) checked.check_closing checked.AtHeader
         bytes).outcome ≡ Ok next
@@ -114,7 +114,7 @@ pub fn memoir<P: Platform, T: Store, S: Source, E: Source, K: Sink>(
 
     // A schedule within the grammar and the limits is not refused.
     ensures complete { SpellsCommand Replay (map (λ s. s.now) words.now)
-        → (bytes : List ℕ) → (next : Stage) → S.left input.old ≡ Some bytes
+        → (bytes : List ℕ) → (next : ReplayStage) → S.left input.old ≡ Some bytes
         → (run_of (schedule_answer header_at) schedule_closing AtHeader bytes).outcome ≡ Ok next
         → EndsUnrefused result }
 
@@ -126,7 +126,7 @@ pub fn memoir<P: Platform, T: Store, S: Source, E: Source, K: Sink>(
 
     // Nor is a recorded run within the grammar and the limits.
     ensures check { SpellsCommand Check (map (λ s. s.now) words.now)
-        → (bytes : List ℕ) → (next : checked.Stage) → S.left input.old ≡ Some bytes
+        → (bytes : List ℕ) → (next : checked.CheckStage) → S.left input.old ≡ Some bytes
         → (run_of (checked.check_answer header_at) checked.check_closing checked.AtHeader
         bytes).outcome ≡ Ok next
         → EndsUnrefused result }

@@ -2,7 +2,7 @@
 
 ghost use Rattle.std.specs.Prelude.{◌≡◌, ℕ, List, Some, Ok};
 ghost use Rattle.mm_play.specs.Play.{run_of};
-ghost use Rattle.mm_replay.specs.Schedule.{Stage, AtHeader, schedule_answer, schedule_closing};
+ghost use Rattle.mm_replay.specs.Schedule.{ReplayStage, AtHeader, schedule_answer, schedule_closing};
 ghost use Rattle.mm_schedule.specs.Headers.{header_at};
 ghost use Rattle.mm_app.specs.Replaying.{Replayed, ReplaysAndStops};
 ghost use Rattle.mm_app.specs.Status.{EndsUnrefused};
@@ -18,7 +18,7 @@ fn replayed<S: Source, K: Sink>(alloc: Global, input: &mut S, out: &mut K) -> St
     ensures replayed { Replayed (S.left input.old) (S.left input.new) (K.received out.old)
         (K.received out.new) (S.faults input.old) (S.faults input.new) (K.faults out.old)
         (K.faults out.new) result }
-    ensures complete { (bytes : List ℕ) → (next : Stage) → S.left input.old ≡ Some bytes
+    ensures complete { (bytes : List ℕ) → (next : ReplayStage) → S.left input.old ≡ Some bytes
         → (run_of (schedule_answer header_at) schedule_closing AtHeader bytes).outcome ≡ Ok next
         → EndsUnrefused result }
 {
@@ -33,7 +33,7 @@ pub fn replay_and_stop<S: Source, K: Sink>(alloc: Global, input: &mut S, out: &m
     ensures replays { ReplaysAndStops (S.left input.old) (S.left input.new) (K.received out.old)
         (K.received out.new) (S.faults input.old) (S.faults input.new) (K.faults out.old)
         (K.faults out.new) result }
-    ensures complete { (bytes : List ℕ) → (next : Stage) → S.left input.old ≡ Some bytes
+    ensures complete { (bytes : List ℕ) → (next : ReplayStage) → S.left input.old ≡ Some bytes
         → (run_of (schedule_answer header_at) schedule_closing AtHeader bytes).outcome ≡ Ok next
         → EndsUnrefused result }
 {

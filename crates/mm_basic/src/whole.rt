@@ -65,7 +65,8 @@ pub fn prepare<M: Module, P: Platform>(
     ensures reads { is_long (One request.now) ≡ false →
         Reads (M.meaning «module».now) (P.standing platform.old) (P.standing platform.new)
         offer.now (One request.now) result }
-    ensures faults { Blames (fault_in result) (P.standing platform.old).faults (P.standing platform.new).faults }
+    ensures faults { Blames (fault_in result)
+        (P.standing platform.old).faults (P.standing platform.new).faults }
     ensures continuity { is_long (One request.now) ≡ false →
         ReadContinues (M.meaning «module».now) (P.standing platform.old) (P.standing platform.new)
         offer.now (One request.now) result }
@@ -85,7 +86,8 @@ fn prepare_batch<M: Module, P: Platform>(
     ensures reads { is_long (batch_of batch.entry) ≡ false →
         Reads (M.meaning «module».now) (P.standing platform.old) (P.standing platform.new)
         offer.now (batch_of batch.entry) result }
-    ensures faults { Blames (fault_in result) (P.standing platform.old).faults (P.standing platform.new).faults }
+    ensures faults { Blames (fault_in result)
+        (P.standing platform.old).faults (P.standing platform.new).faults }
     ensures continuity { is_long (batch_of batch.entry) ≡ false →
         ReadContinues (M.meaning «module».now) (P.standing platform.old) (P.standing platform.new)
         offer.now (batch_of batch.entry) result }
@@ -102,9 +104,12 @@ fn prepare_batch<M: Module, P: Platform>(
 impl Prepared {
     /// Makes the writing step, which commits the request; a repeat has none. Takes no memory.
     pub fn commit<P: Platform>(self, platform: &mut P) -> Result<Committed, StepFault>
-        ensures commits { CommitsFound self (P.standing platform.old) (P.standing platform.new) result }
-        ensures faults { Blames (result_err result) (P.standing platform.old).faults (P.standing platform.new).faults }
-        ensures continuity { CommitContinues self (P.standing platform.old) (P.standing platform.new) result }
+        ensures commits { CommitsFound self
+            (P.standing platform.old) (P.standing platform.new) result }
+        ensures faults { Blames (result_err result)
+            (P.standing platform.old).faults (P.standing platform.new).faults }
+        ensures continuity { CommitContinues self
+            (P.standing platform.old) (P.standing platform.new) result }
     {
         self.commit_found(platform)
     }
@@ -139,10 +144,11 @@ fn call<M: Module, P: Platform>(
     offer: &[u8],
     batch: Batch<'_>,
 ) -> Result<BatchAnswer, Refusal>
-    ensures calls { Calls (M.meaning «module».now) (P.standing platform.old) (P.standing platform.new)
-        offer.now (batch_of batch.entry) result }
-    ensures goes { is_long (batch_of batch.entry) ≡ false → CallsOn Basic (M.meaning «module».now)
-        (P.standing platform.old) (P.standing platform.new) offer.now (batch_of batch.entry) result }
+    ensures calls { Calls (M.meaning «module».now) (P.standing platform.old)
+        (P.standing platform.new) offer.now (batch_of batch.entry) result }
+    ensures goes { is_long (batch_of batch.entry) ≡ false →
+        CallsOn Basic (M.meaning «module».now) (P.standing platform.old)
+        (P.standing platform.new) offer.now (batch_of batch.entry) result }
 {
     match begin(batch) {
         Err(refusal) => Err(refusal),
@@ -160,8 +166,8 @@ pub fn ask_batch<M: Module, P: Platform>(
     offer: &[u8],
     batch: Batch<'_>,
 ) -> Result<BatchAnswer, Refusal>
-    ensures { AskedInBasic (M.meaning «module».now) (P.standing platform.old) (P.standing platform.new)
-        offer.now (batch_of batch.entry) result }
+    ensures { AskedInBasic (M.meaning «module».now) (P.standing platform.old)
+        (P.standing platform.new) offer.now (batch_of batch.entry) result }
 {
     call(alloc, module, platform, offer, batch)
 }
@@ -174,8 +180,8 @@ pub fn ask<M: Module, P: Platform>(
     offer: &[u8],
     request: &[u8],
 ) -> Result<Answer, Refusal>
-    ensures { AskedInBasic (M.meaning «module».now) (P.standing platform.old) (P.standing platform.new)
-        offer.now (One request.now) (whole_in result) }
+    ensures { AskedInBasic (M.meaning «module».now) (P.standing platform.old)
+        (P.standing platform.new) offer.now (One request.now) (whole_in result) }
 {
     match call_one(alloc, module, platform, offer, request) {
         Err(refusal) => Err(refusal),
@@ -191,8 +197,8 @@ fn call_one<M: Module, P: Platform>(
     offer: &[u8],
     request: &[u8],
 ) -> Result<BatchAnswer, Refusal>
-    ensures asked { AskedInBasic (M.meaning «module».now) (P.standing platform.old) (P.standing platform.new)
-        offer.now (One request.now) result }
+    ensures asked { AskedInBasic (M.meaning «module».now) (P.standing platform.old)
+        (P.standing platform.new) offer.now (One request.now) result }
     ensures one { IfOk result (λ answer. length answer.outputs ≡ 1) }
 {
     ask_batch(alloc, module, platform, offer, Batch::One(request))

@@ -26,7 +26,7 @@ use Rattle.mm_gen.proofs.Readable.{is_schedule}
 use Rattle.mm_play.specs.Play.{Told, told, after_writing, and_then, ended, run}
 use Rattle.mm_run.specs.Folds.{replies_by_digests}
 use Rattle.mm_run.specs.Held.{world_of}
-use Rattle.mm_replay.specs.Schedule.{Running, Stage, AtHeader, InEvents, after_event, begun, is_too_much, running_outcome, schedule_answer, schedule_closing}
+use Rattle.mm_replay.specs.Schedule.{Running, ReplayStage, AtHeader, InEvents, after_event, begun, is_too_much, running_outcome, schedule_answer, schedule_closing}
 use Rattle.mm_replay.specs.Text.{text_of_replies, texts_of}
 use Rattle.mm_bulk.specs.Limits.{IsLimited, is_over}
 use Rattle.mm_bulk.specs.Replayed.{IsReplayed, replay_of}
@@ -37,7 +37,7 @@ use Rattle.mm_bulk.specs.declared.summary.Summary.{Summary}
 use Rattle.mm_bulk.proofs.Tallying.{heads, left_of, no_events, over_at, over_behind}
 
 -- the replay of event lines, of which the first has this number
-abbrev lines_run : ℕ → Running → List (List ℕ) → Told Stage
+abbrev lines_run : ℕ → Running → List (List ℕ) → Told ReplayStage
 lines_run number r lines = run (schedule_answer header_at) number (InEvents r) lines
 
 fits : (line : List ℕ) → length line ≤ longest_line → nat_lt longest_line (length line) ≡ false
@@ -99,7 +99,7 @@ much_line : (number : ℕ) (r : Running) (line : List ℕ) (lines : List (List �
     → (lines_run number r (line ∷ lines)).outcome ≡ Err fault.TooMuch
 much_line number r line lines event true is short read over on = stops number r line lines event short read is
 much_line number r line lines event false is short read over on =
-    ap (λ (t : Told Stage). t.outcome) (goes number r line lines event short read is) ∙ on (over_behind r line lines event read is ∙ over)
+    ap (λ (t : Told ReplayStage). t.outcome) (goes number r line lines event short read is) ∙ on (over_behind r line lines event read is ∙ over)
 
 much_answered : (lines : List (List ℕ)) → AllByRecursion IsEventLine lines → (number : ℕ) (r : Running) → is_over r lines ≡ true
     → (lines_run number r lines).outcome ≡ Err fault.TooMuch
@@ -136,7 +136,7 @@ headed header lines = rw (fits (header_text header) (header_short header), heade
 -- ---- the whole text
 
 -- the replay goes over the lines and then comes to the end of the text
-abbrev ends : Header → List (List ℕ) → Stage → Told Stage
+abbrev ends : Header → List (List ℕ) → ReplayStage → Told ReplayStage
 ends header lines = ended schedule_closing (1 + length (header_text header ∷ lines)) []
 
 whole : (number count : ℕ) (header : Header) → count ≤ most_events
@@ -153,16 +153,16 @@ replayed_ok number count header summary few sums over =
     let a = all_answered lines sums.events (recursion_from_All IsEventLine lines is.events) sums.read 2 (begun header) over in
     let replies = replies_by_digests (world_of header) sums.events in
     let ran : replay_of number count header ≡ told (texts_of replies.replies ++ end_line a.last.digests.count (length a.last.issued)) (Ok (InEvents a.last)) =
-    whole number count header few ∙ ap (λ (t : Told Stage). and_then t (ends header lines)) a.ran in (
+    whole number count header few ∙ ap (λ (t : Told ReplayStage). and_then t (ends header lines)) a.ran in (
       ap (λ (it : Summary). it.replies.bytes) sums.told
           ∙ ap (λ (c : ℕ). sha256 (texts_of replies.replies ++ end_line c (length replies.issued))) (sym (ap (λ d. d.count) a.digests))
           ∙ ap (λ (issued : List (List ℕ)). sha256 (texts_of replies.replies ++ end_line a.last.digests.count (length issued))) (sym a.issued)
-          ∙ ap (λ (t : Told Stage). sha256 t.written) (sym ran),
+          ∙ ap (λ (t : Told ReplayStage). sha256 t.written) (sym ran),
       InEvents a.last,
-      ap (λ (t : Told Stage). t.outcome) ran,
+      ap (λ (t : Told ReplayStage). t.outcome) ran,
     )
 
-much_stays : (t : Told Stage) (on : Stage → Told Stage) (outcome : Result Stage ReplayFault) → t.outcome ≡ outcome → outcome ≡ Err fault.TooMuch → (and_then t on).outcome ≡ Err fault.TooMuch
+much_stays : (t : Told ReplayStage) (on : ReplayStage → Told ReplayStage) (outcome : Result ReplayStage ReplayFault) → t.outcome ≡ outcome → outcome ≡ Err fault.TooMuch → (and_then t on).outcome ≡ Err fault.TooMuch
 much_stays t on outcome is much = rw (is, much) refl
 
 replayed_much : (number count : ℕ) (header : Header) → count ≤ most_events → is_over (begun header) (schedule_lines number count header) ≡ true
@@ -171,7 +171,7 @@ replayed_much number count header few over =
     let is = is_schedule number count header few in
     let lines : List (List ℕ) = schedule_lines number count header in
     let stopped = much_answered lines (recursion_from_All IsEventLine lines is.events) 2 (begun header) over in
-    ap (λ (t : Told Stage). t.outcome) (whole number count header few)
+    ap (λ (t : Told ReplayStage). t.outcome) (whole number count header few)
     ∙ much_stays (lines_run 2 (begun header) lines) (ends header lines) _ refl stopped
 
 -- what a run of a schedule comes to is what a replay of its text does

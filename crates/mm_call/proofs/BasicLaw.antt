@@ -28,6 +28,7 @@ use Rattle.mm_call.proofs.Moving.{IsBasicMove, agrees-made, plain-made, same_bat
 use Rattle.mm_call.proofs.Finding.{Holds, Asking, Placed, found_same, placed, right_of_found}
 use Rattle.mm_call.proofs.Calling.{summary_then, listed_push, listed_same, called_message}
 use Rattle.mm_call.proofs.Walks.{Commits, nothing, batch, basic_commits, foreign_first, finished}
+use Rattle.mm_call.proofs.Along.{GoesAlong, walk_along}
 use Rattle.mm_call.proofs.Endings.{Ends, again_of, fresh_of, ending_same}
 
 abbrev pub AreBasic : List Move → Type 0
@@ -41,27 +42,12 @@ pub basic-foreign : (values : List (List ℕ)) → AreBasic (map Foreign values)
 basic-foreign [] = tt
 basic-foreign (v ∷ values) = (tt, basic-foreign values)
 
--- the moves of a step of Basic
-abbrev IsOfBasic : Step → Type 0
-IsOfBasic step = (made : Bool) (values : List (List ℕ)) → AreBasic (step_moves step made values)
+basic_along : GoesAlong AreBasic
+basic_along = record { more = basic-append; others = basic-foreign }
 
-reads_basic : IsOfBasic Reads
-reads_basic made values = basic-foreign values
-
-writes_basic : (b : Batch) → IsOfBasic (Writes (Commit b))
-writes_basic b true values = (tt, basic-foreign values)
-writes_basic b false values = basic-foreign values
-
-step_basic : (step : Step) (values : List (List ℕ)) (ends : End) (rest : Walked) → IsOfBasic step → AreBasic rest.moves
-    → AreBasic (after_step step values ends rest).moves
-step_basic step values Done rest s r = basic-append (step_moves step true values) rest.moves (s true values) r
-step_basic step values (Fails fault made) rest s r = s made values
-
-walk_basic : (fates : ℕ → Fate) (flag fresh : Bool) (b : Batch) → AreBasic (walk fates 1 (ask_steps Basic flag fresh b)).moves
-walk_basic fates flag false b = step_basic Reads (fates 1).brings (fates 1).ends finished reads_basic tt
-walk_basic fates flag true b =
-    step_basic Reads (fates 1).brings (fates 1).ends (walk fates 2 (Writes (Commit b) ∷ [])) reads_basic
-    (step_basic (Writes (Commit b)) (fates 2).brings (fates 2).ends finished (writes_basic b) tt)
+pub walk_basic : (fates : ℕ → Fate) (flag fresh : Bool) (b : Batch) → AreBasic (walk fates 1 (ask_steps Basic flag fresh b)).moves
+walk_basic fates flag false b = walk_along AreBasic basic_along fates 1 (ask_steps Basic flag false b) tt
+walk_basic fates flag true b = walk_along AreBasic basic_along fates 1 (ask_steps Basic flag true b) ((tt, tt), tt)
 
 -- a plain history has no values that count
 pub plain_outside : (others : List (List ℕ)) (closed : List (List Entry)) (is_open : Bool) (items : List Entry) → closed ≡ [] → is_open ≡ false

@@ -26,6 +26,10 @@ pub fresh_of : (again : Bool) → (if again then false else true) ≡ true → a
 fresh_of true e = cc
 fresh_of false e = refl
 
+pub fresh_found : (found : Result Found Refusal) → is_fresh found ≡ true → (f : Found) × (found ≡ Ok f) × (f.again ≡ false)
+fresh_found (Ok f) e = (f, refl, fresh_of f.again e)
+fresh_found (Err why) e = cc
+
 pub kept_same : (committed : Bool) (p q : ℕ) → (committed ≡ true → p ≡ q) → kept_at committed p ≡ kept_at committed q
 kept_same true p q e = ap (λ x. Some x) (e refl)
 kept_same false p q e = refl

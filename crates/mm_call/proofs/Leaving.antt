@@ -1,15 +1,15 @@
 -- What a whole call leaves and counts.
-use Rattle.std.proofs.Common.{◌≡◌, ℕ, Bool, [], ◌∷◌, Option, None, Some, Result, Ok, Err, refl, sym, subst, arith}
+use Rattle.std.proofs.Common.{◌≡◌, ℕ, Bool, [], ◌∷◌, Option, None, Some, Result, Ok, Err, refl, sym, ◌∙◌, subst, arith}
 use Rattle.std.specs.Result.{result_err}
 use Rattle.mm_platform.specs.declared.fault.StepFault.{StepFault}
 use Rattle.mm_platform.specs.declared.fault.StepFault.TheVariants.{Failed, Off}
 use Rattle.mm_platform.specs.Standing.{Standing}
-use Rattle.mm_platform.specs.Steps.{EndsBy}
+use Rattle.mm_platform.specs.Steps.{ReadCell, EndsBy, Goes}
 use Rattle.mm_platform.proofs.Calling.{beside-none}
 use Rattle.mm_model.specs.declared.answer.Answer.{Answer}
 use Rattle.mm_model.specs.declared.answer.BatchAnswer.{BatchAnswer}
 use Rattle.mm_call.specs.Refusals.{fault_in, handed_on}
-use Rattle.mm_call.specs.Leaving.{IsUntouched, Blames, whole}
+use Rattle.mm_call.specs.Leaving.{IsUntouched, LeavesUntouched, Blames, whole}
 
 pub same_untouched : (old : Standing) → IsUntouched old old
 same_untouched old = record {
@@ -21,6 +21,21 @@ same_untouched old = record {
   room = omega arith;
   faults = refl;
 }
+
+pub read_untouched : (old new : Standing) → Goes ReadCell old new None → IsUntouched old new
+read_untouched old new g = record {
+  others = g.others;
+  cell = g.cell;
+  items = g.items;
+  is_on = g.ends.is_on ∙ sym g.ends.was_on;
+  writes = g.writes;
+  room = omega (arith, g.room);
+  faults = g.ends.faults;
+}
+
+pub written_untouched : (written : Result BatchAnswer StepFault) (old new : Standing) → LeavesUntouched (handed_on written) old new
+written_untouched (Ok answer) old new = tt
+written_untouched (Err fault) old new = λ (h : Some fault ≡ None). absurd (cc)
 
 pub blamed : (fault : Option StepFault) (old new : Standing) (made : Bool) → EndsBy fault old new made → Blames fault old.faults new.faults
 blamed None old new made e = e.faults

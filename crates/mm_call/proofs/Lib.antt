@@ -10,6 +10,7 @@ pub mod OptMessages
 pub mod OptHolding
 pub mod OptFinding
 pub mod Walks
+pub mod Along
 pub mod OptWalks
 pub mod OptReady
 pub mod OptPlaces
@@ -21,6 +22,7 @@ pub mod BasicLaw
 pub mod OptShapes
 pub mod OptShut
 pub mod OptLaw
+pub mod OptMay
 pub mod Continuing
 pub mod Checkpoints
 pub mod Keeping

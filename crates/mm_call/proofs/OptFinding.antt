@@ -163,7 +163,8 @@ placed_from meaning key barrier all y bytes b (Ok snapshot) e asking found is =
           (ap (λ p. nat_eq (p + size_of b) (total_of y.batches) && is_last y.batches b) (sym names.position) ∙ a.1 x);
     }
 
-unless_lost : (lost : Bool) (found : Result Found Refusal) (f : Found) → (if lost then Err refusal.Lost else found) ≡ Ok f → found ≡ Ok f
+-- where power was lost nothing is found
+pub unless_lost : (lost : Bool) (found : Result Found Refusal) (f : Found) → (if lost then Err refusal.Lost else found) ≡ Ok f → found ≡ Ok f
 unless_lost true found f e = cc
 unless_lost false found f e = e
 
@@ -194,6 +195,24 @@ pub lives : (y : History) → life_of Opt y ≡ Live → IsLive y
 lives y e =
     let t = live_tells y.is_open (is_empty y.items) (are_own y.items y.current) (has_value (joined y.closed)) e in
     record { clean = t.0; own = t.1; held = t.2 }
+
+live_from : (meaning : Meaning) (key barrier : List ℕ) (y : History) (b : Batch) (parts : Result Snapshot PartsFault) (found : Found)
+    → found_by_verdict (opt meaning key barrier) (by_lists (opt meaning key barrier)) y b parts ≡ Ok found → life_of Opt y ≡ Live
+live_from meaning key barrier y b (Err Form) found is = cc
+live_from meaning key barrier y b (Err Kind) found is = cc
+live_from meaning key barrier y b (Ok snapshot) found is =
+    let t = found_with_tells snapshot.content (examined meaning key snapshot b (judge Opt y snapshot.content.position b)) found is in
+    let w = weighed_tells (meaning.is_spelled snapshot.content.state) (bytes_eq snapshot.tag (tag_of key snapshot.content)) _ _ found.again t.1 in
+    let here = nat_eq snapshot.content.position (total_of y.batches) in
+    let again = nat_eq (snapshot.content.position + size_of b) (total_of y.batches) && is_last y.batches b in
+    let fits = nat_le (snapshot.content.position + size_of b) last_position in
+    admitted_lives (life_of Opt y) here again fits found.again w.2
+
+-- what is found is found in a live history
+pub live_found : (meaning : Meaning) (key barrier : List ℕ) (y : History) (b : Batch) (bytes : List ℕ) (found : Found)
+    → found_at (opt meaning key barrier) (by_lists (opt meaning key barrier)) y b bytes ≡ Ok found → IsLive y
+live_found meaning key barrier y b bytes found is =
+    lives y (live_from meaning key barrier y b (parts_of Opt meaning.id bytes) found (unless_lost (is_lost (life_of Opt y)) _ found is))
 
 held_by : (is_open bare own marred : Bool) → is_lost (life_by is_open bare own marred) ≡ false → is_open ≡ true → bare ≡ false
 held_by true true own marred e f = cc

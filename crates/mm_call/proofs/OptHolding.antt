@@ -11,11 +11,12 @@ use Rattle.mm_model.specs.History.{Value, History, Move, Commit, Foreign, Placed
 use Rattle.mm_model.specs.Sound.{IsSound}
 use Rattle.mm_model.specs.Messages.{Within, history_messages, moving_messages, move_messages}
 use Rattle.mm_model.specs.Moves.{IsAllowed, MayMove, Digests, digests_of, made, IsOutside, Brings}
+use Rattle.mm_model.proofs.Listing.{items_grow}
 use Rattle.mm_model.proofs.Moves.{sound_moved}
 use Rattle.mm_model.proofs.MovedDigests.{opt_digests, outside_moved}
 use Rattle.mm_model.proofs.Lists.{each_append}
 use Rattle.mm_call.specs.Levels.{Agrees}
-use Rattle.mm_call.proofs.OptMessages.{Listing, listing_of, listed_of, Commits, listed_open, listed_opening, listed_closed, items_push}
+use Rattle.mm_call.proofs.OptMessages.{Listing, listing_of, listed_of, Commits, listed_open, listed_opening, listed_closed}
 use Rattle.mm_call.proofs.Moving.{commit_adds}
 
 pub agrees_is : (i : Instance) (y : History) (d : Digests) → Agrees i y d → d ≡ digests_of i y
@@ -100,7 +101,7 @@ listing_moved meaning key barrier all others asked y (Foreign v) sound fine mess
   guards = l.guards;
   runs = l.runs;
   closed = l.closed;
-  items = items_push barrier all y.items (Value v) l.items (extended_message_of meaning key barrier all y y.is_open v message);
+  items = items_grow barrier all y.items (Value v) l.items (extended_message_of meaning key barrier all y y.is_open v message);
   closings = l.closings;
 }
 listing_moved meaning key barrier all others asked y (Placed b) sound fine message l = record {
@@ -108,7 +109,7 @@ listing_moved meaning key barrier all others asked y (Placed b) sound fine messa
   guards = l.guards;
   runs = l.runs;
   closed = l.closed;
-  items = items_push barrier all y.items (Value (guard barrier b)) l.items (placed_message_of meaning key barrier all y y.is_open b message);
+  items = items_grow barrier all y.items (Value (guard barrier b)) l.items (placed_message_of meaning key barrier all y y.is_open b message);
   closings = l.closings;
 }
 listing_moved meaning key barrier all others asked y Reset sound fine message l = record {

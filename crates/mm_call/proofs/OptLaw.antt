@@ -34,7 +34,7 @@ use Rattle.mm_call.proofs.OptHolding.{Holds, foreign_may}
 use Rattle.mm_call.proofs.OptFinding.{IsApart, Placed, IsLive, lives, found_same, placed}
 use Rattle.mm_call.proofs.Walks.{opt_commits, committed-foreign, commits-none, changing, asks, taking, taking_is, foreign_made, made-append, foreign_in-foreign, from_reset-foreign, messages-made}
 use Rattle.mm_call.proofs.OptWalks.{AllFine, holds_made, foreign_all, foreign_then, front_outside, Ready, AreOwn, walk_fine, path_end, path_is}
-use Rattle.mm_call.proofs.OptReady.{IsDue, commits_of, ready_inside, ready_opening}
+use Rattle.mm_call.proofs.OptReady.{IsDue, commits_of, ready_opening, ready_third}
 use Rattle.mm_call.proofs.OptPlaces.{end_place}
 use Rattle.mm_call.proofs.Endings.{Ends, fresh_of, ending_same}
 use Rattle.mm_call.proofs.OptShapes.{two_reads, reading, past, cut, opening, Shape, still, reset, shape}
@@ -73,7 +73,7 @@ genuine_bare : (meaning : Meaning) (key barrier : List ℕ) (y : History) (offer
 genuine_bare meaning key barrier y offer e sound g =
     λ content right. opt_names meaning key barrier y Reset content sound (reset_may meaning key barrier y e) (g content right)
 
-names_foreign : (meaning : Meaning) (key barrier : List ℕ) (values : List (List ℕ)) (y : History) (content : Content) → IsSound y
+pub names_foreign : (meaning : Meaning) (key barrier : List ℕ) (values : List (List ℕ)) (y : History) (content : Content) → IsSound y
     → Names (opt meaning key barrier) y content → Names (opt meaning key barrier) (all_made (by_lists (opt meaning key barrier)) y (map Foreign values)) content
 names_foreign meaning key barrier [] y content sound n = n
 names_foreign meaning key barrier (v ∷ values) y content sound n =
@@ -81,7 +81,7 @@ names_foreign meaning key barrier (v ∷ values) y content sound n =
     names_foreign meaning key barrier values (moved (opt meaning key barrier) y (Foreign v)) content
     (sound_moved meaning key barrier y (Foreign v) sound may) (opt_names meaning key barrier y (Foreign v) content sound may n)
 
-sound_foreign : (meaning : Meaning) (key barrier : List ℕ) (values : List (List ℕ)) (y : History) → IsSound y
+pub sound_foreign : (meaning : Meaning) (key barrier : List ℕ) (values : List (List ℕ)) (y : History) → IsSound y
     → IsSound (all_made (by_lists (opt meaning key barrier)) y (map Foreign values))
 sound_foreign meaning key barrier [] y sound = sound
 sound_foreign meaning key barrier (v ∷ values) y sound =
@@ -227,12 +227,6 @@ module _ (meaning : Meaning) (key barrier : List ℕ) (all others : List (List �
         lives z place.live,
       )
 
-  ready_third : (fates : ℕ → Fate) (z : History) (b : Batch) (fresh : Bool) → z.is_open ≡ true
-      → (fresh ≡ true → IsDue all asked barrier z b × IsLive z) → Ready all others asked (opt meaning key barrier) fates 3 (changing true fresh b) z
-  ready_third fates z b false e due = tt
-  ready_third fates z b true e due =
-      ready_inside meaning key barrier all others asked fates z b e ((due refl).1.held e) (due refl).0
-
   -- a call inside a segment that has made its reading steps
   inside_past : (y sees : History) (d seen : Digests) (c : Course) (b : Batch) (found : Result Found Refusal) → y.is_open ≡ true
       → Holds all others asked (opt meaning key barrier) y d → Contains asked b → Agrees (opt meaning key barrier) (sight y c) seen
@@ -246,7 +240,7 @@ module _ (meaning : Meaning) (key barrier : List ℕ) (all others : List (List �
       let w : Walked = steps_walk c true found b in
       let ends = ends_of meaning key barrier all y (sight y c) seen c b true found e refl placed_at
       (λ f is x. (lives (sight y c) (placed_at f is).live).own e) agrees in
-      let third = ready_third c.fates (sight y c) b (is_fresh found) e (due_of (sight y c) b found sound is_asked placed_at) in
+      let third = ready_third meaning key barrier all others asked c.fates (sight y c) b true (is_fresh found) e (due_of (sight y c) b found sound is_asked placed_at) in
       let ready : Ready all others asked i c.fates 1 (Reads ∷ Reads ∷ changing true (is_fresh found) b) y = λ o p. third in
       let fine = walk_fine meaning key barrier all others asked c.fates (Reads ∷ Reads ∷ changing true (is_fresh found) b) 1 y
       (own_inside (is_fresh found) b) counts.1 ready in

@@ -14,6 +14,8 @@ use Rattle.mm_model.specs.Sound.{IsSound, IsClean, batches_in}
 use Rattle.mm_model.specs.Moves.{IsOpening}
 use Rattle.mm_model.specs.Messages.{Within, closed_runs, runs_of, register_trail, history_messages}
 use Rattle.mm_model.proofs.Chains.{trail_push}
+use Rattle.mm_model.proofs.Listing.{items_grow, run_grows, guards_grow}
+use Rattle.mm_model.proofs.Whole.{renamed-push}
 use Rattle.mm_model.proofs.Lists.{each_left, each_right, each_append}
 use Rattle.mm_model.proofs.Segments.{true_not_false}
 use Rattle.mm_model.proofs.Histories.{own_values-append, values_of-append, length-batches_in}
@@ -140,31 +142,6 @@ segments_join barrier all segments segment a b =
     subst (λ (v : List (List ℕ)). Within v all) (sym (flat_map-append f segments (segment ∷ [])))
     (each_append C (flat_map f segments) (flat_map f (segment ∷ [])) a (each_append C (f segment) [] b tt))
 
-register_push : (all values : List (List ℕ)) (v : List ℕ) → Within (register_trail values) all → Contains all (extended_message (register_of values) v)
-    → Within (register_trail (values ++ v ∷ [])) all
-unfolding register_of
-register_push all values v h c = trail_push extended_message zero_bytes values v all h c
-
-run_push : (barrier : List ℕ) (all : List (List ℕ)) (run : List Batch) (b : Batch) → Within (register_trail (own_values barrier run)) all
-    → Contains all (extended_message (register_of (own_values barrier run)) (guard barrier b))
-    → Within (register_trail (own_values barrier (run ++ b ∷ []))) all
-run_push barrier all run b h c =
-    subst (λ (v : List (List ℕ)). Within (register_trail v) all) (sym (own_values-append barrier run (b ∷ [])))
-    (register_push all (own_values barrier run) (guard barrier b) h c)
-
-pub items_push : (barrier : List ℕ) (all : List (List ℕ)) (items : List Entry) (e : Entry) → Within (register_trail (values_of barrier items)) all
-    → Contains all (extended_message (register_of (values_of barrier items)) (value_of barrier e))
-    → Within (register_trail (values_of barrier (items ++ e ∷ []))) all
-items_push barrier all items e h c =
-    subst (λ (v : List (List ℕ)). Within (register_trail v) all) (sym (values_of-append barrier items (e ∷ [])))
-    (register_push all (values_of barrier items) (value_of barrier e) h c)
-
-guards_push : (barrier : List ℕ) (all : List (List ℕ)) (batches : List Batch) (b : Batch) → Within (map (guard_message barrier) batches) all
-    → Contains all (guard_message barrier b) → Within (map (guard_message barrier) (batches ++ b ∷ [])) all
-guards_push barrier all batches b h c =
-    subst (λ (v : List (List ℕ)). Within v all) (sym (map-append (guard_message barrier) batches (b ∷ [])))
-    (each_append (Contains all) (map (guard_message barrier) batches) (guard_message barrier b ∷ []) h (c, tt))
-
 closings_push : (barrier : List ℕ) (id : ℕ) (all : List (List ℕ)) (closed : List (List Entry)) (items : List Entry)
     → Within (trail closing_message (start_of Opt id) (map (values_of barrier) closed)) all
     → Contains all (anchored_message (anchor_of id (map (values_of barrier) closed)) (register_of (values_of barrier items)))
@@ -174,15 +151,10 @@ closings_push barrier id all closed items h c =
     subst (λ (v : List (List (List ℕ))). Within (trail closing_message (start_of Opt id) v) all) (sym (map-append (values_of barrier) closed (items ∷ [])))
     (trail_push closing_message (start_of Opt id) (map (values_of barrier) closed) (values_of barrier items) all h c)
 
-pub renamed-last : (front : List Entry) (x : Entry) (b : Batch) → renamed (front ++ x ∷ []) b ≡ front ++ Own b ∷ []
-renamed-last [] x b = refl
-renamed-last (f ∷ []) x b = refl
-renamed-last (f ∷ g ∷ front) x b = ap (λ v. f ∷ v) (renamed-last (g ∷ front) x b)
-
 renamed-values : (barrier : List ℕ) (items front : List Entry) (b : Batch) → items ≡ front ++ Value (guard barrier b) ∷ []
     → values_of barrier (renamed items b) ≡ values_of barrier items
 renamed-values barrier items front b e =
-    ap (λ v. values_of barrier (renamed v b)) e ∙ ap (values_of barrier) (renamed-last front (Value (guard barrier b)) b)
+    ap (λ v. values_of barrier (renamed v b)) e ∙ ap (values_of barrier) (renamed-push front (Value (guard barrier b)) b)
     ∙ values_of-append barrier front (Own b ∷ []) ∙ sym (values_of-append barrier front (Value (guard barrier b) ∷ [])) ∙ ap (values_of barrier) (sym e)
 
 -- an open history is clean
@@ -211,11 +183,11 @@ listed_open meaning key barrier all y b sound is_open commits message l =
     let parts = trails_parts barrier all (closed_runs y.closed bs) y.current (subst W (runs_split y bs whole) l.runs) in
     record {
       starts = l.starts;
-      guards = guards_push barrier all y.batches b l.guards commits.guards;
+      guards = guards_grow barrier all y.batches b l.guards commits.guards;
       runs = subst W (sym (runs_split y' bs whole'))
-          (trails_join barrier all (closed_runs y.closed bs) (y.current ++ b ∷ []) parts.0 (run_push barrier all y.current b parts.1 commits.run));
+          (trails_join barrier all (closed_runs y.closed bs) (y.current ++ b ∷ []) parts.0 (run_grows barrier all y.current b parts.1 commits.run));
       closed = l.closed;
-      items = items_push barrier all y.items (Own b) l.items message;
+      items = items_grow barrier all y.items (Own b) l.items message;
       closings = l.closings;
     }
 
@@ -233,10 +205,10 @@ listed_opening meaning key barrier all y b sound shut o commits l =
     let I : List (List ℕ) → Type 0 = λ v. Within (register_trail v) all in
     record {
       starts = l.starts;
-      guards = guards_push barrier all y.batches b l.guards commits.guards;
+      guards = guards_grow barrier all y.batches b l.guards commits.guards;
       runs = subst W (sym (runs_split y' y.batches refl))
           (trails_join barrier all (closed_runs y.closed y.batches) (b ∷ []) parts.0
-          (subst R (ap (λ v. v ++ b ∷ []) none) (run_push barrier all y.current b parts.1 commits.run)));
+          (subst R (ap (λ v. v ++ b ∷ []) none) (run_grows barrier all y.current b parts.1 commits.run)));
       closed = l.closed;
       items = subst I (sym (renamed-values barrier y.items o.front b o.items)) l.items;
       closings = l.closings;

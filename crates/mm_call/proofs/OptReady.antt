@@ -12,7 +12,7 @@ use Rattle.mm_seal.specs.declared.snapshot.Place.{Place}
 use Rattle.mm_seal.specs.declared.snapshot.Place.TheVariants.{Basic as InBasic, Opt as InOpt}
 use Rattle.mm_model.specs.Chains.{guard, register_of, own_values}
 use Rattle.mm_model.specs.Instance.{opt}
-use Rattle.mm_model.specs.History.{Entry, Own, Value, History, Move, Commit, Placed as PlacedMove, Close, moved, renamed, joined}
+use Rattle.mm_model.specs.History.{Entry, Own, Value, History, Move, Commit, Placed as PlacedMove, Reset, Close, moved, renamed, joined}
 use Rattle.mm_model.specs.Life.{is_empty, has_value}
 use Rattle.mm_model.specs.Sound.{IsSound, batches_in}
 use Rattle.mm_model.specs.Moves.{IsOpening, IsAllowed, Brings}
@@ -24,12 +24,14 @@ use Rattle.mm_model.proofs.OptJudge.{shut_current}
 use Rattle.mm_model.proofs.Segments.{same_halves, joined-append, not_empty, true_not_false}
 use Rattle.mm_model.proofs.Histories.{length-batches_in}
 use Rattle.mm_model.proofs.Forms.{reads_zero}
+use Rattle.mm_model.proofs.Whole.{renamed-push}
 use Rattle.mm_call.specs.Courses.{Fate}
 use Rattle.mm_call.specs.Found.{Found}
-use Rattle.mm_call.proofs.OptMessages.{Commits, clean_open, renamed-last}
-use Rattle.mm_call.proofs.Walks.{taking}
+use Rattle.mm_call.proofs.OptMessages.{Commits, clean_open}
+use Rattle.mm_call.proofs.OptShut.{reset_may, reset_brings}
+use Rattle.mm_call.proofs.Walks.{changing, taking}
 use Rattle.mm_call.proofs.OptWalks.{Ready}
-use Rattle.mm_call.proofs.OptFinding.{Placed}
+use Rattle.mm_call.proofs.OptFinding.{Placed, IsLive}
 
 -- the extension of an offered place by the guard is listed, and that of zero
 zero_by : (same : Bool) (all : List (List ℕ)) (a b e v : List ℕ) → (same ≡ true → e ≡ zero_bytes)
@@ -140,7 +142,7 @@ ready_opening meaning key barrier all others asked fates y b shut bare clean is 
     let items : last.items ≡ values ++ Value (guard barrier b) ∷ [] = ap (λ v. (v ++ values) ++ Value (guard barrier b) ∷ []) bare in
     let opening : IsOpening i last b = record { clean = clean; front = values; items = items; others = no_batches (fates 4).brings } in
     let named : values_in (renamed last.items b) ≡ (fates 4).brings =
-    ap (λ v. values_in (renamed v b)) items ∙ ap values_in (renamed-last values (Value (guard barrier b)) b) ∙ values_then (fates 4).brings b in
+    ap (λ v. values_in (renamed v b)) items ∙ ap values_in (renamed-push values (Value (guard barrier b)) b) ∙ values_then (fates 4).brings b in
     let P : Move → History → Bool → Type 0 = λ m x f. IsAllowed Opt f i x m in
     let Q : Move → History → Bool → Type 0 = λ m x f. Brings Opt f others x m in
     let O : List (List ℕ) → Type 0 = λ v. AllByRecursion (Contains others) v in (
@@ -153,6 +155,23 @@ ready_opening meaning key barrier all others asked fates y b shut bare clean is 
         },
         (λ o. tt),
       ),
+    )
+
+-- the steps of a call behind its reading steps are ready
+pub ready_third : (meaning : Meaning) (key barrier : List ℕ) (all others : List (List ℕ)) (asked : List Batch) (fates : ℕ → Fate) (y : History) (b : Batch)
+    (flag fresh : Bool) → y.is_open ≡ flag → (fresh ≡ true → IsDue all asked barrier y b × IsLive y)
+    → Ready all others asked (opt meaning key barrier) fates 3 (changing flag fresh b) y
+ready_third meaning key barrier all others asked fates y b true false e due = tt
+ready_third meaning key barrier all others asked fates y b false false e due = tt
+ready_third meaning key barrier all others asked fates y b true true e due =
+    ready_inside meaning key barrier all others asked fates y b e ((due refl).1.held e) (due refl).0
+ready_third meaning key barrier all others asked fates y b false true e due = λ outside.
+    let i = opt meaning key barrier in
+    let third : History = taking y (fates 3).brings in
+    let is = (due refl).0 in (
+      record { may = reset_may meaning key barrier third e; brings = reset_brings others third third.is_open; listed = tt },
+      ready_opening meaning key barrier all others asked fates (moved i third Reset) b e refl (due refl).1.clean
+          (record { commits = record { guards = is.commits.guards; run = is.commits.run }; asked_for = is.asked_for }),
     )
 
 -- a checkpoint's third step closes the segment

@@ -95,7 +95,7 @@ pub reset_may : (meaning : Meaning) (key barrier : List ℕ) (y : History) → y
 reset_may meaning key barrier y e =
     let P : Bool → Type 0 = λ f. IsAllowed Opt f (opt meaning key barrier) y Reset in subst P (sym e) tt
 
-reset_brings : (others : List (List ℕ)) (y : History) (flag : Bool) → Brings Opt flag others y Reset
+pub reset_brings : (others : List (List ℕ)) (y : History) (flag : Bool) → Brings Opt flag others y Reset
 reset_brings others y true = tt
 reset_brings others y false = tt
 

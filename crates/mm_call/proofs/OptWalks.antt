@@ -1,13 +1,14 @@
 -- Opt: the moves of a walk may be made, where its steps are ready; and the history at its end.
-use Rattle.std.proofs.Common.{ℕ, ◌≡◌, ◌+◌, true, false, List, [], ◌∷◌, ◌++◌, map, None, refl, sym, ap, ◌∙◌, subst, append_assoc}
+use Rattle.std.proofs.Common.{ℕ, ◌≡◌, ◌+◌, Bool, true, false, List, [], ◌∷◌, ◌++◌, map, None, refl, sym, ap, ◌∙◌, subst, append_assoc}
 use Rattle.std.specs.List.{AllByRecursion, Contains}
+use Rattle.mm_digest.specs.declared.variant.Variant.TheVariants.{Opt}
 use Rattle.mm_module.specs.Meaning.{Meaning}
 use Rattle.mm_module.specs.Batch.{Batch}
 use Rattle.mm_model.specs.Instance.{Instance, opt}
 use Rattle.mm_model.specs.History.{History, Move, Foreign, moved}
 use Rattle.mm_model.specs.Messages.{Within, move_messages}
 use Rattle.mm_model.specs.Moves.{Digests, made}
-use Rattle.mm_model.specs.Steps.{Step, Reads, Changes, Writes}
+use Rattle.mm_model.specs.Steps.{Step, Reads, Changes, Writes, ask_steps, checkpoint_steps}
 use Rattle.mm_model.proofs.Lists.{each_left, each_right}
 use Rattle.mm_call.specs.Levels.{by_lists, by_digests, all_made}
 use Rattle.mm_call.specs.Courses.{End, Done, Fails, Fate, Walked, after_step, walk}
@@ -171,6 +172,17 @@ AreOwn [] = Unit {0}
 AreOwn (Reads ∷ steps) = AreOwn steps
 AreOwn (Changes m ∷ steps) = (foreign_in (m ∷ []) ≡ []) × AreOwn steps
 AreOwn (Writes m ∷ steps) = (foreign_in (m ∷ []) ≡ []) × AreOwn steps
+
+pub own_asked : (flag fresh : Bool) (b : Batch) → AreOwn (ask_steps Opt flag fresh b)
+own_asked true true b = (refl, tt)
+own_asked true false b = tt
+own_asked false true b = (refl, (refl, (refl, tt)))
+own_asked false false b = tt
+
+pub own_checked : (flag lost : Bool) → AreOwn (checkpoint_steps Opt flag lost)
+own_checked true true = tt
+own_checked true false = (refl, tt)
+own_checked false lost = tt
 
 pub walk_fine : (meaning : Meaning) (key barrier : List ℕ) (all others : List (List ℕ)) (asked : List Batch) (fates : ℕ → Fate)
     (steps : List Step) (n : ℕ) (y : History) → AreOwn steps → AllByRecursion (Contains others) (foreign_in (walk fates n steps).moves)

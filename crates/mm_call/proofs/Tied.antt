@@ -23,22 +23,18 @@ use Rattle.mm_call.specs.Called.{seen_at}
 use Rattle.mm_call.specs.Standing.{shown, shown_by}
 use Rattle.mm_call.specs.Asked.{counted_moves, from_reset, moves_messages, foreign_in}
 use Rattle.mm_call.specs.Tied.{foreign_items, standing_items, Tied, shows, nothing, OptTied}
-use Rattle.mm_call.proofs.Trails.{all_made-append}
+use Rattle.mm_call.proofs.Trails.{all_made-append, shown-append}
 use Rattle.mm_call.proofs.Walks.{made-append, foreign_in-append, from_reset-foreign, messages-made, changing, asks, finished}
 use Rattle.mm_call.proofs.OptShapes.{Shape, still, reset, shape, opening}
 use Rattle.mm_call.proofs.OptShut.{bare, bare_digests}
 use Rattle.mm_call.proofs.OptLaw.{reset_messages}
 
-foreign_of-append : (xs ys : List Item) → foreign_items (xs ++ ys) ≡ foreign_items xs ++ foreign_items ys
+pub foreign_of-append : (xs ys : List Item) → foreign_items (xs ++ ys) ≡ foreign_items xs ++ foreign_items ys
 foreign_of-append [] ys = refl
 foreign_of-append (x ∷ xs) ys = item_then x.own x.value (foreign_items xs) (foreign_items ys) (foreign_items (xs ++ ys)) (foreign_of-append xs ys) where
   item_then : (own : Bool) (v : List ℕ) (a b c : List (List ℕ)) → c ≡ a ++ b → (if own then c else v ∷ c) ≡ (if own then a else v ∷ a) ++ b
   item_then true v a b c e = e
   item_then false v a b c e = ap (λ w. v ∷ w) e
-
-shown-append : (i : Instance) (d : Digests) (xs ys : List Move) (items : List Item) → shown i d (xs ++ ys) items ≡ shown i (all_made (by_digests i) d xs) ys (shown i d xs items)
-shown-append i d [] ys items = refl
-shown-append i d (m ∷ xs) ys items = shown-append i (made i d m) xs ys (shown_by i.variant d.flag i m items)
 
 -- Moves push these items into the register: they are shown behind what was there, and their messages are hashed one after
 -- another from the register's value on.
@@ -79,7 +75,7 @@ register_then barrier items e v is =
     ∙ after-append extended_message zero_bytes (entry_values barrier items) (v ∷ [])
 
 module _ (meaning : Meaning) (key barrier : List ℕ) where
-  foreign_messages : (y : History) (flag : Bool) (v : List ℕ)
+  pub foreign_messages : (y : History) (flag : Bool) (v : List ℕ)
       → moving_messages Opt flag (opt meaning key barrier) y (Foreign v) ≡ extended_message (register_value_of (opt meaning key barrier) y) v ∷ []
   foreign_messages y true v = refl
   foreign_messages y false v = refl

@@ -31,7 +31,7 @@ reads_then : (variant : Variant) (before now : Option (List ℕ)) (r s : List �
 reads_then Basic before now r s h e = tt
 reads_then Opt before now r s h e = h e
 
-foreign_values : (values : List (List ℕ)) → item_values (map foreign_item values) ≡ values
+pub foreign_values : (values : List (List ℕ)) → item_values (map foreign_item values) ≡ values
 foreign_values [] = refl
 foreign_values (v ∷ values) = ap (λ (vs : List (List ℕ)). v ∷ vs) (foreign_values values)
 
@@ -91,7 +91,7 @@ pub all_made-append : (i : Instance) (d : Digests) (xs ys : List Move) → all_m
 all_made-append i d [] ys = refl
 all_made-append i d (m ∷ xs) ys = all_made-append i (made i d m) xs ys
 
-shown-append : (i : Instance) (d : Digests) (xs ys : List Move) (items : List Item) → shown i d (xs ++ ys) items ≡ shown i (all_made (by_digests i) d xs) ys (shown i d xs items)
+pub shown-append : (i : Instance) (d : Digests) (xs ys : List Move) (items : List Item) → shown i d (xs ++ ys) items ≡ shown i (all_made (by_digests i) d xs) ys (shown i d xs items)
 shown-append i d [] ys items = refl
 shown-append i d (m ∷ xs) ys items = shown-append i (made i d m) xs ys (shown_by i.variant d.flag i m items)
 

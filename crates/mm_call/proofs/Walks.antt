@@ -1,14 +1,15 @@
 -- What a walk over the steps of a call gives: what it commits, and which of its moves others made.
-use Rattle.std.proofs.Common.{ℕ, ◌≡◌, Bool, true, false, List, [], ◌∷◌, ◌++◌, map, None, refl, sym, ap, ◌∙◌, append_assoc}
+use Rattle.std.proofs.Common.{ℕ, ◌≡◌, ◌+◌, Bool, true, false, List, [], ◌∷◌, ◌++◌, map, None, refl, sym, ap, ◌∙◌, subst, append_assoc}
 use Rattle.std.proofs.lemmas.List.{append-nil}
 use Rattle.mm_module.specs.Batch.{Batch}
+use Rattle.mm_digest.specs.declared.variant.Variant.{Variant}
 use Rattle.mm_digest.specs.declared.variant.Variant.TheVariants.{Basic, Opt}
 use Rattle.mm_model.specs.Instance.{Instance}
 use Rattle.mm_model.specs.History.{Value, History, Move, Commit, Foreign, Placed, Reset, Close, Power, moved}
 use Rattle.mm_model.specs.Steps.{Step, Reads, Changes, Writes, ask_steps}
 use Rattle.mm_model.specs.Messages.{move_messages}
 use Rattle.mm_call.specs.Levels.{Level, by_lists, all_made}
-use Rattle.mm_call.specs.Courses.{End, Done, Fails, Fate, Walked, step_moves, after_step, walk, commits}
+use Rattle.mm_call.specs.Courses.{End, Done, Fails, Fate, Walked, step_moves, after_step, walk, seen_in, commits}
 use Rattle.mm_call.specs.Asked.{moves_messages, foreign_in, from_reset}
 use Rattle.mm_call.proofs.Moving.{committed_in}
 
@@ -38,6 +39,20 @@ commits-none (Reset ∷ moves) e = commits-none moves e
 commits-none (Close ∷ moves) e = commits-none moves e
 commits-none (Power ∷ moves) e = commits-none moves e
 
+pub commits_batch : (moves : List Move) (b : Batch) → committed_in moves ≡ b ∷ [] → commits moves ≡ true
+commits_batch [] b e = cc
+commits_batch (Commit c ∷ moves) b e = refl
+commits_batch (Foreign v ∷ moves) b e = commits_batch moves b e
+commits_batch (Placed c ∷ moves) b e = commits_batch moves b e
+commits_batch (Reset ∷ moves) b e = commits_batch moves b e
+commits_batch (Close ∷ moves) b e = commits_batch moves b e
+commits_batch (Power ∷ moves) b e = commits_batch moves b e
+
+-- what is seen at the last reading step is others' values alone
+pub seen_none : (fates : ℕ → Fate) (steps : List Step) (n : ℕ) → committed_in (seen_in fates steps n) ≡ []
+seen_none fates [] n = refl
+seen_none fates (step ∷ steps) n = foreign_first (fates n).brings (seen_in fates steps (n + 1)) ∙ seen_none fates steps (n + 1)
+
 -- A walk commits nothing, or the batch; and it commits the batch where it isn't broken off and the batch is a new one.
 pub data Commits (b : Batch) (fresh : Bool) (walked : Walked) : Type 0 where
   nothing : committed_in walked.moves ≡ [] → (walked.broken ≡ None → fresh ≡ false) → Commits b fresh walked
@@ -48,7 +63,7 @@ abbrev pub finished : Walked
 finished = record { moves = []; steps = 0; writes = 0; broken = None }
 
 -- a step that commits nothing
-abbrev pub IsQuiet : Step → Type 0
+abbrev IsQuiet : Step → Type 0
 IsQuiet step = (made : Bool) (values : List (List ℕ)) → committed_in (step_moves step made values) ≡ []
 
 quiet_reads : IsQuiet Reads
@@ -85,12 +100,16 @@ none_left b = nothing refl (λ e. refl)
 written_one : (b : Batch) (values : List (List ℕ)) → committed_in (Commit b ∷ map Foreign values) ≡ b ∷ []
 written_one b values = ap (λ v. b ∷ v) (committed-foreign values)
 
+-- the step behind the reading step of a call of Basic
+pub writing_commits : (fates : ℕ → Fate) (b : Batch) → Commits b true (walk fates 2 (Writes (Commit b) ∷ []))
+writing_commits fates b =
+    last_step (Writes (Commit b)) (fates 2).brings (fates 2).ends b (written_one b (fates 2).brings) (committed-foreign (fates 2).brings)
+
 -- a call of Basic commits nothing, or its batch
 pub basic_commits : (fates : ℕ → Fate) (flag fresh : Bool) (b : Batch) → Commits b fresh (walk fates 1 (ask_steps Basic flag fresh b))
 basic_commits fates flag false b = quiet_step Reads (fates 1).brings (fates 1).ends finished b false quiet_reads (none_left b)
 basic_commits fates flag true b =
-    quiet_step Reads (fates 1).brings (fates 1).ends (walk fates 2 (Writes (Commit b) ∷ [])) b true quiet_reads
-    (last_step (Writes (Commit b)) (fates 2).brings (fates 2).ends b (written_one b (fates 2).brings) (committed-foreign (fates 2).brings))
+    quiet_step Reads (fates 1).brings (fates 1).ends (walk fates 2 (Writes (Commit b) ∷ [])) b true quiet_reads (writing_commits fates b)
 
 -- the steps of a call of Opt behind its reading steps
 abbrev pub changing : Bool → Bool → Batch → List Step
@@ -104,7 +123,7 @@ asks true false b = refl
 asks false true b = refl
 asks false false b = refl
 
-changing_commits : (fates : ℕ → Fate) (flag fresh : Bool) (b : Batch) → Commits b fresh (walk fates 3 (changing flag fresh b))
+pub changing_commits : (fates : ℕ → Fate) (flag fresh : Bool) (b : Batch) → Commits b fresh (walk fates 3 (changing flag fresh b))
 changing_commits fates true false b = none_left b
 changing_commits fates false false b = none_left b
 changing_commits fates true true b =
@@ -122,6 +141,12 @@ opt_commits fates flag fresh b =
     quiet_step Reads (fates 1).brings (fates 1).ends (walk fates 2 (Reads ∷ changing flag fresh b)) b fresh quiet_reads
     (quiet_step Reads (fates 2).brings (fates 2).ends (walk fates 3 (changing flag fresh b)) b fresh quiet_reads
     (changing_commits fates flag fresh b))
+
+-- a call commits nothing, or its batch
+pub call_commits : (variant : Variant) (fates : ℕ → Fate) (flag fresh : Bool) (b : Batch) → Commits b fresh (walk fates 1 (ask_steps variant flag fresh b))
+call_commits Basic fates flag fresh b = basic_commits fates flag fresh b
+call_commits Opt fates flag fresh b =
+    subst (λ s. Commits b fresh (walk fates 1 s)) (sym (asks flag fresh b)) (opt_commits fates flag fresh b)
 
 -- moves made one after another
 

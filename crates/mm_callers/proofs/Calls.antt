@@ -18,7 +18,7 @@ use Rattle.mm_model.specs.Messages.{Within}
 use Rattle.mm_model.specs.Moves.{digests_of}
 use Rattle.mm_model.specs.Standing.{IsRight}
 use Rattle.mm_model.specs.Places.{Names}
-use Rattle.mm_model.specs.Steps.{Step, Reads, Writes, ask_steps}
+use Rattle.mm_model.specs.Steps.{ask_steps}
 use Rattle.mm_model.proofs.Named.{basic_names}
 use Rattle.mm_model.specs.declared.answer.BatchAnswer.{BatchAnswer}
 use Rattle.mm_model.specs.declared.refusal.Refusal.{Refusal}
@@ -26,16 +26,16 @@ use Rattle.mm_call.specs.Answers.{answer_on}
 use Rattle.mm_call.specs.Order.{examined}
 use Rattle.mm_call.specs.Levels.{by_lists, by_digests, all_made}
 use Rattle.mm_call.specs.Found.{Found, found_at, found_by_verdict, found_unless_wanting, is_fresh}
-use Rattle.mm_call.specs.Courses.{End, Done, Fails, Fate, Course, Walked, after_step, step_moves, walk}
+use Rattle.mm_call.specs.Courses.{Course, Walked, walk}
 use Rattle.mm_call.specs.Called.{called, ended_by, given_for}
 use Rattle.mm_call.specs.Asked.{from_reset, counted_part, counted_moves, moves_messages, foreign_in, IsAsked}
 use Rattle.mm_call.specs.Premises.{AreAsked}
-use Rattle.mm_call.proofs.BasicLaw.{AreBasic, basic-append, basic-foreign, unlacked}
-use Rattle.mm_call.proofs.Endings.{again_of, fresh_of}
+use Rattle.mm_call.proofs.BasicLaw.{AreBasic, unlacked, walk_basic}
+use Rattle.mm_call.proofs.Endings.{again_of, fresh_of, fresh_found}
 use Rattle.mm_call.proofs.Finding.{Asking, placed, found_with_tells, weighed_tells}
 use Rattle.mm_call.proofs.Reading.{is_right}
 use Rattle.mm_call.proofs.Moving.{same_batches, more_batches}
-use Rattle.mm_call.proofs.Walks.{Commits, nothing, batch, basic_commits, finished, foreign_first}
+use Rattle.mm_call.proofs.Walks.{Commits, nothing, batch, basic_commits, foreign_first}
 use Rattle.mm_callers.specs.Basic.{EndsWith}
 
 -- Nothing is asked of the moves of a call of Basic.
@@ -52,20 +52,6 @@ no_reset (PlacedMove b ∷ moves) a = absurd a.0
 no_reset (Reset ∷ moves) a = absurd a.0
 no_reset (Close ∷ moves) a = absurd a.0
 no_reset (Power ∷ moves) a = no_reset moves a.1
-
-step_basic : (step : Step) (values : List (List ℕ)) (ends : End) (rest : Walked) → ((made : Bool) → AreBasic (step_moves step made values)) → AreBasic rest.moves → AreBasic (after_step step values ends rest).moves
-step_basic step values Done rest s r = basic-append (step_moves step true values) rest.moves (s true) r
-step_basic step values (Fails fault made) rest s r = s made
-
-writes_basic : (b : Batch) (values : List (List ℕ)) (made : Bool) → AreBasic (step_moves (Writes (Commit b)) made values)
-writes_basic b values true = (tt, basic-foreign values)
-writes_basic b values false = basic-foreign values
-
-walk_basic : (fates : ℕ → Fate) (flag fresh : Bool) (b : Batch) → AreBasic (walk fates 1 (ask_steps Basic flag fresh b)).moves
-walk_basic fates flag false b = step_basic Reads (fates 1).brings (fates 1).ends finished (λ (made : Bool). basic-foreign (fates 1).brings) tt
-walk_basic fates flag true b =
-    step_basic Reads (fates 1).brings (fates 1).ends (walk fates 2 (Writes (Commit b) ∷ [])) (λ (made : Bool). basic-foreign (fates 1).brings)
-    (step_basic (Writes (Commit b)) (fates 2).brings (fates 2).ends finished (writes_basic b (fates 2).brings) tt)
 
 none_counted : (is_open : Bool) (moves : List Move) → is_open ≡ false → AreBasic moves → counted_moves is_open moves ≡ []
 none_counted true moves e a = absurd (cc)
@@ -139,10 +125,6 @@ answered_only None i seen s b (Ok it) moves answer e =
 
 pub answer_again : (i : Instance) (s : History) (b : Batch) (again flag : Bool) (answer : BatchAnswer) → again ≡ flag → answer ≡ answer_on i s b again → answer ≡ answer_on i s b flag
 answer_again i s b again flag answer e a = a ∙ ap (λ (f : Bool). answer_on i s b f) e
-
-pub fresh_found : (found : Result Found Refusal) → is_fresh found ≡ true → (it : Found) × (found ≡ Ok it) × (it.again ≡ false)
-fresh_found (Err why) e = absurd (cc)
-fresh_found (Ok it) e = (it, refl, fresh_of it.again e)
 
 pub again_found : (found : Result Found Refusal) (it : Found) → found ≡ Ok it → is_fresh found ≡ false → it.again ≡ true
 again_found found it is e = again_of it.again (subst (λ (f : Result Found Refusal). is_fresh f ≡ false) is e)

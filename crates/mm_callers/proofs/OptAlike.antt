@@ -1,5 +1,5 @@
 -- Opt: histories that differ in the register's items alone, and what a call does to all but these.
-use Rattle.std.proofs.Common.{◌≡◌, ℕ, Bool, true, false, List, [], ◌∷◌, ◌++◌, map, refl, sym, ap, ◌∙◌, subst, inl, inr}
+use Rattle.std.proofs.Common.{◌≡◌, ℕ, Bool, true, false, List, [], ◌∷◌, ◌++◌, refl, sym, ap, ◌∙◌, subst, inl, inr}
 use Rattle.mm_digest.specs.declared.variant.Variant.TheVariants.{Opt}
 use Rattle.mm_module.specs.Meaning.{Meaning}
 use Rattle.mm_module.specs.Batch.{Batch}
@@ -12,67 +12,15 @@ use Rattle.mm_model.specs.History.{Entry, Value, History, Move, Commit, Foreign,
 use Rattle.mm_model.specs.Life.{is_empty, has_value}
 use Rattle.mm_model.specs.Sound.{IsSound}
 use Rattle.mm_model.specs.Moves.{Digests, MayMove, IsAllowed, IsOpening, made}
-use Rattle.mm_model.specs.Places.{IsPoint, at_anchor, in_closed, in_current, IsPlaceOf, Names, issued, issued_place}
+use Rattle.mm_model.specs.Places.{IsPlaceOf, Names, issued, issued_place}
 use Rattle.mm_model.proofs.Moves.{sound_moved}
-use Rattle.mm_model.proofs.Named.{opt_names}
-use Rattle.mm_model.specs.Steps.{Step, Reads, Changes, Writes}
+use Rattle.mm_model.proofs.Named.{opt_names, point_items}
 use Rattle.mm_call.specs.Levels.{by_lists, by_digests, all_made}
-use Rattle.mm_call.specs.Courses.{End, Done, Fails, Fate, Walked, after_step, step_moves, walk, closes}
+use Rattle.mm_call.specs.Courses.{closes}
 use Rattle.mm_call.proofs.Moving.{committed_in}
 use Rattle.mm_call.proofs.OptHolding.{foreign_may}
 use Rattle.mm_call.proofs.OptShut.{bare, bare_digests, reset_may}
-use Rattle.mm_call.proofs.Walks.{finished, changing}
-
--- A call closes no segment.
-
-closes_none : (xs ys : List Move) → closes xs ≡ false → closes ys ≡ false → closes (xs ++ ys) ≡ false
-closes_none [] ys e f = f
-closes_none (Commit b ∷ xs) ys e f = closes_none xs ys e f
-closes_none (Foreign v ∷ xs) ys e f = closes_none xs ys e f
-closes_none (Placed b ∷ xs) ys e f = closes_none xs ys e f
-closes_none (Reset ∷ xs) ys e f = closes_none xs ys e f
-closes_none (Close ∷ xs) ys e f = absurd (cc)
-closes_none (Power ∷ xs) ys e f = closes_none xs ys e f
-
-pub closes_foreign : (values : List (List ℕ)) → closes (map Foreign values) ≡ false
-closes_foreign [] = refl
-closes_foreign (v ∷ values) = closes_foreign values
-
-pub foreign_closes : (values : List (List ℕ)) (rest : List Move) → closes rest ≡ false → closes (map Foreign values ++ rest) ≡ false
-foreign_closes values rest e = closes_none (map Foreign values) rest (closes_foreign values) e
-
--- a step that closes no segment
-abbrev IsOpen : Step → Type 0
-IsOpen step = (made : Bool) (values : List (List ℕ)) → closes (step_moves step made values) ≡ false
-
-open_reads : IsOpen Reads
-open_reads made values = closes_foreign values
-
-open_changes : (m : Move) → closes (m ∷ []) ≡ false → IsOpen (Changes m)
-open_changes m e true values = closes_none (map Foreign values) (m ∷ []) (closes_foreign values) e
-open_changes m e false values = closes_none (map Foreign values) [] (closes_foreign values) refl
-
-open_writes : (m : Move) → closes (m ∷ []) ≡ false → IsOpen (Writes m)
-open_writes m e true values = closes_none (m ∷ []) (map Foreign values) e (closes_foreign values)
-open_writes m e false values = closes_foreign values
-
-open_then : (step : Step) (values : List (List ℕ)) (ends : End) (rest : Walked) → IsOpen step → closes rest.moves ≡ false → closes (after_step step values ends rest).moves ≡ false
-open_then step values Done rest quiet e = closes_none (step_moves step true values) rest.moves (quiet true values) e
-open_then step values (Fails fault made) rest quiet e = quiet made values
-
-open_changing : (fates : ℕ → Fate) (flag fresh : Bool) (b : Batch) → closes (walk fates 3 (changing flag fresh b)).moves ≡ false
-open_changing fates true false b = refl
-open_changing fates false false b = refl
-open_changing fates true true b = open_then (Changes (Commit b)) (fates 3).brings (fates 3).ends finished (open_changes (Commit b) refl) refl
-open_changing fates false true b =
-    open_then (Changes Reset) (fates 3).brings (fates 3).ends (walk fates 4 (Changes (Placed b) ∷ Writes (Commit b) ∷ [])) (open_changes Reset refl)
-    (open_then (Changes (Placed b)) (fates 4).brings (fates 4).ends (walk fates 5 (Writes (Commit b) ∷ [])) (open_changes (Placed b) refl)
-    (open_then (Writes (Commit b)) (fates 5).brings (fates 5).ends finished (open_writes (Commit b) refl) refl))
-
-pub opt_closes : (fates : ℕ → Fate) (flag fresh : Bool) (b : Batch) → closes (walk fates 1 (Reads ∷ Reads ∷ changing flag fresh b)).moves ≡ false
-opt_closes fates flag fresh b =
-    open_then Reads (fates 1).brings (fates 1).ends (walk fates 2 (Reads ∷ changing flag fresh b)) open_reads
-    (open_then Reads (fates 2).brings (fates 2).ends (walk fates 3 (changing flag fresh b)) open_reads (open_changing fates flag fresh b))
+use Rattle.mm_call.proofs.Along.{commit_keeps}
 
 -- What a commit does to all but the items.
 
@@ -87,10 +35,6 @@ alike_commit meaning key barrier y z b e =
 commit_opens : (flag : Bool) (y : History) (b : Batch) → y.is_open ≡ flag → (committed Opt flag y b).is_open ≡ true
 commit_opens true y b e = e
 commit_opens false y b e = refl
-
-commit_keeps : (flag : Bool) (y : History) (b : Batch) → (committed Opt flag y b).closed ≡ y.closed
-commit_keeps true y b = refl
-commit_keeps false y b = refl
 
 -- moves that commit nothing and close nothing
 pub alike_still : (meaning : Meaning) (key barrier : List ℕ) (moves : List Move) (y : History) → committed_in moves ≡ [] → closes moves ≡ false → bare (all_made (by_lists (opt meaning key barrier)) y moves) ≡ bare y
@@ -143,7 +87,7 @@ pub opened : (meaning : Meaning) (key barrier : List ℕ) (y after : History) (b
 opened meaning key barrier y after b e = ap (λ (x : History). x.is_open) e ∙ commit_opens y.is_open y b refl
 
 pub same_closed : (meaning : Meaning) (key barrier : List ℕ) (y after : History) (b : Batch) → bare after ≡ bare (moved (opt meaning key barrier) y (Commit b)) → after.closed ≡ y.closed
-same_closed meaning key barrier y after b e = ap (λ (x : History). x.closed) e ∙ commit_keeps y.is_open y b
+same_closed meaning key barrier y after b e = ap (λ (x : History). x.closed) e ∙ commit_keeps Opt y.is_open y b
 
 -- with a segment open no closed one holds a value that stands for no batch
 pub clean_open : (y : History) → IsSound y → y.is_open ≡ true → has_value (joined y.closed) ≡ false
@@ -154,42 +98,6 @@ clean_open y sound e =
     ]
 
 -- What a snapshot names doesn't depend on the items.
-
-point_items : (i : Instance) (y : History) (items : List Entry) (named : List Batch) (a e : List ℕ) → IsPoint i y named a e → IsPoint i (record y { items = items }) named a e
-point_items i y items named a e (at_anchor p) = at_anchor (record {
-  before = p.before;
-  later = p.later;
-  split = p.split;
-  clean = p.clean;
-  counted = p.counted;
-  anchor_is = p.anchor_is;
-  extension_is = p.extension_is;
-})
-point_items i y items named a e (in_closed p) = in_closed (record {
-  before = p.before;
-  segment = p.segment;
-  later = p.later;
-  done = p.done;
-  taken = p.taken;
-  split = p.split;
-  named_is = p.named_is;
-  counted = p.counted;
-  begun = p.begun;
-  within = p.within;
-  anchor_is = p.anchor_is;
-  extension_is = p.extension_is;
-})
-point_items i y items named a e (in_current p) = in_current (record {
-  done = p.done;
-  taken = p.taken;
-  more = p.more;
-  split = p.split;
-  start = p.start;
-  named_is = p.named_is;
-  begun = p.begun;
-  anchor_is = p.anchor_is;
-  extension_is = p.extension_is;
-})
 
 place_items : (meaning : Meaning) (key barrier : List ℕ) (y : History) (items : List Entry) (named : List Batch) (place : Place) → IsPlaceOf Opt (opt meaning key barrier) y named place → IsPlaceOf Opt (opt meaning key barrier) (record y { items = items }) named place
 place_items meaning key barrier y items named (InBasic s) p = absurd p

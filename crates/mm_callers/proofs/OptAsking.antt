@@ -1,9 +1,8 @@
 -- The clauses of callers of Opt, from those of their calls.
-use Rattle.std.proofs.Common.{◌≡◌, ℕ, ◌≤◌, Bool, true, false, List, ◌++◌, length, Some, Result, Ok, refl, sym, ap, ◌∙◌, subst}
+use Rattle.std.proofs.Common.{◌≡◌, ℕ, ◌≤◌, Bool, true, false, List, ◌++◌, Some, Result, Ok, refl, sym, ap, ◌∙◌, subst}
 use Rattle.mm_base.specs.Limits.{last_position}
 use Rattle.mm_digest.specs.declared.variant.Variant.TheVariants.{Opt}
-use Rattle.mm_digest.specs.Messages.{zero_bytes, start_of, extended_message}
-use Rattle.mm_digest.proofs.Lengths.{length-zero_bytes, length-start_of}
+use Rattle.mm_digest.proofs.Lengths.{length-zero_bytes}
 use Rattle.mm_platform.specs.Standing.{Item, Standing}
 use Rattle.mm_module.specs.Meaning.{Meaning, IsLawful, state_after}
 use Rattle.mm_module.specs.Batch.{Batch, One}
@@ -11,7 +10,6 @@ use Rattle.mm_module.proofs.RunLaws.{state_after-is_spelled}
 use Rattle.mm_seal.specs.Parts.{parts_of}
 use Rattle.mm_seal.specs.Snapshot.{Content, IsContent, IsPlace}
 use Rattle.mm_seal.proofs.SealLaws.{sealed_once}
-use Rattle.mm_model.specs.Chains.{closing_message, register_of, anchor_of}
 use Rattle.mm_model.specs.Instance.{Instance, opt}
 use Rattle.mm_model.specs.History.{History, Commit, moved, requests_of, total_of}
 use Rattle.mm_model.specs.Fit.{IsFit}
@@ -19,7 +17,7 @@ use Rattle.mm_model.specs.Long.{is_long}
 use Rattle.mm_model.specs.Messages.{Within, offer_messages}
 use Rattle.mm_model.specs.Places.{Names, issued, issued_place}
 use Rattle.mm_model.specs.Standing.{StandsFor, IsRight, issued_bytes}
-use Rattle.mm_model.proofs.Chains.{length-after}
+use Rattle.mm_model.proofs.Chains.{length-anchor_of, length-register_of}
 use Rattle.mm_model.proofs.Named.{opt_issued}
 use Rattle.mm_model.specs.declared.answer.Answer.{Answer}
 use Rattle.mm_model.specs.declared.answer.BatchAnswer.{BatchAnswer}
@@ -52,14 +50,6 @@ answered_after_fault meaning old middle new offer request first answer f calls g
     twice_by (opt meaning key barrier) y h.left.after l.after new offer (One request) first (whole answer) l.stands h.left.comes l.comes
 
 -- the snapshot of an answer says what the history issues
-
-length-anchor_of : (id : ℕ) (segments : List (List (List ℕ))) → length (anchor_of id segments) ≡ 32
-unfolding anchor_of
-length-anchor_of id segments = length-after closing_message (start_of Opt id) segments (length-start_of Opt id)
-
-length-register_of : (values : List (List ℕ)) → length (register_of values) ≡ 32
-unfolding register_of
-length-register_of values = length-after extended_message zero_bytes values length-zero_bytes
 
 issued_sized : (flag : Bool) (meaning : Meaning) (key barrier : List ℕ) (y : History) → IsPlace (issued_place Opt flag (opt meaning key barrier) y)
 issued_sized true meaning key barrier y = (length-anchor_of meaning.id _, length-register_of _)

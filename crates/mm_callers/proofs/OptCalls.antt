@@ -1,6 +1,5 @@
 -- What one call of Opt comes to by lists, where what others did is known by the register's items.
-use Rattle.std.proofs.Common.{◌≡◌, ℕ, Bool, true, false, List, [], ◌∷◌, ◌++◌, map, Some, Result, Ok, Err, refl, sym, ap, ◌∙◌, subst}
-use Rattle.std.specs.Prelude.{if◌then◌else◌}
+use Rattle.std.proofs.Common.{◌≡◌, ℕ, Bool, true, false, List, [], ◌++◌, map, Some, Result, Ok, Err, refl, sym, ap, ◌∙◌, subst}
 use Rattle.std.specs.Str.{bytes_eq}
 use Rattle.mm_digest.specs.declared.variant.Variant.TheVariants.{Opt}
 use Rattle.mm_platform.specs.Standing.{Item, Standing}
@@ -11,17 +10,15 @@ use Rattle.mm_seal.specs.declared.snapshot.PartsFault.TheVariants.{Form, Kind}
 use Rattle.mm_seal.specs.Snapshot.{Content, Snapshot, tag_of}
 use Rattle.mm_seal.specs.Parts.{parts_of}
 use Rattle.mm_model.specs.Instance.{Instance, opt}
-use Rattle.mm_model.specs.History.{History, Move, Foreign, moved, total_of}
+use Rattle.mm_model.specs.History.{History, Move, Foreign, total_of}
 use Rattle.mm_model.specs.Judge.{judge}
 use Rattle.mm_model.specs.Life.{life_of, is_lost}
 use Rattle.mm_model.specs.Long.{is_long}
-use Rattle.mm_model.specs.Moves.{MayMove, digests_of}
+use Rattle.mm_model.specs.Moves.{digests_of}
 use Rattle.mm_model.specs.Places.{Names}
 use Rattle.mm_model.specs.Sound.{IsSound}
 use Rattle.mm_model.specs.Standing.{StandsFor, IsRight}
 use Rattle.mm_model.specs.Steps.{Step, ask_steps}
-use Rattle.mm_model.proofs.Moves.{sound_moved}
-use Rattle.mm_model.proofs.Named.{opt_names}
 use Rattle.mm_model.specs.declared.answer.Answer.{Answer}
 use Rattle.mm_model.specs.declared.answer.BatchAnswer.{BatchAnswer}
 use Rattle.mm_model.specs.declared.refusal.Refusal.{Refusal}
@@ -40,44 +37,28 @@ use Rattle.mm_call.proofs.BasicLaw.{unlacked}
 use Rattle.mm_call.proofs.Continuing.{stands_at}
 use Rattle.mm_call.proofs.Finding.{Asking, found_with_tells, weighed_tells}
 use Rattle.mm_call.proofs.Moving.{same_batches, more_batches}
-use Rattle.mm_call.proofs.OptFinding.{placed}
-use Rattle.mm_call.proofs.OptHolding.{foreign_may}
+use Rattle.mm_call.proofs.OptFinding.{placed, unless_lost}
 use Rattle.mm_call.proofs.Reading.{is_right}
 use Rattle.mm_call.proofs.Showing.{asked_of}
 use Rattle.mm_call.proofs.Tied.{opt_tied}
-use Rattle.mm_call.proofs.Walks.{Commits, nothing as none, batch, asks, opt_commits, foreign_first}
+use Rattle.mm_call.proofs.Walks.{Commits, nothing as none, batch, asks, opt_commits, foreign_first, made-append}
+use Rattle.mm_call.proofs.Endings.{fresh_found}
+use Rattle.mm_call.proofs.OptLaw.{names_foreign, sound_foreign}
 use Rattle.mm_opt.specs.Asks.{Calls}
 use Rattle.mm_callers.specs.Basic.{AnswersOnce}
 use Rattle.mm_callers.specs.Opt.{AsksOnce}
-use Rattle.mm_callers.proofs.Calls.{Comes, kept, grown, answered_only, answer_again, fresh_found, again_found, fresh_again}
+use Rattle.mm_callers.proofs.Calls.{Comes, kept, grown, answered_only, answer_again, again_found, fresh_again}
 use Rattle.mm_callers.proofs.Again.{answers_by}
 
 -- What a call finds by lists
-
-pub named_then : (meaning : Meaning) (key barrier : List ℕ) (values : List (List ℕ)) (y : History) (content : Content) → IsSound y → Names (opt meaning key barrier) y content → Names (opt meaning key barrier) (all_made (by_lists (opt meaning key barrier)) y (map Foreign values)) content
-named_then meaning key barrier [] y content sound n = n
-named_then meaning key barrier (v ∷ values) y content sound n =
-    let may : MayMove (opt meaning key barrier) y (Foreign v) = foreign_may (opt meaning key barrier) y y.is_open v in
-    named_then meaning key barrier values (moved (opt meaning key barrier) y (Foreign v)) content
-    (sound_moved meaning key barrier y (Foreign v) sound may) (opt_names meaning key barrier y (Foreign v) content sound may n)
-
-pub sound_then : (meaning : Meaning) (key barrier : List ℕ) (values : List (List ℕ)) (y : History) → IsSound y → IsSound (all_made (by_lists (opt meaning key barrier)) y (map Foreign values))
-sound_then meaning key barrier [] y sound = sound
-sound_then meaning key barrier (v ∷ values) y sound =
-    sound_then meaning key barrier values (moved (opt meaning key barrier) y (Foreign v))
-    (sound_moved meaning key barrier y (Foreign v) sound (foreign_may (opt meaning key barrier) y y.is_open v))
-
-made_then : (i : Instance) (xs ys : List Move) (y : History) → all_made (by_lists i) y (xs ++ ys) ≡ all_made (by_lists i) (all_made (by_lists i) y xs) ys
-made_then i [] ys y = refl
-made_then i (m ∷ xs) ys y = made_then i xs ys (moved i y m)
 
 sees_names : (meaning : Meaning) (key barrier : List ℕ) (v w : List (List ℕ)) (y : History) (content : Content) → IsSound y → Names (opt meaning key barrier) y content → Names (opt meaning key barrier) (all_made (by_lists (opt meaning key barrier)) y (map Foreign v ++ (map Foreign w ++ []))) content
 sees_names meaning key barrier v w y content sound n =
     let i : Instance = opt meaning key barrier in
     let first : History = all_made (by_lists i) y (map Foreign v) in
     let second : History = all_made (by_lists i) first (map Foreign w) in
-    subst (λ (z : History). Names i z content) (sym (made_then i (map Foreign v) (map Foreign w ++ []) y ∙ made_then i (map Foreign w) [] first))
-    (named_then meaning key barrier w first content (sound_then meaning key barrier v y sound) (named_then meaning key barrier v y content sound n))
+    subst (λ (z : History). Names i z content) (sym (made-append (by_lists i) (map Foreign v) (map Foreign w ++ []) y ∙ made-append (by_lists i) (map Foreign w) [] first))
+    (names_foreign meaning key barrier w first content (sound_foreign meaning key barrier v y sound) (names_foreign meaning key barrier v y content sound n))
 
 right_from : (meaning : Meaning) (key barrier : List ℕ) (y : History) (b : Batch) (offer : List ℕ) (parts : Result Snapshot PartsFault) → parts_of Opt meaning.id offer ≡ parts → (found : Found) → found_by_verdict (opt meaning key barrier) (by_lists (opt meaning key barrier)) y b parts ≡ Ok found → IsRight (opt meaning key barrier) offer found.offered
 right_from meaning key barrier y b offer (Err Form) e found is = absurd (cc)
@@ -86,10 +67,6 @@ right_from meaning key barrier y b offer (Ok snapshot) e found is =
     let t = found_with_tells snapshot.content (examined meaning key snapshot b (judge Opt y snapshot.content.position b)) found is in
     let w = weighed_tells (meaning.is_spelled snapshot.content.state) (bytes_eq snapshot.tag (tag_of key snapshot.content)) _ _ found.again t.1 in
     subst (λ (x : Content). IsRight (opt meaning key barrier) offer x) (sym t.0) (is_right (opt meaning key barrier) offer snapshot e w.0 w.1)
-
-unless_lost : (lost : Bool) (found : Result Found Refusal) (f : Found) → (if lost then Err refusal.Lost else found) ≡ Ok f → found ≡ Ok f
-unless_lost true found f e = absurd (cc)
-unless_lost false found f e = e
 
 pub right_at : (meaning : Meaning) (key barrier : List ℕ) (y : History) (b : Batch) (offer : List ℕ) (found : Found) → found_at (opt meaning key barrier) (by_lists (opt meaning key barrier)) y b offer ≡ Ok found → IsRight (opt meaning key barrier) offer found.offered
 right_at meaning key barrier y b offer found is =

@@ -33,15 +33,17 @@ use Rattle.mm_call.proofs.Moving.{committed_in, same_batches}
 use Rattle.mm_call.proofs.OptShut.{bare, counted_open}
 use Rattle.mm_call.proofs.Showing.{same_rest}
 use Rattle.mm_call.proofs.Walks.{finished, foreign_first, committed-foreign, foreign_in-foreign}
+use Rattle.mm_call.proofs.Along.{closes-foreign}
+use Rattle.mm_call.proofs.Trails.{foreign_values}
 use Rattle.mm_opt.specs.ChecksOn.{ChecksOn, closing_told}
 use Rattle.mm_opt.specs.declared.segment.Checkpointed.{Checkpointed as Said}
 use Rattle.mm_opt.specs.declared.segment.CheckpointRefusal.{CheckpointRefusal}
 use Rattle.mm_opt.specs.declared.segment.CheckpointRefusal.TheVariants as refusal
 use Rattle.mm_callers.specs.Closing.{MayClose, SaysClosing}
-use Rattle.mm_callers.proofs.OptAlike.{closes_foreign, alike_still, names_alike}
+use Rattle.mm_callers.proofs.OptAlike.{alike_still, names_alike}
 use Rattle.mm_callers.proofs.OptShown.{none_counted}
 use Rattle.mm_callers.proofs.OptLeaves.{GoesOn}
-use Rattle.mm_callers.proofs.OptClosing.{Closed, foreign_values, foreign_of-items, foreign_trail, shown_values, shown_closing, closing_asked, names_closed}
+use Rattle.mm_callers.proofs.OptClosing.{Closed, foreign_of-items, foreign_trail, shown_values, shown_closing, closing_asked, names_closed}
 use Rattle.mm_callers.proofs.OptRefusing.{reads_both}
 
 -- The moves of a checkpoint, however it ends: others' values, and the closing among them or not.
@@ -178,7 +180,7 @@ module _ (meaning : Meaning) (key barrier : List ℕ) (all others : List (List �
       → (content : Content) → Names (opt meaning key barrier) y content → Names (opt meaning key barrier) end content
   names_quiet y end moves values is reach content n =
       let i : Instance = opt meaning key barrier in
-      let alike : bare end ≡ bare y = ap bare (reach ∙ ap (all_made (by_lists i) y) is) ∙ alike_still meaning key barrier (map Foreign values) y (committed-foreign values) (closes_foreign values) in
+      let alike : bare end ≡ bare y = ap bare (reach ∙ ap (all_made (by_lists i) y) is) ∙ alike_still meaning key barrier (map Foreign values) y (committed-foreign values) (closes-foreign values) in
       names_alike meaning key barrier y end content (sym alike) n
 
   names_shaped : (y end : History) (moves : List Move) → Shaped moves → (flag : Bool) → y.is_open ≡ flag → (flag ≡ false → (values : List (List ℕ)) × (moves ≡ map Foreign values)) → IsWithin all others asked (opt meaning key barrier) y

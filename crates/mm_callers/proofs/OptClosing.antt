@@ -38,11 +38,14 @@ use Rattle.mm_call.proofs.OptHolding.{is_agrees}
 use Rattle.mm_call.proofs.OptShut.{bare, counted_open}
 use Rattle.mm_call.proofs.Showing.{same_rest}
 use Rattle.mm_call.proofs.Walks.{finished, made-append, messages-made, foreign_in-first, foreign_in-foreign, committed-foreign}
+use Rattle.mm_call.proofs.Along.{closes-foreign}
+use Rattle.mm_call.proofs.OptLaw.{names_foreign, sound_foreign}
+use Rattle.mm_call.proofs.Trails.{foreign_values}
+use Rattle.mm_call.proofs.Tied.{foreign_messages}
 use Rattle.mm_opt.specs.declared.segment.Checkpointed.{Checkpointed as Said}
 use Rattle.mm_opt.specs.ChecksOn.{ChecksOn, closing_told}
 use Rattle.mm_callers.specs.Closing.{closing_messages, MayClose}
-use Rattle.mm_callers.proofs.OptCalls.{sound_then, named_then}
-use Rattle.mm_callers.proofs.OptAlike.{closes_foreign, alike_still, names_alike}
+use Rattle.mm_callers.proofs.OptAlike.{alike_still, names_alike}
 use Rattle.mm_callers.proofs.OptShown.{none_counted}
 use Rattle.mm_callers.proofs.OptLeaves.{GoesOn}
 
@@ -82,10 +85,6 @@ closed_moves fates false said e =
     closed_steps (fates 1).brings (fates 1).ends (fates 2).brings (fates 2).ends (fates 3).brings (fates 3).ends (closed_whole w.broken (closes w.moves) false said e).0
 
 -- What the register shows of others' values, and their messages.
-
-pub foreign_values : (values : List (List ℕ)) → item_values (map foreign_item values) ≡ values
-foreign_values [] = refl
-foreign_values (v ∷ values) = ap (λ (vs : List (List ℕ)). v ∷ vs) (foreign_values values)
 
 pub foreign_of-items : (values : List (List ℕ)) → foreign_items (map foreign_item values) ≡ values
 foreign_of-items [] = refl
@@ -130,10 +129,6 @@ may_close_back all i y z front later closed register w =
     (subst (λ (vs : List (List ℕ)). Within (closing_messages (cell_digest_of i Opt y) (register_value_of i (counted_part y)) vs) all) (map-append (λ (item : Item). item.value) front later) w)))
 
 module _ (meaning : Meaning) (key barrier : List ℕ) where
-  foreign_messages : (y : History) (flag : Bool) (v : List ℕ) → moving_messages Opt flag (opt meaning key barrier) y (Foreign v) ≡ extended_message (register_value_of (opt meaning key barrier) y) v ∷ []
-  foreign_messages y true v = refl
-  foreign_messages y false v = refl
-
   close_messages : (y : History) (flag : Bool) → moving_messages Opt flag (opt meaning key barrier) y Close ≡ anchored_message (cell_digest_of (opt meaning key barrier) Opt y) (register_value_of (opt meaning key barrier) y) ∷ []
   close_messages y true = refl
   close_messages y false = refl
@@ -150,7 +145,7 @@ module _ (meaning : Meaning) (key barrier : List ℕ) where
   foreign_trail (v ∷ values) y =
       let i : Instance = opt meaning key barrier in
       let rest : List (List ℕ) = moves_messages i (moved i y (Foreign v)) (map Foreign values) in
-      ap (λ (ms : List (List ℕ)). ms ++ rest) (foreign_messages y y.is_open v)
+      ap (λ (ms : List (List ℕ)). ms ++ rest) (foreign_messages meaning key barrier y y.is_open v)
       ∙ ap (λ (ms : List (List ℕ)). extended_message (register_value_of i y) v ∷ ms)
       (foreign_trail values (moved i y (Foreign v)) ∙ ap (λ (r : List ℕ). trail extended_message r values) (register-push barrier y.items v))
 
@@ -186,7 +181,7 @@ module _ (meaning : Meaning) (key barrier : List ℕ) where
       let r : List ℕ = after extended_message (register_value_of i y) values in
       let there : register_value_of i z ≡ r = foreign_register values y in
       let closed : cell_digest_of i Opt z ≡ cell_digest_of i Opt y =
-      ap (cell_digest_of i Opt) (alike_still meaning key barrier (map Foreign values) y (committed-foreign values) (closes_foreign values)) in
+      ap (cell_digest_of i Opt) (alike_still meaning key barrier (map Foreign values) y (committed-foreign values) (closes-foreign values)) in
       let rest : List (List ℕ) = moves_messages i (moved i z Close) (map Foreign later) in
       messages-made i (map Foreign values) (Close ∷ map Foreign later) y
       ∙ ap (λ (ms : List (List ℕ)). ms ++ moves_messages i z (Close ∷ map Foreign later)) (foreign_trail values y)
@@ -249,7 +244,7 @@ module _ (meaning : Meaning) (key barrier : List ℕ) where
       let end : History = all_made (by_lists i) y (W y.is_open lost_lists).moves in
       let alike : bare end ≡ bare y =
       ap (λ (ms : List Move). bare (all_made (by_lists i) y ms)) (made_are lost_lists)
-      ∙ alike_still meaning key barrier (map Foreign values) y (committed-foreign values) (closes_foreign values) in
+      ∙ alike_still meaning key barrier (map Foreign values) y (committed-foreign values) (closes-foreign values) in
       record {
         after = end;
         stands = f.stands;
@@ -270,17 +265,17 @@ module _ (meaning : Meaning) (key barrier : List ℕ) where
       let i : Instance = opt meaning key barrier in
       let z : History = all_made (by_lists i) y (map Foreign values) in
       let shut : History = moved i z Close in
-      let alike : bare z ≡ bare y = alike_still meaning key barrier (map Foreign values) y (committed-foreign values) (closes_foreign values) in
+      let alike : bare z ≡ bare y = alike_still meaning key barrier (map Foreign values) y (committed-foreign values) (closes-foreign values) in
       let reached : end ≡ all_made (by_lists i) shut (map Foreign later) = is ∙ made-append (by_lists i) (map Foreign values) (Close ∷ map Foreign later) y in
       let rest : bare end ≡ bare shut =
-      ap bare reached ∙ alike_still meaning key barrier (map Foreign later) shut (committed-foreign later) (closes_foreign later) in
-      let sound_z : IsSound z = sound_then meaning key barrier values y sound in
+      ap bare reached ∙ alike_still meaning key barrier (map Foreign later) shut (committed-foreign later) (closes-foreign later) in
+      let sound_z : IsSound z = sound_foreign meaning key barrier values y sound in
       let open_z : z.is_open ≡ true = ap (λ (x : History). x.is_open) alike ∙ e in
       let filled : is_empty z.items ≡ false =
       last_filled z.closed z.items (subst (AllByRecursion (λ (segment : List Entry). is_empty segment ≡ false)) (ap (λ (x : History). x.closed) rest) within.sound.filled) in
       let may : MayMove i z Close = subst (λ (f : Bool). IsAllowed Opt f i z Close) (sym open_z) filled in
       names_alike meaning key barrier shut end content (sym rest)
-      (opt_names meaning key barrier z Close content sound_z may (named_then meaning key barrier values y content sound n))
+      (opt_names meaning key barrier z Close content sound_z may (names_foreign meaning key barrier values y content sound n))
 
   -- what a closing leaves
   closed_then : (all others : List (List ℕ)) (asked : List Batch) (y end : History) (new : Standing) (values later : List (List ℕ)) → y.is_open ≡ true → IsSound y
@@ -290,10 +285,10 @@ module _ (meaning : Meaning) (key barrier : List ℕ) where
       let i : Instance = opt meaning key barrier in
       let z : History = all_made (by_lists i) y (map Foreign values) in
       let shut : History = moved i z Close in
-      let alike : bare z ≡ bare y = alike_still meaning key barrier (map Foreign values) y (committed-foreign values) (closes_foreign values) in
+      let alike : bare z ≡ bare y = alike_still meaning key barrier (map Foreign values) y (committed-foreign values) (closes-foreign values) in
       let reached : end ≡ all_made (by_lists i) shut (map Foreign later) = is ∙ made-append (by_lists i) (map Foreign values) (Close ∷ map Foreign later) y in
       let rest : bare end ≡ bare shut =
-      ap bare reached ∙ alike_still meaning key barrier (map Foreign later) shut (committed-foreign later) (closes_foreign later) in
+      ap bare reached ∙ alike_still meaning key barrier (map Foreign later) shut (committed-foreign later) (closes-foreign later) in
       record {
         after = end;
         stands = stands;

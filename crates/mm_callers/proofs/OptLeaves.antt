@@ -38,9 +38,10 @@ use Rattle.mm_call.proofs.OptShut.{bare, within_items}
 use Rattle.mm_call.proofs.Showing.{asked_by, asked_of, same_rest, Counts, counts_open}
 use Rattle.mm_call.proofs.Tied.{opt_tied}
 use Rattle.mm_call.proofs.Walks.{Commits, nothing, batch, changing, asks, opt_commits, taking, foreign_first, committed-foreign}
+use Rattle.mm_call.proofs.Along.{opt_closes, closes_first, closes-foreign}
 use Rattle.mm_callers.proofs.Calls.{Comes, kept, answered_only}
 use Rattle.mm_callers.proofs.OptCalls.{seen_asking, comes}
-use Rattle.mm_callers.proofs.OptAlike.{opt_closes, foreign_closes, alike_still, alike_one, digests_still, closes_foreign, Alike, still, grown_by, same_closed, names_after}
+use Rattle.mm_callers.proofs.OptAlike.{alike_still, alike_one, digests_still, Alike, still, grown_by, same_closed, names_after}
 use Rattle.mm_callers.proofs.OptShown.{Way, only_reads, breaks_off, commits_it, way, pushed_open, counts_opening, none_counted, flag_kept, flag_set, shown_front, shown_back, shown_shut, register_then, stands_with}
 
 -- what one call leaves: the history after it, and what is asked of that
@@ -70,7 +71,7 @@ clean_by meaning key barrier y sees after b same clean (grown_by e) =
 
 -- others' values before the reading steps close nothing
 pub seen_closes : (v w : List (List ℕ)) → closes (map Foreign v ++ (map Foreign w ++ [])) ≡ false
-seen_closes v w = foreign_closes v (map Foreign w ++ []) (foreign_closes w [] refl)
+seen_closes v w = closes_first v (map Foreign w ++ []) ∙ closes_first w []
 
 module _ (meaning : Meaning) (key barrier : List ℕ) (all others : List (List ℕ)) (asked : List Batch) where
   abbrev pub Left : History → Standing → List ℕ → List ℕ → Result BatchAnswer Refusal → Type 0
@@ -258,7 +259,7 @@ module _ (meaning : Meaning) (key barrier : List ℕ) (all others : List (List �
       (subst (λ (ms : List Move). Within (moves_messages i (counted_part y) ms) all) (sym empty) tt)
       (subst (λ (ms : List Move). AllByRecursion (Contains others) (foreign_in ms)) (sym empty) tt)) in
       let same : (all_made (by_digests i) d moves).flag ≡ d.flag =
-      ap (λ (x : Digests). x.flag) (digests_still meaning key barrier moves d (ap committed_in is ∙ committed-foreign values) (ap closes is ∙ closes_foreign values)) in
+      ap (λ (x : Digests). x.flag) (digests_still meaning key barrier moves d (ap committed_in is ∙ committed-foreign values) (ap closes is ∙ closes-foreign values)) in
       (law.left, sym law.flag ∙ same ∙ e)
 
   -- with no segment open: broken off before the commit. The history is as before, but for the register's items.

@@ -35,6 +35,7 @@ use Rattle.mm_call.proofs.OptShut.{bare}
 use Rattle.mm_call.proofs.Showing.{asked_of}
 use Rattle.mm_call.proofs.Tied.{opt_tied}
 use Rattle.mm_call.proofs.Walks.{finished, changing, asks, opt_commits, foreign_first}
+use Rattle.mm_call.proofs.Along.{opt_closes}
 use Rattle.mm_opt.specs.Asks.{Calls}
 use Rattle.mm_callers.specs.Basic.{in_first}
 use Rattle.mm_callers.specs.Opt.{AsksOnce, AsksTwice}
@@ -42,7 +43,7 @@ use Rattle.mm_callers.proofs.Calls.{Comes}
 use Rattle.mm_callers.proofs.Refusing.{Fails, fails, said_by, calm_then, IsCalm, Fell, fell_long, refuses_once, refuses_again, refuses_next}
 use Rattle.mm_callers.proofs.Twice.{once_after, answered_at}
 use Rattle.mm_callers.proofs.OptCalls.{comes, answered_short, answered_once}
-use Rattle.mm_callers.proofs.OptAlike.{opt_closes, alike_still, Alike, names_after, issued_alike}
+use Rattle.mm_callers.proofs.OptAlike.{alike_still, Alike, names_after, issued_alike}
 use Rattle.mm_callers.proofs.OptLeaves.{alike_of, seen_closes, DigestMoves, GoesOn, call_goes_on, hands, asked_again}
 use Rattle.mm_callers.proofs.OptAsking.{asked_next, answered_after_fault, answered_twice}
 

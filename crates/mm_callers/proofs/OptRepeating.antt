@@ -35,14 +35,16 @@ use Rattle.mm_call.proofs.OptHolding.{is_agrees}
 use Rattle.mm_call.proofs.OptShut.{bare, bare_digests, found_digests, foreign_digests, holds_shut}
 use Rattle.mm_call.proofs.Showing.{same_rest}
 use Rattle.mm_call.proofs.Walks.{asks}
+use Rattle.mm_call.proofs.Along.{opt_closes}
+use Rattle.mm_call.proofs.Endings.{fresh_found}
 use Rattle.mm_opt.specs.declared.segment.Checkpointed.{Checkpointed as Said}
 use Rattle.mm_opt.specs.ChecksOn.{ChecksOn}
 use Rattle.mm_callers.specs.Basic.{IsOnce, EndsWith}
 use Rattle.mm_callers.specs.Closing.{MayClose, RepeatsReply}
-use Rattle.mm_callers.proofs.Calls.{Comes, kept, grown, one_content, fresh_found}
+use Rattle.mm_callers.proofs.Calls.{Comes, kept, grown, one_content}
 use Rattle.mm_callers.proofs.Twice.{once_after, answered_at, not_again}
 use Rattle.mm_callers.proofs.OptCalls.{right_at}
-use Rattle.mm_callers.proofs.OptAlike.{opt_closes, Alike, still, grown_by, same_closed, names_alike}
+use Rattle.mm_callers.proofs.OptAlike.{Alike, still, grown_by, same_closed, names_alike}
 use Rattle.mm_callers.proofs.OptShown.{Brought, reads_only, flag_kept, shown_front}
 use Rattle.mm_callers.proofs.OptLeaves.{Left, DigestMoves, hands, left_reading, asked_again, call_goes_on}
 use Rattle.mm_callers.proofs.OptClosing.{may_close_front, may_close_back, shown_values, Shut, check_goes_on, shuts}

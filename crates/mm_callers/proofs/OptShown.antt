@@ -32,7 +32,7 @@ use Rattle.mm_call.proofs.Moving.{committed_in}
 use Rattle.mm_call.proofs.OptShapes.{Shape, still, reset}
 use Rattle.mm_call.proofs.OptShut.{bare, bare_digests, counted_open, counted_shut}
 use Rattle.mm_call.proofs.Showing.{Counts}
-use Rattle.mm_call.proofs.Tied.{opt_tied}
+use Rattle.mm_call.proofs.Tied.{opt_tied, foreign_of-append}
 use Rattle.mm_call.proofs.Walks.{nothing as none, batch, finished, changing, opt_commits, taking, committed-foreign, from_reset-foreign}
 use Rattle.mm_model.specs.Steps.{Reads}
 
@@ -127,13 +127,6 @@ flag_set meaning key barrier (Close ∷ moves) d b c e = absurd (cc)
 flag_set meaning key barrier (Power ∷ moves) d b c e = flag_set meaning key barrier moves (made (opt meaning key barrier) d Power) b c e
 
 -- What is asked of items, for those in front and those behind.
-
-foreign_of-append : (xs ys : List Item) → foreign_items (xs ++ ys) ≡ foreign_items xs ++ foreign_items ys
-foreign_of-append [] ys = refl
-foreign_of-append (x ∷ xs) ys = item_then x.own x.value (foreign_items xs) (foreign_items ys) (foreign_items (xs ++ ys)) (foreign_of-append xs ys) where
-  item_then : (own : Bool) (v : List ℕ) (a b c : List (List ℕ)) → c ≡ a ++ b → (if own then c else v ∷ c) ≡ (if own then a else v ∷ a) ++ b
-  item_then true v a b c e = e
-  item_then false v a b c e = ap (λ (w : List (List ℕ)). v ∷ w) e
 
 trail_split : (s : List ℕ) (m k : List Item) → trail extended_message s (item_values (m ++ k)) ≡ trail extended_message s (item_values m) ++ trail extended_message (after extended_message s (item_values m)) (item_values k)
 trail_split s m k =

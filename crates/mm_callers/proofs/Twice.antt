@@ -1,12 +1,10 @@
 -- Two calls, the second on the snapshot of the first answer.
-use Rattle.std.proofs.Common.{◌≡◌, ℕ, ◌≤◌, ◌&&◌, Bool, true, false, List, [], ◌∷◌, ◌++◌, length, Option, None, Some, Result, Ok, Err, refl, sym, ap, ◌∙◌, subst, inl, inr, arith}
+use Rattle.std.proofs.Common.{◌≡◌, ℕ, ◌≤◌, ◌&&◌, Bool, true, false, List, [], ◌∷◌, ◌++◌, Option, None, Some, Result, Ok, Err, refl, sym, ap, ◌∙◌, subst, inl, inr, arith}
 use Rattle.std.specs.Prelude.{if◌then◌else◌}
 use Rattle.std.specs.List.{Contains}
 use Rattle.std.specs.Str.{bytes_eq}
 use Rattle.mm_base.specs.Limits.{last_position}
 use Rattle.mm_digest.specs.declared.variant.Variant.TheVariants.{Basic}
-use Rattle.mm_digest.specs.Messages.{start_of}
-use Rattle.mm_digest.proofs.Lengths.{length-start_of}
 use Rattle.mm_platform.specs.Standing.{Standing}
 use Rattle.mm_module.specs.Meaning.{Meaning, IsLawful, state_after}
 use Rattle.mm_module.specs.Batch.{Batch, One}
@@ -23,7 +21,7 @@ use Rattle.mm_model.specs.Fit.{IsFit}
 use Rattle.mm_model.specs.Messages.{Within}
 use Rattle.mm_model.specs.Places.{Names, issued}
 use Rattle.mm_model.specs.Standing.{StandsFor, IsRight, issued_bytes}
-use Rattle.mm_model.proofs.Chains.{length-after}
+use Rattle.mm_model.proofs.Chains.{length-summary_of}
 use Rattle.mm_model.proofs.MovedDigests.{total-push}
 use Rattle.mm_model.proofs.Named.{basic_issued}
 use Rattle.mm_model.specs.declared.answer.BatchAnswer.{BatchAnswer}
@@ -55,10 +53,6 @@ right_of i offer (Ok snapshot) e content is =
     subst (λ (x : Content). IsRight i offer x) a.same (is_right i offer snapshot e a.spelled a.tagged)
 
 -- the snapshot of an answer says what the history issues
-
-length-summary_of : (id : ℕ) (batches : List Batch) → length (summary_of id batches) ≡ 32
-unfolding summary_of
-length-summary_of id batches = length-after link_message (start_of Basic id) batches (length-start_of Basic id)
 
 issued_content : (meaning : Meaning) → IsLawful meaning → (key : List ℕ) (y : History) → total_of y.batches ≤ last_position → IsContent (issued (basic meaning key) y)
 issued_content meaning lawful key y fits = record {

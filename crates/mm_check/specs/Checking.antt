@@ -69,40 +69,40 @@ after_compared c line = record {
 }
 
 -- before the header; among the events; among the recorded lines
-pub data Stage : Type 0 where
-  AtHeader : Stage
-  InEvents : Read → Stage
-  InReplies : Compared → Stage
+pub data CheckStage : Type 0 where
+  AtHeader : CheckStage
+  InEvents : Read → CheckStage
+  InReplies : Compared → CheckStage
 
-abbrev pub headed : Option Header → Result (List ℕ × Stage) Refused
+abbrev pub headed : Option Header → Result (List ℕ × CheckStage) Refused
 headed None = Err Bad
 headed (Some header) = Ok ([], InEvents (first_read header))
 
-abbrev pub read_event : Read → List ℕ → Option Event → Result (List ℕ × Stage) Refused
+abbrev pub read_event : Read → List ℕ → Option Event → Result (List ℕ × CheckStage) Refused
 read_event r line None = Err Bad
 read_event r line (Some event) = if is_too_much r.running line then Err Much else Ok ([], InEvents (with_event r line event))
 
 -- a line among the events
-abbrev pub read_line : Read → List ℕ → Result (List ℕ × Stage) Refused
+abbrev pub read_line : Read → List ℕ → Result (List ℕ × CheckStage) Refused
 read_line r line = if bytes_eq line section_line then Ok ([], InReplies (first_compared r)) else read_event r line (event_at line)
 
-abbrev pub compare_line : Compared → List ℕ → Result (List ℕ × Stage) Refused
+abbrev pub compare_line : Compared → List ℕ → Result (List ℕ × CheckStage) Refused
 compare_line c line = if nat_le most_recorded c.count then Err Much else Ok ([], InReplies (after_compared c line))
 
 -- what a line is answered: nothing is written, or it is refused. By what the header line names
-abbrev pub check_answer : (List ℕ → Option Header) → Stage → List ℕ → Result (List ℕ × Stage) Refused
+abbrev pub check_answer : (List ℕ → Option Header) → CheckStage → List ℕ → Result (List ℕ × CheckStage) Refused
 check_answer heading AtHeader line = headed (heading line)
 check_answer heading (InEvents r) line = read_line r line
 check_answer heading (InReplies c) line = compare_line c line
 
 -- the input may end behind the header
-abbrev pub check_closing : Stage → Option (List ℕ)
+abbrev pub check_closing : CheckStage → Option (List ℕ)
 check_closing AtHeader = None
 check_closing (InEvents r) = Some []
 check_closing (InReplies c) = Some []
 
 -- how many more lines can be answered
-abbrev pub check_left : Stage → ℕ
+abbrev pub check_left : CheckStage → ℕ
 check_left AtHeader = most_events + most_recorded + 2
 check_left (InEvents r) = (most_events - r.running.events) + (most_recorded + 1)
 check_left (InReplies c) = most_recorded - c.count

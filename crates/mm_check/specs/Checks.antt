@@ -12,7 +12,7 @@ use Rattle.mm_run.specs.Held.{world_of}
 use Rattle.mm_play.specs.Play.{Told, run, run_of}
 use Rattle.mm_play.specs.Plays.{ForWhole}
 use Rattle.mm_play.specs.Takes.{IsFrontOf}
-use Rattle.mm_check.specs.Checking.{Stage, AtHeader, check_answer, check_closing, section_line}
+use Rattle.mm_check.specs.Checking.{CheckStage, AtHeader, check_answer, check_closing, section_line}
 use Rattle.mm_check.specs.Verdicts.{AreVerdicts, run_lines, verdicts_text}
 use Rattle.mm_check.specs.declared.verdicts.Verdicts.{Verdicts}
 
@@ -37,10 +37,10 @@ pub record IsChecked (lines : List (List ℕ)) (it : Verdicts) : Type 0 where
   pub verdicts : AreVerdicts header events tested it
 
 -- the run over whole lines, and over a whole input
-abbrev pub check_lines : List (List ℕ) → Told Stage
+abbrev pub check_lines : List (List ℕ) → Told CheckStage
 check_lines lines = run (check_answer header_at) 1 AtHeader lines
 
-abbrev pub check_run : List ℕ → Told Stage
+abbrev pub check_run : List ℕ → Told CheckStage
 check_run input = run_of (check_answer header_at) check_closing AtHeader input
 
 -- How the answer fits the bytes that were taken.
@@ -48,7 +48,7 @@ abbrev pub JudgesBy : Option (List ℕ) → List ℕ → Result Verdicts ReplayF
 -- the input was taken to its end, and these are the verdicts on its lines
 JudgesBy left taken (Ok verdicts) = IsAtEnd left × IsChecked (lines_of taken) verdicts
 -- the source failed: no whole line that was taken is refused
-JudgesBy left taken (Err ReadFault) = (after : Stage) × ((check_lines (lines_of taken)).outcome ≡ Ok after)
+JudgesBy left taken (Err ReadFault) = (after : CheckStage) × ((check_lines (lines_of taken)).outcome ≡ Ok after)
 JudgesBy left taken (Err WriteFault) = ⊥
 JudgesBy left taken (Err Memory) = Unit {0}
 -- else the run over the lines stops so
@@ -67,7 +67,7 @@ abbrev pub ChecksRunBy : Option (List ℕ) → List ℕ → List ℕ → Result 
 ChecksRunBy left taken sent (Ok verdicts) = IsAtEnd left × IsChecked (lines_of taken) verdicts × (sent ≡ verdicts_text verdicts)
 ChecksRunBy left taken sent (Err WriteFault) =
     (verdicts : Verdicts) × IsAtEnd left × IsChecked (lines_of taken) verdicts × IsFrontOf sent (verdicts_text verdicts)
-ChecksRunBy left taken sent (Err ReadFault) = (sent ≡ []) × ((after : Stage) × ((check_lines (lines_of taken)).outcome ≡ Ok after))
+ChecksRunBy left taken sent (Err ReadFault) = (sent ≡ []) × ((after : CheckStage) × ((check_lines (lines_of taken)).outcome ≡ Ok after))
 ChecksRunBy left taken sent (Err Memory) = sent ≡ []
 ChecksRunBy left taken sent (Err (BadLine number)) = (sent ≡ [])
     × ForWhole left taken (λ input. (check_run input).outcome ≡ Err (BadLine number))

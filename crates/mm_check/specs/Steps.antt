@@ -6,32 +6,32 @@ use Rattle.mm_play.specs.declared.player.ReplyFault.{ReplyFault}
 use Rattle.mm_play.specs.declared.player.ReplyFault.TheVariants as fault
 use Rattle.mm_schedule.specs.Events.{Event, event_of}
 use Rattle.mm_schedule.specs.declared.event.Event.{Event as CodeEvent}
-use Rattle.mm_check.specs.Checking.{Read, Compared, Stage, AtHeader, InEvents, InReplies}
+use Rattle.mm_check.specs.Checking.{Read, Compared, CheckStage, AtHeader, InEvents, InReplies}
 use Rattle.mm_check.specs.declared.player.Phase.{Phase}
 use Rattle.mm_check.specs.declared.player.Phase.TheVariants.{Events, Replies}
 
-abbrev pub phase_of : Phase → Stage
+abbrev pub phase_of : Phase → CheckStage
 phase_of (Events reading) = InEvents reading
 phase_of (Replies comparing) = InReplies comparing
 
 -- before the header there is no phase
-abbrev pub stage_of : Option Phase → Stage
-stage_of None = AtHeader
-stage_of (Some phase) = phase_of phase
+abbrev pub check_stage : Option Phase → CheckStage
+check_stage None = AtHeader
+check_stage (Some phase) = phase_of phase
 
 -- What a line came to: what stands behind it, or why it is refused; want of memory says nothing. Nothing is written.
-abbrev pub LineComesTo : {A : Type 0} → (A → Stage) → Result (List ℕ × Stage) Refused → Result A ReplyFault → Type 0
+abbrev pub LineComesTo : {A : Type 0} → (A → CheckStage) → Result (List ℕ × CheckStage) Refused → Result A ReplyFault → Type 0
 LineComesTo stage answer (Ok next) = answer ≡ Ok ([], stage next)
 LineComesTo stage answer (Err fault.Memory) = Unit {0}
 LineComesTo stage answer (Err (fault.Refused why)) = answer ≡ Err why
 
-abbrev pub StepsPhase : Result (List ℕ × Stage) Refused → Result Phase ReplyFault → Type 0
+abbrev pub StepsPhase : Result (List ℕ × CheckStage) Refused → Result Phase ReplyFault → Type 0
 StepsPhase answer result = LineComesTo phase_of answer result
 
-abbrev pub ReadsEvent : Result (List ℕ × Stage) Refused → Result Read ReplyFault → Type 0
+abbrev pub ReadsEvent : Result (List ℕ × CheckStage) Refused → Result Read ReplyFault → Type 0
 ReadsEvent answer result = LineComesTo InEvents answer result
 
-abbrev pub ComparesLine : Result (List ℕ × Stage) Refused → Result Compared ReplyFault → Type 0
+abbrev pub ComparesLine : Result (List ℕ × CheckStage) Refused → Result Compared ReplyFault → Type 0
 ComparesLine answer result = LineComesTo InReplies answer result
 
 -- the event of a line, if it has one

@@ -10,7 +10,7 @@ use Rattle.mm_run.specs.Folds.{replies_by_digests}
 use Rattle.mm_run.specs.Held.{world_of}
 use Rattle.mm_replay.specs.Schedule.{Running}
 use Rattle.mm_check.specs.Numbering.{Decides, lines_of_all, lines_with, expected_lines}
-use Rattle.mm_check.specs.Checking.{Compared, differs_then, Stage, AtHeader, InEvents, InReplies}
+use Rattle.mm_check.specs.Checking.{Compared, differs_then, CheckStage, AtHeader, InEvents, InReplies}
 use Rattle.mm_check.specs.declared.verdicts.Premise.{Premise}
 use Rattle.mm_check.specs.declared.verdicts.Premise.TheVariants.{Held, Shared, Zero, Secured, Forged}
 use Rattle.mm_check.specs.declared.verdicts.Agreement.{Agreement}
@@ -64,7 +64,7 @@ pub record AreVerdictsOn (c : Compared) (it : Verdicts) : Type 0 where
   pub agreement : it.agreement ≡ agreement_of (end_difference c)
 
 -- the verdicts at the end of the input
-abbrev pub Concludes : Stage → Verdicts → Type 0
+abbrev pub Concludes : CheckStage → Verdicts → Type 0
 Concludes AtHeader it = ⊥
 Concludes (InEvents r) it = AreVerdicts r.header r.events (run_lines (world_of r.header) r.events) it
 Concludes (InReplies c) it = AreVerdictsOn c it

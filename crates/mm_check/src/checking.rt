@@ -4,7 +4,7 @@ ghost use Rattle.std.specs.Prelude.{◌≡◌, ℕ, List, Some, Ok};
 ghost use Rattle.mm_play.specs.Play.{run_of};
 ghost use Rattle.mm_play.specs.Plays.{IsBlamed, IsUnrefused, is_read_fault, is_write_fault};
 ghost use Rattle.mm_schedule.specs.Headers.{header_at};
-ghost use Rattle.mm_check.specs.Checking.{Stage, AtHeader, check_answer, check_closing};
+ghost use Rattle.mm_check.specs.Checking.{CheckStage, AtHeader, check_answer, check_closing};
 ghost use Rattle.mm_check.specs.Checks.{ChecksRun, Judges};
 
 use crate::nowhere::Nowhere;
@@ -21,7 +21,7 @@ fn judge<S: Source>(alloc: Global, input: &mut S) -> Result<Verdicts, ReplayFaul
     ensures read { IsBlamed (is_read_fault result) (S.faults input.old) (S.faults input.new) }
 
     // A recorded run within the grammar and the limits is not refused.
-    ensures complete { (bytes : List ℕ) → (next : Stage) → S.left input.old ≡ Some bytes
+    ensures complete { (bytes : List ℕ) → (next : CheckStage) → S.left input.old ≡ Some bytes
         → (run_of (check_answer header_at) check_closing AtHeader bytes).outcome ≡ Ok next
         → IsUnrefused result }
 {
@@ -57,7 +57,7 @@ pub fn check<S: Source, K: Sink>(
     ensures wrote { IsBlamed (is_write_fault result) (K.faults out.old) (K.faults out.new) }
 
     // A recorded run within the grammar and the limits is not refused.
-    ensures complete { (bytes : List ℕ) → (next : Stage) → S.left input.old ≡ Some bytes
+    ensures complete { (bytes : List ℕ) → (next : CheckStage) → S.left input.old ≡ Some bytes
         → (run_of (check_answer header_at) check_closing AtHeader bytes).outcome ≡ Ok next
         → IsUnrefused result }
 {

@@ -3,9 +3,9 @@
 ghost use Rattle.std.specs.Prelude.{◌≡◌, ◌≢◌, ◌≤◌, length, IfOk};
 ghost use Rattle.mm_base.specs.Limits.{longest_line};
 ghost use Rattle.mm_schedule.specs.Headers.{header_at};
-ghost use Rattle.mm_check.specs.Checking.{Stage, AtHeader, check_answer, check_closing, check_left, headed, read_line};
+ghost use Rattle.mm_check.specs.Checking.{CheckStage, AtHeader, check_answer, check_closing, check_left, headed, read_line};
 ghost use Rattle.mm_check.specs.Counting.{check_counts_down, check_is_short};
-ghost use Rattle.mm_check.specs.Steps.{phase_of, stage_of, StepsPhase};
+ghost use Rattle.mm_check.specs.Steps.{phase_of, check_stage, StepsPhase};
 ghost use Rattle.mm_check.specs.Verdicts.{Concludes};
 
 use crate::comparing::Comparing;
@@ -33,9 +33,9 @@ pub(crate) struct CheckPlayer {
 }
 
 impl Model for CheckPlayer {
-    ghost Value = { Stage };
+    ghost Value = { CheckStage };
 
-    ghost view = { λ it. stage_of it.phase };
+    ghost view = { λ it. check_stage it.phase };
 }
 
 /// Behind the header of this line.
@@ -72,7 +72,7 @@ fn read_line(alloc: Global, reading: Reading, line: &[u8]) -> Result<Phase, Repl
 /// Behind the next line.
 fn next_phase(alloc: Global, phase: Option<Phase>, line: &[u8]) -> Result<Phase, ReplyFault>
     requires { length line.now ≤ longest_line }
-    ensures { StepsPhase (check_answer header_at (stage_of phase) line.now) result }
+    ensures { StepsPhase (check_answer header_at (check_stage phase) line.now) result }
 {
     match phase {
         None => first_phase(alloc, line),

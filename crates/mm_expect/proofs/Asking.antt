@@ -14,7 +14,7 @@ use Rattle.mm_module.proofs.BatchLaws.{size_of-pos}
 use Rattle.mm_model.specs.Instance.{Instance}
 use Rattle.mm_model.specs.History.{History, Move, Commit, Foreign, Placed, Reset, Close, Power, moved, total_of}
 use Rattle.mm_model.specs.Judge.{is_last}
-use Rattle.mm_model.specs.Steps.{Step, Reads, Changes, Writes, ask_steps}
+use Rattle.mm_model.specs.Steps.{Step, Reads, ask_steps}
 use Rattle.mm_model.specs.declared.refusal.Refusal.{Refusal}
 use Rattle.mm_model.proofs.Batches.{is_last_of}
 use Rattle.mm_model.proofs.MovedDigests.{total-push}
@@ -26,7 +26,9 @@ use Rattle.mm_call.specs.Called.{Answers, Breaks, Called, reading_steps, kept_at
 use Rattle.mm_call.specs.declared.ended.Ended.{Ended}
 use Rattle.mm_call.specs.declared.ended.Ended.TheVariants.{Answered, Refused, Broken}
 use Rattle.mm_call.proofs.Moving.{committed_in, same_batches, more_batches}
-use Rattle.mm_call.proofs.Walks.{Commits, nothing, batch, finished, committed-append, committed-foreign, foreign_first, commits-none}
+use Rattle.mm_call.proofs.Walks.{Commits, nothing, batch, finished, commits-none, writing_commits, commits_batch, seen_none}
+use Rattle.mm_call.proofs.Along.{reading_none}
+use Rattle.mm_call.proofs.Walks as walks
 use Rattle.mm_run.specs.Folds.{plan_of, course_of}
 use Rattle.mm_expect.specs.Recorded.{Recorded, Went, recorded_instance, instance_with}
 use Rattle.mm_expect.specs.Walking.{Walks}
@@ -35,59 +37,11 @@ use Rattle.mm_expect.proofs.Walking.{went_then, not_true}
 
 -- what the steps of a new batch commit
 
-abbrev IsQuiet : Step → Type 0
-IsQuiet step = (made : Bool) (values : List (List ℕ)) → committed_in (step_moves step made values) ≡ []
-
-quiet_reads : IsQuiet Reads
-quiet_reads made values = committed-foreign values
-
-quiet_reset : IsQuiet (Changes Reset)
-quiet_reset true values = foreign_first values (Reset ∷ [])
-quiet_reset false values = foreign_first values []
-
-quiet_placed : (b : Batch) → IsQuiet (Changes (Placed b))
-quiet_placed b true values = foreign_first values (Placed b ∷ [])
-quiet_placed b false values = foreign_first values []
-
-quiet_step : (step : Step) (values : List (List ℕ)) (ends : End) (rest : Walked) (b : Batch) (fresh : Bool) → IsQuiet step
-    → Commits b fresh rest → Commits b fresh (after_step step values ends rest)
-quiet_step step values Done rest b fresh quiet (nothing e unless) =
-    nothing (committed-append (step_moves step true values) rest.moves ∙ ap (λ v. v ++ committed_in rest.moves) (quiet true values) ∙ e) unless
-quiet_step step values Done rest b fresh quiet (batch e is) =
-    batch (committed-append (step_moves step true values) rest.moves ∙ ap (λ v. v ++ committed_in rest.moves) (quiet true values) ∙ e) is
-quiet_step step values (Fails fault made) rest b fresh quiet c = nothing (quiet made values) (λ e. cc)
-
-last_step : (step : Step) (values : List (List ℕ)) (ends : End) (b : Batch)
-    → committed_in (step_moves step true values) ≡ b ∷ [] → committed_in (step_moves step false values) ≡ []
-    → Commits b true (after_step step values ends finished)
-last_step step values Done b one none =
-    batch (committed-append (step_moves step true values) [] ∙ ap (λ v. v ++ []) one) refl
-last_step step values (Fails fault true) b one none = batch one refl
-last_step step values (Fails fault false) b one none = nothing none (λ e. cc)
-
-written_one : (b : Batch) (values : List (List ℕ)) → committed_in (Commit b ∷ map Foreign values) ≡ b ∷ []
-written_one b values = ap (λ v. b ∷ v) (committed-foreign values)
-
 changing_commits : (fates : ℕ → Fate) (variant : Variant) (flag : Bool) (b : Batch)
     → Commits b true (walk fates (changing_from variant) (changing_steps variant flag b))
-changing_commits fates Basic flag b =
-    last_step (Writes (Commit b)) (fates 2).brings (fates 2).ends b (written_one b (fates 2).brings) (committed-foreign (fates 2).brings)
-changing_commits fates Opt true b =
-    last_step (Changes (Commit b)) (fates 3).brings (fates 3).ends b
-    (foreign_first (fates 3).brings (Commit b ∷ [])) (foreign_first (fates 3).brings [])
-changing_commits fates Opt false b =
-    quiet_step (Changes Reset) (fates 3).brings (fates 3).ends (walk fates 4 (Changes (Placed b) ∷ Writes (Commit b) ∷ [])) b true quiet_reset
-    (quiet_step (Changes (Placed b)) (fates 4).brings (fates 4).ends (walk fates 5 (Writes (Commit b) ∷ [])) b true (quiet_placed b)
-    (last_step (Writes (Commit b)) (fates 5).brings (fates 5).ends b (written_one b (fates 5).brings) (committed-foreign (fates 5).brings)))
-
-commits-some : (moves : List Move) (b : Batch) → committed_in moves ≡ b ∷ [] → commits moves ≡ true
-commits-some [] b e = cc
-commits-some (Commit c ∷ moves) b e = refl
-commits-some (Foreign v ∷ moves) b e = commits-some moves b e
-commits-some (Placed c ∷ moves) b e = commits-some moves b e
-commits-some (Reset ∷ moves) b e = commits-some moves b e
-commits-some (Close ∷ moves) b e = commits-some moves b e
-commits-some (Power ∷ moves) b e = commits-some moves b e
+changing_commits fates Basic flag b = writing_commits fates b
+changing_commits fates Opt true b = walks.changing_commits fates true true b
+changing_commits fates Opt false b = walks.changing_commits fates false true b
 
 commits-append : (xs ys : List Move) → committed_in xs ≡ [] → commits (xs ++ ys) ≡ commits ys
 commits-append [] ys e = refl
@@ -143,7 +97,7 @@ kept_by old new walked b (batch one is) went =
     ap (λ (y : History). total_of y.batches) went.history ∙ ap total_of (more_batches i walked.moves old.history b one)
     ∙ total-push old.history.batches b in
     kept_when _ (total_of old.history.batches) (total_of new.history.batches) (size_of b) (commits walked.moves) refl
-    (λ e. more) (size_of-pos b) (λ e. let yes : commits walked.moves ≡ true = commits-some walked.moves b one in cc)
+    (λ e. more) (size_of-pos b) (λ e. let yes : commits walked.moves ≡ true = commits_batch walked.moves b one in cc)
 
 pub new_answered : (old new : Recorded) (stop : Stop) (meddles : List Meddle) (b : Batch) (ended : Ended) → ChangesBy old new stop meddles b None
     → ended ≡ Answered (answer_on (recorded_instance new) new.history b false) → GoesOnNew old new stop meddles b ended
@@ -190,10 +144,6 @@ after_seen : (values : List (List ℕ)) (ends : End) (r : Walked) (xs : List Mov
 after_seen values Done r xs e same = ap (λ v. map Foreign values ++ v) (same e)
 after_seen values (Fails f made) r xs e same = cc
 
-after_quiet : (values : List (List ℕ)) (ends : End) (r : Walked) → committed_in r.moves ≡ [] → committed_in (after_step Reads values ends r).moves ≡ []
-after_quiet values Done r none = foreign_first values r.moves ∙ none
-after_quiet values (Fails f made) r none = committed-foreign values
-
 module _ (fates : ℕ → Fate) where
   pub read_broken : (variant : Variant) (rest : List Step) (fault : StepFault) → (walk fates 1 (reading_steps variant)).broken ≡ Some fault
       → walk fates 1 (reading_steps variant ++ rest) ≡ walk fates 1 (reading_steps variant)
@@ -218,11 +168,6 @@ module _ (fates : ℕ → Fate) where
   read_seen Opt e =
       after_seen (fates 1).brings (fates 1).ends (after_step Reads (fates 2).brings (fates 2).ends finished) (map Foreign (fates 2).brings ++ []) e
       (λ f. after_seen (fates 2).brings (fates 2).ends finished [] f (λ w. refl))
-
-  read_quiet : (variant : Variant) → committed_in (walk fates 1 (reading_steps variant)).moves ≡ []
-  read_quiet Basic = after_quiet (fates 1).brings (fates 1).ends finished refl
-  read_quiet Opt = after_quiet (fates 1).brings (fates 1).ends (after_step Reads (fates 2).brings (fates 2).ends finished)
-      (after_quiet (fates 2).brings (fates 2).ends finished refl)
 
 -- the steps of a call: the reading ones, and those behind them
 steps_are : (variant : Variant) (is_open fresh : Bool) (b : Batch)
@@ -290,7 +235,7 @@ module _ (a : Recorded) (stop : Stop) (meddles : List Meddle) (bytes : List ℕ)
       by_parts n (Broken fault None) f reading.moves (Some fault) refl (ap (λ (v : Walked). v.moves) same)
       (ap (λ (v : Walked). v.broken) same ∙ sym w.broken) w.went
       (ap (λ (k : Bool). Breaks fault (kept_at k (position_of (by_lists at) seen (all_made (by_lists at) a.history reading.moves) b f)))
-      (sym (commits-none reading.moves (read_quiet fates a.variant))))
+      (sym (commits-none reading.moves (reading_none a.variant fates))))
 
   -- what is found where the chronicle stands is what the call finds
   found_there : (n : Recorded) → Walks a n reading None → found_at (recorded_instance n) (by_lists (recorded_instance n)) n.history b bytes ≡ found
@@ -344,7 +289,7 @@ module _ (a : Recorded) (stop : Stop) (meddles : List Meddle) (bytes : List ℕ)
   ends_new n m f moves (Some fault) new w went =
       let both = went_then a n m reading.moves moves w.went went in
       ap (Breaks fault)
-      (ap (λ (k : Bool). kept_at k (total_of m.history.batches)) (sym (commits-append reading.moves moves (read_quiet fates a.variant)))
+      (ap (λ (k : Bool). kept_at k (total_of m.history.batches)) (sym (commits-append reading.moves moves (reading_none a.variant fates)))
       ∙ ap (λ (h : History). kept_at (commits (reading.moves ++ moves)) (total_of h.batches)) both.history)
 
   foreign_open : (values : List (List ℕ)) (moves : List Move) (y : History) (flag : Bool)
@@ -406,14 +351,7 @@ kept_other total before now was n w e =
     ap (λ (t : ℕ). Some t) n
     ∙ sym (ap (λ (b : Bool). if b then None else Some total) (not_true (nat_eq total before) (λ t. e (n ∙ (Decides-eqb total before).0 t ∙ sym w))))
 
-pub last_pushed : (front : List Batch) (b : Batch) → is_last (front ++ b ∷ []) b ≡ true
-last_pushed front b = is_last_of front b
-
-seen_quiet : (fates : ℕ → Fate) (steps : List Step) (n : ℕ) → committed_in (seen_in fates steps n) ≡ []
-seen_quiet fates [] n = refl
-seen_quiet fates (step ∷ steps) n = foreign_first (fates n).brings (seen_in fates steps (n + 1)) ∙ seen_quiet fates steps (n + 1)
-
 -- what others put into the register commits nothing
 pub foreign_batches : (i : Instance) (fates : ℕ → Fate) (steps : List Step) (n : ℕ) (y : History)
     → (all_made (by_lists i) y (seen_in fates steps n)).batches ≡ y.batches
-foreign_batches i fates steps n y = same_batches i (seen_in fates steps n) y (seen_quiet fates steps n)
+foreign_batches i fates steps n y = same_batches i (seen_in fates steps n) y (seen_none fates steps n)

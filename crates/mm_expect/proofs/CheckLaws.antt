@@ -1,5 +1,5 @@
 -- A checkpoint by lists, step by step.
-use Rattle.std.proofs.Common.{◌≡◌, ℕ, Bool, true, false, List, [], ◌∷◌, ◌++◌, map, Option, None, Some, Result, Ok, Err, refl, sym, ap, ◌∙◌, subst}
+use Rattle.std.proofs.Common.{◌≡◌, ℕ, Bool, true, false, List, [], ◌∷◌, ◌++◌, Option, None, Some, Result, Ok, Err, refl, sym, ap, ◌∙◌, subst}
 use Rattle.std.specs.Prelude.{IfOk}
 use Rattle.std.proofs.lemmas.List.{append-nil}
 use Rattle.mm_digest.specs.declared.variant.Variant.{Variant}
@@ -9,16 +9,17 @@ use Rattle.mm_platform.specs.declared.plan.Meddle.{Meddle}
 use Rattle.mm_platform.specs.declared.plan.Stop.{Stop}
 use Rattle.mm_platform.specs.Steps.{fault_at, is_made_at}
 use Rattle.mm_model.specs.Instance.{Instance}
-use Rattle.mm_model.specs.History.{History, Move, Commit, Foreign, Placed, Reset, Close, Power}
+use Rattle.mm_model.specs.History.{History, Move, Close}
 use Rattle.mm_model.specs.Life.{life_of, is_lost}
 use Rattle.mm_model.specs.Steps.{Step, Reads, Writes, checkpoint_steps}
 use Rattle.mm_call.specs.Levels.{by_lists, all_made}
-use Rattle.mm_call.specs.Courses.{End, Done, Fails, Fate, Walked, after_step, walk, seen_in, closes, planned, end_of}
+use Rattle.mm_call.specs.Courses.{Fate, Walked, after_step, walk, seen_in, closes, planned, end_of}
 use Rattle.mm_call.specs.Called.{reading_steps, seen_at}
 use Rattle.mm_call.specs.Checkpoints as ghost_closing
 use Rattle.mm_call.proofs.Walks.{finished}
+use Rattle.mm_call.proofs.Along.{closes-append, closes-foreign, ClosesNone, shut_along, walk_along}
 use Rattle.mm_run.specs.Folds.{plan_of, course_of}
-use Rattle.mm_run.proofs.Naming.{closes-foreign, last_steps}
+use Rattle.mm_run.proofs.Naming.{last_steps}
 use Rattle.mm_expect.specs.declared.calls.Closing.{Closing}
 use Rattle.mm_expect.specs.declared.calls.Closing.TheVariants.{Closes, LostPower, Stops}
 use Rattle.mm_expect.specs.Closings.{closing_as, WentByCheckpoint, ShutBy}
@@ -27,25 +28,11 @@ use Rattle.mm_expect.specs.Walking.{Walks}
 use Rattle.mm_expect.proofs.Asking.{Then, read_broken, read_whole, read_seen}
 use Rattle.mm_expect.proofs.Walking.{went_then}
 
-closes-append : (xs ys : List Move) → closes xs ≡ false → closes (xs ++ ys) ≡ closes ys
-closes-append [] ys e = refl
-closes-append (Commit b ∷ xs) ys e = closes-append xs ys e
-closes-append (Foreign v ∷ xs) ys e = closes-append xs ys e
-closes-append (Placed b ∷ xs) ys e = closes-append xs ys e
-closes-append (Reset ∷ xs) ys e = closes-append xs ys e
-closes-append (Close ∷ xs) ys e = cc
-closes-append (Power ∷ xs) ys e = closes-append xs ys e
-
-reads_close : (values : List (List ℕ)) (ends : End) (r : Walked) → closes r.moves ≡ false → closes (after_step Reads values ends r).moves ≡ false
-reads_close values Done r none = closes-append (map Foreign values) r.moves (closes-foreign values) ∙ none
-reads_close values (Fails f made) r none = closes-foreign values
-
 one_closes : (fates : ℕ → Fate) → closes (walk fates 1 (Reads ∷ [])).moves ≡ false
-one_closes fates = reads_close (fates 1).brings (fates 1).ends finished refl
+one_closes fates = walk_along ClosesNone shut_along fates 1 (Reads ∷ []) tt
 
 two_close : (fates : ℕ → Fate) → closes (walk fates 1 (reading_steps Opt)).moves ≡ false
-two_close fates = reads_close (fates 1).brings (fates 1).ends (after_step Reads (fates 2).brings (fates 2).ends finished)
-    (reads_close (fates 2).brings (fates 2).ends finished refl)
+two_close fates = walk_along ClosesNone shut_along fates 1 (reading_steps Opt) tt
 
 -- a checkpoint that reads the cell alone
 

@@ -1,27 +1,27 @@
 -- A schedule commits at most 2^48 requests.
-use Rattle.std.proofs.Common.{◌≡◌, ℕ, ◌+◌, ◌≤◌, Bool, true, false, List, [], ◌∷◌, ◌++◌, Option, None, Some, Result, Ok, Err, refl, sym, ap, ◌∙◌, subst, arith}
+use Rattle.std.proofs.Common.{◌≡◌, ℕ, ◌+◌, ◌≤◌, Bool, true, false, List, [], ◌∷◌, Option, None, Some, Result, Ok, refl, sym, ap, ◌∙◌, subst, arith}
 use Rattle.std.specs.Prelude.{if◌then◌else◌}
 use Rattle.mm_base.specs.Limits.{last_position}
-use Rattle.mm_digest.specs.declared.variant.Variant.{Variant}
-use Rattle.mm_digest.specs.declared.variant.Variant.TheVariants.{Basic, Opt}
 use Rattle.mm_platform.specs.declared.plan.Meddle.{Meddle}
 use Rattle.mm_platform.specs.declared.plan.Stop.{Stop}
 use Rattle.mm_platform.specs.declared.plan.Stop.TheVariants.{Quiet, Cut, Drop, Fail}
 use Rattle.mm_module.specs.Batch.{Batch, size_of, normal}
 use Rattle.mm_model.specs.Instance.{Instance}
-use Rattle.mm_model.specs.History.{History, Move, Close, first_history, total_of}
+use Rattle.mm_model.specs.History.{History, Move, first_history, total_of}
 use Rattle.mm_model.specs.Long.{is_long}
-use Rattle.mm_model.specs.Steps.{Step, Reads, Writes, ask_steps, checkpoint_steps}
+use Rattle.mm_model.specs.Steps.{ask_steps}
 use Rattle.mm_model.specs.declared.refusal.Refusal.{Refusal}
 use Rattle.mm_model.proofs.MovedDigests.{total-push}
 use Rattle.mm_call.specs.Called.{Ending, Answers, Refuses, Breaks, reading_steps, called, seen_at}
 use Rattle.mm_call.specs.Checkpoints.{Closing, Closes, HasNone, NoSegment, LostPower, Stops, checkpointed}
-use Rattle.mm_call.specs.Courses.{End, Done, Fails, Fate, Course, Walked, step_moves, after_step, walk}
+use Rattle.mm_call.specs.Courses.{Course, Walked, walk}
 use Rattle.mm_call.specs.Found.{Found, found_at, found_unless_wanting, is_fresh}
 use Rattle.mm_call.specs.Levels.{by_lists, all_made}
 use Rattle.mm_call.proofs.BasicLaw.{unlacked}
 use Rattle.mm_call.proofs.Moving.{committed_in, same_batches, more_batches}
-use Rattle.mm_call.proofs.Walks.{Commits, nothing, batch, finished, committed-append, committed-foreign}
+use Rattle.mm_call.proofs.Walks.{Commits, nothing, batch, call_commits}
+use Rattle.mm_call.proofs.Along.{checkpoint_none}
+use Rattle.mm_call.proofs.Endings.{fresh_found}
 use Rattle.mm_schedule.specs.declared.reply.Cause.TheVariants as cause
 use Rattle.mm_schedule.specs.declared.reply.Reply.TheVariants as reply
 use Rattle.mm_schedule.specs.Events.{Event, Ask, Checkpoint, Power, Extend}
@@ -30,7 +30,6 @@ use Rattle.mm_run.specs.Folds.{course_of, after_stop, moves_then, closing_then, 
 use Rattle.mm_expect.specs.Calls.{Admits}
 use Rattle.mm_expect.proofs.Asking.{foreign_batches}
 use Rattle.mm_expect.proofs.FindLaws.{admits_found}
-use Rattle.mm_expect.proofs.PrintLaws.{commits_any}
 
 -- the history has at most so many requests
 abbrev pub IsFew : History → Type 0
@@ -38,14 +37,6 @@ IsFew y = total_of y.batches ≤ last_position
 
 still_few : (i : Instance) (moves : List Move) (y : History) → committed_in moves ≡ [] → IsFew y → IsFew (all_made (by_lists i) y moves)
 still_few i moves y none few = subst (λ n. n ≤ last_position) (sym (ap total_of (same_batches i moves y none))) few
-
-not_again : (again : Bool) → (if again then false else true) ≡ true → again ≡ false
-not_again true e = cc
-not_again false e = refl
-
-fresh_found : (found : Result Found Refusal) → is_fresh found ≡ true → (f : Found) × (found ≡ Ok f) × (f.again ≡ false)
-fresh_found (Ok f) e = (f, refl, not_again f.again e)
-fresh_found (Err why) e = cc
 
 walked_few : (i : Instance) (y seen : History) (b : Batch) (found : Result Found Refusal) (walked : Walked) → seen.batches ≡ y.batches
     → ((f : Found) → found ≡ Ok f → Admits seen b f.again) → Commits b (is_fresh found) walked → IsFew y → IsFew (all_made (by_lists i) y walked.moves)
@@ -62,7 +53,7 @@ called_few i y course bytes b few =
     let found = found_unless_wanting (found_at i (by_lists i) seen b bytes) course.lacks in
     walked_few i y seen b found (walk course.fates 1 (ask_steps i.variant y.is_open (is_fresh found) b)) (foreign_batches i course.fates (reading_steps i.variant) 1 y)
     (λ f is. admits_found i seen b bytes f (unlacked (found_at i (by_lists i) seen b bytes) course.lacks f is))
-    (commits_any i.variant course y.is_open (is_fresh found) b) few
+    (call_commits i.variant course.fates y.is_open (is_fresh found) b) few
 
 stop_quiet : (stop : Stop) → committed_in (after_stop stop) ≡ []
 stop_quiet Quiet = refl
@@ -94,38 +85,12 @@ bytes_few : (i : Instance) (y : History) (issued : List (List ℕ)) (meddles : L
 bytes_few i y issued meddles stop None b few = few
 bytes_few i y issued meddles stop (Some bytes) b few = asked_few i y issued meddles stop bytes b (is_long b) few
 
--- the steps of a checkpoint commit nothing
-
-quiet_step : (step : Step) (values : List (List ℕ)) (ends : End) (rest : Walked) → ((made : Bool) → committed_in (step_moves step made values) ≡ [])
-    → committed_in rest.moves ≡ [] → committed_in (after_step step values ends rest).moves ≡ []
-quiet_step step values Done rest q r =
-    committed-append (step_moves step true values) rest.moves ∙ ap (λ v. v ++ committed_in rest.moves) (q true) ∙ r
-quiet_step step values (Fails fault made) rest q r = q made
-
-reads_quiet : (values : List (List ℕ)) (ends : End) (rest : Walked) → committed_in rest.moves ≡ [] → committed_in (after_step Reads values ends rest).moves ≡ []
-reads_quiet values ends rest r = quiet_step Reads values ends rest (λ made. committed-foreign values) r
-
-close_quiet : (values : List (List ℕ)) (made : Bool) → committed_in (step_moves (Writes Close) made values) ≡ []
-close_quiet values true = committed-foreign values
-close_quiet values false = committed-foreign values
-
-checks_quiet : (fates : ℕ → Fate) (variant : Variant) (is_open lost : Bool) → committed_in (walk fates 1 (checkpoint_steps variant is_open lost)).moves ≡ []
-checks_quiet fates Basic is_open lost = reads_quiet (fates 1).brings (fates 1).ends finished refl
-checks_quiet fates Opt false lost = reads_quiet (fates 1).brings (fates 1).ends finished refl
-checks_quiet fates Opt true true =
-    reads_quiet (fates 1).brings (fates 1).ends (after_step Reads (fates 2).brings (fates 2).ends finished)
-    (reads_quiet (fates 2).brings (fates 2).ends finished refl)
-checks_quiet fates Opt true false =
-    reads_quiet (fates 1).brings (fates 1).ends (after_step Reads (fates 2).brings (fates 2).ends (after_step (Writes Close) (fates 3).brings (fates 3).ends finished))
-    (reads_quiet (fates 2).brings (fates 2).ends (after_step (Writes Close) (fates 3).brings (fates 3).ends finished)
-    (quiet_step (Writes Close) (fates 3).brings (fates 3).ends finished (close_quiet (fates 3).brings) refl))
-
 few_event : (i : Instance) (y : History) (issued : List (List ℕ)) (event : Event) → IsFew y → IsFew (event_outcome i (by_lists i) y issued event).state
 few_event i y issued (Ask meddles stop offer b) few = bytes_few i y issued meddles stop (offered_bytes issued offer) b few
 few_event i y issued (Checkpoint meddles stop) few =
     let o = checkpointed i (by_lists i) y (course_of stop meddles) in
     still_few i (closing_then stop o.ending) o.state (closing_quiet stop o.ending)
-    (still_few i o.moves y (checks_quiet (course_of stop meddles).fates i.variant y.is_open _) few)
+    (still_few i o.moves y (checkpoint_none i.variant y.is_open _ (course_of stop meddles).fates) few)
 few_event i y issued Power few = few
 few_event i y issued (Extend value) few = few
 

@@ -20,7 +20,7 @@ use Rattle.mm_call.specs.Order.{admitted, examined}
 use Rattle.mm_call.specs.Levels.{by_lists}
 use Rattle.mm_call.specs.Found.{Found, found_by_verdict, found_at}
 use Rattle.mm_call.proofs.Finding.{admitted_tells, weighed_tells, found_with_tells}
-use Rattle.mm_run.proofs.Naming.{unless_lost}
+use Rattle.mm_call.proofs.OptFinding.{unless_lost}
 use Rattle.mm_expect.specs.Calls.{reached, Admits}
 
 pub lost_when : (is_open is_bare is_own is_marred : Bool) → is_lost (life_by is_open is_bare is_own is_marred) ≡ (is_open && is_bare)

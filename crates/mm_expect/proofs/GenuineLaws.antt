@@ -5,8 +5,7 @@ use Rattle.std.specs.Str.{bytes_eq}
 use Rattle.std.specs.List.{AllByRecursion}
 use Rattle.std.proofs.lemmas.Slice.Eq.{bytes_eq-Decides}
 use Rattle.mm_digest.specs.declared.variant.Variant.TheVariants.{Basic, Opt}
-use Rattle.mm_digest.specs.Messages.{zero_bytes, start_of, extended_message}
-use Rattle.mm_digest.proofs.Lengths.{length-zero_bytes, length-start_of}
+use Rattle.mm_digest.proofs.Lengths.{length-zero_bytes}
 use Rattle.mm_module.specs.Meaning.{Meaning, IsLawful, state_after}
 use Rattle.mm_module.proofs.RunLaws.{state_after-is_spelled}
 use Rattle.mm_module.specs.Batch.{Batch}
@@ -17,13 +16,12 @@ use Rattle.mm_seal.specs.Parts.{parts_of}
 use Rattle.mm_seal.specs.Snapshot.{Content, Snapshot, IsContent, IsPlace, tag_of, offered_of, sealed_of, snapshot_front}
 use Rattle.mm_seal.proofs.SealLaws.{sealed_parts, sealed_once}
 use Rattle.mm_base.specs.Limits.{last_position, limit_of}
-use Rattle.mm_model.specs.Chains.{link_message, closing_message, summary_of, register_of, anchor_of}
 use Rattle.mm_model.specs.Instance.{Instance, basic, opt}
 use Rattle.mm_model.specs.History.{History, requests_of, total_of}
 use Rattle.mm_model.specs.Places.{IsPoint, at_anchor, in_closed, in_current, IsPlaceOf, Names}
 use Rattle.mm_model.specs.Standing.{IsRight, IsGenuine}
 use Rattle.mm_model.proofs.Batches.{total-append}
-use Rattle.mm_model.proofs.Chains.{length-after}
+use Rattle.mm_model.proofs.Chains.{length-summary_of, length-anchor_of, length-register_of}
 use Rattle.mm_call.specs.Found.{content_if_right, right_content}
 use Rattle.mm_call.proofs.Finding.{right_is}
 use Rattle.mm_call.proofs.Reading.{is_right}
@@ -70,18 +68,6 @@ offers_decided i = record {
 }
 
 -- What names a position is formed.
-
-length-summary_of : (id : ℕ) (batches : List Batch) → length (summary_of id batches) ≡ 32
-unfolding summary_of
-length-summary_of id batches = length-after link_message (start_of Basic id) batches (length-start_of Basic id)
-
-length-anchor_of : (id : ℕ) (segments : List (List (List ℕ))) → length (anchor_of id segments) ≡ 32
-unfolding anchor_of
-length-anchor_of id segments = length-after closing_message (start_of Opt id) segments (length-start_of Opt id)
-
-length-register_of : (values : List (List ℕ)) → length (register_of values) ≡ 32
-unfolding register_of
-length-register_of values = length-after extended_message zero_bytes values length-zero_bytes
 
 basic_sized : (meaning : Meaning) (key : List ℕ) (y : History) (named : List Batch) (place : Place) → IsPlaceOf Basic (basic meaning key) y named place → IsPlace place
 basic_sized meaning key y named (InBasic s) p = ap length p ∙ length-summary_of meaning.id named

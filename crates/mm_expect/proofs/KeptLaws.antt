@@ -2,18 +2,12 @@
 use Rattle.std.proofs.Common.{ℕ, ◌≡◌, ◌+◌, List, [], ◌∷◌, ◌++◌, length, refl, sym, ap, ◌∙◌, arith}
 use Rattle.std.proofs.lemmas.List.{map-append}
 use Rattle.std.specs.Prelude.{Option, None, Some, MatchOption, option_to_list}
-use Rattle.mm_module.specs.Batch.{Batch}
 use Rattle.mm_model.specs.declared.kept.KeptBatch.{KeptBatch}
 use Rattle.mm_model.specs.declared.kept.KeptEntry.{KeptEntry}
 use Rattle.mm_model.specs.declared.kept.KeptEntry.TheVariants as kept
 use Rattle.mm_model.specs.Kept.{kept_batch, kept_entry, kept_entries}
-use Rattle.mm_model.specs.History.{Entry, Own, renamed}
-
--- the last item gives way to the batch's own
-pub renamed-push : (front : List Entry) (x : Entry) (b : Batch) → renamed (front ++ x ∷ []) b ≡ front ++ Own b ∷ []
-renamed-push [] x b = refl
-renamed-push (y ∷ []) x b = refl
-renamed-push (y ∷ z ∷ front) x b = ap (λ (v : List Entry). y ∷ v) (renamed-push (z ∷ front) x b)
+use Rattle.mm_model.specs.History.{Entry, renamed}
+use Rattle.mm_model.proofs.Whole.{renamed-push}
 
 length-zero : {A : Type 0} (xs : List A) → length xs ≡ 0 → xs ≡ []
 length-zero [] e = refl

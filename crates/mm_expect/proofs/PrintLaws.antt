@@ -3,8 +3,6 @@ use Rattle.std.proofs.Common.{◌≡◌, ℕ, ◌+◌, ◌-◌, ◌≤◌, Bool,
 use Rattle.std.specs.Prelude.{if◌then◌else◌, All, IsTrue}
 use Rattle.std.proofs.lemmas.List.Elements.{All-nil, All-cons}
 use Rattle.mm_base.specs.Limits.{last_position, longest_request}
-use Rattle.mm_digest.specs.declared.variant.Variant.{Variant}
-use Rattle.mm_digest.specs.declared.variant.Variant.TheVariants.{Basic, Opt}
 use Rattle.mm_platform.specs.declared.fault.StepFault.{StepFault}
 use Rattle.mm_platform.specs.declared.plan.Meddle.{Meddle}
 use Rattle.mm_platform.specs.declared.plan.Stop.{Stop}
@@ -17,7 +15,7 @@ use Rattle.mm_model.specs.Judge.{is_last}
 use Rattle.mm_model.specs.Long.{is_long}
 use Rattle.mm_model.specs.Steps.{ask_steps}
 use Rattle.mm_model.specs.declared.refusal.Refusal.{Refusal}
-use Rattle.mm_model.proofs.Batches.{is_last_tells}
+use Rattle.mm_model.proofs.Batches.{is_last_tells, is_last_of}
 use Rattle.mm_model.proofs.MovedDigests.{total-push}
 use Rattle.mm_call.specs.Answers.{last_outputs, answer_on}
 use Rattle.mm_call.specs.Called.{reading_steps, kept_at, ended_by, called, seen_at}
@@ -28,7 +26,7 @@ use Rattle.mm_call.specs.Levels.{by_lists, all_made}
 use Rattle.mm_call.proofs.BasicLaw.{unlacked}
 use Rattle.mm_call.proofs.Calling.{said_last}
 use Rattle.mm_call.proofs.Moving.{same_batches, more_batches}
-use Rattle.mm_call.proofs.Walks.{Commits, nothing, batch, basic_commits, opt_commits, asks}
+use Rattle.mm_call.proofs.Walks.{Commits, nothing, batch, call_commits}
 use Rattle.mm_schedule.specs.declared.reply.Way.{Way}
 use Rattle.mm_schedule.specs.declared.reply.Cause.TheVariants as cause
 use Rattle.mm_schedule.specs.declared.reply.Reply.TheVariants as reply
@@ -37,7 +35,7 @@ use Rattle.mm_schedule.specs.Replies.{IsPrintable}
 use Rattle.mm_run.specs.Offered.{offered_bytes}
 use Rattle.mm_run.specs.Folds.{course_of, way_of, told_reply, broken_reply, reply_of, closing_reply, uncalled, outcome_by, asked, event_outcome}
 use Rattle.mm_expect.specs.Calls.{Admits}
-use Rattle.mm_expect.proofs.Asking.{foreign_batches, last_pushed}
+use Rattle.mm_expect.proofs.Asking.{foreign_batches}
 use Rattle.mm_expect.proofs.FindLaws.{admits_found}
 
 short_outputs : (meaning : Meaning) → IsLawful meaning → (state : List ℕ) (requests : List (List ℕ)) → IsTrue (meaning.is_spelled state)
@@ -82,7 +80,7 @@ ends_by i y seen b true walked same admits (batch one is) whole = cc
 ends_by i y seen b false walked same admits (nothing none unless) whole = let no : true ≡ false = unless whole in cc
 ends_by i y seen b false walked same admits (batch one is) whole =
     let grown = more_batches i walked.moves y b one in (
-      ap (λ (bs : List Batch). is_last bs b) grown ∙ last_pushed y.batches b,
+      ap (λ (bs : List Batch). is_last bs b) grown ∙ is_last_of y.batches b,
       subst (λ n. n ≤ last_position) (sym (ap total_of grown ∙ total-push y.batches b ∙ ap (λ (bs : List Batch). total_of bs + size_of b) (sym same))) admits.fits,
     )
 
@@ -97,11 +95,6 @@ ended_printable i lawful way y seen b (Ok f) walked same admits c None e =
     let ends = ends_by i y seen b f.again walked same (admits f refl) c e in
     told_printable i lawful (all_made (by_lists i) y walked.moves) b f.again ends.0 ends.1
 
-pub commits_any : (variant : Variant) (course : Course) (is_open fresh : Bool) (b : Batch) → Commits b fresh (walk course.fates 1 (ask_steps variant is_open fresh b))
-commits_any Basic course is_open fresh b = basic_commits course.fates is_open fresh b
-commits_any Opt course is_open fresh b =
-    subst (λ s. Commits b fresh (walk course.fates 1 s)) (sym (asks is_open fresh b)) (opt_commits course.fates is_open fresh b)
-
 called_printable : (i : Instance) → IsLawful i.meaning → (y : History) (way : Way) (course : Course) (bytes : List ℕ) (b : Batch)
     → IsPrintable (reply_of way (called i (by_lists i) y course bytes b).ending)
 called_printable i lawful y way course bytes b =
@@ -110,7 +103,7 @@ called_printable i lawful y way course bytes b =
     let walked = walk course.fates 1 (ask_steps i.variant y.is_open (is_fresh found) b) in
     ended_printable i lawful way y seen b found walked (foreign_batches i course.fates (reading_steps i.variant) 1 y)
     (λ f is. admits_found i seen b bytes f (unlacked (found_at i (by_lists i) seen b bytes) course.lacks f is))
-    (commits_any i.variant course y.is_open (is_fresh found) b) walked.broken refl
+    (call_commits i.variant course.fates y.is_open (is_fresh found) b) walked.broken refl
 
 asked_printable : (i : Instance) → IsLawful i.meaning → (y : History) (issued : List (List ℕ)) (meddles : List Meddle) (stop : Stop) (bytes : List ℕ) (b : Batch) (long : Bool)
     → IsPrintable (if long then uncalled y issued (reply.No cause.Long) else outcome_by (by_lists i) stop issued (called i (by_lists i) y (course_of stop meddles) bytes (normal b))).reply

@@ -19,7 +19,8 @@ moves_if true moves = moves
 moves_if false moves = []
 
 abbrev pub called_on : Recorded → Stop → List Meddle → List ℕ → Batch → Called History
-called_on old stop meddles bytes b = called (recorded_instance old) (by_lists (recorded_instance old)) old.history (course_of stop meddles) bytes b
+called_on old stop meddles bytes b =
+    called (recorded_instance old) (by_lists (recorded_instance old)) old.history (course_of stop meddles) bytes b
 
 -- The chronicle went on by a call in a schedule: what is said of it, and the messages behind those before.
 pub record WentByCall (old new : Recorded) (stop : Stop) (meddles : List Meddle) (bytes : List ℕ) (b : Batch) (front back : List (List ℕ))

@@ -72,7 +72,8 @@ impl Chronicle {
         requires last { is_last self.now.history.batches (batch_of batch) ≡ true }
         ensures { IfOk result
             (λ ended. ended ≡ Answered
-            (answer_on (recorded_instance self.now) self.now.history (batch_of batch.entry) again)) }
+            (answer_on (recorded_instance self.now) self.now.history (batch_of batch.entry)
+            again)) }
     {
         let Ran { outputs, .. } = run_batch(
             self.alloc,

@@ -77,7 +77,8 @@ impl Chronicle {
         requires short { is_long (batch_of batch) ≡ false }
         ensures { IfOk result
             (CallsBy self.old self.new
-            (called (recorded_instance self.old) (by_lists (recorded_instance self.old)) self.old.history
+            (called (recorded_instance self.old) (by_lists (recorded_instance self.old))
+            self.old.history
             (course_of course.now.stop course.now.meddles.now) bytes.now (batch_of batch.entry))) }
     {
         if let Some(fault) = self.read(course)? {

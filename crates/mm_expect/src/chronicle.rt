@@ -245,7 +245,8 @@ impl Chronicle {
         requires size { size ≡ size_of (batch_of batch) }
         requires fits { total_of self.old.history.batches + size < 2 ^ 64 }
         requires state { state ≡ state_after_batch self.old (batch_of batch) }
-        requires guards { value.now.bytes ≡ guard (recorded_instance self.old).barrier (batch_of batch) }
+        requires guards { value.now.bytes
+            ≡ guard (recorded_instance self.old).barrier (batch_of batch) }
         ensures { OnOk result
             (self.new ≡ record self.old {
               history = committed Opt true self.old.history (batch_of batch.entry);

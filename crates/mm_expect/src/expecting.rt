@@ -83,8 +83,8 @@ fn list_asked(
 ) -> Result<(), Memory>
     requires { key.now ≡ world_key }
     ensures { OnOk result (messages.new.items
-        ≡ messages.old.items ++ right_messages (recorded_instance chronicle.now) (batch_of batch.entry)
-        (right_content (recorded_instance chronicle.now) bytes.now)) }
+        ≡ messages.old.items ++ right_messages (recorded_instance chronicle.now)
+        (batch_of batch.entry) (right_content (recorded_instance chronicle.now) bytes.now)) }
 {
     match right_body(chronicle, key, bytes) {
         None => Ok(()),

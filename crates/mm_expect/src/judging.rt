@@ -114,7 +114,8 @@ impl Chronicle {
         requires key { key.now ≡ world_key }
         requires short { is_long (batch_of batch) ≡ false }
         ensures found { result ≡ again_in
-            (found_at (recorded_instance self.now) (by_lists (recorded_instance self.now)) self.now.history
+            (found_at (recorded_instance self.now) (by_lists (recorded_instance self.now))
+            self.now.history
             (batch_of batch.entry) bytes.now) }
         ensures admits { IfOk result (Admits self.now.history (batch_of batch.entry)) }
     {

@@ -26,7 +26,8 @@ pub(crate) fn right_body<'a>(
     bytes: &'a [u8],
 ) -> Option<Body<'a>>
     requires { key.now ≡ world_key }
-    ensures { option_map content_of result ≡ right_content (recorded_instance chronicle.now) bytes.now }
+    ensures { option_map content_of result
+        ≡ right_content (recorded_instance chronicle.now) bytes.now }
 {
     let Ok(offered) = parts(bytes, chronicle.variant, chronicle.module.id()) else {
         return None;
@@ -68,7 +69,8 @@ fn is_genuine_offer(
 ) -> Result<bool, Memory>
     requires { key.now ≡ world_key }
     ensures { IfOk result
-        (DecidesOffer (recorded_instance chronicle.now) chronicle.now.history issued.now offer.now) }
+        (DecidesOffer (recorded_instance chronicle.now) chronicle.now.history issued.now
+        offer.now) }
 {
     match offer {
         Offer::Number(_) => Ok(true),
@@ -88,7 +90,8 @@ pub(crate) fn is_genuine(
     event: &Event,
 ) -> Result<bool, Memory>
     requires { key.now ≡ world_key }
-    ensures { IfOk result (DecidesEvent (recorded_instance chronicle.now) chronicle.now.history issued.now
+    ensures { IfOk result
+        (DecidesEvent (recorded_instance chronicle.now) chronicle.now.history issued.now
         (event_of event.now)) }
 {
     match event {

@@ -16,7 +16,8 @@ untold steps faults = record {
   plan = None;
 }
 
--- pages of which nothing is promised, and only the faults and calls are counted
+-- pages of which nothing is promised, and only the faults and calls are counted: no content is told, and not which
+-- slots are synced
 abbrev pub untold_pages : ℕ → ℕ → ℕ → ℕ → Paged
 untold_pages faults reads writes lengths = record {
   slots = None;
@@ -25,6 +26,7 @@ untold_pages faults reads writes lengths = record {
   page_reads = reads;
   page_writes = writes;
   length_writes = lengths;
+  unsynced = None;
 }
 
 -- where no bytes are told, each that are have this length

@@ -9,10 +9,10 @@ use mm_base::{Failed, Source};
 use mm_digest::zero;
 use mm_pages::PageDevice;
 use mm_platform::{RawNv, Register, StepFault};
-use std::io::{self, ErrorKind};
+use std::io;
 use std::process::Abort;
 use std::test::Fail;
-use watched::{Mount, Watched, put};
+use watched::{Mount, Watched, front_of, is_number, put};
 
 // Calls on slots, each with a slot and two numbers; what it answers, and the calls on files that it makes.
 // `page P N` writes page P with N set bytes, `byte P I` reads byte I of page P, `fail K` lets the K-th call fail.
@@ -97,6 +97,64 @@ clear 0 => 0 open register.new write register.new 32 sync register.new rename re
 shown 0 => 0 open register size register seek register read register
 ";
 
+// A line of a table.
+#[derive(Clone, Copy)]
+struct Row {
+    word: &'static str,
+    slot: u16,
+    first: u16,
+    second: u16,
+    said: &'static str,
+}
+
+fn number_of(word: &str) -> Option<u16> {
+    word.parse::<u16>().ok()
+}
+
+// A line of the calls on slots.
+fn slot_row(line: &'static str) -> Option<Row> {
+    let (asked, said) = line.split_once(" => ")?;
+    let (word, rest) = asked.split_once(' ')?;
+    let (slot, rest) = rest.split_once(' ')?;
+    let (first, second) = rest.split_once(' ')?;
+    Some(Row {
+        word,
+        slot: number_of(slot)?,
+        first: number_of(first)?,
+        second: number_of(second)?,
+        said,
+    })
+}
+
+// A line of the calls on the memory and the register.
+fn folder_row(line: &'static str) -> Option<Row> {
+    let (asked, said) = line.split_once(" => ")?;
+    let (word, number) = asked.split_once(' ')?;
+    Some(Row {
+        word,
+        slot: 0,
+        first: number_of(number)?,
+        second: 0,
+        said,
+    })
+}
+
+// Whether this answer is the one that is said.
+fn is_said(answer: Option<u64>, said: &str) -> bool {
+    match answer {
+        Some(number) => is_number(said, number),
+        None => said == "failed",
+    }
+}
+
+// What a call answers that gives nothing: 0, and none where it fails.
+fn done(outcome: io::Result<()>) -> Option<u64> {
+    match outcome {
+        Ok(()) => Some(0),
+        Err(_) => None,
+    }
+}
+
 // A page with so many set bytes in front.
 fn page_of(count: usize) -> [u8; 256] {
     let mut page = [0; 256];
@@ -105,75 +163,93 @@ fn page_of(count: usize) -> [u8; 256] {
     page
 }
 
+fn write_page(slots: &mut Slots<'_, Mount<'_>>, slot: u8, page: u16, count: u16) -> Option<u64> {
+    if slot > 3 {
+        return None;
+    }
+    done(slots.write(slot, page, &page_of(usize::from(count))))
+}
+
+fn set_length(slots: &mut Slots<'_, Mount<'_>>, slot: u8, length: u16) -> Option<u64> {
+    if slot > 3 {
+        return None;
+    }
+    done(slots.set_length(slot, u64::from(length)))
+}
+
+fn sync(slots: &mut Slots<'_, Mount<'_>>, slot: u8) -> Option<u64> {
+    if slot > 3 {
+        return None;
+    }
+    done(slots.sync(slot))
+}
+
+fn length(slots: &mut Slots<'_, Mount<'_>>, slot: u8) -> Option<u64> {
+    if slot > 3 {
+        return None;
+    }
+    match slots.length(slot) {
+        Ok(length) => Some(u64::from(length)),
+        Err(_) => None,
+    }
+}
+
 // A page's byte.
-fn byte_of(slots: &Slots<'_, Mount<'_>>, slot: u8, page: u16, at: usize) -> io::Result<u64> {
+fn byte_of(slots: &Slots<'_, Mount<'_>>, slot: u8, page: u16, at: u16) -> Option<u64> {
     let mut there = page_of(256);
-    slots.read(slot, page, &mut there)?;
-    Ok(there.get(at).map_or(0, |byte| u64::from(*byte)))
+    match slots.read(slot, page, &mut there) {
+        Ok(()) => Some(byte_in(&there, at)),
+        Err(_) => None,
+    }
+}
+
+// A byte of these, none of a place beyond their end.
+fn byte_in(bytes: &[u8], at: u16) -> u64 {
+    match bytes.get(usize::from(at)) {
+        Some(byte) => u64::from(*byte),
+        None => 0,
+    }
 }
 
 // Does one call on a slot.
-fn call_slot(
-    watched: &Watched<'_>,
-    slots: &mut Slots<'_, Mount<'_>>,
-    word: &str,
-    slot: u8,
-    first: u16,
-    second: u16,
-) -> io::Result<u64> {
-    if slot > 3 {
-        return Err(io::Error::from(ErrorKind::Other));
+fn call_slot(mount: &Mount<'_>, slots: &mut Slots<'_, Mount<'_>>, row: &Row) -> Option<u64> {
+    let slot = row.slot.min(4) as u8;
+    match row.word {
+        "page" => write_page(slots, slot, row.first, row.second),
+        "set" => set_length(slots, slot, row.first),
+        "sync" => sync(slots, slot),
+        "length" => length(slots, slot),
+        "byte" => byte_of(slots, slot, row.first, row.second),
+        _ => fail_at(mount, row.first),
     }
-    match word {
-        "page" => slots.write(slot, first, &page_of(usize::from(second)))?,
-        "set" => slots.set_length(slot, u64::from(first))?,
-        "sync" => slots.sync(slot)?,
-        "length" => return Ok(u64::from(slots.length(slot)?)),
-        "byte" => return byte_of(slots, slot, first, usize::from(second)),
-        _ => watched.fail_at(u64::from(first)),
-    }
-    Ok(0)
 }
 
-// Compares what came of a line's call, and the calls on files that it made, with what the line says.
-fn compare(
-    rt: &impl Abort,
-    watched: &Watched<'_>,
-    came: io::Result<u64>,
-    said: &str,
-    line: &str,
-) -> Result<(), Fail> {
-    let (answer, expected) = said.split_once(' ').unwrap_or((said, ""));
-    let is_right = match came {
-        Ok(number) => answer.parse::<u64>()? == number,
-        Err(_) => answer == "failed",
+// Lets a call on files fail.
+fn fail_at(mount: &Mount<'_>, call: u16) -> Option<u64> {
+    mount.0.fail_at(u64::from(call));
+    Some(0)
+}
+
+// Whether a line's call on a slot comes to what the line says.
+fn slot_line(mount: &Mount<'_>, slots: &mut Slots<'_, Mount<'_>>, line: &'static str) -> bool {
+    let Some(row) = slot_row(line) else {
+        return false;
     };
-    assert!(rt; is_right, "{line}");
-    let calls = watched.calls()?;
-    assert_eq!(rt; calls.as_str().trim_start(), expected, "{line}");
-    Ok(())
+    let (said, calls) = front_of(row.said);
+    mount.0.expect(calls);
+    let answer = call_slot(mount, slots, &row);
+    is_said(answer, said) && mount.0.is_met()
 }
 
-// Does one line's call on a slot, and compares what came of it with the rest of the line.
-fn slot_line(
+fn slot_lines(
     rt: &impl Abort,
-    watched: &Watched<'_>,
+    mount: &Mount<'_>,
     slots: &mut Slots<'_, Mount<'_>>,
-    line: &str,
 ) -> Result<(), Fail> {
-    let (word, rest) = line.split_once(' ').ok_or("no word")?;
-    let (slot, rest) = rest.split_once(' ').ok_or("no slot")?;
-    let (first, rest) = rest.split_once(' ').ok_or("no number")?;
-    let (second, said) = rest.split_once(" => ").ok_or("no arrow")?;
-    let came = call_slot(
-        watched,
-        slots,
-        word,
-        slot.parse::<u8>()?,
-        first.parse::<u16>()?,
-        second.parse::<u16>()?,
-    );
-    compare(rt, watched, came, said, line)
+    for line in SLOT_CALLS.lines() {
+        assert!(rt; slot_line(mount, slots, line), "{line}");
+    }
+    Ok(mount.0.end()?)
 }
 
 #[test]
@@ -181,56 +257,67 @@ fn a_slot_is_synced_once_and_cut_where_its_length_changed(rt: HostRuntime) -> Re
     let watched = Watched::new(&rt, "slots")?;
     let mount = Mount(&watched);
     let mut slots = Slots::new(&mount);
-    for line in SLOT_CALLS.lines() {
-        slot_line(&rt, &watched, &mut slots, line)?;
-    }
-    Ok(watched.end()?)
+    slot_lines(&rt, &mount, &mut slots)
 }
 
-// A byte of the memory, none of a place beyond its end.
-fn byte_at(folder: &mut Folder<'_, Mount<'_>>, at: usize) -> io::Result<u64> {
-    let bytes = folder.nv()?;
-    Ok(bytes.get(at).map_or(0, |byte| u64::from(*byte)))
+// A byte of the memory.
+fn byte_at(folder: &mut Folder<'_, Mount<'_>>, at: u16) -> Option<u64> {
+    match folder.nv() {
+        Ok(bytes) => Some(byte_in(&bytes, at)),
+        Err(_) => None,
+    }
 }
 
 // A byte of the register.
-fn shown_at(folder: &mut Folder<'_, Mount<'_>>, at: usize) -> io::Result<u64> {
-    let value = folder.register()?;
-    Ok(value.bytes.get(at).map_or(0, |byte| u64::from(*byte)))
+fn shown_at(folder: &mut Folder<'_, Mount<'_>>, at: u16) -> Option<u64> {
+    match folder.register() {
+        Ok(value) => Some(byte_in(&value.bytes, at)),
+        Err(_) => None,
+    }
 }
 
 // Does one call on the memory or the register.
-fn call_folder(
-    mount: &Mount<'_>,
-    folder: &mut Folder<'_, Mount<'_>>,
-    word: &str,
-    number: u16,
-) -> io::Result<u64> {
-    match word {
-        "cell" => folder.put_nv(number, &[7; 104])?,
-        "pick" => folder.put_nv(208, &[1])?,
-        "extend" => folder.extend_register(&zero())?,
-        "clear" => folder.put_register(&zero())?,
-        "byte" => return byte_at(folder, usize::from(number)),
-        "shown" => return shown_at(folder, usize::from(number)),
-        "long" => put(mount, "nv", &[5; 210])?,
-        "short" => put(mount, "register", &[5; 31])?,
-        _ => mount.0.fail_at(u64::from(number)),
+fn call_folder(mount: &Mount<'_>, folder: &mut Folder<'_, Mount<'_>>, row: &Row) -> Option<u64> {
+    match row.word {
+        "cell" => done(folder.put_nv(row.first, &[7; 104])),
+        "pick" => done(folder.put_nv(208, &[1])),
+        "extend" => done(folder.extend_register(&zero())),
+        "clear" => done(folder.put_register(&zero())),
+        "byte" => byte_at(folder, row.first),
+        "shown" => shown_at(folder, row.first),
+        "long" => done(put(mount, "nv", &[5; 210])),
+        "short" => done(put(mount, "register", &[5; 31])),
+        _ => fail_at(mount, row.first),
     }
-    Ok(0)
 }
 
-// Does one line's call on the memory or the register, and compares what came of it with the rest of the line.
-fn folder_line(
+// Whether a line's call on the memory or the register comes to what the line says.
+fn folder_line(mount: &Mount<'_>, folder: &mut Folder<'_, Mount<'_>>, line: &'static str) -> bool {
+    let Some(row) = folder_row(line) else {
+        return false;
+    };
+    let (said, calls) = front_of(row.said);
+    mount.0.expect(calls);
+    let answer = call_folder(mount, folder, &row);
+    is_said(answer, said) && mount.0.is_met()
+}
+
+// Whether a folder is locked by another.
+fn is_locked(mount: &Mount<'_>) -> bool {
+    let mut folder = Folder::new(mount);
+    byte_at(&mut folder, 0).is_none()
+}
+
+fn folder_lines(
     rt: &impl Abort,
     mount: &Mount<'_>,
     folder: &mut Folder<'_, Mount<'_>>,
-    line: &str,
 ) -> Result<(), Fail> {
-    let (word, rest) = line.split_once(' ').ok_or("no word")?;
-    let (number, said) = rest.split_once(" => ").ok_or("no arrow")?;
-    let came = call_folder(mount, folder, word, number.parse::<u16>()?);
-    compare(rt, mount.0, came, said, line)
+    for line in FOLDER_CALLS.lines() {
+        assert!(rt; folder_line(mount, folder, line), "{line}");
+    }
+    assert!(rt; is_locked(mount), "the folder is locked");
+    Ok(mount.0.end()?)
 }
 
 #[test]
@@ -238,12 +325,7 @@ fn the_memory_and_the_register_are_synced_at_once(rt: HostRuntime) -> Result<(),
     let watched = Watched::new(&rt, "folder")?;
     let mount = Mount(&watched);
     let mut folder = Folder::new(&mount);
-    for line in FOLDER_CALLS.lines() {
-        folder_line(&rt, &mount, &mut folder, line)?;
-    }
-    let mut other = Folder::new(&mount);
-    assert!(rt; other.nv().is_err(), "the folder is locked");
-    Ok(watched.end()?)
+    folder_lines(&rt, &mount, &mut folder)
 }
 
 // Whether each call on a platform in a folder of its own succeeds, and fails where the first call on files does.
@@ -263,13 +345,21 @@ fn platform_answers(
     Ok(selector[0] == 1 && is_zero && is_failed)
 }
 
+fn platform_stands(
+    rt: &impl Abort,
+    mount: &Mount<'_>,
+    platform: &mut FilePlatform<'_, Mount<'_>>,
+) -> Result<(), Fail> {
+    assert!(rt; platform_answers(mount, platform) == Ok(true));
+    Ok(mount.0.end()?)
+}
+
 #[test]
 fn the_platform_stands_on_the_folder(rt: HostRuntime) -> Result<(), Fail> {
     let watched = Watched::new(&rt, "platform")?;
     let mount = Mount(&watched);
     let mut platform = FilePlatform::new(&mount);
-    assert!(rt; platform_answers(&mount, &mut platform) == Ok(true));
-    Ok(watched.end()?)
+    platform_stands(&rt, &mount, &mut platform)
 }
 
 // Whether each call on pages in a folder of their own succeeds, and fails where the first call on files does.
@@ -285,13 +375,29 @@ fn pages_answer(mount: &Mount<'_>, pages: &mut FilePages<'_, Mount<'_>>) -> Resu
     Ok(there == page_of(9) && is_long && is_failed)
 }
 
+fn pages_stand(
+    rt: &impl Abort,
+    mount: &Mount<'_>,
+    pages: &mut FilePages<'_, Mount<'_>>,
+) -> Result<(), Fail> {
+    assert!(rt; pages_answer(mount, pages) == Ok(true));
+    Ok(mount.0.end()?)
+}
+
 #[test]
 fn the_pages_stand_on_the_slots(rt: HostRuntime) -> Result<(), Fail> {
     let watched = Watched::new(&rt, "pages")?;
     let mount = Mount(&watched);
     let mut pages = FilePages::new(&mount);
-    assert!(rt; pages_answer(&mount, &mut pages) == Ok(true));
-    Ok(watched.end()?)
+    pages_stand(&rt, &mount, &mut pages)
+}
+
+// How many bytes a call takes, none where it fails.
+fn taken(source: &mut FileSource<'_, Mount<'_>>, bytes: &mut [u8; 8]) -> Option<usize> {
+    match source.take(bytes) {
+        Ok(count) => Some(count),
+        Err(Failed) => None,
+    }
 }
 
 // Takes the bytes of a file that is put there after the first call.
@@ -301,12 +407,12 @@ fn take_bytes(
     source: &mut FileSource<'_, Mount<'_>>,
 ) -> Result<(), Fail> {
     let mut bytes = [0; 8];
-    assert_eq!(rt; source.take(&mut bytes), Err(Failed));
+    assert!(rt; taken(source, &mut bytes).is_none());
     put(mount, "entropy", &[3; 5])?;
-    assert_eq!(rt; source.take(&mut bytes)?, 5);
-    assert_eq!(rt; bytes[4], 3);
-    assert_eq!(rt; source.take(&mut bytes)?, 0);
-    Ok(())
+    assert!(rt; taken(source, &mut bytes) == Some(5));
+    assert!(rt; bytes[4] == 3);
+    assert!(rt; taken(source, &mut bytes) == Some(0));
+    Ok(mount.0.end()?)
 }
 
 #[test]
@@ -314,6 +420,5 @@ fn the_source_opens_its_file_at_the_first_call(rt: HostRuntime) -> Result<(), Fa
     let watched = Watched::new(&rt, "source")?;
     let mount = Mount(&watched);
     let mut source = FileSource::new(&mount, "entropy");
-    take_bytes(&rt, &mount, &mut source)?;
-    Ok(watched.end()?)
+    take_bytes(&rt, &mount, &mut source)
 }

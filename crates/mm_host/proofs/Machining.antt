@@ -1,22 +1,19 @@
 -- An answer by lists is a step of the machine, and its snapshot names the end of the history.
-use Rattle.std.proofs.Common.{◌≡◌, ◌∙◌, ◌+◌, ◌-◌, ◌≤◌, ℕ, Bool, true, false, List, [], ◌∷◌, ◌++◌, length, refl, sym, ap, subst, arith}
+use Rattle.std.proofs.Common.{◌≡◌, ◌∙◌, ◌+◌, ◌-◌, ◌≤◌, ℕ, Bool, true, false, List, [], ◌∷◌, ◌++◌, refl, sym, ap, subst, arith}
 use Rattle.mm_base.specs.Limits.{last_position}
 use Rattle.mm_digest.specs.declared.variant.Variant.{Variant}
 use Rattle.mm_digest.specs.declared.variant.Variant.TheVariants.{Basic, Opt}
-use Rattle.mm_digest.specs.Messages.{start_of}
-use Rattle.mm_digest.proofs.Lengths.{length-start_of}
 use Rattle.mm_module.specs.Meaning.{Meaning, IsLawful, state_after}
 use Rattle.mm_module.specs.Batch.{Batch, One}
 use Rattle.mm_module.proofs.RunLaws.{state_after-is_spelled}
 use Rattle.mm_seal.specs.Snapshot.{IsContent, variant_of}
-use Rattle.mm_model.specs.Chains.{link_message, summary_of}
 use Rattle.mm_model.specs.Instance.{Instance, basic, opt}
 use Rattle.mm_model.specs.History.{History, joined, requests_of, total_of}
 use Rattle.mm_model.specs.Life.{has_value}
 use Rattle.mm_model.specs.Places.{Names, issued, issued_place}
 use Rattle.mm_model.specs.Sound.{IsSound}
 use Rattle.mm_model.specs.Standing.{issued_bytes}
-use Rattle.mm_model.proofs.Chains.{length-after}
+use Rattle.mm_model.proofs.Chains.{length-summary_of}
 use Rattle.mm_model.proofs.MovedDigests.{total-push}
 use Rattle.mm_model.proofs.Named.{basic_issued, opt_issued}
 use Rattle.mm_model.specs.declared.answer.Answer.{Answer}
@@ -32,10 +29,6 @@ use Rattle.mm_host.specs.Fitting.{Holds}
 use Rattle.mm_host.specs.Serving.{Served}
 
 -- the snapshot of the end
-
-length-summary_of : (id : ℕ) (batches : List Batch) → length (summary_of id batches) ≡ 32
-unfolding summary_of
-length-summary_of id batches = length-after link_message (start_of Basic id) batches (length-start_of Basic id)
 
 pub basic_content : (meaning : Meaning) → IsLawful meaning → (key : List ℕ) (y : History) → total_of y.batches ≤ last_position → IsContent (issued (basic meaning key) y)
 basic_content meaning lawful key y fits = record {

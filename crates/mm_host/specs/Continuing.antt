@@ -135,7 +135,8 @@ pub record HasUntold (hand : List ℕ → Type 0) (result : Result Unit SessionF
 -- of that run's requests, or of those and the one in hand. The slots fit it, so that the session may be gone on with.
 -- A refusal is a device's fault, or tells how that history has ended; it isn't spoiled where no value of others counts,
 -- nor lost where it wasn't before.
-pub record ContinuesTo (all others : List (List ℕ)) (asked : List Batch) (i : Instance) (y : History) (standing : Standing) (kept : StoreStanding)
+pub record ContinuesTo (all others : List (List ℕ)) (asked : List Batch) (i : Instance) (y : History) (standing : Standing)
+    (kept : StoreStanding)
     (told : List Served) (hand : List ℕ → Type 0) (result : Result Unit SessionFault) : Type 0 where
   pub after : History
   pub stands : StandsFor i standing after
@@ -155,7 +156,8 @@ pub record ContinuesTo (all others : List (List ℕ)) (asked : List Batch) (i : 
 -- Over an honest store and an input that tell what they hold: by whatever steps the session went, from every history.
 -- Over a platform of Basic under every key; over one of Opt under every key and barrier, where what others did is known
 -- by the items that the register shows at the session's end behind those that counted at its start.
-abbrev pub SessionContinues : Variant → Meaning → Standing → Standing → StoreStanding → StoreStanding → Option (List ℕ) → Option (List ℕ) → Option (List ℕ)
+abbrev pub SessionContinues : Variant → Meaning → Standing → Standing → StoreStanding → StoreStanding → Option (List ℕ) → Option (List ℕ)
+    → Option (List ℕ)
     → Option (List ℕ) → Result Unit SessionFault → Type 0
 SessionContinues Basic meaning before after old new left left' received received' result =
     (s : Sessions Basic meaning before after old new left left' received received' result)

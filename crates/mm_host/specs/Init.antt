@@ -91,7 +91,8 @@ abbrev pub AfterPuts : List ℕ → Standing → Standing → Result Unit StoreF
 AfterPuts cell before after (Err why) result = (after ≡ before) × (result ≡ Err (store_failed_as why))
 AfterPuts cell before after (Ok _) result = WritesCell cell before after result
 
-pub record SetsUpBoth (cell snapshot : List ℕ) (before after : Standing) (old new : StoreStanding) (result : Result Unit InitFault) : Type 0 where
+pub record SetsUpBoth (cell snapshot : List ℕ) (before after : Standing) (old new : StoreStanding)
+    (result : Result Unit InitFault) : Type 0 where
   pub stored : Result Unit StoreFault
   pub puts : PutsAll (first_puts snapshot) old new stored
   pub goes : AfterPuts cell before after stored result

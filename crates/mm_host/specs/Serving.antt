@@ -30,7 +30,8 @@ AfterRecord variant meaning before after (Err why) old new last line result =
 AfterRecord variant meaning before after (Ok _) old new last line result =
     AsksAndKeeps variant meaning before after old new (snapshot_at last) line result
 
-pub record AsksLine (variant : Variant) (meaning : Meaning) (before after : Standing) (old new : StoreStanding) (last : Resumed) (line : List ℕ)
+pub record AsksLine (variant : Variant) (meaning : Meaning) (before after : Standing) (old new : StoreStanding) (last : Resumed)
+    (line : List ℕ)
     (result : Result Resumed HostFault) : Type 0 where
   pub middle : StoreStanding
   pub recorded : Result Unit StoreFault

@@ -64,12 +64,14 @@ Stops variant meaning number at after new left more sent (Refused why) =
 Stops variant meaning number at after new left more sent WriteFault = StopsInLine variant meaning number at after new more sent WriteFault
 
 -- Ok: the input ended behind a whole line.
-abbrev pub EndsSession : Variant → Meaning → ℕ → Place → Standing → StoreStanding → Option (List ℕ) → List ℕ → List ℕ → Result Unit SessionFault → Type 0
+abbrev pub EndsSession : Variant → Meaning → ℕ → Place → Standing → StoreStanding → Option (List ℕ) → List ℕ → List ℕ
+    → Result Unit SessionFault → Type 0
 EndsSession variant meaning number at after new left more sent (Ok _) = IsAtRest at after new sent × (more ≡ []) × IsAtEnd left
 EndsSession variant meaning number at after new left more sent (Err fault) = Stops variant meaning number at after new left more sent fault
 
 -- Some lines are served from where the session began, and there it ends.
-pub record ServesLines (variant : Variant) (meaning : Meaning) (from : Place) (after : Standing) (new : StoreStanding) (left : Option (List ℕ))
+pub record ServesLines (variant : Variant) (meaning : Meaning) (from : Place) (after : Standing) (new : StoreStanding)
+    (left : Option (List ℕ))
     (taken sent : List ℕ) (result : Result Unit SessionFault) : Type 0 where
   pub calls : List Served
   pub few : length calls ≤ most_lines
@@ -89,7 +91,8 @@ pub record StopsAtOnce (begun : Result Resumed HostFault) (taken sent : List ℕ
   pub nothing : taken ≡ []
 
 -- What waited is told, and the lines are served.
-pub record GoesOn (variant : Variant) (meaning : Meaning) (begun : Result Resumed HostFault) (platform after : Standing) (store new : StoreStanding)
+pub record GoesOn (variant : Variant) (meaning : Meaning) (begun : Result Resumed HostFault) (platform after : Standing)
+    (store new : StoreStanding)
     (left : Option (List ℕ)) (taken sent : List ℕ) (result : Result Unit SessionFault) : Type 0 where
   pub first : Resumed
   pub begins : begun ≡ Ok first
@@ -98,7 +101,8 @@ pub record GoesOn (variant : Variant) (meaning : Meaning) (begun : Result Resume
   pub lines : ServesLines variant meaning (record { platform = platform; store = store; last = first }) after new left taken replies result
 
 -- It stops at once, or it goes on, as what waited came to.
-abbrev pub AfterResume : Variant → Meaning → Result Resumed HostFault → Standing → Standing → StoreStanding → StoreStanding → Option (List ℕ) → List ℕ
+abbrev pub AfterResume : Variant → Meaning → Result Resumed HostFault → Standing → Standing → StoreStanding → StoreStanding
+    → Option (List ℕ) → List ℕ
     → List ℕ → Result Unit SessionFault → Type 0
 AfterResume variant meaning begun platform after store new left taken sent result =
     ((after ≡ platform) × (new ≡ store) × StopsAtOnce begun taken sent result)

@@ -66,7 +66,8 @@ abbrev pub ServedOn : Variant → Meaning → ℕ → Place → Standing → Sto
 ServedOn variant meaning number at after new left bytes held sent (Ok (Some next)) =
     ServesLine variant meaning number at after new bytes held sent next
 ServedOn variant meaning number at after new left bytes held sent (Ok None) = IsAtRest at after new sent × (bytes ≡ []) × IsAtEnd left
-ServedOn variant meaning number at after new left bytes held sent (Err fault) = Stops variant meaning number at after new left bytes sent fault
+ServedOn variant meaning number at after new left bytes held sent (Err fault) =
+    Stops variant meaning number at after new left bytes sent fault
 
 pub record ServesNext (variant : Variant) (meaning : Meaning) (number : ℕ) (at : Place) (after : Standing) (new : StoreStanding)
     (left left' : Option (List ℕ)) (held held' : List ℕ) (received received' : Option (List ℕ))

@@ -39,7 +39,8 @@ pub fn tell<K: Sink>(came: Result<Resumed, HostFault>, out: &mut K) -> Result<Re
 // Writes the line of an answer, and hands the answer on.
 fn tell_answer<K: Sink>(answer: Answer, out: &mut K) -> Result<Resumed, SessionFault>
     requires { length answer.output ≤ longest_request }
-    ensures tells { TellsReply (Ok (Answered answer)) (K.received out.old) (K.received out.new) result }
+    ensures tells { TellsReply (Ok (Answered answer)) (K.received out.old) (K.received out.new)
+        result }
     ensures wrote { IsBlamed (is_write_fault result) (K.faults out.old) (K.faults out.new) }
 {
     match write_answer(&answer, out) {
@@ -50,7 +51,8 @@ fn tell_answer<K: Sink>(answer: Answer, out: &mut K) -> Result<Resumed, SessionF
 
 // Writes the line of a refusal, where it has one, and answers why the session ends.
 fn tell_refusal<K: Sink>(refusal: Refusal, out: &mut K) -> Result<Resumed, SessionFault>
-    ensures tells { TellsReply (Err (Refused refusal)) (K.received out.old) (K.received out.new) result }
+    ensures tells { TellsReply (Err (Refused refusal)) (K.received out.old) (K.received out.new)
+        result }
     ensures wrote { IsBlamed (is_write_fault result) (K.faults out.old) (K.faults out.new) }
 {
     match write_refusal(refusal, out) {
@@ -77,8 +79,8 @@ fn write_answer<K: Sink>(answer: &Answer, out: &mut K) -> Result<(), WriteFault>
 }
 
 fn write_refusal<K: Sink>(refusal: Refusal, out: &mut K) -> Result<(), WriteFault>
-    ensures sent { Sends (K.received out.old) (K.received out.new) (refusal_text (told_cause refusal))
-        result }
+    ensures sent { Sends (K.received out.old) (K.received out.new)
+        (refusal_text (told_cause refusal)) result }
     ensures told { OnErr result (told_cause refusal ≢ None) }
     ensures counted { CountsFaults (K.faults out.old) (K.faults out.new) result }
 {

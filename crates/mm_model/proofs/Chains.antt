@@ -4,7 +4,10 @@ use Rattle.std.specs.List.{AllByRecursion, Contains}
 use Rattle.sha2.specs.Sha256.{sha256}
 use Rattle.sha2.proofs.Facts256.{length-sha256}
 use Rattle.mm_module.specs.Batch.{Batch}
-use Rattle.mm_model.specs.Chains.{after, trail, link, link_message}
+use Rattle.mm_digest.specs.declared.variant.Variant.TheVariants.{Basic, Opt}
+use Rattle.mm_digest.specs.Messages.{zero_bytes, start_of, extended_message}
+use Rattle.mm_digest.proofs.Lengths.{length-zero_bytes, length-start_of}
+use Rattle.mm_model.specs.Chains.{after, trail, link, link_message, closing_message, summary_of, anchor_of, register_of}
 use Rattle.mm_model.specs.Messages.{Within, IsClear}
 use Rattle.mm_model.proofs.Lists.{ends, by_last, each_left, each_right, each_append}
 
@@ -23,6 +26,18 @@ length-after f s (x ∷ xs) h = length-after f (sha256 (f s x)) xs (length-sha25
 pub length-link : (s : List ℕ) (b : Batch) → length (link s b) ≡ 32
 unfolding link
 length-link s b = length-sha256 (link_message s b)
+
+pub length-summary_of : (id : ℕ) (batches : List Batch) → length (summary_of id batches) ≡ 32
+unfolding summary_of
+length-summary_of id batches = length-after link_message (start_of Basic id) batches (length-start_of Basic id)
+
+pub length-anchor_of : (id : ℕ) (segments : List (List (List ℕ))) → length (anchor_of id segments) ≡ 32
+unfolding anchor_of
+length-anchor_of id segments = length-after closing_message (start_of Opt id) segments (length-start_of Opt id)
+
+pub length-register_of : (values : List (List ℕ)) → length (register_of values) ≡ 32
+unfolding register_of
+length-register_of values = length-after extended_message zero_bytes values length-zero_bytes
 
 -- A chain that tells its items: no listed step leads back to the start, and a message tells the digest before
 -- it and its item.

@@ -3,6 +3,7 @@ use Rattle.sha2.specs.Sha256.{sha256}
 use Rattle.std.proofs.Common.{ℕ, ◌≡◌, ◌≢◌, List, [], ◌∷◌, ◌++◌, length, map, refl, sym, ap, ◌∙◌, arith}
 use Rattle.std.proofs.lemmas.List.{append_cancel_left}
 use Rattle.std.specs.List.{AllByRecursion, Contains}
+use Rattle.mm_base.proofs.FieldLaws.{append-injective}
 use Rattle.mm_digest.specs.declared.variant.Variant.TheVariants.{Basic, Opt}
 use Rattle.mm_digest.specs.Messages.{zero_bytes, start_message, start_of, extended_message, extended_of, anchored_of}
 use Rattle.mm_digest.proofs.Lengths.{length-zero_bytes, length-start_of}
@@ -16,22 +17,10 @@ use Rattle.mm_model.proofs.Chains.{Telling, same_chains, after-push}
 pub heads_of : (a b : ℕ) (xs ys : List ℕ) → a ∷ xs ≡ b ∷ ys → a ≡ b
 heads_of a b xs ys e = cc
 
--- two joined lists with first parts of one length have the same parts
-pub same_parts : (s t x y : List ℕ) → length s ≡ length t → s ++ x ≡ t ++ y → (s ≡ t) × (x ≡ y)
-same_parts [] [] x y l e = (refl, e)
-same_parts [] (b ∷ t) x y l e = absurd (omega (arith, l))
-same_parts (a ∷ s) [] x y l e = absurd (omega (arith, l))
-same_parts (a ∷ s) (b ∷ t) x y l e =
-    let heads : a ≡ b = cc in
-    let tails : s ++ x ≡ t ++ y = cc in
-    let shorter : length s ≡ length t = omega (arith, l) in
-    let both = same_parts s t x y shorter tails in
-    (let p : s ≡ t = both.0 in cc, both.1)
-
 pub tagged_parts : (tag tag' : ℕ) (s t x y : List ℕ) → length s ≡ 32 → length t ≡ 32 → tag ∷ (s ++ x) ≡ tag' ∷ (t ++ y) → (s ≡ t) × (x ≡ y)
 tagged_parts tag tag' s t x y ls lt e =
     let tails : s ++ x ≡ t ++ y = cc in
-    same_parts s t x y (ls ∙ sym lt) tails
+    append-injective s t x y (ls ∙ sym lt) tails
 
 link_tells : (s t : List ℕ) (b c : Batch) → length s ≡ 32 → length t ≡ 32 → link_message s b ≡ link_message t c → (s ≡ t) × (b ≡ c)
 link_tells s t (One x) (One y) ls lt e =
@@ -59,7 +48,7 @@ extended_telling all clear =
     record {
       sized = length-zero_bytes;
       leaves = λ s v c e. clear.nonzero (extended_message s v) c e;
-      tells = λ s t v w ls lt u u' e. same_parts s t v w (ls ∙ sym lt) e;
+      tells = λ s t v w ls lt u u' e. append-injective s t v w (ls ∙ sym lt) e;
     }
 
 each_unit : {A : Type 0} (xs : List A) → AllByRecursion (λ (x : A). Unit {0}) xs

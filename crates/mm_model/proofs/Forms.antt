@@ -62,7 +62,7 @@ fresh_tells id all clears false closed items before rest k l =
     (same_anchor id all clears before closed rest items l k) (zero_register all clears.clear rest l.last)
 
 -- the register's messages with one more value
-listed_value : (all : List (List ℕ)) (rest : List (List ℕ)) (v : List ℕ) → Within (register_trail rest) all → Contains all (extended_message (register_of rest) v) → Within (register_trail (rest ++ v ∷ [])) all
+pub listed_value : (all : List (List ℕ)) (rest : List (List ℕ)) (v : List ℕ) → Within (register_trail rest) all → Contains all (extended_message (register_of rest) v) → Within (register_trail (rest ++ v ∷ [])) all
 unfolding register_of
 listed_value all rest v l c = trail_push extended_message zero_bytes rest v all l c
 

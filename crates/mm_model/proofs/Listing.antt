@@ -15,6 +15,7 @@ use Rattle.mm_model.specs.Moves.{IsAllowed, MayMove, batch_messages}
 use Rattle.mm_model.proofs.Lists.{each_append, each_left, each_right}
 use Rattle.mm_model.proofs.Chains.{trail_push}
 use Rattle.mm_model.proofs.Segments.{nothing_left}
+use Rattle.mm_model.proofs.Forms.{listed_value}
 use Rattle.mm_model.proofs.Histories.{own_values-append, values_of-append, length-batches_in}
 use Rattle.mm_model.proofs.Paths.{RunsListed, current_clean}
 use Rattle.mm_model.proofs.OptJudge.{HistoryListed, history_listed, shut_current}
@@ -48,19 +49,15 @@ listed_history i y all h =
           h.listed.outer,
     )
 
-register_grows : (all : List (List ℕ)) (values : List (List ℕ)) (v : List ℕ) → Within (register_trail values) all → Contains all (extended_message (register_of values) v) → Within (register_trail (values ++ v ∷ [])) all
-unfolding register_of
-register_grows all values v w c = trail_push extended_message zero_bytes values v all w c
-
-items_grow : (barrier : List ℕ) (all : List (List ℕ)) (items : List Entry) (e : Entry) → Within (register_trail (values_of barrier items)) all → Contains all (extended_message (register_of (values_of barrier items)) (value_of barrier e)) → Within (register_trail (values_of barrier (items ++ e ∷ []))) all
+pub items_grow : (barrier : List ℕ) (all : List (List ℕ)) (items : List Entry) (e : Entry) → Within (register_trail (values_of barrier items)) all → Contains all (extended_message (register_of (values_of barrier items)) (value_of barrier e)) → Within (register_trail (values_of barrier (items ++ e ∷ []))) all
 items_grow barrier all items e w c =
     subst (λ (v : List (List ℕ)). Within (register_trail v) all) (sym (values_of-append barrier items (e ∷ [])))
-    (register_grows all (values_of barrier items) (value_of barrier e) w c)
+    (listed_value all (values_of barrier items) (value_of barrier e) w c)
 
-run_grows : (barrier : List ℕ) (all : List (List ℕ)) (run : List Batch) (b : Batch) → RunsListed barrier all run → Contains all (extended_message (register_of (own_values barrier run)) (guard barrier b)) → RunsListed barrier all (run ++ b ∷ [])
+pub run_grows : (barrier : List ℕ) (all : List (List ℕ)) (run : List Batch) (b : Batch) → RunsListed barrier all run → Contains all (extended_message (register_of (own_values barrier run)) (guard barrier b)) → RunsListed barrier all (run ++ b ∷ [])
 run_grows barrier all run b w c =
     subst (λ (v : List (List ℕ)). Within (register_trail v) all) (sym (own_values-append barrier run (b ∷ [])))
-    (register_grows all (own_values barrier run) (guard barrier b) w c)
+    (listed_value all (own_values barrier run) (guard barrier b) w c)
 
 -- the items alone change
 items_listed : (i : Instance) (y : History) (items : List Entry) (all : List (List ℕ)) → HistoryListed i y all → Within (register_trail (values_of i.barrier items)) all → HistoryListed i (record y { items = items }) all
@@ -71,7 +68,7 @@ items_listed i y items all h w = record {
   listed = record { inner = h.listed.inner; outer = h.listed.outer; last = w };
 }
 
-guards_grow : (barrier : List ℕ) (all : List (List ℕ)) (batches : List Batch) (b : Batch) → Within (map (guard_message barrier) batches) all → Contains all (guard_message barrier b) → Within (map (guard_message barrier) (batches ++ b ∷ [])) all
+pub guards_grow : (barrier : List ℕ) (all : List (List ℕ)) (batches : List Batch) (b : Batch) → Within (map (guard_message barrier) batches) all → Contains all (guard_message barrier b) → Within (map (guard_message barrier) (batches ++ b ∷ [])) all
 guards_grow barrier all batches b w c =
     subst (λ (v : List (List ℕ)). Within v all) (sym (map-append (guard_message barrier) batches (b ∷ [])))
     (each_append (Contains all) (map (guard_message barrier) batches) (guard_message barrier b ∷ []) w (c, tt))

@@ -1,7 +1,8 @@
 -- Lists that grow at the end, and what holds of each item.
-use Rattle.std.proofs.Common.{◌≡◌, List, [], ◌∷◌, ◌++◌, refl, sym, ap, subst, ◌⊎◌, inl, inr, append_assoc}
+use Rattle.std.proofs.Common.{◌≡◌, List, [], ◌∷◌, ◌++◌, refl, sym, ap, subst, ◌⊎◌, inl, inr, append_assoc, arith}
 use Rattle.std.proofs.lemmas.List.{append-nil}
-use Rattle.std.specs.List.{AllByRecursion}
+use Rattle.std.proofs.lemmas.List.Elements.{Contains-append_right}
+use Rattle.std.specs.List.{AllByRecursion, Contains}
 
 pub record HasLast {A : Type 0} (xs : List A) : Type 0 where
   pub front : List A
@@ -37,3 +38,12 @@ each_right P (x ∷ xs) ys h = each_right P xs ys h.1
 pub each_append : {A : Type 0} (P : A → Type 0) (xs ys : List A) → AllByRecursion P xs → AllByRecursion P ys → AllByRecursion P (xs ++ ys)
 each_append P [] ys h k = k
 each_append P (x ∷ xs) ys h k = (h.0, each_append P xs ys h.1 k)
+
+-- each item of a list is one of it
+pub each_self : {A : Type 0} (front xs : List A) → AllByRecursion (Contains (front ++ xs)) xs
+each_self front [] = tt
+each_self {A} front (x ∷ xs) =
+    let P : List A → Type 0 = λ w. AllByRecursion (Contains w) xs in (
+      Contains-append_right front (x ∷ xs) x (0, omega arith, refl),
+      subst P (append_assoc front (x ∷ []) xs) (each_self (front ++ x ∷ []) xs),
+    )

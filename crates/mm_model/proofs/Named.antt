@@ -21,7 +21,7 @@ use Rattle.mm_model.proofs.OptJudge.{shut_current}
 use Rattle.mm_model.proofs.Moves.{moving, moving_is, open_current, opening_clean}
 
 -- the register's items are no part of a place
-point_items : (i : Instance) (y : History) (items : List Entry) (named : List Batch) (a e : List ℕ) → IsPoint i y named a e → IsPoint i (record y { items = items }) named a e
+pub point_items : (i : Instance) (y : History) (items : List Entry) (named : List Batch) (a e : List ℕ) → IsPoint i y named a e → IsPoint i (record y { items = items }) named a e
 point_items i y items named a e (at_anchor p) = at_anchor (record {
   before = p.before;
   later = p.later;

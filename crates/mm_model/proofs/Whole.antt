@@ -11,7 +11,7 @@ use Rattle.mm_model.specs.Symbolic.{commit_moves, moved_by, with_batch}
 pub basic_whole : (meaning : Meaning) (key : List ℕ) (y : History) (b : Batch) → with_batch Basic y b ≡ moved_by (basic meaning key) y (commit_moves Basic y.is_open b)
 basic_whole meaning key y b = refl
 
-renamed-push : (items : List Entry) (x : Entry) (b : Batch) → renamed (items ++ x ∷ []) b ≡ items ++ Own b ∷ []
+pub renamed-push : (items : List Entry) (x : Entry) (b : Batch) → renamed (items ++ x ∷ []) b ≡ items ++ Own b ∷ []
 renamed-push [] x b = refl
 renamed-push (y ∷ []) x b = refl
 renamed-push (y ∷ z ∷ items) x b = ap (λ v. y ∷ v) (renamed-push (z ∷ items) x b)

@@ -1,25 +1,22 @@
 -- What is found on a platform that stands at some digests is what the call by digests finds.
-use Rattle.std.proofs.Common.{◌≡◌, ℕ, ◌+◌, Bool, true, false, List, length, Option, None, Some, Result, Ok, Err, refl, sym, ap, ◌∙◌, subst, inl, inr}
+use Rattle.std.proofs.Common.{◌≡◌, ℕ, ◌+◌, Bool, true, false, List, length, Result, Ok, Err, refl, sym, ap, ◌∙◌, subst, inl, inr}
 use Rattle.std.specs.Prelude.{if◌then◌else◌, nat_le}
 use Rattle.std.specs.Str.{bytes_eq}
 use Rattle.mm_base.specs.Limits.{last_position}
 use Rattle.mm_digest.specs.declared.variant.Variant.TheVariants.{Opt}
-use Rattle.mm_digest.specs.Messages.{zero_bytes, extended_of}
 use Rattle.mm_module.specs.Meaning.{Meaning}
-use Rattle.mm_module.specs.Batch.{Batch, members_of, size_of, normal}
+use Rattle.mm_module.specs.Batch.{Batch, size_of, normal}
 use Rattle.mm_module.proofs.BatchLaws.{members_of-normal}
 use Rattle.mm_seal.specs.declared.snapshot.PartsFault.{PartsFault}
 use Rattle.mm_seal.specs.declared.snapshot.PartsFault.TheVariants.{Form, Kind}
 use Rattle.mm_seal.specs.declared.snapshot.Place.{Place}
 use Rattle.mm_seal.specs.declared.snapshot.Place.TheVariants.{Basic as InBasic, Opt as InOpt}
 use Rattle.mm_seal.specs.Snapshot.{Content, Snapshot, ReadsParts, variant_of, tag_of}
-use Rattle.mm_seal.specs.Parts.{parts_of}
 use Rattle.mm_seal.proofs.Fields.{parts_are}
 use Rattle.mm_model.specs.Chains.{guard}
 use Rattle.mm_model.specs.Instance.{Instance, opt}
 use Rattle.mm_model.specs.Judge.{verdict_by_digests}
 use Rattle.mm_model.specs.Moves.{Digests}
-use Rattle.mm_model.specs.Places.{digest_of}
 use Rattle.mm_model.specs.declared.answer.BatchAnswer.{BatchAnswer}
 use Rattle.mm_model.specs.declared.refusal.Refusal.{Refusal}
 use Rattle.mm_model.specs.declared.refusal.Refusal.TheVariants as refusal
@@ -27,12 +24,12 @@ use Rattle.mm_model.specs.declared.verdict.Verdict.{Verdict}
 use Rattle.mm_call.specs.Order.{weighed, examined}
 use Rattle.mm_call.specs.Answers.{answer_at}
 use Rattle.mm_call.specs.Refusals.{OrMemory}
-use Rattle.mm_call.specs.Levels.{Level, by_digests, place_then}
+use Rattle.mm_call.specs.Levels.{by_digests, place_then}
 use Rattle.mm_call.specs.Found.{Found as Accepted, found_with, found_by_verdict as accepted_from, found_at as accepted_at, found_unless_wanting as accepted_in}
 use Rattle.mm_call.specs.Standing.{cell_at}
 use Rattle.mm_opt.specs.declared.found.Found.{Found}
 use Rattle.mm_opt.specs.declared.found.Found.TheVariants.{Repeat, Inside, Opens}
-use Rattle.mm_opt.specs.Order.{batch_value, has_lost_power, verdict_at, verdict_of}
+use Rattle.mm_opt.specs.Order.{has_lost_power, verdict_at, verdict_of}
 use Rattle.mm_opt.specs.Answers.{answer_of, place_after, change_by, opened_cell, found_from, found_in_offer, found_unless, found_in}
 use Rattle.mm_opt.specs.Steps.{FindsIn}
 use Rattle.mm_opt.specs.TurnsOn.{Accepts}

@@ -4,7 +4,7 @@ use Rattle.mm_digest.specs.declared.variant.Variant.TheVariants.{Opt}
 use Rattle.mm_platform.specs.Standing.{Standing}
 use Rattle.mm_module.specs.Meaning.{Meaning}
 use Rattle.mm_module.specs.Batch.{Batch, normal}
-use Rattle.mm_model.specs.Instance.{Instance, opt}
+use Rattle.mm_model.specs.Instance.{opt}
 use Rattle.mm_model.specs.History.{History}
 use Rattle.mm_model.specs.Long.{is_long}
 use Rattle.mm_model.specs.Moves.{Digests, digests_of}

@@ -1,16 +1,15 @@
 -- A checkpoint over a platform goes by digests: the course that it took, and the trail of its steps.
-use Rattle.std.proofs.Common.{◌≡◌, ℕ, Bool, true, false, List, [], ◌∷◌, ◌++◌, map, Option, None, Some, Result, Ok, Err, IfOk, refl, sym, ap, ◌∙◌, subst}
+use Rattle.std.proofs.Common.{◌≡◌, ℕ, Bool, true, false, List, [], ◌∷◌, map, Option, None, Some, Result, Ok, Err, IfOk, refl, sym, ap, ◌∙◌, subst}
 use Rattle.std.specs.Prelude.{◌&&◌, is_some, IsSome}
 use Rattle.std.specs.Str.{bytes_eq}
 use Rattle.std.specs.List.{fold}
 use Rattle.std.specs.Result.{result_err}
-use Rattle.std.proofs.lemmas.List.{append-nil}
 use Rattle.mm_digest.specs.declared.variant.Variant.{Variant}
 use Rattle.mm_digest.specs.declared.variant.Variant.TheVariants.{Basic, Opt}
-use Rattle.mm_digest.specs.Messages.{zero_bytes, extended_of, anchored_of}
+use Rattle.mm_digest.specs.Messages.{zero_bytes, extended_of}
 use Rattle.mm_digest.proofs.Lengths.{length-anchored_of}
 use Rattle.mm_platform.specs.declared.fault.StepFault.{StepFault}
-use Rattle.mm_platform.specs.Standing.{Item, Plan, Standing, item_values, register_after}
+use Rattle.mm_platform.specs.Standing.{Item, Plan, Standing}
 use Rattle.mm_platform.specs.Steps.{Act, ReadCell, WriteCell, ReadRegister, Goes}
 use Rattle.mm_platform.specs.Told.{next_plan}
 use Rattle.mm_module.specs.Meaning.{Meaning}
@@ -21,13 +20,13 @@ use Rattle.mm_seal.proofs.CellLaws.{reads_cell-same}
 use Rattle.mm_model.specs.Instance.{Instance, basic, opt}
 use Rattle.mm_module.specs.Batch.{Batch}
 use Rattle.mm_model.specs.History.{History, Move, Foreign, Close}
-use Rattle.mm_model.specs.Moves.{Digests, digests_of, made}
+use Rattle.mm_model.specs.Moves.{Digests, digests_of}
 use Rattle.mm_model.specs.Standing.{StandsFor}
 use Rattle.mm_model.specs.Steps.{Step, Reads, Writes, checkpoint_steps}
 use Rattle.mm_call.specs.Levels.{all_made, by_lists, by_digests}
 use Rattle.mm_call.specs.Courses.{Course, Fate, Walked, closes, walk, step_moves, seen_in}
 use Rattle.mm_call.specs.Called.{reading_steps}
-use Rattle.mm_call.specs.Checkpoints.{Closing, closing_of, closed_by, checkpointed_by, checkpointed_with, checkpointed, IsClosedWithin, IsSameCheckpoint, CheckpointsAgree}
+use Rattle.mm_call.specs.Checkpoints.{Closing, closing_of, closed_by, checkpointed_by, checkpointed_with, checkpointed, IsClosedWithin, CheckpointsAgree}
 use Rattle.mm_call.specs.Standing.{instance_by, cell_at, StandsAt, shown_by}
 use Rattle.mm_call.specs.Trails.{IsWrite, Stepped, Trail}
 use Rattle.mm_call.proofs.Trails.{reads_of, reads_beside, with_register, leads}
@@ -38,12 +37,12 @@ use Rattle.mm_call.specs.Ended.{StaysOn}
 use Rattle.mm_call.proofs.Keeping.{planned_done, planned_broken}
 use Rattle.mm_call.proofs.Telling.{stepped, trail_on, trail_fails, trail_last, met, AreMet, told_by, IsAt, begins_at, met_at, then_at}
 use Rattle.mm_opt.specs.declared.segment.Checkpointed.{Checkpointed}
-use Rattle.mm_opt.specs.declared.segment.Checkpointed.TheVariants.{Done, NoSegment}
+use Rattle.mm_opt.specs.declared.segment.Checkpointed.TheVariants.{Done}
 use Rattle.mm_opt.specs.declared.segment.CheckpointRefusal.{CheckpointRefusal}
 use Rattle.mm_opt.specs.declared.segment.CheckpointRefusal.TheVariants as refusal
 use Rattle.mm_opt.specs.declared.segment.Segment.{Segment}
 use Rattle.mm_opt.specs.declared.segment.Segment.TheVariants.{Open, Shut}
-use Rattle.mm_opt.specs.Checkpoints.{closing_fault_of, closing_fault_in, segment_by, segment_in, FindsSegment, Looks, closed_cell, closing_by, closing_in, FindsClosing, Weighs, closing_handed_on, EndsClosing, WeighsAndCloses, EndsLooking, ClosesSegment}
+use Rattle.mm_opt.specs.Checkpoints.{closing_fault_of, closing_fault_in, segment_by, segment_in, FindsSegment, Looks, closed_cell, closing_by, Weighs, closing_handed_on, EndsClosing, EndsLooking, ClosesSegment}
 use Rattle.mm_opt.specs.ChecksOn.{closing_told, ChecksBy, ChecksFor, ChecksOn}
 use Rattle.mm_opt.proofs.Going.{fate_of, quietly, loudly, read_value, two_brought, seen_is}
 

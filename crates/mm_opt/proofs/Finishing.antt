@@ -19,16 +19,15 @@ use Rattle.mm_model.specs.Moves.{Digests}
 use Rattle.mm_model.specs.Steps.{Step, Reads, Changes, Writes, ask_steps}
 use Rattle.mm_model.specs.declared.answer.BatchAnswer.{BatchAnswer}
 use Rattle.mm_model.specs.declared.refusal.Refusal.{Refusal}
-use Rattle.mm_model.specs.declared.refusal.Refusal.TheVariants as refusal
 use Rattle.mm_call.specs.declared.ended.Ended.{Ended}
 use Rattle.mm_call.specs.declared.ended.Ended.TheVariants.{Answered, Refused, Broken}
-use Rattle.mm_call.specs.Ended.{result_of, ended_with, refused_as, committed_as, kept_by, KeepsAs, is_broken, StaysOn, StaysPlanned, CallsTo}
+use Rattle.mm_call.specs.Ended.{result_of, ended_with, refused_as, committed_as, kept_by, KeepsAs, is_broken, StaysOn, CallsTo}
 use Rattle.mm_call.specs.Refusals.{fault_of, fault_in, handed_on}
 use Rattle.mm_call.specs.Leaving.{Blames}
 use Rattle.mm_call.specs.Levels.{all_made, by_digests}
 use Rattle.mm_call.specs.Found.{Found as Accepted, found_at as accepted_at, found_unless_wanting as accepted_in, is_fresh}
 use Rattle.mm_call.specs.Courses.{End, Done, Fails, end_of, Course, Fate, Walked, walk, after_step, made_move, step_moves, commits}
-use Rattle.mm_call.specs.Called.{Called, Ending, Breaks, kept_at, ended_by, called_by, called_with, called, seen_at, position_of}
+use Rattle.mm_call.specs.Called.{Called, Breaks, kept_at, ended_by, called_by, called_with, called, seen_at, position_of}
 use Rattle.mm_call.specs.Standing.{StandsAt}
 use Rattle.mm_call.proofs.Keeping.{refused_result, committed_result, foreign_commits, commits_then, written_commits, kept_some, planned_done, planned_broken}
 use Rattle.mm_call.proofs.Leaving.{blamed, blamed_later}
@@ -41,10 +40,10 @@ use Rattle.mm_opt.specs.declared.stage.Stage.{Stage}
 use Rattle.mm_opt.specs.declared.stage.Stage.TheVariants as stage
 use Rattle.mm_opt.specs.declared.stage.Change.{Change}
 use Rattle.mm_opt.specs.declared.stage.Change.TheVariants as change
-use Rattle.mm_opt.specs.Steps.{ReadsOwnCell, ReadsRegister, MakesRoom, Extends, Empties, Places, Writes as WritesCell}
+use Rattle.mm_opt.specs.Steps.{ReadsOwnCell, ReadsRegister, Extends, Empties, Places, Writes as WritesCell}
 use Rattle.mm_opt.specs.Asks.{ReadsOn, PlacedOn, EmptiedOn, CommitsFound, Ends, Asks, Calls}
 use Rattle.mm_opt.specs.TurnsOn.{Accepts}
-use Rattle.mm_opt.specs.Finishes.{ExtendsTo, WritesTo, PlacedTo, PlacesTo, EmptiedTo, OpensTo, EndsTo, AsksTo, SeesTo, ChangesTo, Finishes}
+use Rattle.mm_opt.specs.Finishes.{ExtendsTo, WritesTo, PlacedTo, EmptiedTo, EndsTo, AsksTo, ChangesTo, Finishes}
 use Rattle.mm_opt.proofs.Acting.{room_only}
 use Rattle.mm_opt.proofs.Accepting.{AsFound, lacks_in}
 use Rattle.mm_opt.proofs.Going.{fate_of, placed_fates, emptied_fates, ends_fates, course_of, asks, changing, changing_inside, changing_opens, second_found, seen_is, two_brought}

@@ -1,8 +1,7 @@
 -- A call over a platform goes by digests: the course that it took, and the trail of its steps.
-use Rattle.std.proofs.Common.{◌≡◌, ℕ, ◌+◌, Bool, true, false, List, [], ◌∷◌, ◌++◌, map, Option, None, Some, Result, Ok, Err, IfOk, refl, sym, ap, ◌∙◌, subst, arith}
-use Rattle.std.specs.Prelude.{◌&&◌, nat_eq, if◌then◌else◌}
+use Rattle.std.proofs.Common.{◌≡◌, ℕ, Bool, true, false, List, [], ◌∷◌, ◌++◌, map, Option, None, Some, Result, Ok, Err, IfOk, refl, sym, ap, ◌∙◌, subst, arith}
+use Rattle.std.specs.Prelude.{◌&&◌, nat_eq}
 use Rattle.std.specs.List.{fold}
-use Rattle.std.specs.Option.{option_map}
 use Rattle.std.specs.Result.{result_err}
 use Rattle.std.proofs.lemmas.List.{append-nil}
 use Rattle.std.proofs.lemmas.Bool.Decides.{nat_tests}
@@ -17,36 +16,33 @@ use Rattle.mm_module.specs.Meaning.{Meaning}
 use Rattle.mm_module.specs.Batch.{Batch, normal}
 use Rattle.mm_seal.specs.declared.cell.Cell.{Cell}
 use Rattle.mm_seal.specs.declared.cell.CellFault.{CellFault}
-use Rattle.mm_seal.specs.Cell.{IsCell, ReadsCell as ReadsBytes, cell_spelling}
+use Rattle.mm_seal.specs.Cell.{IsCell, cell_spelling}
 use Rattle.mm_seal.proofs.CellLaws.{reads_cell-same}
 use Rattle.mm_model.specs.Chains.{guard}
 use Rattle.mm_model.specs.Instance.{Instance, opt}
 use Rattle.mm_model.specs.History.{Move, Commit, Foreign, Placed, Reset}
 use Rattle.mm_model.specs.Moves.{Digests, committing, made}
-use Rattle.mm_model.specs.Places.{digest_of}
 use Rattle.mm_model.specs.Steps.{Step, Reads, Changes, Writes, ask_steps}
 use Rattle.mm_model.specs.declared.answer.BatchAnswer.{BatchAnswer}
 use Rattle.mm_model.specs.declared.refusal.Refusal.{Refusal}
 use Rattle.mm_model.specs.declared.refusal.Refusal.TheVariants as refusal
-use Rattle.mm_call.specs.Answers.{answer_at}
 use Rattle.mm_call.specs.Refusals.{fault_of, fault_in, handed_on}
-use Rattle.mm_call.specs.Levels.{Level, all_made, by_digests, place_then}
+use Rattle.mm_call.specs.Levels.{all_made, by_digests}
 use Rattle.mm_call.specs.Found.{Found as Accepted, found_at as accepted_at, found_unless_wanting as accepted_in, is_fresh}
-use Rattle.mm_call.specs.Courses.{Course, Fate, Walked, walk, step_moves, seen_in, end_of, AreTold}
-use Rattle.mm_call.specs.Called.{Called, ended_by, called_by, called_with, seen_at, called, given_for}
+use Rattle.mm_call.specs.Courses.{Course, Fate, Walked, walk, step_moves, end_of, AreTold}
+use Rattle.mm_call.specs.Called.{ended_by, called_by, called_with, seen_at, called, given_for}
 use Rattle.mm_call.specs.Standing.{cell_at, StandsAt, shown_by}
-use Rattle.mm_call.specs.Trails.{IsChange, IsWrite, MakesStep, Stepped, Trail, Leads}
+use Rattle.mm_call.specs.Trails.{IsChange, IsWrite, MakesStep, Stepped, Trail}
 use Rattle.mm_call.specs.CallsOn.{GoesBy}
 use Rattle.mm_call.proofs.Trails.{reads_of, reads_beside, with_register, foreign_made, all_made-append, leads}
 use Rattle.mm_call.proofs.Telling.{stepped, trail_on, trail_fails, trail_last, met, AreMet, told_by, IsAt, begins_at, met_at, then_at, room_at}
-use Rattle.mm_opt.specs.declared.found.Ready.{Ready}
 use Rattle.mm_opt.specs.declared.found.Opening.{Opening}
 use Rattle.mm_opt.specs.declared.found.Found.{Found}
 use Rattle.mm_opt.specs.declared.found.Found.TheVariants.{Repeat, Inside, Opens}
-use Rattle.mm_opt.specs.Seen.{is_opt, is_cell_of, own_cell, cell_in}
+use Rattle.mm_opt.specs.Seen.{is_opt, own_cell, cell_in}
 use Rattle.mm_opt.specs.Answers.{opened_cell}
-use Rattle.mm_opt.specs.Steps.{FindsCell, ReadsOwnCell, FindsIn, ReadsRegister, Extends, Empties, Places, Writes as WritesCell}
-use Rattle.mm_opt.specs.Asks.{ReadsOn, Reads as ReadsBoth, PlacedOn, EmptiedOn, CommitsFound, Ends, Asks}
+use Rattle.mm_opt.specs.Steps.{FindsCell, ReadsOwnCell, FindsIn, ReadsRegister, Empties, Places}
+use Rattle.mm_opt.specs.Asks.{ReadsOn, PlacedOn, EmptiedOn, CommitsFound, Ends}
 use Rattle.mm_opt.proofs.Acting.{room_only}
 use Rattle.mm_opt.specs.TurnsOn.{Accepts}
 use Rattle.mm_opt.proofs.Accepting.{AsFound, lacks_in, as_found}

@@ -1,16 +1,15 @@
 -- Each turn makes the next step of the walk.
-use Rattle.std.proofs.Common.{◌≡◌, ℕ, Bool, true, false, List, [], ◌∷◌, ◌++◌, map, Option, None, Some, Result, Ok, Err, refl, sym, ap, ◌∙◌, subst}
+use Rattle.std.proofs.Common.{◌≡◌, ℕ, Bool, true, false, List, [], ◌∷◌, map, Option, None, Some, Result, Ok, Err, refl, sym, ap, ◌∙◌, subst}
 use Rattle.std.specs.List.{fold}
 use Rattle.std.specs.Result.{result_err}
 use Rattle.std.proofs.lemmas.List.{append-nil}
 use Rattle.mm_digest.specs.Messages.{zero_bytes, extended_of}
 use Rattle.mm_platform.specs.declared.fault.StepFault.{StepFault}
 use Rattle.mm_platform.specs.Standing.{Standing}
-use Rattle.mm_platform.specs.Steps.{Act, Goes}
+use Rattle.mm_platform.specs.Steps.{Goes}
 use Rattle.mm_module.specs.Meaning.{Meaning}
 use Rattle.mm_module.specs.Batch.{Batch, normal}
 use Rattle.mm_seal.specs.declared.cell.Cell.{Cell}
-use Rattle.mm_seal.specs.Cell.{cell_spelling}
 use Rattle.mm_model.specs.Chains.{guard}
 use Rattle.mm_model.specs.Instance.{Instance, opt}
 use Rattle.mm_model.specs.History.{Move, Foreign, Placed, Reset}
@@ -20,8 +19,8 @@ use Rattle.mm_model.specs.declared.answer.BatchAnswer.{BatchAnswer}
 use Rattle.mm_model.specs.declared.refusal.Refusal.{Refusal}
 use Rattle.mm_call.specs.Refusals.{fault_of, fault_in}
 use Rattle.mm_call.specs.Levels.{all_made, by_digests}
-use Rattle.mm_call.specs.Found.{Found as Accepted, found_at as accepted_at, found_unless_wanting as accepted_in}
-use Rattle.mm_call.specs.Courses.{Fate, Walked, after_step, step_moves, end_of}
+use Rattle.mm_call.specs.Found.{found_at as accepted_at, found_unless_wanting as accepted_in}
+use Rattle.mm_call.specs.Courses.{Fate, step_moves, end_of}
 use Rattle.mm_call.specs.Standing.{cell_at, StandsAt}
 use Rattle.mm_call.specs.Trails.{MakesStep, Stepped}
 use Rattle.mm_call.proofs.Trails.{reads_of, reads_beside, with_register, foreign_made, all_made-append, leads}
@@ -35,7 +34,7 @@ use Rattle.mm_opt.specs.declared.stage.Change.{Change}
 use Rattle.mm_opt.specs.declared.stage.Change.TheVariants as change
 use Rattle.mm_opt.specs.declared.call.Turn.{Turn}
 use Rattle.mm_opt.specs.Answers.{opened_cell}
-use Rattle.mm_opt.specs.Steps.{act_of, FindsIn, ReadsOwnCell, ReadsRegister, Extends, Empties, Places, Writes}
+use Rattle.mm_opt.specs.Steps.{act_of, FindsIn, ReadsOwnCell, ReadsRegister, Empties, Places}
 use Rattle.mm_opt.specs.Turns.{seen_turn, found_turn, emptied_turn, placed_turn, last_turn, Changes as ChangesTurn, Turns, fault_turned}
 use Rattle.mm_opt.specs.TurnsOn.{step_of, OpensAt, HoldsIn, HoldsAt, HoldsOn, SecondOn, one_step, WalksOn, TurnsOn}
 use Rattle.mm_opt.proofs.Acting.{room_only}

@@ -1,5 +1,5 @@
 -- How often a call writes the cell, by the flag that the platform tells.
-use Rattle.std.proofs.Common.{◌≡◌, ℕ, Bool, true, false, List, None, Some, Result, Ok, Err, IfOk, refl, sym, ap, ◌∙◌, subst, inl, inr}
+use Rattle.std.proofs.Common.{◌≡◌, ℕ, Bool, true, false, List, Some, Result, Ok, Err, refl, sym, ap, ◌∙◌, subst, inl, inr}
 use Rattle.mm_base.specs.Faults.{counted}
 use Rattle.mm_platform.specs.declared.fault.StepFault.{StepFault}
 use Rattle.mm_platform.specs.Standing.{Standing}
@@ -9,7 +9,7 @@ use Rattle.mm_seal.specs.declared.cell.Cell.{Cell}
 use Rattle.mm_seal.specs.declared.cell.CellFault.{CellFault}
 use Rattle.mm_seal.specs.declared.snapshot.PartsFault.{PartsFault}
 use Rattle.mm_seal.specs.declared.snapshot.PartsFault.TheVariants.{Form, Kind}
-use Rattle.mm_seal.specs.Cell.{IsCell, ReadsCell, cell_spelling}
+use Rattle.mm_seal.specs.Cell.{IsCell, cell_spelling}
 use Rattle.mm_seal.specs.Snapshot.{Snapshot}
 use Rattle.mm_seal.proofs.CellLaws.{reads_cell-same}
 use Rattle.mm_model.specs.Long.{is_long}
@@ -17,7 +17,7 @@ use Rattle.mm_model.specs.declared.answer.BatchAnswer.{BatchAnswer}
 use Rattle.mm_model.specs.declared.refusal.Refusal.{Refusal}
 use Rattle.mm_model.specs.declared.refusal.Refusal.TheVariants as refusal
 use Rattle.mm_call.specs.Order.{examined}
-use Rattle.mm_call.specs.Refusals.{fault_in, handed_on, OrMemory}
+use Rattle.mm_call.specs.Refusals.{handed_on, OrMemory}
 use Rattle.mm_opt.specs.declared.found.Ready.{Ready}
 use Rattle.mm_opt.specs.declared.found.Opening.{Opening}
 use Rattle.mm_opt.specs.declared.found.Found.{Found}
@@ -25,9 +25,9 @@ use Rattle.mm_opt.specs.declared.found.Found.TheVariants.{Repeat, Inside, Opens}
 use Rattle.mm_opt.specs.Seen.{is_cell_of, own_cell, cell_in}
 use Rattle.mm_opt.specs.Order.{batch_value, has_lost_power, verdict_of}
 use Rattle.mm_opt.specs.Answers.{answer_of, change_by, opened_cell, found_from, found_in_offer, found_unless, found_in}
-use Rattle.mm_opt.specs.Steps.{ReadsOwnCell as ReadsStep, FindsIn, ReadsRegister, Extends, Empties, Places, Writes}
-use Rattle.mm_opt.specs.Asks.{ReadsOn, Reads, PlacedOn, EmptiedOn, CommitsFound, Ends, Calls, OneStep, TwoSteps, ThreeSteps, FourSteps, StepsMade, one_step, two_steps, three_steps, four_steps, five_steps, StepsAnswered, StepsRefused, StepsBy, WritesAtMostOnce, StepsFrom, AnswersFrom, WritesBy}
-use Rattle.mm_opt.proofs.Findings.{IsShaped, shaped}
+use Rattle.mm_opt.specs.Steps.{ReadsOwnCell as ReadsStep, FindsIn, Extends, Empties, Places, Writes}
+use Rattle.mm_opt.specs.Asks.{ReadsOn, Reads, PlacedOn, EmptiedOn, CommitsFound, Ends, Calls, TwoSteps, ThreeSteps, FourSteps, StepsMade, one_step, two_steps, three_steps, four_steps, five_steps, StepsAnswered, StepsRefused, StepsBy, WritesAtMostOnce, StepsFrom, AnswersFrom, WritesBy}
+use Rattle.mm_opt.proofs.Findings.{IsShaped}
 use Rattle.mm_opt.proofs.Asking.{room_counted, reads_counted, reads_shaped, steps}
 
 -- at most once, from the steps that were made

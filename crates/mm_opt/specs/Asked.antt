@@ -31,5 +31,6 @@ pub record AskedInOpt (meaning : Meaning) (old new : Standing) (offer : List ℕ
   pub fits : IfOk result (λ answer. IsFit b answer)
   -- the call is the one that the definitions give, on some course: by digests, and by lists
   pub goes : is_long b ≡ false → CallsOn Opt meaning old new offer b result
-  -- a right offer that the history accepts is answered, where nobody else extended the register inside a segment
+  -- a right offer that the history accepts is answered, where nobody else extended the register
+  -- inside a segment
   pub complete : AnswersAccepted meaning old new offer b result

@@ -1,5 +1,5 @@
 -- Each turn of a checkpoint makes the next step of its walk, from any digests that the platform stands at.
-use Rattle.std.specs.Prelude.{◌≡◌, ℕ, Bool, true, false, List, None}
+use Rattle.std.specs.Prelude.{◌≡◌, ℕ, true, false, List, None}
 use Rattle.std.specs.Str.{bytes_eq}
 use Rattle.mm_digest.specs.Messages.{zero_bytes}
 use Rattle.mm_platform.specs.Standing.{Standing}

@@ -8,7 +8,8 @@ use Rattle.mm_opt.specs.Checkpoints.{closing_fault_in, ClosesSegment, LeavesStil
 use Rattle.mm_opt.specs.ChecksOn.{ChecksOn}
 
 -- One checkpoint over a platform.
-pub record ClosedInOpt (old new : Standing) (result : Result Checkpointed CheckpointRefusal) : Type 0 where
+pub record ClosedInOpt (old new : Standing)
+    (result : Result Checkpointed CheckpointRefusal) : Type 0 where
   -- the steps that were made, and what each gave
   pub closes : ClosesSegment old new result
   -- a refusal that hands on no device's fault has changed nothing

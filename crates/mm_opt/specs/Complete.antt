@@ -16,13 +16,14 @@ use Rattle.mm_call.specs.Leaving.{IsAccepted, IsAnswered}
 use Rattle.mm_call.specs.Premises.{AreAsked, AreShown}
 use Rattle.mm_call.specs.Tied.{standing_items, foreign_items}
 
--- Completeness: a right offer of the last position of a live history, or of the one before the batch that was committed
--- last and is asked again, is answered, while there are positions left; where nobody else extended the register inside a
--- segment.
-abbrev pub AnswersAccepted : Meaning → Standing → Standing → List ℕ → Batch → Result BatchAnswer Refusal → Type 0
+-- Completeness: a right offer of the last position of a live history, or of the one before the
+-- batch that was committed last and is asked again, is answered, while there are positions left;
+-- where nobody else extended the register inside a segment.
+abbrev pub AnswersAccepted : Meaning → Standing → Standing → List ℕ → Batch →
+    Result BatchAnswer Refusal → Type 0
 AnswersAccepted meaning old new offer b result =
-    is_long b ≡ false → (key barrier : List ℕ) (y : History) (all others : List (List ℕ)) (asked : List Batch)
-    (items more : List Item) (content : Content) →
+    is_long b ≡ false → (key barrier : List ℕ) (y : History) (all others : List (List ℕ))
+    (asked : List Batch) (items more : List Item) (content : Content) →
     StandsFor (opt meaning key barrier) old y →
     old.items ≡ Some items → new.items ≡ Some (standing_items y.is_open items ++ more) →
     (y.is_open ≡ true → foreign_items more ≡ []) →

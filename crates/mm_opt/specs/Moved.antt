@@ -16,8 +16,8 @@ use Rattle.mm_opt.specs.Turns.{Turns, ActsAt, TurnMayGoOn, fault_turned}
 use Rattle.mm_opt.specs.TurnsOn.{TurnsOn}
 
 -- One turn of a call that stands at this stage.
-pub record AdvancedInOpt (meaning : Meaning) (stage : Stage) (old new : Standing) (offer : List ℕ) (b : Batch)
-    (turn : Turn) : Type 0 where
+pub record AdvancedInOpt (meaning : Meaning) (stage : Stage) (old new : Standing)
+    (offer : List ℕ) (b : Batch) (turn : Turn) : Type 0 where
   -- what its step did, and what the turn gives
   pub turns : Turns meaning stage old new offer b turn
   -- the step is the one that comes next
@@ -30,11 +30,12 @@ pub record AdvancedInOpt (meaning : Meaning) (stage : Stage) (old new : Standing
   pub goes : TurnsOn meaning stage old new offer b turn
 
 -- What was left of a call that stood at this stage.
-pub record FinishedInOpt (meaning : Meaning) (stage : Stage) (old new : Standing) (offer : List ℕ) (b : Batch)
-    (ended : Ended) : Type 0 where
+pub record FinishedInOpt (meaning : Meaning) (stage : Stage) (old new : Standing)
+    (offer : List ℕ) (b : Batch) (ended : Ended) : Type 0 where
   -- the steps that were made, and what each gave
   pub finishes : Finishes meaning stage old new offer b ended
-  -- from its beginning it is the call that the definitions give, on some course: by digests, and by lists
+  -- from its beginning it is the call that the definitions give, on some course, by digests and by
+  -- lists
   pub ends : stage ≡ Begun → CallsTo Opt meaning old new offer b ended
   -- the count of faults rose exactly where a device's fault is handed on
   pub faults : Blames (fault_in (result_of ended)) old.faults new.faults

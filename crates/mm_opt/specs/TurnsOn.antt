@@ -1,6 +1,5 @@
 -- Each turn of a call makes the next step of its walk, from any digests that the platform stands at.
 use Rattle.std.specs.Prelude.{◌≡◌, ℕ, Bool, true, false, List, [], ◌∷◌, None, Result, Ok, Err}
-use Rattle.mm_digest.specs.declared.variant.Variant.TheVariants.{Opt}
 use Rattle.mm_platform.specs.Standing.{Standing}
 use Rattle.mm_module.specs.Meaning.{Meaning}
 use Rattle.mm_module.specs.Batch.{Batch, normal}
@@ -13,7 +12,6 @@ use Rattle.mm_model.specs.Steps.{Step, Reads, Changes, Writes}
 use Rattle.mm_model.specs.declared.answer.BatchAnswer.{BatchAnswer}
 use Rattle.mm_model.specs.declared.refusal.Refusal.{Refusal}
 use Rattle.mm_call.specs.Answers.{answer_at}
-use Rattle.mm_call.specs.Refusals.{fault_of}
 use Rattle.mm_call.specs.Levels.{all_made, by_digests, place_then}
 use Rattle.mm_call.specs.Found.{Found as Accepted, found_at as accepted_at, found_unless_wanting as accepted_in}
 use Rattle.mm_call.specs.Courses.{Fate, Walked, walk}

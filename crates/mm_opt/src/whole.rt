@@ -66,7 +66,8 @@ pub fn prepare<M: Module, P: Platform>(
         Reads (M.meaning «module».now) (P.standing platform.old) (P.standing platform.new)
         offer.now (One request.now) result }
     ensures room { LeavesRoom result (P.standing platform.new) }
-    ensures faults { Blames (fault_in result) (P.standing platform.old).faults (P.standing platform.new).faults }
+    ensures faults { Blames (fault_in result)
+        (P.standing platform.old).faults (P.standing platform.new).faults }
 {
     prepare_batch(alloc, module, platform, offer, Batch::One(request))
 }
@@ -84,7 +85,8 @@ fn prepare_batch<M: Module, P: Platform>(
         Reads (M.meaning «module».now) (P.standing platform.old) (P.standing platform.new)
         offer.now (batch_of batch.entry) result }
     ensures room { LeavesRoom result (P.standing platform.new) }
-    ensures faults { Blames (fault_in result) (P.standing platform.old).faults (P.standing platform.new).faults }
+    ensures faults { Blames (fault_in result)
+        (P.standing platform.old).faults (P.standing platform.new).faults }
 {
     if mm_model::is_long(&batch) {
         return Err(Refusal::Long);
@@ -105,8 +107,8 @@ pub fn read<M: Module, P: Platform>(
     keys: &mut KeptKey,
 ) -> Result<Found, Refusal>
     requires { is_long (batch_of batch) ≡ false }
-    ensures reads { Reads (M.meaning «module».now) (P.standing platform.old) (P.standing platform.new)
-        offer.now (batch_of batch.entry) result }
+    ensures reads { Reads (M.meaning «module».now) (P.standing platform.old)
+        (P.standing platform.new) offer.now (batch_of batch.entry) result }
     ensures room { LeavesRoom result (P.standing platform.new) }
 {
     let cell = read_cell(module.id(), platform);
@@ -124,8 +126,8 @@ fn read_on<M: Module, P: Platform>(
     keys: &mut KeptKey,
 ) -> Result<Found, Refusal>
     requires { is_long (batch_of batch) ≡ false }
-    ensures on { ReadsOn (M.meaning «module».now) cell (P.standing platform.old) (P.standing platform.new)
-        offer.now (batch_of batch.entry) result }
+    ensures on { ReadsOn (M.meaning «module».now) cell (P.standing platform.old)
+        (P.standing platform.new) offer.now (batch_of batch.entry) result }
     ensures room { LeavesRoom result (P.standing platform.new) }
 {
     match cell {
@@ -139,8 +141,10 @@ impl Prepared {
     /// `prepare` left.
     pub fn commit<P: Platform>(self, platform: &mut P) -> Result<Committed, StepFault>
         requires { MayCommit self (P.standing platform.old) }
-        ensures commits { CommitsFound self (P.standing platform.old) (P.standing platform.new) result }
-        ensures faults { Blames (result_err result) (P.standing platform.old).faults (P.standing platform.new).faults }
+        ensures commits { CommitsFound self
+            (P.standing platform.old) (P.standing platform.new) result }
+        ensures faults { Blames (result_err result)
+            (P.standing platform.old).faults (P.standing platform.new).faults }
     {
         commit_found(self.found, platform)
     }
@@ -174,9 +178,10 @@ fn call<M: Module, P: Platform>(
     offer: &[u8],
     batch: Batch<'_>,
 ) -> Result<BatchAnswer, Refusal>
-    ensures calls { Calls (M.meaning «module».now) (P.standing platform.old) (P.standing platform.new)
-        offer.now (batch_of batch.entry) result }
-    ensures faults { Blames (fault_in result) (P.standing platform.old).faults (P.standing platform.new).faults }
+    ensures calls { Calls (M.meaning «module».now) (P.standing platform.old)
+        (P.standing platform.new) offer.now (batch_of batch.entry) result }
+    ensures faults { Blames (fault_in result)
+        (P.standing platform.old).faults (P.standing platform.new).faults }
 {
     match begin(batch) {
         Err(refusal) => Err(refusal),
@@ -195,9 +200,10 @@ fn finished<M: Module, P: Platform>(
 ) -> Result<BatchAnswer, Refusal>
     requires short { is_long (batch_of batch) ≡ false }
     requires begun { call ≡ Begun }
-    ensures calls { Calls (M.meaning «module».now) (P.standing platform.old) (P.standing platform.new)
-        offer.now (batch_of batch.entry) result }
-    ensures faults { Blames (fault_in result) (P.standing platform.old).faults (P.standing platform.new).faults }
+    ensures calls { Calls (M.meaning «module».now) (P.standing platform.old)
+        (P.standing platform.new) offer.now (batch_of batch.entry) result }
+    ensures faults { Blames (fault_in result)
+        (P.standing platform.old).faults (P.standing platform.new).faults }
 {
     call.finish(alloc, module, platform, offer, batch).result()
 }
@@ -212,8 +218,8 @@ pub fn ask_batch<M: Module, P: Platform>(
     offer: &[u8],
     batch: Batch<'_>,
 ) -> Result<BatchAnswer, Refusal>
-    ensures { AskedInOpt (M.meaning «module».now) (P.standing platform.old) (P.standing platform.new)
-        offer.now (batch_of batch.entry) result }
+    ensures { AskedInOpt (M.meaning «module».now) (P.standing platform.old)
+        (P.standing platform.new) offer.now (batch_of batch.entry) result }
 {
     call(alloc, module, platform, offer, batch)
 }
@@ -226,8 +232,8 @@ pub fn ask<M: Module, P: Platform>(
     offer: &[u8],
     request: &[u8],
 ) -> Result<Answer, Refusal>
-    ensures { AskedInOpt (M.meaning «module».now) (P.standing platform.old) (P.standing platform.new)
-        offer.now (One request.now) (whole_in result) }
+    ensures { AskedInOpt (M.meaning «module».now) (P.standing platform.old)
+        (P.standing platform.new) offer.now (One request.now) (whole_in result) }
 {
     match call_one(alloc, module, platform, offer, request) {
         Err(refusal) => Err(refusal),
@@ -243,8 +249,8 @@ fn call_one<M: Module, P: Platform>(
     offer: &[u8],
     request: &[u8],
 ) -> Result<BatchAnswer, Refusal>
-    ensures asked { AskedInOpt (M.meaning «module».now) (P.standing platform.old) (P.standing platform.new)
-        offer.now (One request.now) result }
+    ensures asked { AskedInOpt (M.meaning «module».now) (P.standing platform.old)
+        (P.standing platform.new) offer.now (One request.now) result }
     ensures one { IfOk result (λ answer. length answer.outputs ≡ 1) }
 {
     ask_batch(alloc, module, platform, offer, Batch::One(request))

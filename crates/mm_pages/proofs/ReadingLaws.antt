@@ -43,6 +43,7 @@ same_all old mid new e f k =
       page_reads = new.page_reads;
       page_writes = ap (λ (x : Paged). x.page_writes) f i;
       length_writes = ap (λ (x : Paged). x.length_writes) f i;
+      unsynced = ap (λ (x : Paged). x.unsynced) f i;
     } in
     step ∙ ap (λ (x : Paged). record x { page_reads = new.page_reads }) e
 
@@ -69,15 +70,16 @@ gives_more slot size page old mid new bytes there part done within g r p l =
 
 -- nothing but the two counts changes
 two_counts : (old new : Paged) → new.slots ≡ old.slots → new.is_honest ≡ old.is_honest →
-    new.page_writes ≡ old.page_writes → new.length_writes ≡ old.length_writes →
+    new.page_writes ≡ old.page_writes → new.length_writes ≡ old.length_writes → new.unsynced ≡ old.unsynced →
     new ≡ record old { faults = new.faults; page_reads = new.page_reads }
-two_counts old new s h w l = λ i. record {
+two_counts old new s h w l u = λ i. record {
   slots = s i;
   is_honest = h i;
   faults = new.faults;
   page_reads = new.page_reads;
   page_writes = w i;
   length_writes = l i;
+  unsynced = u i;
 }
 
 pub gives_all : (slot size : ℕ) (old new : Paged) (bytes : List ℕ) (done : Unit) →
@@ -87,7 +89,8 @@ gives_all slot size old new bytes done g =
     record {
       same =
           two_counts old new (ap (λ (x : Paged). x.slots) g.same) (ap (λ (x : Paged). x.is_honest) g.same)
-          (ap (λ (x : Paged). x.page_writes) g.same) (ap (λ (x : Paged). x.length_writes) g.same);
+          (ap (λ (x : Paged). x.page_writes) g.same) (ap (λ (x : Paged). x.length_writes) g.same)
+          (ap (λ (x : Paged). x.unsynced) g.same);
       counted_faults = ap (λ (x : Paged). x.faults) g.same;
       len = size_is;
       gives =

@@ -8,14 +8,16 @@ use Rattle.mm_base.specs.declared.fault.Failed.{Failed}
 use Rattle.mm_base.specs.Faults.{counted, Rose}
 use Rattle.mm_digest.specs.declared.digest.Digest.{Digest}
 use Rattle.mm_store.specs.Slots.{Slots, slot_in, with_slot}
+use Rattle.mm_store.specs.Unsynced.{MarksAlone, marking}
 use Rattle.mm_store.specs.Calls.{putting}
 use Rattle.mm_store.proofs.SlotLaws.{slot_in-with_slot, with_slot-twice, with_slot-same, putting-twice}
+use Rattle.mm_store.proofs.SyncLaws.{marks_stay, marked_last, marks_after}
 use Rattle.mm_pages.specs.Bytes.{resized, page_of, with_page, page_count}
 use Rattle.mm_pages.specs.Paged.{Paged}
 use Rattle.mm_pages.specs.Calls.{WritesPage, ReadsLength, Syncs, changing}
 use Rattle.mm_pages.specs.Counts.{counted_by, may_be, look_at, looks_at, change_count, changes_of, one_if}
 use Rattle.mm_pages.specs.Rows.{Rows, row_in, with_row, kept_digest, page_digest, keeping, page_digests, DropsPage}
-use Rattle.mm_pages.specs.Puts.{IsInStep, HoldsPage, IsPutAt, FailsIn, Fails, PutsThere, PutsOne, IsFilled, FillsSlot, PutsFirst, IsOneMoreAtMost, Fits, FitsLength, PutsWhole, PutsBytes}
+use Rattle.mm_pages.specs.Puts.{IsInStep, HoldsPage, IsPutAt, FailsIn, Fails, PutsThere, PutsOne, IsFilled, FillsSlot, PutsFirst, IsOneMoreAtMost, Fits, FitsAndSyncs, EndsInSync, PutsWhole, PutsBytes}
 use Rattle.mm_pages.proofs.BytesLaws.{get_or-page_of, page_of-same, with_page-before, with_page-within, with_page-after, resized-same, resized-length}
 use Rattle.mm_pages.proofs.RowLaws.{row_in-with_row, with_row-twice, with_row-same, keeping-next, keeping-alike, kept_of-next, length-digests_of, take-digests_of}
 use Rattle.mm_pages.proofs.CountLaws.{counted_by-add, both_right, same_bytes, no_change, a_change, changes_of-same}
@@ -24,6 +26,12 @@ use Rattle.mm_pages.proofs.CountLaws.{counted_by-add, both_right, same_bytes, no
 pub slots_stay : (slot : ℕ) (slots : Option Slots) → (left : List ℕ) × (slots ≡ putting slot left slots)
 slots_stay slot None = ([], refl)
 slots_stay slot (Some told) = (slot_in told slot, ap Some (sym (with_slot-same told slot)))
+
+-- marks that are as they were
+marks_same : (slot : ℕ) (old new : Paged) → new.unsynced ≡ old.unsynced → MarksAlone slot old.unsynced new.unsynced
+marks_same slot old new e =
+    let stay = marks_stay slot old.unsynced in
+    (stay.0, e ∙ stay.1)
 
 -- a page that is there already
 stays_there : (slot page : ℕ) (part : List ℕ) (slots : Option Slots) →
@@ -82,6 +90,7 @@ put_held slot page part digest kept old new rows after h d k r = record {
   honest = ap (λ (x : Paged). x.is_honest) h.same;
   faults = h.counted_faults.kept;
   lengths = ap (λ (x : Paged). x.length_writes) h.same;
+  marks = marks_same slot old new (ap (λ (x : Paged). x.unsynced) h.same);
   rows_are = r ∙ ap (λ (x : Digest). with_row rows slot (keeping page x (row_in rows slot))) d;
   looks =
       ap (λ (x : Paged). x.page_reads) h.same
@@ -129,6 +138,8 @@ put_written slot page part digest kept old mid new rows dropped after done h w l
       honest = ap (λ (x : Paged). x.is_honest) w.same ∙ ap (λ (x : Paged). x.is_honest) h.same;
       faults = w.counted_faults.kept ∙ h.counted_faults.kept;
       lengths = ap (λ (x : Paged). x.length_writes) w.same ∙ ap (λ (x : Paged). x.length_writes) h.same;
+      marks =
+          (true, ap (λ (x : Paged). x.unsynced) w.same ∙ ap (λ (x : Paged). marking slot true x.unsynced) h.same);
       rows_are =
           s ∙ ap (λ (x : List (Option Digest)). with_row dropped slot x) alike
           ∙ ap (λ (x : Rows). with_row x slot (keeping page (page_digest part) (row_in rows slot))) r.rows
@@ -164,6 +175,7 @@ look_failed slot page part digest kept old new rows fault h = record {
         λ honest.
         let stay = slots_stay slot old.slots in
         (stay.0, ap (λ (x : Paged). x.slots) h.same ∙ stay.1);
+    marks = marks_same slot old new (ap (λ (x : Paged). x.unsynced) h.same);
   };
   row = row_in rows slot;
   rows_are = sym (with_row-same rows slot);
@@ -194,6 +206,7 @@ puts_none slot bytes paged rows = record {
   honest = refl;
   faults = refl;
   lengths = refl;
+  marks = marks_stay slot paged.unsynced;
   rows_are = sym (with_row-same rows slot);
   looks = refl;
   fills = λ honest. fills_none slot bytes paged.slots;
@@ -261,6 +274,7 @@ puts_more slot count bytes old mid new rows some after f p =
       honest = p.honest ∙ f.honest;
       faults = p.faults ∙ f.faults;
       lengths = p.lengths ∙ f.lengths;
+      marks = marks_after slot old.unsynced mid.unsynced new.unsynced f.marks p.marks;
       rows_are =
           p.rows_are ∙ ap (λ (x : List (Option Digest)). with_row some slot x) more
           ∙ ap (λ (x : Rows). with_row x slot (page_digests bytes (suc count) ++ drop (suc count) row)) f.rows_are
@@ -311,8 +325,8 @@ reaches slot count bytes old new rows after f =
 -- a failure after some pages
 fails_in_after : (slot : ℕ) (left : List ℕ) (old mid new : Paged) → mid.is_honest ≡ old.is_honest →
     mid.faults ≡ old.faults → (old.is_honest ≡ true → (some : List ℕ) × (mid.slots ≡ putting slot some old.slots)) →
-    FailsIn slot mid new → FailsIn slot old new
-fails_in_after slot left old mid new h k s f = record {
+    MarksAlone slot old.unsynced mid.unsynced → FailsIn slot mid new → FailsIn slot old new
+fails_in_after slot left old mid new h k s m f = record {
   honest = f.honest ∙ h;
   faults = subst (λ n. Rose n new.faults) k f.faults;
   leaves =
@@ -323,6 +337,7 @@ fails_in_after slot left old mid new h k s f = record {
         later.1 ∙ ap (λ (x : Option Slots). putting slot later.0 x) first.1
             ∙ putting-twice slot first.0 later.0 old.slots,
       );
+  marks = marks_after slot old.unsynced mid.unsynced new.unsynced m f.marks;
 }
 
 pub fails_after : (slot count : ℕ) (bytes : List ℕ) (old mid new : Paged) (rows some after : Rows) →
@@ -330,7 +345,7 @@ pub fails_after : (slot count : ℕ) (bytes : List ℕ) (old mid new : Paged) (r
 fails_after slot count bytes old mid new rows some after f g = record {
   paged =
       fails_in_after slot [] old mid new f.honest f.faults
-      (λ honest. let h = f.fills honest in (h.left, h.slots)) g.paged;
+      (λ honest. let h = f.fills honest in (h.left, h.slots)) f.marks g.paged;
   row = g.row;
   rows_are =
       g.rows_are ∙ ap (λ (x : Rows). with_row x slot g.row) f.rows_are
@@ -358,6 +373,7 @@ fits_already slot size seen old new r e = record {
   settled = λ told f l. ap (λ (x : Paged). x.length_writes) r.same;
   slots =
       λ honest. ap (λ (x : Paged). x.slots) r.same ∙ length_stays slot size old.slots (λ told f. sym (r.gives told f) ∙ e);
+  marks = marks_same slot old new (ap (λ (x : Paged). x.unsynced) r.same);
 }
 
 pub length_failed : (slot : ℕ) (old new : Paged) (fault : Failed) → ReadsLength slot old new (Err fault) →
@@ -369,6 +385,7 @@ length_failed slot old new fault r = record {
       λ honest.
       let stay = slots_stay slot old.slots in
       (stay.0, ap (λ (x : Paged). x.slots) r.same ∙ stay.1);
+  marks = marks_same slot old new (ap (λ (x : Paged). x.unsynced) r.same);
 }
 
 -- slots of which one changed are slots with some bytes of its own put in place
@@ -377,10 +394,10 @@ slots_changed : (slot : ℕ) (change : List ℕ → List ℕ) (slots : Option Sl
 slots_changed slot change None = ([], refl)
 slots_changed slot change (Some told) = (change (slot_in told slot), refl)
 
--- a length that is fitted, and then synced or not
-pub fits_synced : (slot size : ℕ) (old mid new : Paged) (result : Result Unit Failed) → Fits slot size old mid →
-    Syncs slot mid new result → FitsLength slot size old new result
-fits_synced slot size old mid new (Ok done) f s = record {
+-- a length that is fitted, and then synced
+fits_and_synced : (slot size : ℕ) (old mid new : Paged) (done : Unit) → Fits slot size old mid →
+    Syncs slot mid new (Ok done) → Fits slot size old new
+fits_and_synced slot size old mid new done f s = record {
   honest = ap (λ (x : Paged). x.is_honest) s.same ∙ f.honest;
   faults = s.counted_faults.kept ∙ f.faults;
   reads = ap (λ (x : Paged). x.page_reads) s.same ∙ f.reads;
@@ -389,6 +406,16 @@ fits_synced slot size old mid new (Ok done) f s = record {
       subst (λ n. IsOneMoreAtMost old.length_writes n) (sym (ap (λ (x : Paged). x.length_writes) s.same)) f.lengths;
   settled = λ told e l. ap (λ (x : Paged). x.length_writes) s.same ∙ f.settled told e l;
   slots = λ honest. s.leaves (f.honest ∙ honest) ∙ f.slots honest;
+  marks =
+      marks_after slot old.unsynced mid.unsynced new.unsynced f.marks (false, ap (λ (x : Paged). x.unsynced) s.same);
+}
+
+-- or not
+pub fits_synced : (slot size : ℕ) (old mid new : Paged) (result : Result Unit Failed) → Fits slot size old mid →
+    Syncs slot mid new result → EndsInSync slot size old new result
+fits_synced slot size old mid new (Ok done) f s = record {
+  fits = fits_and_synced slot size old mid new done f s;
+  synced = marked_last slot false old.unsynced mid.unsynced new.unsynced f.marks (ap (λ (x : Paged). x.unsynced) s.same);
 }
 fits_synced slot size old mid new (Err fault) f s = record {
   honest = ap (λ (x : Paged). x.is_honest) s.same ∙ f.honest;
@@ -401,6 +428,8 @@ fits_synced slot size old mid new (Err fault) f s = record {
         left.1 ∙ ap (λ (x : Option Slots). putting slot left.0 x) (f.slots honest ∙ before.1)
             ∙ putting-twice slot before.0 left.0 old.slots,
       );
+  marks =
+      marks_after slot old.unsynced mid.unsynced new.unsynced f.marks (true, ap (λ (x : Paged). x.unsynced) s.same);
 }
 
 -- what is in a slot whose pages are those of the bytes, once it has their length
@@ -425,8 +454,9 @@ fits_whole slot bytes (Some told) mid new f e =
 pub puts_all : (slot : ℕ) (bytes : List ℕ) (old mid new : Paged) (rows some after : Rows) →
     PutsFirst slot (page_count (length bytes)) bytes old mid rows some →
     after ≡ with_row some slot (take (page_count (length bytes)) (row_in some slot)) →
-    Fits slot (length bytes) mid new → PutsWhole slot bytes old new rows after
-puts_all slot bytes old mid new rows some after f r g =
+    FitsAndSyncs slot (length bytes) mid new → PutsWhole slot bytes old new rows after
+puts_all slot bytes old mid new rows some after f r ends =
+    let g = ends.fits in
     let count : ℕ = page_count (length bytes) in
     let row_is : row_in some slot ≡ page_digests bytes count ++ drop count (row_in rows slot) =
     ap (λ (x : Rows). row_in x slot) f.rows_are
@@ -437,6 +467,7 @@ puts_all slot bytes old mid new rows some after f r g =
       honest = g.honest ∙ f.honest;
       faults = g.faults ∙ f.faults;
       lengths = subst (λ n. IsOneMoreAtMost n new.length_writes) f.lengths g.lengths;
+      synced = marked_last slot false old.unsynced mid.unsynced new.unsynced f.marks ends.synced;
       rows_are =
           r ∙ ap (λ (x : List (Option Digest)). with_row some slot x) cut
           ∙ ap (λ (x : Rows). with_row x slot (page_digests bytes count)) f.rows_are

@@ -1,9 +1,11 @@
 -- What each call of a device of pages does to what it holds.
 use Rattle.std.specs.Prelude.{◌≡◌, ℕ, true, List, length, Option, Some, Result, Ok, Err, IfOk, OnOk}
 use Rattle.std.specs.Option.{option_map}
+use Rattle.std.specs.Result.{is_err}
 use Rattle.mm_base.specs.declared.fault.Failed.{Failed}
 use Rattle.mm_base.specs.Faults.{counted, CountsFaults}
 use Rattle.mm_store.specs.Slots.{Slots, slot_in, with_slot}
+use Rattle.mm_store.specs.Unsynced.{marking}
 use Rattle.mm_store.specs.Calls.{putting}
 use Rattle.mm_pages.specs.Bytes.{resized, page_of, with_page}
 use Rattle.mm_pages.specs.Paged.{Paged}
@@ -29,13 +31,25 @@ abbrev pub LeavesSlot : ℕ → (List ℕ → List ℕ) → Option Slots → Opt
 LeavesSlot slot change old new (Ok _) = new ≡ changing slot change old
 LeavesSlot slot change old new (Err _) = (left : List ℕ) × (new ≡ putting slot left old)
 
+-- a write of a page leaves its slot unsynced, whether it fails or not
 pub record WritesPage (slot page : ℕ) (part : List ℕ) (old new : Paged) (result : Result Unit Failed) : Type 0 where
-  pub same : new ≡ record old { slots = new.slots; faults = new.faults; page_writes = counted old.page_writes }
+  pub same : new ≡ record old {
+    slots = new.slots;
+    faults = new.faults;
+    page_writes = counted old.page_writes;
+    unsynced = marking slot true old.unsynced;
+  }
   pub counted_faults : CountsFaults old.faults new.faults result
   pub leaves : old.is_honest ≡ true → LeavesSlot slot (with_page page part) old.slots new.slots result
 
+-- and so does a write of a length
 pub record SetsLength (slot size : ℕ) (old new : Paged) (result : Result Unit Failed) : Type 0 where
-  pub same : new ≡ record old { slots = new.slots; faults = new.faults; length_writes = counted old.length_writes }
+  pub same : new ≡ record old {
+    slots = new.slots;
+    faults = new.faults;
+    length_writes = counted old.length_writes;
+    unsynced = marking slot true old.unsynced;
+  }
   pub counted_faults : CountsFaults old.faults new.faults result
   pub leaves : old.is_honest ≡ true → LeavesSlot slot (resized size) old.slots new.slots result
 
@@ -44,7 +58,12 @@ abbrev pub KeepsSlot : ℕ → Option Slots → Option Slots → Result Unit Fai
 KeepsSlot slot old new (Ok _) = new ≡ old
 KeepsSlot slot old new (Err _) = (left : List ℕ) × (new ≡ putting slot left old)
 
+-- after Ok the slot is synced, and after a sync that failed it is not
 pub record Syncs (slot : ℕ) (old new : Paged) (result : Result Unit Failed) : Type 0 where
-  pub same : new ≡ record old { slots = new.slots; faults = new.faults }
+  pub same : new ≡ record old {
+    slots = new.slots;
+    faults = new.faults;
+    unsynced = marking slot (is_err result) old.unsynced;
+  }
   pub counted_faults : CountsFaults old.faults new.faults result
   pub leaves : old.is_honest ≡ true → KeepsSlot slot old.slots new.slots result

@@ -1,10 +1,12 @@
 -- What a device of pages holds.
 use Rattle.std.specs.Prelude.{ℕ, Bool, Option}
 use Rattle.mm_store.specs.Slots.{Slots}
+use Rattle.mm_store.specs.Unsynced.{Unsynced}
 use Rattle.mm_store.specs.Kept.{StoreStanding}
 
--- the slots where the device tells them, whether it is honest, its count of faults, and how many reads of
--- pages, writes of pages and writes of lengths were called
+-- the slots where the device tells them, whether it is honest, its count of faults, how many reads of pages,
+-- writes of pages and writes of lengths were called, and, where it is told, which slots have changes that were not
+-- synced
 pub record Paged : Type 0 where
   pub slots : Option Slots
   pub is_honest : Bool
@@ -12,6 +14,7 @@ pub record Paged : Type 0 where
   pub page_reads : ℕ
   pub page_writes : ℕ
   pub length_writes : ℕ
+  pub unsynced : Option Unsynced
 
 -- what a store over the device holds
 abbrev pub kept_on : Paged → StoreStanding

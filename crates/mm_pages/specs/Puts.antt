@@ -1,10 +1,11 @@
 -- What the steps of a write do to a device of pages and to the digests that are kept.
-use Rattle.std.specs.Prelude.{◌≡◌, ◌⊎◌, ◌<◌, ◌≤◌, ◌+◌, ◌*◌, ℕ, Bool, true, ◌&&◌, List, ◌++◌, drop, length, slice_index, Option, Some, Result, Ok, Err, IfOk}
+use Rattle.std.specs.Prelude.{◌≡◌, ◌⊎◌, ◌<◌, ◌≤◌, ◌+◌, ◌*◌, ℕ, Bool, true, false, ◌&&◌, List, ◌++◌, drop, length, slice_index, Option, Some, Result, Ok, Err, IfOk}
 use Rattle.std.specs.Str.{bytes_eq}
 use Rattle.mm_base.specs.declared.fault.Failed.{Failed}
 use Rattle.mm_base.specs.Faults.{counted, Rose, CountsFaults}
 use Rattle.mm_digest.specs.declared.digest.Digest.{Digest}
 use Rattle.mm_store.specs.Slots.{Slots, slot_in}
+use Rattle.mm_store.specs.Unsynced.{marking, MarksAlone}
 use Rattle.mm_store.specs.Calls.{putting}
 use Rattle.mm_pages.specs.Bytes.{resized, page_of, page_count}
 use Rattle.mm_pages.specs.Calls.{changing}
@@ -35,6 +36,7 @@ pub record FailsIn (slot : ℕ) (old new : Paged) : Type 0 where
   pub honest : new.is_honest ≡ old.is_honest
   pub faults : Rose old.faults new.faults
   pub leaves : old.is_honest ≡ true → (left : List ℕ) × (new.slots ≡ putting slot left old.slots)
+  pub marks : MarksAlone slot old.unsynced new.unsynced
 
 -- a write that failed: of the digests, none but those of its slot changed
 pub record Fails (slot : ℕ) (old new : Paged) (rows after : Rows) : Type 0 where
@@ -53,6 +55,7 @@ pub record PutsOne (slot page : ℕ) (part : List ℕ) (old new : Paged) (rows a
   pub honest : new.is_honest ≡ old.is_honest
   pub faults : new.faults ≡ old.faults
   pub lengths : new.length_writes ≡ old.length_writes
+  pub marks : MarksAlone slot old.unsynced new.unsynced
   pub rows_are : after ≡ with_row rows slot (keeping page (page_digest part) (row_in rows slot))
   pub looks : new.page_reads ≡ counted_by (look_at (row_in rows slot) page part) old.page_reads
   pub puts : old.is_honest ≡ true → PutsThere slot page part old.slots new.slots
@@ -81,6 +84,7 @@ pub record PutsFirst (slot count : ℕ) (bytes : List ℕ) (old new : Paged) (ro
   pub honest : new.is_honest ≡ old.is_honest
   pub faults : new.faults ≡ old.faults
   pub lengths : new.length_writes ≡ old.length_writes
+  pub marks : MarksAlone slot old.unsynced new.unsynced
   pub rows_are : after ≡ with_row rows slot (page_digests bytes count ++ drop count (row_in rows slot))
   pub looks : new.page_reads ≡ counted_by (looks_at (row_in rows slot) bytes count) old.page_reads
   pub fills : old.is_honest ≡ true → FillsSlot slot count bytes old.slots new.slots
@@ -109,16 +113,27 @@ pub record Fits (slot size : ℕ) (old new : Paged) : Type 0 where
   pub settled : (told : Slots) → old.slots ≡ Some told → length (slot_in told slot) ≡ size
       → new.length_writes ≡ old.length_writes
   pub slots : old.is_honest ≡ true → new.slots ≡ changing slot (resized size) old.slots
+  pub marks : MarksAlone slot old.unsynced new.unsynced
 
 abbrev pub FitsLength : ℕ → ℕ → Paged → Paged → Result Unit Failed → Type 0
 FitsLength slot size old new (Ok _) = Fits slot size old new
 FitsLength slot size old new (Err _) = FailsIn slot old new
+
+-- a slot is given a length, and then synced
+pub record FitsAndSyncs (slot size : ℕ) (old new : Paged) : Type 0 where
+  pub fits : Fits slot size old new
+  pub synced : new.unsynced ≡ marking slot false old.unsynced
+
+abbrev pub EndsInSync : ℕ → ℕ → Paged → Paged → Result Unit Failed → Type 0
+EndsInSync slot size old new (Ok _) = FitsAndSyncs slot size old new
+EndsInSync slot size old new (Err _) = FailsIn slot old new
 
 -- a whole write
 pub record PutsWhole (slot : ℕ) (bytes : List ℕ) (old new : Paged) (rows after : Rows) : Type 0 where
   pub honest : new.is_honest ≡ old.is_honest
   pub faults : new.faults ≡ old.faults
   pub lengths : IsOneMoreAtMost old.length_writes new.length_writes
+  pub synced : new.unsynced ≡ marking slot false old.unsynced
   pub rows_are : after ≡ with_row rows slot (page_digests bytes (page_count (length bytes)))
   pub looks : new.page_reads ≡ counted_by (looks_at (row_in rows slot) bytes (page_count (length bytes))) old.page_reads
   pub slots : old.is_honest ≡ true → new.slots ≡ putting slot bytes old.slots

@@ -10,8 +10,8 @@ use mm_base::Failed;
 /// pages of 256. Bytes past a slot's end read as zero. What is written may wait to be on the disk until the slot is
 /// synced.
 ///
-/// `pages` is what the device holds: the slots where it tells them, whether it is honest, and its counts of
-/// faults and of calls.
+/// `pages` is what the device holds: the slots where it tells them, whether it is honest, its counts of faults
+/// and of calls, and, where it is told, which slots have changes that were not synced.
 pub trait PageDevice {
     ghost pages: { Self → Paged };
 

@@ -3,6 +3,7 @@
 
 mod device;
 mod digests;
+mod marks;
 mod memory;
 mod page;
 mod reading;

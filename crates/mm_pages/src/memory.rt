@@ -3,11 +3,13 @@
 ghost use Rattle.std.specs.Prelude.{◌≡◌, ◌↔◌, ◌<◌, ◌≤◌, ◌+◌, ◌++◌, IsTrue, IsErr, [], OnOk, OnErr, IfOk, length, take, drop, if◌then◌else◌};
 ghost use Rattle.mm_base.specs.Faults.{counted};
 ghost use Rattle.mm_store.specs.Slots.{slot_in, with_slot};
+ghost use Rattle.mm_store.specs.Unsynced.{unsynced_in};
 ghost use Rattle.mm_pages.specs.Bytes.{resized, with_page};
 ghost use Rattle.mm_pages.specs.Calls.{ReadsLength, ReadsPage, WritesPage, SetsLength, Syncs};
 ghost use Rattle.mm_pages.specs.Sheets.{blank, paged_by, call_made, failed, failed_in, after_reading, after_changing, after_syncing};
 
 use crate::device::PageDevice;
+use crate::marks::Marks;
 use crate::page::{PAGE, page_of};
 use mm_base::{Failed, Memory};
 use std::alloc::Global;
@@ -193,6 +195,7 @@ pub struct MemPages {
     page_reads: u64,
     page_writes: u64,
     length_writes: u64,
+    unsynced: Marks,
     ahead: u64,
     leaves: Vec<u8>,
 }
@@ -209,6 +212,7 @@ impl Model for MemPages {
       page_reads = p.page_reads;
       page_writes = p.page_writes;
       length_writes = p.length_writes;
+      unsynced = p.unsynced;
       ahead = p.ahead;
       leaves = p.leaves.items;
     } };
@@ -229,6 +233,7 @@ impl MemPages {
             page_reads: 0,
             page_writes: 0,
             length_writes: 0,
+            unsynced: Marks::new(),
             ahead: 0,
             leaves: Vec::new(alloc),
         })
@@ -269,6 +274,14 @@ impl MemPages {
         self.length_writes
     }
 
+    /// Whether a slot has changes that were not synced.
+    pub fn is_unsynced(&self, slot: u8) -> bool
+        requires { slot < 4 }
+        ensures { result ≡ unsynced_in self.now.unsynced slot }
+    {
+        self.unsynced.get(slot)
+    }
+
     // Begins a call, and tells whether it is the one that is to fail.
     fn is_to_fail(&mut self) -> bool
         ensures fails { IsTrue result ↔ (self.old.ahead ≡ 1) }
@@ -287,13 +300,15 @@ impl MemPages {
     fn is_to_fail_in(&mut self, slot: u8) -> bool
         requires { slot < 4 }
         ensures fails { IsTrue result ↔ (self.old.ahead ≡ 1) }
-        ensures after { self.new ≡ (if result then failed_in slot self.old else call_made self.old) }
+        ensures after { self.new
+            ≡ (if result then failed_in slot self.old else call_made self.old) }
         ensures later { self.old.faults ≤ self.new.faults }
     {
         if !self.is_to_fail() {
             return false;
         }
         self.slots.set(slot, self.leaves.as_slice());
+        self.unsynced.set(slot, true);
         true
     }
 }
@@ -347,6 +362,7 @@ impl PageDevice for MemPages {
             return Err(Failed);
         }
         self.slots.put_page(slot, page, bytes);
+        self.unsynced.set(slot, true);
         Ok(())
     }
 
@@ -364,6 +380,7 @@ impl PageDevice for MemPages {
             return Err(Failed);
         }
         self.slots.resize(slot, length as usize);
+        self.unsynced.set(slot, true);
         Ok(())
     }
 
@@ -376,6 +393,7 @@ impl PageDevice for MemPages {
         if self.is_to_fail_in(slot) {
             return Err(Failed);
         }
+        self.unsynced.set(slot, false);
         Ok(())
     }
 }

@@ -186,6 +186,22 @@ fn slots_hold_the_most_bytes(rt: HostRuntime) -> Result<(), Fail> {
     Ok(())
 }
 
+// Whether slots 0 and 3 have changes that were not synced.
+fn unsynced(store: &mut PageStore<MemPages>) -> (bool, bool) {
+    let device = store.device();
+    (device.is_unsynced(0), device.is_unsynced(3))
+}
+
+// A write syncs its slot, and no other.
+#[test]
+fn a_write_ends_with_a_sync(rt: HostRuntime) -> Result<(), Fail> {
+    let mut store = empty(rt.alloc())?;
+    assert!(rt; fill(store.device(), 3, 0, 7).is_ok() && fill(store.device(), 0, 0, 7).is_ok());
+    assert!(rt; unsynced(&mut store) == (true, true));
+    assert!(rt; put(&mut store, 0, &[]) == Ok(()) && unsynced(&mut store) == (false, true));
+    Ok(())
+}
+
 // Gives slot 3 of a device this length, and tells the length that it has then.
 fn fit(pages: &mut MemPages, length: u32) -> Result<u32, Failed> {
     if length > 1_100_032 {

@@ -4,7 +4,7 @@ ghost use Rattle.std.specs.Prelude.{◌≡◌, ◌<◌, ◌≤◌, length};
 ghost use Rattle.mm_store.specs.declared.store.TheConstants.{LONGEST_SLOT};
 ghost use Rattle.mm_pages.specs.Counts.{may_be};
 ghost use Rattle.mm_pages.specs.Rows.{row_in};
-ghost use Rattle.mm_pages.specs.Puts.{HoldsPage, PutsPage, PutsPages, FitsLength, PutsBytes};
+ghost use Rattle.mm_pages.specs.Puts.{HoldsPage, PutsPage, PutsPages, FitsLength, EndsInSync, PutsBytes};
 
 use crate::device::PageDevice;
 use crate::digests::Digests;
@@ -112,7 +112,7 @@ fn may_be(kept: Option<Digest>, digest: &Digest) -> bool
 fn fit_and_sync<D: PageDevice>(device: &mut D, slot: u8, length: u32) -> Result<(), Failed>
     requires slot { slot < 4 }
     requires most { length ≤ LONGEST_SLOT }
-    ensures { FitsLength slot length (D.pages device.old) (D.pages device.new) result }
+    ensures { EndsInSync slot length (D.pages device.old) (D.pages device.new) result }
 {
     fit_length(device, slot, length)?;
     device.sync(slot)

@@ -49,7 +49,8 @@ pub record AnswersLine {P : Type 0} (answer : P → List ℕ → Result (List �
 -- replies, and what is pending still.
 abbrev pub PlayedOn : {P : Type 0} → (P → List ℕ → Result (List ℕ × P) Refused) → (List ℕ → Told P) → ℕ → P → P → Option (List ℕ) → List ℕ
     → List ℕ → List ℕ → List ℕ → Result Bool ReplayFault → Type 0
-PlayedOn answer rest number player next left bytes held pending said (Ok true) = AnswersLine answer number player next bytes held pending said
+PlayedOn answer rest number player next left bytes held pending said (Ok true) =
+    AnswersLine answer number player next bytes held pending said
 PlayedOn answer rest number player next left bytes held pending said (Ok false) =
     IsAtEnd left × (last : List ℕ) × (rest bytes ≡ told last (Ok next)) × (said ≡ pending ++ last)
 PlayedOn answer rest number player next left bytes held pending said (Err ReadFault) = (said ≡ pending) × IsUnbroken bytes
@@ -104,6 +105,7 @@ pub record PlaysNext {P : Type 0} (answer : P → List ℕ → Result (List ℕ 
   pub sent : List ℕ
   pub consumed : Consumes left left' taken
   pub appended : Appends received received' sent
-  pub went : PlayedOn answer (run_from answer closing number player) number player next left' (held ++ taken) held' pending (sent ++ pending')
+  pub went : PlayedOn answer (run_from answer closing number player) number player next left' (held ++ taken) held' pending
+      (sent ++ pending')
       result
   pub is_sent : IsSent pending' result

@@ -40,7 +40,8 @@ key_of_words-key (word ∷ digits ∷ other ∷ more) = tt
 one_more : (count : ℕ) → count ≤ last_position → (count == last_position) ≡ false → count + 1 ≤ last_position
 one_more count few other = grind (arith, nat_tests)
 
-taken-IsKept : (inner : Meaning) (kept : ReceiptState) (request : List ℕ) (key : Option (List ℕ)) → kept.count + 1 ≤ last_position → MayBeValue key
+taken-IsKept : (inner : Meaning) (kept : ReceiptState) (request : List ℕ) (key : Option (List ℕ)) → kept.count + 1 ≤ last_position
+    → MayBeValue key
     → IsKept (taken inner kept request key).0
 taken-IsKept inner kept request None few keyed = record { few = few; keyed = key_of_words-key (words_of request) }
 taken-IsKept inner kept request (Some key) few keyed = record { few = few; keyed = keyed }
@@ -182,7 +183,8 @@ taken-spelled : (inner : Meaning) → IsLawful inner → (kept : ReceiptState) (
 taken-spelled inner lawful kept request None spelled = spelled
 taken-spelled inner lawful kept request (Some key) spelled = is-true _ (lawful.goes_on kept.inner request (search (rules, spelled)))
 
-full-spelled : (inner : Meaning) → IsLawful inner → (kept : ReceiptState) (request : List ℕ) (full : Bool) → inner.is_spelled kept.inner ≡ true
+full-spelled : (inner : Meaning) → IsLawful inner → (kept : ReceiptState) (request : List ℕ) (full : Bool)
+    → inner.is_spelled kept.inner ≡ true
     → inner.is_spelled (if full then (kept, codes "full") else taken inner kept request kept.key).0.inner ≡ true
 full-spelled inner lawful kept request true spelled = spelled
 full-spelled inner lawful kept request false spelled = taken-spelled inner lawful kept request kept.key spelled
@@ -241,13 +243,15 @@ goes-on : (inner : Meaning) → IsLawful inner → (state request : List ℕ) �
 goes-on inner lawful state request is =
     let s = SpellsKept-from inner state is in
     let k = kept_of-IsKept inner state s in
-    is_state-spelling_of inner lawful (outcome_of inner (receipt_state_in state) request).0 (outcome_of-IsKept inner (receipt_state_in state) request k)
+    is_state-spelling_of inner lawful (outcome_of inner (receipt_state_in state) request).0
+    (outcome_of-IsKept inner (receipt_state_in state) request k)
     (full-spelled inner lawful (receipt_state_in state) request ((receipt_state_in state).count == last_position) s.spelled)
 
 text-at : (inner : Meaning) → IsLawful inner → IsShort inner → (state request : List ℕ) → is_state inner state ≡ true
     → IsText 400 (outcome_of inner (receipt_state_in state) request).1
 text-at inner lawful short state request is =
-    full-IsText inner lawful short (receipt_state_in state) request ((receipt_state_in state).count == last_position) (SpellsKept-from inner state is).spelled
+    full-IsText inner lawful short (receipt_state_in state) request ((receipt_state_in state).count == last_position)
+    (SpellsKept-from inner state is).spelled
 
 fits-at : (inner : Meaning) → IsShort inner → (state : List ℕ) → is_state inner state ≡ true → length state ≤ 65041
 fits-at inner short state is =

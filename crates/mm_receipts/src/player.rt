@@ -83,8 +83,8 @@ fn checked<S: Source, K: Sink>(
     input: &mut S,
     out: &mut K,
 ) -> Result<ReceiptReport, ReplayFault>
-    ensures checks { ChecksReceipts key.now (S.left input.old) (S.left input.new) (K.received out.old)
-        (K.received out.new) result }
+    ensures checks { ChecksReceipts key.now (S.left input.old) (S.left input.new)
+        (K.received out.old) (K.received out.new) result }
     ensures read { IsBlamed (is_read_fault result) (S.faults input.old) (S.faults input.new) }
     ensures wrote { IsBlamed (is_write_fault result) (K.faults out.old) (K.faults out.new) }
 {
@@ -112,8 +112,8 @@ pub fn receipts<S: Source, K: Sink>(
     input: &mut S,
     out: &mut K,
 ) -> Result<ReceiptReport, ReplayFault>
-    ensures checks { ChecksReceipts key.now (S.left input.old) (S.left input.new) (K.received out.old)
-        (K.received out.new) result }
+    ensures checks { ChecksReceipts key.now (S.left input.old) (S.left input.new)
+        (K.received out.old) (K.received out.new) result }
     ensures read { IsBlamed (is_read_fault result) (S.faults input.old) (S.faults input.new) }
     ensures wrote { IsBlamed (is_write_fault result) (K.faults out.old) (K.faults out.new) }
 

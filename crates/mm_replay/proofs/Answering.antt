@@ -16,7 +16,7 @@ use Rattle.mm_model.specs.Moves.{Digests}
 use Rattle.mm_call.specs.Levels.{by_digests}
 use Rattle.mm_run.specs.Folds.{Followed, followed}
 use Rattle.mm_run.specs.Held.{world_of}
-use Rattle.mm_replay.specs.Schedule.{Running, most_kept, is_too_much, running_outcome, after_event, Stage, InEvents, event_answer, schedule_answer}
+use Rattle.mm_replay.specs.Schedule.{Running, most_kept, is_too_much, running_outcome, after_event, ReplayStage, InEvents, event_answer, schedule_answer}
 use Rattle.mm_replay.specs.Text.{text_of_replies, texts_of}
 
 abbrev pub followed_in : Running → List Event → Followed Digests
@@ -33,7 +33,7 @@ IsWithinFrom r lines = (before : List (List ℕ)) (line : List ℕ) (after : Lis
     → lines ≡ before ++ line ∷ after → map event_at before ≡ map Some events → IsOverFrom r before events line → ⊥
 
 -- The lines were answered, each an event.
-pub record AnswersFrom (r : Running) (lines : List (List ℕ)) (written : List ℕ) (p : Stage) : Type 0 where
+pub record AnswersFrom (r : Running) (lines : List (List ℕ)) (written : List ℕ) (p : ReplayStage) : Type 0 where
   pub events : List Event
   pub last : Running
   pub read : map event_at lines ≡ map Some events
@@ -112,20 +112,20 @@ within_more r line lines event is few on (first ∷ before) l after (e ∷ event
       | inr h ↦ inr (omega (arith, h, sums, ap (sum_by length) issued))
     ])
 
-abbrev rest_of : (List ℕ → Option Header) → List (List ℕ) → ℕ → Stage → Told Stage
+abbrev rest_of : (List ℕ → Option Header) → List (List ℕ) → ℕ → ReplayStage → Told ReplayStage
 rest_of heading lines number next = run (schedule_answer heading) (number + 1) next lines
 
-written_of : (t u : Told Stage) → t ≡ u → t.written ≡ u.written
-written_of t u h = ap (λ (x : Told Stage). x.written) h
+written_of : (t u : Told ReplayStage) → t ≡ u → t.written ≡ u.written
+written_of t u h = ap (λ (x : Told ReplayStage). x.written) h
 
-outcome_is : (t u : Told Stage) → t ≡ u → t.outcome ≡ u.outcome
-outcome_is t u h = ap (λ (x : Told Stage). x.outcome) h
+outcome_is : (t u : Told ReplayStage) → t ≡ u → t.outcome ≡ u.outcome
+outcome_is t u h = ap (λ (x : Told ReplayStage). x.outcome) h
 
-told_both : (t : Told Stage) (written : List ℕ) (outcome : Result Stage ReplayFault) → t.written ≡ written → t.outcome ≡ outcome → t ≡ told written outcome
+told_both : (t : Told ReplayStage) (written : List ℕ) (outcome : Result ReplayStage ReplayFault) → t.written ≡ written → t.outcome ≡ outcome → t ≡ told written outcome
 told_both t written outcome w o = λ i. told (w i) (o i)
 
 -- one more line was answered in front
-answers_more : (r : Running) (line : List ℕ) (lines : List (List ℕ)) (event : Event) (written : List ℕ) (p : Stage)
+answers_more : (r : Running) (line : List ℕ) (lines : List (List ℕ)) (event : Event) (written : List ℕ) (p : ReplayStage)
     → event_at line ≡ Some event → is_too_much r line ≡ false → AnswersFrom (after_event r line event) lines written p
     → AnswersFrom r (line ∷ lines) (text_of_replies (running_outcome r event).reply ++ written) p
 answers_more r line lines event written p is few a = record {
@@ -145,14 +145,14 @@ answers_more r line lines event written p is few a = record {
 -- what comes behind the line's event
 abbrev Onward : (List ℕ → Option Header) → Running → List ℕ → List (List ℕ) → ℕ → Type 0
 Onward heading r line lines number =
-    (event : Event) (written : List ℕ) (p : Stage) → rest_of heading lines number (InEvents (after_event r line event)) ≡ told written (Ok p)
+    (event : Event) (written : List ℕ) (p : ReplayStage) → rest_of heading lines number (InEvents (after_event r line event)) ≡ told written (Ok p)
     → AnswersFrom (after_event r line event) lines written p
 
-not_stopped : (why : ReplayFault) (written : List ℕ) (p : Stage) → stopped why ≡ told written (Ok p) → ⊥
+not_stopped : (why : ReplayFault) (written : List ℕ) (p : ReplayStage) → stopped why ≡ told written (Ok p) → ⊥
 not_stopped why written p h = not_ok why p (outcome_is (stopped why) (told written (Ok p)) h)
 
 -- by whether the event is one too many
-answers_event : (heading : List ℕ → Option Header) (r : Running) (line : List ℕ) (lines : List (List ℕ)) (number : ℕ) (event : Event) (written : List ℕ) (p : Stage) (much : Bool)
+answers_event : (heading : List ℕ → Option Header) (r : Running) (line : List ℕ) (lines : List (List ℕ)) (number : ℕ) (event : Event) (written : List ℕ) (p : ReplayStage) (much : Bool)
     → is_too_much r line ≡ much → event_at line ≡ Some event → Onward heading r line lines number
     → answered (rest_of heading lines number) number
     (cond much (Err Much) (Ok (text_of_replies (running_outcome r event).reply, InEvents (after_event r line event)))) ≡ told written (Ok p)
@@ -166,7 +166,7 @@ answers_event heading r line lines number event written p false full is on h =
     (answers_more r line lines event t.written p is full (on event t.written p went))
 
 -- by what event the line is
-answers_found : (heading : List ℕ → Option Header) (r : Running) (line : List ℕ) (lines : List (List ℕ)) (number : ℕ) (written : List ℕ) (p : Stage) (found : Option Event)
+answers_found : (heading : List ℕ → Option Header) (r : Running) (line : List ℕ) (lines : List (List ℕ)) (number : ℕ) (written : List ℕ) (p : ReplayStage) (found : Option Event)
     → event_at line ≡ found → Onward heading r line lines number
     → answered (rest_of heading lines number) number (event_answer r line found) ≡ told written (Ok p)
     → AnswersFrom r (line ∷ lines) written p
@@ -175,14 +175,14 @@ answers_found heading r line lines number written p (Some event) is on h =
     answers_event heading r line lines number event written p (is_too_much r line) refl is on h
 
 -- by whether the line is too long
-answers_line : (heading : List ℕ → Option Header) (r : Running) (line : List ℕ) (lines : List (List ℕ)) (number : ℕ) (written : List ℕ) (p : Stage) (long : Bool)
+answers_line : (heading : List ℕ → Option Header) (r : Running) (line : List ℕ) (lines : List (List ℕ)) (number : ℕ) (written : List ℕ) (p : ReplayStage) (long : Bool)
     → Onward heading r line lines number
     → cond long (stopped (LineLong number)) (answered (rest_of heading lines number) number (event_answer r line (event_at line))) ≡ told written (Ok p)
     → AnswersFrom r (line ∷ lines) written p
 answers_line heading r line lines number written p true on h = absurd (not_stopped (LineLong number) written p h)
 answers_line heading r line lines number written p false on h = answers_found heading r line lines number written p (event_at line) refl on h
 
-pub answers_from : (heading : List ℕ → Option Header) (lines : List (List ℕ)) (number : ℕ) (r : Running) (written : List ℕ) (p : Stage)
+pub answers_from : (heading : List ℕ → Option Header) (lines : List (List ℕ)) (number : ℕ) (r : Running) (written : List ℕ) (p : ReplayStage)
     → run (schedule_answer heading) number (InEvents r) lines ≡ told written (Ok p) → AnswersFrom r lines written p
 answers_from heading [] number r written p h = record {
   events = [];

@@ -12,7 +12,7 @@ use Rattle.mm_call.specs.Courses.{seen_in}
 use Rattle.mm_call.specs.Called.{reading_steps}
 use Rattle.mm_run.specs.Folds.{course_of}
 use Rattle.mm_world.proofs.Committing.{count_none}
-use Rattle.mm_world.proofs.Worlds.{seen_commits}
+use Rattle.mm_call.proofs.Walks.{seen_none}
 use Rattle.mm_schedule.specs.Events.{Event, Ask, Checkpoint, Power, Extend}
 use Rattle.mm_schedule.specs.declared.reply.Reply.{Reply}
 use Rattle.mm_model.specs.Moves.{Digests}
@@ -65,7 +65,7 @@ read_stays old new meddles stop e =
     record {
       issued = ap (λ (w : Held). w.issued) e;
       count = ap (λ (w : Held). w.digests.count) e
-          ∙ count_none i (seen_in fates (reading_steps i.variant) 1) old.digests (seen_commits fates (reading_steps i.variant) 1);
+          ∙ count_none i (seen_in fates (reading_steps i.variant) 1) old.digests (seen_none fates (reading_steps i.variant) 1);
     }
 
 pub stays : (event : Event) (old new : Held) → Wants event old new → Stays old new

@@ -27,7 +27,7 @@ use Rattle.mm_run.specs.Held.{world_key, world_barrier, world_of}
 use Rattle.mm_run.specs.Premises.{IsClearRun, IsGenuineRun}
 use Rattle.mm_run.specs.Laws.{AgreesThroughout, BasicIsExpected, OptIsExpected, ExpectedRuns}
 use Rattle.mm_call.specs.Standing.{instance_by}
-use Rattle.mm_replay.specs.Schedule.{Running, begun, is_too_much, running_outcome, after_event, Stage, AtHeader, InEvents, event_answer, header_answer, schedule_answer, schedule_closing}
+use Rattle.mm_replay.specs.Schedule.{Running, begun, is_too_much, running_outcome, after_event, ReplayStage, AtHeader, InEvents, event_answer, header_answer, schedule_answer, schedule_closing}
 use Rattle.mm_replay.specs.Text.{text_of_replies, texts_of}
 use Rattle.mm_replay.specs.Headline.{IsContinuous, IsWithinLimits, AnswersEvents, AnswersLines, AnswersAll, IsTooMuch, IsOut, unended}
 use Rattle.mm_replay.proofs.Answering.{AnswersFrom, answers_from, over_of}
@@ -60,7 +60,7 @@ continuous law runs header events = λ clear genuine.
     }
 
 -- The header was answered, and the lines behind it.
-record HeadedFrom (heading : List ℕ → Option Header) (lines : List (List ℕ)) (written : List ℕ) (p : Stage) : Type 0 where
+record HeadedFrom (heading : List ℕ → Option Header) (lines : List (List ℕ)) (written : List ℕ) (p : ReplayStage) : Type 0 where
   first : List ℕ
   others : List (List ℕ)
   header : Header
@@ -69,13 +69,13 @@ record HeadedFrom (heading : List ℕ → Option Header) (lines : List (List ℕ
   answers : AnswersFrom (begun header) others written p
 
 -- a run over lines that were all answered: there is none, or a header is the first
-abbrev Headed : (List ℕ → Option Header) → List (List ℕ) → List ℕ → Stage → Type 0
+abbrev Headed : (List ℕ → Option Header) → List (List ℕ) → List ℕ → ReplayStage → Type 0
 Headed heading lines written p = ((lines ≡ []) × (written ≡ []) × (p ≡ AtHeader)) ⊎ HeadedFrom heading lines written p
 
-outcome_is : (t u : Told Stage) → t ≡ u → t.outcome ≡ u.outcome
-outcome_is t u h = ap (λ (x : Told Stage). x.outcome) h
+outcome_is : (t u : Told ReplayStage) → t ≡ u → t.outcome ≡ u.outcome
+outcome_is t u h = ap (λ (x : Told ReplayStage). x.outcome) h
 
-headed_found : (heading : List ℕ → Option Header) (first : List ℕ) (others : List (List ℕ)) (written : List ℕ) (p : Stage) (found : Option Header) → heading first ≡ found
+headed_found : (heading : List ℕ → Option Header) (first : List ℕ) (others : List (List ℕ)) (written : List ℕ) (p : ReplayStage) (found : Option Header) → heading first ≡ found
     → answered (λ next. run (schedule_answer heading) (1 + 1) next others) 1 (header_answer found) ≡ told written (Ok p)
     → Headed heading (first ∷ others) written p
 headed_found heading first others written p None is h =
@@ -89,29 +89,29 @@ headed_found heading first others written p (Some header) is h = inr (record {
   answers = answers_from heading others (1 + 1) (begun header) written p h;
 })
 
-headed_line : (heading : List ℕ → Option Header) (first : List ℕ) (others : List (List ℕ)) (written : List ℕ) (p : Stage) (long : Bool)
+headed_line : (heading : List ℕ → Option Header) (first : List ℕ) (others : List (List ℕ)) (written : List ℕ) (p : ReplayStage) (long : Bool)
     → cond long (stopped (LineLong 1)) (answered (λ next. run (schedule_answer heading) (1 + 1) next others) 1 (header_answer (heading first))) ≡ told written (Ok p)
     → Headed heading (first ∷ others) written p
 headed_line heading first others written p true h =
     absurd (not_ok (LineLong 1) p (outcome_is (stopped (LineLong 1)) (told written (Ok p)) h))
 headed_line heading first others written p false h = headed_found heading first others written p (heading first) refl h
 
-headed : (heading : List ℕ → Option Header) (lines : List (List ℕ)) (written : List ℕ) (p : Stage)
+headed : (heading : List ℕ → Option Header) (lines : List (List ℕ)) (written : List ℕ) (p : ReplayStage)
     → run (schedule_answer heading) 1 AtHeader lines ≡ told written (Ok p) → Headed heading lines written p
 headed heading [] written p h = inl (
   refl,
-  sym (ap (λ (t : Told Stage). t.written) h),
+  sym (ap (λ (t : Told ReplayStage). t.written) h),
   sym (ok_same AtHeader p (outcome_is (told [] (Ok AtHeader)) (told written (Ok p)) h)),
 )
 headed heading (first ∷ others) written p h = headed_line heading first others written p (nat_lt longest_line (length first)) h
 
 -- the limits, from the header on
-within_limits : (header : Header) (others : List (List ℕ)) (written : List ℕ) (p : Stage) → AnswersFrom (begun header) others written p → IsWithinLimits header others
+within_limits : (header : Header) (others : List (List ℕ)) (written : List ℕ) (p : ReplayStage) → AnswersFrom (begun header) others written p → IsWithinLimits header others
 within_limits header others written p a before line after events split read over =
     a.within before line after events split read (elim over [ inl h ↦ inl (omega (arith, h)) | inr h ↦ inr (omega (arith, h)) ])
 
 -- these lines were answered: what was written, and what any last line adds
-answers_events : (law : BasicIsExpected × OptIsExpected) (runs : ExpectedRuns) (heading : List ℕ → Option Header) (lines : List (List ℕ)) (said written : List ℕ) (p : Stage) (last : ℕ → ℕ → List ℕ)
+answers_events : (law : BasicIsExpected × OptIsExpected) (runs : ExpectedRuns) (heading : List ℕ → Option Header) (lines : List (List ℕ)) (said written : List ℕ) (p : ReplayStage) (last : ℕ → ℕ → List ℕ)
     (h : HeadedFrom heading lines said p)
     → written ≡ said ++ last h.answers.last.digests.count (length h.answers.last.issued)
     → AnswersEvents heading lines written last
@@ -141,11 +141,11 @@ answers_lines law runs heading lines written a = elim (headed heading lines writ
 ]
 
 -- the last line needs a header
-closes_none : (p : Stage) (last : List ℕ) → p ≡ AtHeader → schedule_closing p ≡ Some last → ⊥
+closes_none : (p : ReplayStage) (last : List ℕ) → p ≡ AtHeader → schedule_closing p ≡ Some last → ⊥
 closes_none AtHeader last is h = cc
 closes_none (InEvents r) last is h = cc
 
-closes_with : (r : Running) (p : Stage) (last : List ℕ) → p ≡ InEvents r → schedule_closing p ≡ Some last → last ≡ end_line r.digests.count (length r.issued)
+closes_with : (r : Running) (p : ReplayStage) (last : List ℕ) → p ≡ InEvents r → schedule_closing p ≡ Some last → last ≡ end_line r.digests.count (length r.issued)
 closes_with r p last is h = some_same (sym h ∙ ap schedule_closing is)
   where
     some_same : Some last ≡ Some (end_line r.digests.count (length r.issued)) → last ≡ end_line r.digests.count (length r.issued)
@@ -165,7 +165,7 @@ header_refuses None h = cc
 header_refuses (Some header) h = cc
 
 full_event : (r : Running) (line : List ℕ) (event : Event) (much : Bool)
-    → (let a : Result (List ℕ × Stage) Refused = cond much (Err Much) (Ok (text_of_replies (running_outcome r event).reply, InEvents (after_event r line event))) in a ≡ Err Much)
+    → (let a : Result (List ℕ × ReplayStage) Refused = cond much (Err Much) (Ok (text_of_replies (running_outcome r event).reply, InEvents (after_event r line event))) in a ≡ Err Much)
     → much ≡ true
 full_event r line event true h = refl
 full_event r line event false h = cc
@@ -177,14 +177,14 @@ refuses_event r line (Some event) h = full_event r line event (is_too_much r lin
 -- the next event is one too many
 too_much : (heading : List ℕ → Option Header) (done rest : List (List ℕ)) → RefusesMuch (schedule_answer heading) AtHeader done rest → IsTooMuch heading done rest
 too_much heading done rest m = elim (headed heading done m.said m.next m.ran) [
-  | inl none ↦ absurd (header_refuses (heading m.line) (ap (λ (p : Stage). schedule_answer heading p m.line) (sym none.2) ∙ m.refused))
+  | inl none ↦ absurd (header_refuses (heading m.line) (ap (λ (p : ReplayStage). schedule_answer heading p m.line) (sym none.2) ∙ m.refused))
   | inr h ↦ behind h
 ]
   where
     behind : HeadedFrom heading done m.said m.next → IsTooMuch heading done rest
     behind h =
         let a = h.answers in
-        let full = refuses_event a.last m.line (event_at m.line) (ap (λ (p : Stage). schedule_answer heading p m.line) (sym a.stands) ∙ m.refused) in
+        let full = refuses_event a.last m.line (event_at m.line) (ap (λ (p : ReplayStage). schedule_answer heading p m.line) (sym a.stands) ∙ m.refused) in
         record {
           first = h.first;
           others = h.others;
@@ -203,7 +203,7 @@ too_much heading done rest m = elim (headed heading done m.said m.next m.ran) [
         }
 
 -- What is out tells the events.
-pub tells : {T : Type 0} (law : BasicIsExpected × OptIsExpected) (runs : ExpectedRuns) (heading : List ℕ → Option Header) (next : Stage) (left : Option (List ℕ)) (taken sent : List ℕ) (result : Result T ReplayFault)
+pub tells : {T : Type 0} (law : BasicIsExpected × OptIsExpected) (runs : ExpectedRuns) (heading : List ℕ → Option Header) (next : ReplayStage) (left : Option (List ℕ)) (taken sent : List ℕ) (result : Result T ReplayFault)
     → Settles (run (schedule_answer heading) 1 AtHeader) (run_of (schedule_answer heading) schedule_closing AtHeader) next left taken sent result
     → IsOut heading left taken sent result
 tells law runs heading next left taken sent result s =

@@ -6,7 +6,7 @@ use Rattle.mm_play.specs.declared.player.ReplyFault.{ReplyFault}
 use Rattle.mm_play.specs.declared.player.ReplyFault.TheVariants as fault
 use Rattle.mm_schedule.specs.Events.{Event}
 use Rattle.mm_schedule.specs.declared.reply.Reply.{Reply}
-use Rattle.mm_replay.specs.Schedule.{Running, is_too_much, running_outcome, after_event, Stage, AtHeader, InEvents}
+use Rattle.mm_replay.specs.Schedule.{Running, is_too_much, running_outcome, after_event, ReplayStage, AtHeader, InEvents}
 use Rattle.mm_replay.specs.declared.progress.Progress.{Progress}
 
 -- what stands, by digests
@@ -20,12 +20,12 @@ running p = record {
 }
 
 -- before the header there is no progress
-abbrev pub stage_of : Option Progress → Stage
-stage_of None = AtHeader
-stage_of (Some progress) = InEvents (running progress)
+abbrev pub replay_stage : Option Progress → ReplayStage
+replay_stage None = AtHeader
+replay_stage (Some progress) = InEvents (running progress)
 
 -- A header line was taken, with this answer.
-abbrev pub BeginsReplay : Result (List ℕ × Stage) Refused → Result Progress ReplyFault → Type 0
+abbrev pub BeginsReplay : Result (List ℕ × ReplayStage) Refused → Result Progress ReplyFault → Type 0
 BeginsReplay answer (Ok progress) = answer ≡ Ok ([], InEvents (running progress))
 BeginsReplay answer (Err fault.Memory) = Unit {0}
 BeginsReplay answer (Err (fault.Refused why)) = answer ≡ Err why

@@ -54,31 +54,31 @@ after_event r line event = record {
 }
 
 -- before the header, or among the events
-pub data Stage : Type 0 where
-  AtHeader : Stage
-  InEvents : Running → Stage
+pub data ReplayStage : Type 0 where
+  AtHeader : ReplayStage
+  InEvents : Running → ReplayStage
 
-abbrev pub event_answer : Running → List ℕ → Option Event → Result (List ℕ × Stage) Refused
+abbrev pub event_answer : Running → List ℕ → Option Event → Result (List ℕ × ReplayStage) Refused
 event_answer r line None = Err Bad
 event_answer r line (Some event) =
     if is_too_much r line then Err Much else Ok (text_of_replies (running_outcome r event).reply, InEvents (after_event r line event))
 
 -- a header begins the events
-abbrev pub header_answer : Option Header → Result (List ℕ × Stage) Refused
+abbrev pub header_answer : Option Header → Result (List ℕ × ReplayStage) Refused
 header_answer None = Err Bad
 header_answer (Some header) = Ok ([], InEvents (begun header))
 
 -- the reply to a line, by what the header line names
-abbrev pub schedule_answer : (List ℕ → Option Header) → Stage → List ℕ → Result (List ℕ × Stage) Refused
+abbrev pub schedule_answer : (List ℕ → Option Header) → ReplayStage → List ℕ → Result (List ℕ × ReplayStage) Refused
 schedule_answer heading AtHeader line = header_answer (heading line)
 schedule_answer heading (InEvents r) line = event_answer r line (event_at line)
 
 -- the last line, which needs a header before it
-abbrev pub schedule_closing : Stage → Option (List ℕ)
+abbrev pub schedule_closing : ReplayStage → Option (List ℕ)
 schedule_closing AtHeader = None
 schedule_closing (InEvents r) = Some (end_line r.digests.count (length r.issued))
 
 -- how many more lines can be answered
-abbrev pub lines_left_at : Stage → ℕ
+abbrev pub lines_left_at : ReplayStage → ℕ
 lines_left_at AtHeader = most_events + 1
 lines_left_at (InEvents r) = most_events - r.events

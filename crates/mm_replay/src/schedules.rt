@@ -3,10 +3,10 @@
 ghost use Rattle.std.specs.Prelude.{◌≡◌, ℕ, List, Some, Ok, OnOk};
 ghost use Rattle.mm_play.specs.Play.{run_of};
 ghost use Rattle.mm_play.specs.Plays.{IsBlamed, IsUnrefused, is_read_fault, is_write_fault};
-ghost use Rattle.mm_replay.specs.Schedule.{Stage, AtHeader, header_answer, schedule_answer, schedule_closing, lines_left_at};
+ghost use Rattle.mm_replay.specs.Schedule.{ReplayStage, AtHeader, header_answer, schedule_answer, schedule_closing, lines_left_at};
 ghost use Rattle.mm_replay.specs.Counting.{schedule_counts_down, schedule_is_short};
 ghost use Rattle.mm_schedule.specs.Headers.{header_at};
-ghost use Rattle.mm_replay.specs.Progress.{stage_of, BeginsReplay};
+ghost use Rattle.mm_replay.specs.Progress.{replay_stage, BeginsReplay};
 ghost use Rattle.mm_replay.specs.Replays.{Replays, Reports};
 
 use crate::progress::Progress;
@@ -25,9 +25,9 @@ pub struct SchedulePlayer {
 }
 
 impl Model for SchedulePlayer {
-    ghost Value = { Stage };
+    ghost Value = { ReplayStage };
 
-    ghost view = { λ it. stage_of it.progress };
+    ghost view = { λ it. replay_stage it.progress };
 }
 
 impl SchedulePlayer {
@@ -116,7 +116,7 @@ pub fn replay<S: Source, K: Sink>(
     ensures wrote { IsBlamed (is_write_fault result) (K.faults out.old) (K.faults out.new) }
 
     // A schedule within the grammar and the limits is not refused.
-    ensures complete { (bytes : List ℕ) → (next : Stage) → S.left input.old ≡ Some bytes
+    ensures complete { (bytes : List ℕ) → (next : ReplayStage) → S.left input.old ≡ Some bytes
         → (run_of (schedule_answer header_at) schedule_closing AtHeader bytes).outcome ≡ Ok next
         → IsUnrefused result }
 {

@@ -28,8 +28,8 @@ pub fn start<M: Module>(
     entropy: &mut MemSource,
 ) -> Result<(), InitFault>
     ensures leaves { Leaves variant (M.meaning «module».now)
-        (first_devices platform.old store.old entropy.old) (first_devices platform.new store.new entropy.new)
-        result }
+        (first_devices platform.old store.old entropy.old)
+        (first_devices platform.new store.new entropy.new) result }
     ensures starts { OnOk result
         (StartsInMemory variant (M.meaning «module».now) platform.new store.new
         entropy.old.left entropy.new.left) }

@@ -14,10 +14,11 @@ use Rattle.mm_call.specs.Asked.{IsPlain}
 use Rattle.mm_call.proofs.Moving.{agrees-moved, plain-moved, summary-nil}
 use Rattle.mm_call.proofs.BasicLaw.{plain_outside, basic_same}
 use Rattle.mm_call.proofs.Checkpoints.{basic_checkpoint_same}
+use Rattle.mm_model.proofs.Lists.{each_self}
 use Rattle.mm_run.specs.Folds.{course_of, first_issued, first_digests}
 use Rattle.mm_run.specs.Premises.{foreign_values, asked_batches, run_messages}
 use Rattle.mm_run.specs.Laws.{BasicIsExpected}
-use Rattle.mm_run.proofs.Following.{Keeps, Variants, follow_same, each_self}
+use Rattle.mm_run.proofs.Following.{Keeps, Variants, follow_same}
 
 -- what a loss of power, or a value of others, leaves
 power_keeps : (meaning : Meaning) (key : List ℕ) (all others : List (List ℕ)) (asked_for : List Batch) (y : History) (d : Digests)

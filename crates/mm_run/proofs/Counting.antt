@@ -40,8 +40,9 @@ use Rattle.mm_call.specs.Called.{Ending, Answers, Refuses, Breaks, Called, ended
 use Rattle.mm_call.specs.Checkpoints.{Closing, Closes, HasNone, NoSegment, LostPower, Stops, Checkpointed, checkpointed_with, checkpointed}
 use Rattle.mm_call.specs.Standing.{instance_by}
 use Rattle.mm_call.proofs.Moving.{committed_in}
-use Rattle.mm_call.proofs.Walks.{Commits, nothing, batch}
+use Rattle.mm_call.proofs.Walks.{Commits, nothing, batch, call_commits}
 use Rattle.mm_call.proofs.BasicLaw.{unlacked}
+use Rattle.mm_call.proofs.Along.{checkpoint_none}
 use Rattle.mm_schedule.specs.Events.{Event, Ask, Checkpoint, Power, Extend}
 use Rattle.mm_schedule.specs.Replies.{IsPrintable}
 use Rattle.mm_schedule.specs.declared.reply.Reply.TheVariants as reply
@@ -50,7 +51,6 @@ use Rattle.mm_schedule.specs.declared.reply.Way.{Way}
 use Rattle.mm_run.specs.Offered.{offered_bytes}
 use Rattle.mm_run.specs.Folds.{way_of, after_stop, course_of, reply_of, snapshots_of, moves_then, outcome_by, uncalled, asked, closing_reply, closing_then, closed_outcome, event_outcome}
 use Rattle.mm_run.specs.Held.{Held, world_key, world_barrier, instance_of, outcome_in}
-use Rattle.mm_run.proofs.Running.{asks, checkpoint_none}
 
 -- how many requests moves commit
 
@@ -98,7 +98,7 @@ called_few : (i : Instance) (d : Digests) (c : Course) (bytes : List ℕ) (b : B
 called_few i d c bytes b =
     let fresh : Bool = is_fresh (found_unless_wanting (found_at i (by_digests i) (seen_at i (by_digests i) d c) b bytes) c.lacks) in
     let w : Walked = walk c.fates 1 (ask_steps i.variant d.flag fresh b) in
-    omega (arith, count-made i w.moves d, walk_sizes b fresh w (asks i.variant c.fates d.flag fresh b))
+    omega (arith, count-made i w.moves d, walk_sizes b fresh w (call_commits i.variant c.fates d.flag fresh b))
 
 last_false : (a b c : Bool) → (a || b || c) ≡ false → c ≡ false
 last_false true b c e = absurd (cc)

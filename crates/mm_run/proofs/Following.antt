@@ -1,8 +1,7 @@
 -- A schedule gives the same by digests as by lists: one induction over events, for both variants.
-use Rattle.std.proofs.Common.{ℕ, ◌≡◌, ◌+◌, Bool, true, false, List, [], ◌∷◌, ◌++◌, map, Option, None, Some, refl, sym, ap, subst, arith, append_assoc}
+use Rattle.std.proofs.Common.{ℕ, ◌≡◌, ◌+◌, Bool, true, false, List, [], ◌∷◌, ◌++◌, map, Option, None, Some, refl, sym, ap, subst}
 use Rattle.std.specs.Prelude.{if◌then◌else◌}
 use Rattle.std.specs.List.{AllByRecursion, Contains}
-use Rattle.std.proofs.lemmas.List.Elements.{Contains-append_right}
 use Rattle.mm_platform.specs.declared.plan.Meddle.{Meddle}
 use Rattle.mm_platform.specs.declared.plan.Stop.{Stop}
 use Rattle.mm_platform.specs.declared.plan.Stop.TheVariants.{Quiet, Cut, Drop, Fail}
@@ -178,11 +177,3 @@ module _ (all others : List (List ℕ)) (asked_for : List Batch) (i : Instance) 
         writes = λ j. same.writes j + later.writes j;
         stands = later.stands;
       }
-
-pub each_self : {A : Type 0} (front xs : List A) → AllByRecursion (Contains (front ++ xs)) xs
-each_self front [] = tt
-each_self {A} front (x ∷ xs) =
-    let P : List A → Type 0 = λ w. AllByRecursion (Contains w) xs in (
-      Contains-append_right front (x ∷ xs) x (0, omega arith, refl),
-      subst P (append_assoc front (x ∷ []) xs) (each_self (front ++ x ∷ []) xs),
-    )

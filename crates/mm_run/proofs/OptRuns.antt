@@ -17,7 +17,7 @@ use Rattle.mm_model.specs.Moves.{Digests, made}
 use Rattle.mm_model.specs.Standing.{IsGenuine}
 use Rattle.mm_model.specs.Steps.{Step, Reads, Changes, Writes, ask_steps, checkpoint_steps}
 use Rattle.mm_model.proofs.Forms.{reads_zero}
-use Rattle.mm_model.proofs.Lists.{each_left, each_right, each_append}
+use Rattle.mm_model.proofs.Lists.{each_left, each_right, each_append, each_self}
 use Rattle.mm_model.proofs.Moves.{sound_moved}
 use Rattle.mm_model.proofs.Ends.{first_sound, first_outside}
 use Rattle.mm_model.proofs.MovedDigests.{outside_moved}
@@ -31,7 +31,7 @@ use Rattle.mm_call.specs.Laws.{IsSameCall}
 use Rattle.mm_call.proofs.Moving.{anchor-nil}
 use Rattle.mm_call.proofs.OptHolding.{opt_agrees_moved, foreign_may, power_may, power_brings, holds_moved, foreign_fine}
 use Rattle.mm_call.proofs.Walks.{asks, taking, taking_is, messages-made, foreign_in-append, foreign_in-foreign, foreign_in-first, from_reset-foreign}
-use Rattle.mm_call.proofs.OptWalks.{AreOwn}
+use Rattle.mm_call.proofs.OptWalks.{AreOwn, own_asked, own_checked}
 use Rattle.mm_call.proofs.OptShapes.{Shape, still, reset, shape}
 use Rattle.mm_call.proofs.OptShut.{bare, listed_bare, holds_open, within_of, within_items}
 use Rattle.mm_call.proofs.OptLaw.{reset_messages, opt_calls_agree_by_lists}
@@ -39,7 +39,7 @@ use Rattle.mm_call.proofs.Checkpoints.{read_moves, opt_checkpoints_agree_by_list
 use Rattle.mm_run.specs.Folds.{course_of, first_issued, first_digests}
 use Rattle.mm_run.specs.Premises.{foreign_values, asked_batches, run_messages}
 use Rattle.mm_run.specs.Laws.{OptIsExpected}
-use Rattle.mm_run.proofs.Following.{Keeps, Variants, follow_same, each_self}
+use Rattle.mm_run.proofs.Following.{Keeps, Variants, follow_same}
 
 -- the values that are due before a step are among those of the meddles
 
@@ -91,17 +91,6 @@ module _ (others : List (List ℕ)) where
       step_among (Changes m) (fates n).brings (fates n).ends (walk fates (n + 1) steps) (λ made. changes_among made m (fates n).brings own.0 (h n)) (walk_among fates steps (n + 1) own.1 h)
   walk_among fates (Writes m ∷ steps) n own h =
       step_among (Writes m) (fates n).brings (fates n).ends (walk fates (n + 1) steps) (λ made. writes_among made m (fates n).brings own.0 (h n)) (walk_among fates steps (n + 1) own.1 h)
-
-pub own_asked : (flag fresh : Bool) (b : Batch) → AreOwn (ask_steps Opt flag fresh b)
-own_asked true true b = (refl, tt)
-own_asked true false b = tt
-own_asked false true b = (refl, (refl, (refl, tt)))
-own_asked false false b = tt
-
-pub own_checked : (flag lost : Bool) → AreOwn (checkpoint_steps Opt flag lost)
-own_checked true true = tt
-own_checked true false = (refl, tt)
-own_checked false lost = tt
 
 -- what counts of moves is listed, where all their messages are
 

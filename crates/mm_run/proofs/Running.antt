@@ -1,10 +1,8 @@
 -- What is expected is a run of the machine, in each variant.
-use Rattle.std.proofs.Common.{ℕ, ◌≡◌, ◌+◌, ◌-◌, Bool, true, false, ◌&&◌, List, [], ◌∷◌, ◌++◌, length, map, Option, None, Some, Result, Ok, Err, refl, sym, ap, ◌∙◌, subst}
+use Rattle.std.proofs.Common.{ℕ, ◌≡◌, ◌+◌, ◌-◌, Bool, true, false, ◌&&◌, List, [], ◌∷◌, ◌++◌, length, Option, None, Some, Result, Ok, Err, refl, sym, ap, ◌∙◌, subst}
 use Rattle.std.specs.Prelude.{if◌then◌else◌, nat_eq}
 use Rattle.std.specs.Str.{bytes_eq}
 use Rattle.std.proofs.lemmas.Bool.{and_parts}
-use Rattle.mm_digest.specs.declared.variant.Variant.{Variant}
-use Rattle.mm_digest.specs.declared.variant.Variant.TheVariants.{Basic, Opt}
 use Rattle.mm_module.specs.Meaning.{Meaning, state_after, outputs_from}
 use Rattle.mm_module.specs.Batch.{Batch, members_of, size_of, normal}
 use Rattle.mm_module.proofs.BatchLaws.{members_of-normal}
@@ -18,29 +16,29 @@ use Rattle.mm_platform.specs.declared.plan.Meddle.{Meddle}
 use Rattle.mm_platform.specs.declared.plan.Stop.{Stop}
 use Rattle.mm_platform.specs.declared.plan.Stop.TheVariants.{Quiet, Cut, Drop, Fail}
 use Rattle.mm_model.specs.Instance.{Instance}
-use Rattle.mm_model.specs.History.{History, Move, Commit, Foreign, Placed, Reset, Close, Power as PowerMove, requests_of, total_of, first_history}
+use Rattle.mm_model.specs.History.{History, Move, requests_of, total_of, first_history}
 use Rattle.mm_model.specs.Life.{Life, Live, Spoiled, Lost, life_of, is_lost}
 use Rattle.mm_model.specs.Judge.{is_last, judged, judge}
 use Rattle.mm_model.specs.Long.{is_long}
-use Rattle.mm_model.specs.Steps.{Step, Reads, Changes, Writes, ask_steps, checkpoint_steps}
+use Rattle.mm_model.specs.Steps.{ask_steps}
 use Rattle.mm_model.specs.declared.answer.BatchAnswer.{BatchAnswer}
 use Rattle.mm_model.specs.declared.refusal.Refusal.{Refusal}
-use Rattle.mm_model.specs.declared.refusal.Refusal.TheVariants.{Lost as LostRefusal}
 use Rattle.mm_model.proofs.Batches.{EndsWith, is_last_tells}
 use Rattle.mm_call.specs.Order.{admitted, examined}
 use Rattle.mm_call.specs.Answers.{answer_on}
 use Rattle.mm_call.specs.Levels.{by_lists, all_made}
 use Rattle.mm_call.specs.Found.{Found, found_by_verdict, found_at, found_unless_wanting, is_fresh}
-use Rattle.mm_call.specs.Courses.{End, Done, Fails, Fate, Course, Walked, made_move, step_moves, after_step, walk, seen_in, commits}
+use Rattle.mm_call.specs.Courses.{Course, Walked, walk, seen_in, commits}
 use Rattle.mm_call.specs.Called.{Ending, Answers, Refuses, Breaks, Called, reading_steps, kept_at, ended_by, called}
 use Rattle.mm_call.specs.Checkpoints.{Closing, Closes, HasNone, NoSegment, LostPower, Stops, Checkpointed, checkpointed_with}
-use Rattle.mm_call.proofs.Moving.{committed_in, same_batches, more_batches}
-use Rattle.mm_call.proofs.Walks.{Commits, nothing, batch, committed-append, commits-none, committed-foreign, foreign_first, basic_commits, opt_commits}
-use Rattle.mm_call.proofs.Walks as walks
+use Rattle.mm_call.proofs.Moving.{same_batches, more_batches}
+use Rattle.mm_call.proofs.Walks.{Commits, nothing, batch, commits-none, call_commits, commits_batch, seen_none}
 use Rattle.mm_call.proofs.Finding.{admitted_tells, weighed_tells, found_with_tells}
 use Rattle.mm_call.proofs.Calling.{requests-push, before_last, said_last}
 use Rattle.mm_call.proofs.Endings.{again_of, fresh_of}
 use Rattle.mm_call.proofs.BasicLaw.{unlacked}
+use Rattle.mm_call.proofs.Along.{checkpoint_none}
+use Rattle.mm_call.proofs.OptFinding.{unless_lost}
 use Rattle.mm_schedule.specs.Events.{Event, Ask, Checkpoint, Power, Extend}
 use Rattle.mm_schedule.specs.Machine.{RunsOn, Repeats, RunsUntold, StepsOn, AsksNone, Steps, Runs}
 use Rattle.mm_schedule.specs.declared.reply.Way.{Way}
@@ -49,47 +47,6 @@ use Rattle.mm_schedule.specs.declared.reply.Reply.TheVariants.{Told, No, Kept, N
 use Rattle.mm_run.specs.Offered.{offered_bytes}
 use Rattle.mm_run.specs.Folds.{Outcome, way_of, after_stop, course_of, reply_of, moves_then, outcome_by, asked, closing_reply, closing_then, closed_outcome, event_outcome, Followed, followed, first_issued}
 use Rattle.mm_run.specs.Laws.{ExpectedRuns}
-
--- a call commits nothing, or its batch
-pub asks : (variant : Variant) (fates : ℕ → Fate) (is_open fresh : Bool) (b : Batch)
-    → Commits b fresh (walk fates 1 (ask_steps variant is_open fresh b))
-asks Basic fates is_open fresh b = basic_commits fates is_open fresh b
-asks Opt fates is_open fresh b =
-    subst (λ s. Commits b fresh (walk fates 1 s)) (sym (walks.asks is_open fresh b)) (opt_commits fates is_open fresh b)
-
--- no step commits
-abbrev pub CommitsNone : List Step → Type 0
-CommitsNone [] = Unit {0}
-CommitsNone (Reads ∷ steps) = CommitsNone steps
-CommitsNone (Changes m ∷ steps) = (committed_in (m ∷ []) ≡ []) × CommitsNone steps
-CommitsNone (Writes m ∷ steps) = (committed_in (m ∷ []) ≡ []) × CommitsNone steps
-
-made_none : (made : Bool) (m : Move) → committed_in (m ∷ []) ≡ [] → committed_in (made_move made m) ≡ []
-made_none true m e = e
-made_none false m e = refl
-
-none_then : (step : Step) (values : List (List ℕ)) (ends : End) (rest : Walked) → ((made : Bool) → committed_in (step_moves step made values) ≡ [])
-    → committed_in rest.moves ≡ [] → committed_in (after_step step values ends rest).moves ≡ []
-none_then step values Done rest e later =
-    committed-append (step_moves step true values) rest.moves ∙ ap (λ v. v ++ committed_in rest.moves) (e true) ∙ later
-none_then step values (Fails fault made) rest e later = e made
-
-walk_none : (fates : ℕ → Fate) (n : ℕ) (steps : List Step) → CommitsNone steps → committed_in (walk fates n steps).moves ≡ []
-walk_none fates n [] e = refl
-walk_none fates n (Reads ∷ steps) e =
-    none_then Reads (fates n).brings (fates n).ends (walk fates (n + 1) steps) (λ made. committed-foreign (fates n).brings) (walk_none fates (n + 1) steps e)
-walk_none fates n (Changes m ∷ steps) e =
-    none_then (Changes m) (fates n).brings (fates n).ends (walk fates (n + 1) steps)
-    (λ made. foreign_first (fates n).brings (made_move made m) ∙ made_none made m e.0) (walk_none fates (n + 1) steps e.1)
-walk_none fates n (Writes m ∷ steps) e =
-    none_then (Writes m) (fates n).brings (fates n).ends (walk fates (n + 1) steps)
-    (λ made. committed-append (made_move made m) (map Foreign (fates n).brings)
-    ∙ ap (λ v. v ++ committed_in (map Foreign (fates n).brings)) (made_none made m e.0) ∙ committed-foreign (fates n).brings) (walk_none fates (n + 1) steps e.1)
-
--- what is seen at the last reading step is foreign values alone
-seen_none : (fates : ℕ → Fate) (steps : List Step) (n : ℕ) → committed_in (seen_in fates steps n) ≡ []
-seen_none fates [] n = refl
-seen_none fates (step ∷ steps) n = foreign_first (fates n).brings (seen_in fates steps (n + 1)) ∙ seen_none fates steps (n + 1)
 
 -- a repeat that is accepted is one of the last batch, whatever the life of the history
 repeat_admitted : (life : Life) (here repeat fits again : Bool) → admitted (judged life here repeat) fits ≡ Ok again → again ≡ true → repeat ≡ true
@@ -109,24 +66,10 @@ repeats_from i y b (Ok snapshot) found is again =
     (nat_eq (snapshot.content.position + size_of b) (total_of y.batches) && is_last y.batches b) _ found.again w.2 again in
     is_last_tells y.batches b (and_parts (nat_eq (snapshot.content.position + size_of b) (total_of y.batches)) (is_last y.batches b) a).1
 
--- where power was lost nothing is found
-found_unlost : (lost : Bool) (x : Result Found Refusal) (found : Found) → (if lost then Err LostRefusal else x) ≡ Ok found → x ≡ Ok found
-found_unlost true x found e = cc
-found_unlost false x found e = e
-
 repeats_at : (i : Instance) (y : History) (b : Batch) (bytes : List ℕ) (found : Found)
     → found_at i (by_lists i) y b bytes ≡ Ok found → found.again ≡ true → EndsWith y.batches b
 repeats_at i y b bytes found is again =
-    repeats_from i y b (parts_of i.variant i.meaning.id bytes) found (found_unlost (is_lost (life_of i.variant y)) _ found is) again
-
-commits_batch : (moves : List Move) (b : Batch) → committed_in moves ≡ b ∷ [] → commits moves ≡ true
-commits_batch [] b e = cc
-commits_batch (Commit c ∷ moves) b e = refl
-commits_batch (Foreign v ∷ moves) b e = commits_batch moves b e
-commits_batch (Placed c ∷ moves) b e = commits_batch moves b e
-commits_batch (Reset ∷ moves) b e = commits_batch moves b e
-commits_batch (Close ∷ moves) b e = commits_batch moves b e
-commits_batch (PowerMove ∷ moves) b e = commits_batch moves b e
+    repeats_from i y b (parts_of i.variant i.meaning.id bytes) found (unless_lost (is_lost (life_of i.variant y)) _ found is) again
 
 -- the moves after a call that was broken off commit nothing
 stop_none : (i : Instance) (stop : Stop) (y : History) → (all_made (by_lists i) y (after_stop stop)).batches ≡ y.batches
@@ -231,7 +174,7 @@ called_steps i y issued meddles stop bytes b =
     let S : List (List ℕ) → Type 0 = λ after. StepsOn i.meaning (requests_of y.batches) b (reply_of (way_of stop) o.ending) after in
     subst S (ap requests_of (sym (then_none i stop o.ending o.state)))
     (ended_steps i y seen (way_of stop) b walked walked.broken found refl
-    (asks i.variant c.fates y.is_open (is_fresh found) b)
+    (call_commits i.variant c.fates y.is_open (is_fresh found) b)
     (λ f is again. subst P same (repeats_at i seen b bytes f (unlacked lists c.lacks f is) again)))
 
 -- a step depends on the requests of its batch alone
@@ -270,17 +213,6 @@ asked_steps i y issued meddles stop None b = refl
 asked_steps i y issued meddles stop (Some bytes) b =
     if_steps i.meaning (requests_of y.batches) b (is_long b) _ _ refl
     (members_steps i.meaning _ _ (normal b) b _ (members_of-normal b) (called_steps i y issued meddles stop bytes (normal b)))
-
--- the steps of a checkpoint commit nothing
-checkpoint_commits : (variant : Variant) (is_open is_lost : Bool) → CommitsNone (checkpoint_steps variant is_open is_lost)
-checkpoint_commits Basic is_open is_lost = tt
-checkpoint_commits Opt false is_lost = tt
-checkpoint_commits Opt true true = tt
-checkpoint_commits Opt true false = (refl, tt)
-
-pub checkpoint_none : (variant : Variant) (is_open is_lost : Bool) (fates : ℕ → Fate)
-    → committed_in (walk fates 1 (checkpoint_steps variant is_open is_lost)).moves ≡ []
-checkpoint_none variant is_open is_lost fates = walk_none fates 1 _ (checkpoint_commits variant is_open is_lost)
 
 -- what a checkpoint says tells no request
 closing_stays : (how : Way) (closing : Closing) (requests after : List (List ℕ)) → after ≡ requests → AsksNone requests (closing_reply how closing) after

@@ -12,7 +12,8 @@ use mm_base::{Bytes, Memory, put_decimal};
 pub fn put_line(reply: &Reply, index: usize, into: &mut Bytes) -> Result<(), Memory>
     requires index { index < length (lines_of_reply reply.now) }
     requires printable { IsPrintable reply.now }
-    ensures { OnOk result ((line : List ℕ) × (slice_get (lines_of_reply reply.now) index ≡ Some line)
+    ensures { OnOk result ((line : List ℕ)
+        × (slice_get (lines_of_reply reply.now) index ≡ Some line)
         × (into.new ≡ into.old ++ line)) }
 {
     match reply {

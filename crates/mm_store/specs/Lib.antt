@@ -1,4 +1,5 @@
 pub mod Slots
+pub mod Unsynced
 pub mod Kept
 pub mod Calls
 pub mod Shelf

@@ -180,7 +180,8 @@ impl Store for MemStore {
     fn write(&mut self, slot: u8, bytes: &[u8]) -> Result<(), StoreFault>
         requires slot { slot < 4 }
         requires short { length bytes.now ≤ LONGEST_SLOT }
-        ensures writes { WritesSlot slot bytes.now (shelf_standing self.old) (shelf_standing self.new) result }
+        ensures writes { WritesSlot slot bytes.now (shelf_standing self.old)
+            (shelf_standing self.new) result }
         ensures failing { (result ≡ Err StoreFault.Failed) ↔ (self.old.ahead ≡ 1) }
         ensures after { self.new ≡ after_write self.old slot bytes.now result }
     {

@@ -69,7 +69,8 @@ pub fn read_pending(slot: u8, bytes: &[u8]) -> Option<PendingRequest<'_>>
 
 // The position and the request that these bytes are the front of.
 fn front_of(front: &[u8]) -> Option<PendingRequest<'_>>
-    ensures { MatchOption result (SpellsNoRecord front.now) (λ p. SpellsRecord front.now (pending_of p)) }
+    ensures { MatchOption result (SpellsNoRecord front.now)
+        (λ p. SpellsRecord front.now (pending_of p)) }
 {
     let (word, rest) = front.split_first_chunk::<4>()?;
     let (position, rest) = split_u64(rest)?;

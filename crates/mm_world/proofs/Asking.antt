@@ -27,8 +27,8 @@ use Rattle.mm_call.specs.Called.{Ending, Answers, Refuses, Breaks, Called, calle
 use Rattle.mm_call.specs.Standing.{RegisterAt, StandsAt, shown, counted_by}
 use Rattle.mm_call.specs.Ended.{StaysOn}
 use Rattle.mm_call.specs.Refusals.{fault_of}
-use Rattle.mm_call.proofs.Moving.{committed_in}
-use Rattle.mm_call.proofs.Walks.{changing, committed-foreign, foreign_first, commits-none}
+use Rattle.mm_call.proofs.Walks.{changing, commits-none}
+use Rattle.mm_call.proofs.Along.{reading_none}
 use Rattle.mm_run.specs.Folds.{way_of, after_stop, reply_of, snapshots_of, moves_then, outcome_by}
 use Rattle.mm_world.specs.declared.call.Called as code
 use Rattle.mm_world.specs.Stands.{Stands}
@@ -83,16 +83,6 @@ reading fates n [] rest are = whole refl
 reading fates n (Reads ∷ reads) rest are = reading_more fates n reads rest (fates n).ends refl (reading fates (n + 1) reads rest are)
 reading fates n (Changes m ∷ reads) rest are = absurd are
 reading fates n (Writes m ∷ reads) rest are = absurd are
-
-pub reads_commit_end : (values : List (List ℕ)) (e : End) (rest : Walked) → committed_in rest.moves ≡ [] → committed_in (after_step Reads values e rest).moves ≡ []
-reads_commit_end values Done rest h = foreign_first values rest.moves ∙ h
-reads_commit_end values (Fails fault made) rest h = committed-foreign values
-
-reads_commit : (fates : ℕ → Fate) (n : ℕ) (reads : List Step) → AreReads reads → committed_in (walk fates n reads).moves ≡ []
-reads_commit fates n [] are = refl
-reads_commit fates n (Reads ∷ reads) are = reads_commit_end (fates n).brings (fates n).ends (walk fates (n + 1) reads) (reads_commit fates (n + 1) reads are)
-reads_commit fates n (Changes m ∷ reads) are = absurd are
-reads_commit fates n (Writes m ∷ reads) are = absurd are
 
 -- reading steps that are all done
 record AllRead (fates : ℕ → Fate) (n : ℕ) (reads : List Step) : Type 0 where
@@ -181,7 +171,7 @@ lacking_found i d seen b fates rest f (whole none) =
     let w = walk fates 1 (reading_steps i.variant) in refuses (refuses_by i d seen b w w.broken refl none)
 lacking_found i d seen b fates rest f (cut_off fault broken alike) =
     let w = walk fates 1 (reading_steps i.variant) in
-    let none = commits-none w.moves (reads_commit fates 1 (reading_steps i.variant) (reading_reads i.variant)) in
+    let none = commits-none w.moves (reading_none i.variant fates) in
     let ends = same_broken i d seen (all_made (by_digests i) d w.moves) b f w fault w.broken refl broken none in
     same ((λ j. record { state = all_made (by_digests i) d w.moves; ending = ends j; moves = w.moves; steps = w.steps; writes = w.writes })
     ∙ ap (call_of i d seen b (Ok f)) (sym alike))

@@ -39,8 +39,9 @@ use Rattle.mm_world.specs.declared.call.Called as code
 use Rattle.mm_world.specs.Stands.{Stands, IsQuiet}
 use Rattle.mm_world.specs.Calls.{refused_call, answered_call, broken_as, takes_effect, size_if, RefusedAs, CalledAs, SettlesPlan}
 use Rattle.mm_world.specs.Asks.{Came, Lacks, AsksAs}
-use Rattle.mm_world.proofs.Committing.{call_commits, committed_by, counted_end}
+use Rattle.mm_world.proofs.Committing.{committed_by, counted_end}
 use Rattle.mm_world.proofs.Asking.{breaks_at, Lacking, refuses, same, lacks_or_same, refused_read, told_ok, told_err, breaks, stands_settled, on_settled, Tells, came_register, came}
+use Rattle.mm_call.proofs.Walks.{call_commits}
 
 -- A call over a planned platform, that ended so.
 pub record Over (i : Instance) (d : Digests) (stop : Stop) (meddles : List Meddle) (bytes : List ℕ) (b : Batch) (old mid new : Standing) (ended : Ended) : Type 0 where

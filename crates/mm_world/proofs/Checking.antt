@@ -29,15 +29,14 @@ use Rattle.mm_call.specs.Called.{seen_at}
 use Rattle.mm_call.specs.Checkpoints.{closing_of, closed_by, checkpointed}
 use Rattle.mm_call.specs.Standing.{instance_by, StandsAt}
 use Rattle.mm_call.specs.Ended.{StaysOn}
-use Rattle.mm_call.proofs.Moving.{committed_in}
-use Rattle.mm_call.proofs.Walks.{committed-foreign, foreign_first}
+use Rattle.mm_call.proofs.Along.{closes-foreign, closes_first, checkpoint_none}
 use Rattle.mm_schedule.specs.declared.reply.Reply.{Reply}
 use Rattle.mm_run.specs.Folds.{way_of, plan_of, course_of, stopped_reply, closing_reply, closing_then, closed_outcome}
 use Rattle.mm_world.specs.Stands.{Stands}
 use Rattle.mm_world.specs.Calls.{takes_effect, is_cut, SettlesPlan, stopped_step, closes_at, told_closing, stops_in}
 use Rattle.mm_world.specs.Asks.{Came, ChecksAs, quiet_as}
 use Rattle.mm_world.proofs.Committing.{reads_shown, count_none}
-use Rattle.mm_world.proofs.Asking.{stands_settled, on_settled, reads_commit_end, power_if, stop_power, power_count}
+use Rattle.mm_world.proofs.Asking.{stands_settled, on_settled, power_if, stop_power, power_count}
 
 -- the step at which a planned call is broken off
 record StoppedAt (stop : Stop) (n : ℕ) (made : Bool) : Type 0 where
@@ -62,17 +61,9 @@ stopped_at (Fail at done) n fault made e = stopped_failed (Fail at done) at n (a
 
 -- whether the segment was closed
 
-closes_foreign : (values : List (List ℕ)) → closes (map Foreign values) ≡ false
-closes_foreign [] = refl
-closes_foreign (v ∷ values) = closes_foreign values
-
-closes_then : (values : List (List ℕ)) (moves : List Move) → closes (map Foreign values ++ moves) ≡ closes moves
-closes_then [] moves = refl
-closes_then (v ∷ values) moves = closes_then values moves
-
 closes_write : (made : Bool) (values : List (List ℕ)) → closes (made_move made Close ++ map Foreign values) ≡ made
 closes_write true values = refl
-closes_write false values = closes_foreign values
+closes_write false values = closes-foreign values
 
 abbrev Planned : (ℕ → Fate) → Stop → Type 0
 Planned fates stop = (n : ℕ) → (fates n).ends ≡ end_of (fault_at stop n) (is_made_at stop n)
@@ -81,10 +72,10 @@ Planned fates stop = (n : ℕ) → (fates n).ends ≡ end_of (fault_at stop n) (
 read_closes : (fates : ℕ → Fate) (stop : Stop) (n : ℕ) (values : List (List ℕ)) (e : End) (rest : Walked) (fault : StepFault) → e ≡ end_of (fault_at stop n) (is_made_at stop n) → (n == 3) ≡ false
     → (after_step Reads values e rest).broken ≡ Some fault → (rest.broken ≡ Some fault → closes rest.moves ≡ closes_at stop)
     → closes (after_step Reads values e rest).moves ≡ closes_at stop
-read_closes fates stop n values Done rest fault ends other broken later = closes_then values rest.moves ∙ later broken
+read_closes fates stop n values Done rest fault ends other broken later = closes_first values rest.moves ∙ later broken
 read_closes fates stop n values (Fails f made) rest fault ends other broken later =
     let at = stopped_at stop n f made (sym ends) in
-    closes_foreign values ∙ sym (ap (λ k. (k == 3) && takes_effect stop) at.number ∙ ap (λ x. x && takes_effect stop) other)
+    closes-foreign values ∙ sym (ap (λ k. (k == 3) && takes_effect stop) at.number ∙ ap (λ x. x && takes_effect stop) other)
 
 -- the step that closes
 write_closes : (stop : Stop) (values : List (List ℕ)) (e : End) (rest : Walked) (fault : StepFault) → e ≡ end_of (fault_at stop 3) (is_made_at stop 3) → rest.broken ≡ None
@@ -111,22 +102,6 @@ closes_planned fates stop Opt true false fault told broken =
     read_closes fates stop 1 (fates 1).brings (fates 1).ends (walk fates 2 (Reads ∷ Writes Close ∷ [])) fault (told 1) refl broken (λ later.
     read_closes fates stop 2 (fates 2).brings (fates 2).ends (walk fates 3 (Writes Close ∷ [])) fault (told 2) refl later (λ last.
     write_closes stop (fates 3).brings (fates 3).ends (walk fates 4 []) fault (told 3) refl last))
-
--- a checkpoint commits nothing
-
-close_commits : (values : List (List ℕ)) (e : End) (rest : Walked) → committed_in rest.moves ≡ [] → committed_in (after_step (Writes Close) values e rest).moves ≡ []
-close_commits values Done rest none = foreign_first values rest.moves ∙ none
-close_commits values (Fails fault true) rest none = committed-foreign values
-close_commits values (Fails fault false) rest none = committed-foreign values
-
-pub closing_commits : (fates : ℕ → Fate) (variant : Variant) (is_open is_lost : Bool) → committed_in (walk fates 1 (checkpoint_steps variant is_open is_lost)).moves ≡ []
-closing_commits fates Basic is_open is_lost = reads_commit_end (fates 1).brings (fates 1).ends (walk fates 2 []) refl
-closing_commits fates Opt false is_lost = reads_commit_end (fates 1).brings (fates 1).ends (walk fates 2 []) refl
-closing_commits fates Opt true true =
-    reads_commit_end (fates 1).brings (fates 1).ends (walk fates 2 (Reads ∷ [])) (reads_commit_end (fates 2).brings (fates 2).ends (walk fates 3 []) refl)
-closing_commits fates Opt true false =
-    reads_commit_end (fates 1).brings (fates 1).ends (walk fates 2 (Reads ∷ Writes Close ∷ []))
-    (reads_commit_end (fates 2).brings (fates 2).ends (walk fates 3 (Writes Close ∷ [])) (close_commits (fates 3).brings (fates 3).ends (walk fates 4 []) refl))
 
 -- what is told
 
@@ -170,7 +145,7 @@ closed_came i d stop meddles old mid new result issued goes register settles sta
           (λ fault broken. closes_planned c.fates stop i.variant d.flag is_lost fault (λ n. refl) broken);
       issues = append-nil issued;
       stands = subst P (sym power) (stands_settled i o.state mid new lost (record { at = goes.stands; register = read }) settles.cell settles.items);
-      counts = subst C (sym power) (power_count i o.state lost ∙ count_none i w.moves d (closing_commits c.fates i.variant d.flag is_lost) ∙ omega arith);
+      counts = subst C (sym power) (power_count i o.state lost ∙ count_none i w.moves d (checkpoint_none i.variant d.flag is_lost c.fates) ∙ omega arith);
       quiet = record { is_on = on_settled stop (stops_in result) mid new stays settles.is_on; plan = settles.plan };
       steps = settles.steps ∙ goes.steps;
       writes = settles.writes ∙ goes.writes;

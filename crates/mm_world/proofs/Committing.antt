@@ -16,16 +16,15 @@ use Rattle.mm_model.specs.Chains.{guard}
 use Rattle.mm_model.specs.Instance.{Instance}
 use Rattle.mm_model.specs.History.{Move, Commit, Foreign, Placed, Reset, Close, Power}
 use Rattle.mm_model.specs.Moves.{Digests, made, committing}
-use Rattle.mm_model.specs.Steps.{ask_steps}
 use Rattle.mm_model.specs.declared.refusal.Refusal.{Refusal}
 use Rattle.mm_call.specs.Levels.{by_digests, all_made}
 use Rattle.mm_call.specs.Found.{Found, is_fresh}
-use Rattle.mm_call.specs.Courses.{Fate, Walked, walk, commits}
+use Rattle.mm_call.specs.Courses.{Walked, commits}
 use Rattle.mm_call.specs.Called.{Ending, Answers, Refuses, Breaks, position_of, kept_at, ended_by}
 use Rattle.mm_call.specs.Standing.{shown_by, shown}
 use Rattle.mm_call.proofs.Endings.{again_of, fresh_of}
 use Rattle.mm_call.proofs.Moving.{committed_in}
-use Rattle.mm_call.proofs.Walks.{Commits, nothing, batch, commits-none, asks, basic_commits, opt_commits}
+use Rattle.mm_call.proofs.Walks.{Commits, nothing, batch, commits-none, commits_batch}
 use Rattle.mm_world.specs.Calls.{size_if}
 
 -- the requests of batches
@@ -52,20 +51,6 @@ count_none i moves d e = counted_moves i moves d ∙ ap (λ bs. d.count + sizes 
 
 pub count_one : (i : Instance) (moves : List Move) (d : Digests) (b : Batch) → committed_in moves ≡ b ∷ [] → (all_made (by_digests i) d moves).count ≡ d.count + size_of b
 count_one i moves d b e = counted_moves i moves d ∙ ap (λ bs. d.count + sizes bs) e ∙ omega arith
-
-commits_one : (moves : List Move) (b : Batch) → committed_in moves ≡ b ∷ [] → commits moves ≡ true
-commits_one [] b e = cc
-commits_one (Commit c ∷ moves) b e = refl
-commits_one (Foreign v ∷ moves) b e = commits_one moves b e
-commits_one (Placed c ∷ moves) b e = commits_one moves b e
-commits_one (Reset ∷ moves) b e = commits_one moves b e
-commits_one (Close ∷ moves) b e = commits_one moves b e
-commits_one (Power ∷ moves) b e = commits_one moves b e
-
--- a call commits nothing, or its batch
-pub call_commits : (variant : Variant) (fates : ℕ → Fate) (flag fresh : Bool) (b : Batch) → Commits b fresh (walk fates 1 (ask_steps variant flag fresh b))
-call_commits Basic fates flag fresh b = basic_commits fates flag fresh b
-call_commits Opt fates flag fresh b = rw (asks flag fresh b) (opt_commits fates flag fresh b)
 
 -- how many requests a call commits, by how it ended
 abbrev pub committed_by : Ending → ℕ → ℕ
@@ -101,7 +86,7 @@ counted_end i d seen b (Err why) walked broken e (batch one fresh) = cc
 counted_end i d seen b (Ok f) walked (Some fault) e (nothing none unless) =
     let k = kept_none (commits walked.moves) (position_of (by_digests i) seen (all_made (by_digests i) d walked.moves) b (Ok f)) (size_of b) (commits-none walked.moves none) in omega (arith, count_none i walked.moves d none, k)
 counted_end i d seen b (Ok f) walked (Some fault) e (batch one fresh) =
-    let k = kept_some (commits walked.moves) (position_of (by_digests i) seen (all_made (by_digests i) d walked.moves) b (Ok f)) (size_of b) (commits_one walked.moves b one) in omega (arith, count_one i walked.moves d b one, k)
+    let k = kept_some (commits walked.moves) (position_of (by_digests i) seen (all_made (by_digests i) d walked.moves) b (Ok f)) (size_of b) (commits_batch walked.moves b one) in omega (arith, count_one i walked.moves d b one, k)
 counted_end i d seen b (Ok f) walked None e (nothing none unless) =
     let k = told_again f.again (length (outputs_from i.meaning f.offered.state (members_of b))) (again_of f.again (unless e)) in
     omega (arith, count_none i walked.moves d none, k)

@@ -22,13 +22,12 @@ use Rattle.mm_model.specs.Instance.{Instance}
 use Rattle.mm_model.specs.History.{Foreign, Power as PowerMove, first_history}
 use Rattle.mm_model.specs.Moves.{Digests, made}
 use Rattle.mm_model.specs.Standing.{cell_of, issued_bytes, register_reads}
-use Rattle.mm_model.specs.Steps.{Step}
 use Rattle.mm_call.specs.Levels.{by_digests}
-use Rattle.mm_call.specs.Courses.{Fate, seen_in}
+use Rattle.mm_call.specs.Courses.{seen_in}
 use Rattle.mm_call.specs.Called.{seen_at, reading_steps}
 use Rattle.mm_call.specs.Standing.{instance_by, cell_at, shown}
-use Rattle.mm_call.proofs.Moving.{anchor-nil, summary-nil, committed_in}
-use Rattle.mm_call.proofs.Walks.{foreign_first}
+use Rattle.mm_call.proofs.Moving.{anchor-nil, summary-nil}
+use Rattle.mm_call.proofs.Walks.{seen_none}
 use Rattle.mm_modules.specs.Modules.{meaning_of}
 use Rattle.mm_schedule.specs.declared.header.Header.{Header}
 use Rattle.mm_schedule.specs.declared.event.Offer.{Offer}
@@ -100,10 +99,6 @@ follows h o old new issued issued' committed committed' it c i n =
 
 -- want of memory
 
-pub seen_commits : (fates : ℕ → Fate) (steps : List Step) (n : ℕ) → committed_in (seen_in fates steps n) ≡ []
-seen_commits fates [] n = refl
-seen_commits fates (step ∷ steps) n = foreign_first (fates n).brings (seen_in fates steps (n + 1)) ∙ seen_commits fates steps (n + 1)
-
 -- memory was wanting: the world is as before, or its reading steps were made
 wants : (h : Header) (old new : Standing) (issued issued' : List (List ℕ)) (committed : ℕ) (meddles : List Meddle) (stop : Stop)
     → Lacks (world_of h) (digests_in old committed) meddles stop old new → issued' ≡ issued
@@ -117,7 +112,7 @@ wants h old new issued issued' committed meddles stop l i =
       | inl e ↦ inl (λ j. held_in h (e j) (i j) committed)
       | inr e ↦
           let seen = seen_at (world_of h) (by_digests (world_of h)) d c in
-          let n : seen.count ≡ committed = count_none (world_of h) (seen_in c.fates (reading_steps (world_of h).variant) 1) d (seen_commits c.fates (reading_steps (world_of h).variant) 1) in
+          let n : seen.count ≡ committed = count_none (world_of h) (seen_in c.fates (reading_steps (world_of h).variant) 1) d (seen_none c.fates (reading_steps (world_of h).variant) 1) in
           let there : digests_in new committed ≡ seen = digests_are (world_of h) seen new committed e.0 ∙ (λ j. record seen { count = sym n j }) in
           let steps = e.1 in
           inr (λ j. record { header = h; digests = there j; issued = i j; steps = steps j; writes = w j })

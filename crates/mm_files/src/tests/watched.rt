@@ -1,91 +1,134 @@
 //! The system's files below a folder, watched.
 
 use crate::Lock;
+use mm_base::read_decimal;
 use std::alloc::Allocator;
-use std::cell::{Cell, RefCell};
+use std::cell::Cell;
 use std::fs::{self, File, Metadata, OpenFile, OpenOptions};
 use std::io::{self, ErrorKind, Read, Seek, SeekFrom, Write};
 use std::process;
 use std::rt::Files;
 
-/// A folder of its own. Each call is written down, and the one with a given number fails.
+/// A folder of its own. Each call is compared with the one that is to come next, and the one with
+/// a given number fails.
 #[derive(Drop)]
 pub struct Watched<'r> {
     rt: &'r HostRuntime,
-    folder: String,
-    calls: RefCell<String>,
-    ahead: Cell<u64>,
+    name: &'static str,
+    id: u32,
+    // The calls that are still to come, and whether those that came were the ones that were to.
+    ahead: Cell<&'static str>,
+    is_met: Cell<bool>,
+    failing: Cell<u64>,
 }
 
 impl<'r> Watched<'r> {
-    pub fn new(rt: &'r HostRuntime, name: &str) -> io::Result<Watched<'r>> {
-        let id = process::id(rt.process());
-        let folder = format!(in rt.alloc(); "/tmp/mm_files_{name}_{id}")?;
-        fs::create_dir(rt, folder.as_str())?;
-        Ok(Watched {
+    pub fn new(rt: &'r HostRuntime, name: &'static str) -> io::Result<Watched<'r>> {
+        let watched = Watched {
             rt,
-            folder,
-            calls: RefCell::new(String::new(rt.alloc())),
-            ahead: Cell::new(0),
-        })
+            name,
+            id: process::id(rt.process()),
+            ahead: Cell::new(""),
+            is_met: Cell::new(true),
+            failing: Cell::new(0),
+        };
+        watched.make()?;
+        Ok(watched)
     }
 
-    /// The calls since this was asked last.
-    pub fn calls(&self) -> io::Result<String> {
-        match self.calls.try_replace(String::new(self.rt.alloc())) {
-            Ok(calls) => Ok(calls),
-            Err(_) => Err(io::Error::from(ErrorKind::Other)),
-        }
+    /// The calls that are to come from now on.
+    pub fn expect(&self, calls: &'static str) {
+        self.ahead.set(calls);
+        self.is_met.set(true);
+    }
+
+    /// Whether these came, and no others.
+    pub fn is_met(&self) -> bool {
+        self.is_met.get() && self.ahead.get().is_empty()
     }
 
     /// Lets the call with this number fail, counted from 1 from now on.
     pub fn fail_at(&self, call: u64) {
-        self.ahead.set(call);
+        self.failing.set(call);
     }
 
     /// Takes the folder away.
     pub fn end(&self) -> io::Result<()> {
-        fs::remove_dir_all(self.rt, self.folder.as_str())
+        let path = self.path("")?;
+        fs::remove_dir_all(self.rt, path.as_str())
+    }
+
+    fn make(&self) -> io::Result<()> {
+        let path = self.path("")?;
+        fs::create_dir(self.rt, path.as_str())
     }
 
     fn path(&self, name: &str) -> io::Result<String> {
-        Ok(format!(in self.rt.alloc(); "{}/{name}", self.folder.as_str())?)
+        Ok(format!(in self.rt.alloc(); "/tmp/mm_files_{}_{}/{name}", self.name, self.id)?)
     }
 
-    // Writes a call down, a space before it. An error where it is to fail.
-    fn put(&self, what: &str, name: &str) -> io::Result<()> {
-        let Ok(mut calls) = self.calls.try_borrow_mut() else {
-            return Err(io::Error::from(ErrorKind::Other));
-        };
-        calls.push_str(" ")?;
-        calls.push_str(what)?;
-        calls.push_str(" ")?;
-        calls.push_str(name)?;
-        let ahead = self.ahead.get();
-        self.ahead.set(ahead.saturating_sub(1));
-        if ahead == 1 {
+    fn open(&self, how: &OpenOptions, name: &str) -> io::Result<File> {
+        let path = self.path(name)?;
+        how.open(self.rt, path.as_str())
+    }
+
+    fn rename(&self, from: &str, to: &str) -> io::Result<()> {
+        let from = self.path(from)?;
+        let to = self.path(to)?;
+        fs::rename(self.rt, from.as_str(), to.as_str())
+    }
+
+    fn write(&self, name: &str, bytes: &[u8]) -> io::Result<()> {
+        let path = self.path(name)?;
+        fs::write(self.rt, path.as_str(), bytes)
+    }
+
+    // Takes the next word of the calls that are to come.
+    fn next(&self) -> &'static str {
+        let (word, rest) = front_of(self.ahead.get());
+        self.ahead.set(rest);
+        word
+    }
+
+    // Notes whether a call is the one that was to come. An error where it is to fail.
+    fn meet(&self, what: &str, name: &str) -> io::Result<()> {
+        let is_right = self.next() == what && self.next() == name;
+        self.is_met.set(self.is_met.get() && is_right);
+        let failing = self.failing.get();
+        self.failing.set(failing.saturating_sub(1));
+        if failing == 1 {
             return Err(io::Error::from(ErrorKind::Other));
         }
         Ok(())
     }
 
-    // Writes down of how many bytes a call is.
-    fn put_count(&self, count: u64) -> io::Result<()> {
-        let text = format!(in self.rt.alloc(); " {count}")?;
-        let Ok(mut calls) = self.calls.try_borrow_mut() else {
-            return Err(io::Error::from(ErrorKind::Other));
-        };
-        Ok(calls.push_str(text.as_str())?)
+    // Notes whether a call is of as many bytes as it was to be.
+    fn meet_count(&self, count: u64) {
+        let is_right = is_number(self.next(), count);
+        self.is_met.set(self.is_met.get() && is_right);
     }
+}
+
+/// The first word of a text, and the rest.
+pub fn front_of(text: &'static str) -> (&'static str, &'static str) {
+    match text.split_once(' ') {
+        Some((word, rest)) => (word, rest),
+        None => (text, ""),
+    }
+}
+
+/// Whether a word is this number.
+pub fn is_number(word: &str, number: u64) -> bool {
+    read_decimal(word.as_bytes()) == Some(number)
 }
 
 /// Puts a file into the folder.
 pub fn put(mount: &Mount<'_>, name: &str, bytes: &[u8]) -> io::Result<()> {
-    fs::write(mount.0.rt, mount.0.path(name)?.as_str(), bytes)
+    mount.0.write(name, bytes)
 }
 
 /// The file system that the adapters see.
-#[derive(Drop)]
+#[derive(Clone, Copy)]
 pub struct Mount<'a>(pub &'a Watched<'a>);
 
 impl<'a> Files for Mount<'a> {
@@ -94,12 +137,11 @@ impl<'a> Files for Mount<'a> {
     type Dir = io::Empty;
 
     fn open_file(&self, how: &OpenOptions, path: &str) -> io::Result<WatchedFile<'a>> {
-        self.0.put("open", path)?;
-        let name = String::from_str(self.0.rt.alloc(), path)?;
-        let file = how.open(self.0.rt, self.0.path(path)?.as_str())?;
+        self.0.meet("open", path)?;
+        let file = self.0.open(how, path)?;
         Ok(WatchedFile {
             file,
-            name,
+            name: name_of(path),
             watched: self.0,
         })
     }
@@ -121,12 +163,8 @@ impl<'a> Files for Mount<'a> {
     }
 
     fn rename(&self, from: &str, to: &str) -> io::Result<()> {
-        self.0.put("rename", from)?;
-        fs::rename(
-            self.0.rt,
-            self.0.path(from)?.as_str(),
-            self.0.path(to)?.as_str(),
-        )
+        self.0.meet("rename", from)?;
+        self.0.rename(from, to)
     }
 
     fn remove_file(&self, _path: &str) -> io::Result<()> {
@@ -146,25 +184,41 @@ impl<'a> Files for Mount<'a> {
     }
 }
 
+// The name of a file that the adapters open.
+fn name_of(path: &str) -> &'static str {
+    match path {
+        "." => ".",
+        "nv" => "nv",
+        "register" => "register",
+        "register.new" => "register.new",
+        "entropy" => "entropy",
+        "slot0" => "slot0",
+        "slot1" => "slot1",
+        "slot2" => "slot2",
+        "slot3" => "slot3",
+        _ => "another",
+    }
+}
+
 /// An open file of it.
 #[derive(Drop)]
 pub struct WatchedFile<'a> {
     file: File,
-    name: String,
+    name: &'static str,
     watched: &'a Watched<'a>,
 }
 
 impl Read for WatchedFile<'_> {
     fn read(&mut self, buf: &mut [u8]) -> io::Result<usize> {
-        self.watched.put("read", self.name.as_str())?;
+        self.watched.meet("read", self.name)?;
         self.file.read(buf)
     }
 }
 
 impl Write for WatchedFile<'_> {
     fn write(&mut self, buf: &[u8]) -> io::Result<usize> {
-        self.watched.put("write", self.name.as_str())?;
-        self.watched.put_count(buf.len() as u64)?;
+        self.watched.meet("write", self.name)?;
+        self.watched.meet_count(buf.len() as u64);
         self.file.write(buf)
     }
 
@@ -175,37 +229,37 @@ impl Write for WatchedFile<'_> {
 
 impl Seek for WatchedFile<'_> {
     fn seek(&mut self, to: SeekFrom) -> io::Result<u64> {
-        self.watched.put("seek", self.name.as_str())?;
+        self.watched.meet("seek", self.name)?;
         self.file.seek(to)
     }
 }
 
 impl OpenFile for WatchedFile<'_> {
     fn metadata(&self) -> io::Result<Metadata> {
-        self.watched.put("size", self.name.as_str())?;
+        self.watched.meet("size", self.name)?;
         self.file.metadata()
     }
 
     fn set_len(&self, size: u64) -> io::Result<()> {
-        self.watched.put("cut", self.name.as_str())?;
-        self.watched.put_count(size)?;
+        self.watched.meet("cut", self.name)?;
+        self.watched.meet_count(size);
         self.file.set_len(size)
     }
 
     fn sync_all(&self) -> io::Result<()> {
-        self.watched.put("sync", self.name.as_str())?;
+        self.watched.meet("sync", self.name)?;
         self.file.sync_all()
     }
 
     fn sync_data(&self) -> io::Result<()> {
-        self.watched.put("sync", self.name.as_str())?;
+        self.watched.meet("sync", self.name)?;
         self.file.sync_data()
     }
 }
 
 impl Lock for WatchedFile<'_> {
     fn lock_alone(&self) -> io::Result<()> {
-        self.watched.put("lock", self.name.as_str())?;
+        self.watched.meet("lock", self.name)?;
         self.file.lock_alone()
     }
 }

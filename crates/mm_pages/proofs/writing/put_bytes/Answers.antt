@@ -3,15 +3,15 @@ use Rattle.mm_base.specs.declared.fault.Failed.{Failed}
 use Rattle.mm_pages.specs.Bytes.{page_count}
 use Rattle.mm_pages.specs.Paged.{Paged}
 use Rattle.mm_pages.specs.Rows.{Rows, row_in, with_row}
-use Rattle.mm_pages.specs.Puts.{PutsFirst, FitsLength, PutsBytes}
+use Rattle.mm_pages.specs.Puts.{PutsFirst, EndsInSync, PutsBytes}
 use Rattle.mm_pages.proofs.WritingLaws.{puts_all, fails_at_end}
 use Rattle.mm_pages.proofs.writing.put_bytes.Goals as goal
 
--- by whether the length is fitted
+-- by whether the length is fitted and the slot synced
 ends_by : (slot : ℕ) (bytes : List ℕ) (old mid new : Paged) (rows some after : Rows) (result : Result Unit Failed) →
     PutsFirst slot (page_count (length bytes)) bytes old mid rows some →
     after ≡ with_row some slot (take (page_count (length bytes)) (row_in some slot)) →
-    FitsLength slot (length bytes) mid new result → PutsBytes slot bytes old new rows after result
+    EndsInSync slot (length bytes) mid new result → PutsBytes slot bytes old new rows after result
 ends_by slot bytes old mid new rows some after (Ok done) f r g = puts_all slot bytes old mid new rows some after f r g
 ends_by slot bytes old mid new rows some after (Err fault) f r g =
     fails_at_end slot bytes old mid new rows some after f r g

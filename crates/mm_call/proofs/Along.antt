@@ -1,0 +1,125 @@
+-- What holds of each move of a walk holds of all of them: so a call closes no segment, and a checkpoint commits nothing.
+use Rattle.std.proofs.Common.{ℕ, ◌≡◌, ◌+◌, Bool, true, false, List, [], ◌∷◌, ◌++◌, map, refl, ap, ◌∙◌}
+use Rattle.mm_digest.specs.declared.variant.Variant.{Variant}
+use Rattle.mm_digest.specs.declared.variant.Variant.TheVariants.{Basic, Opt}
+use Rattle.mm_module.specs.Batch.{Batch}
+use Rattle.mm_model.specs.Instance.{Instance}
+use Rattle.mm_model.specs.History.{History, Move, Commit, Foreign, Placed, Reset, Close, Power, moved, committed}
+use Rattle.mm_model.specs.Steps.{Step, Reads, Changes, Writes, checkpoint_steps}
+use Rattle.mm_call.specs.Levels.{by_lists, all_made}
+use Rattle.mm_call.specs.Called.{reading_steps}
+use Rattle.mm_call.specs.Courses.{End, Done, Fails, Fate, Walked, step_moves, after_step, walk, closes}
+use Rattle.mm_call.proofs.Moving.{committed_in}
+use Rattle.mm_call.proofs.Walks.{committed-append, committed-foreign, changing}
+
+-- what holds of others' values, and of moves one after another
+pub record GoesAlong (P : List Move → Type 0) : Type 0 where
+  pub more : (xs ys : List Move) → P xs → P ys → P (xs ++ ys)
+  pub others : (values : List (List ℕ)) → P (map Foreign values)
+
+-- it holds of each step's own move
+abbrev pub EachMove : (List Move → Type 0) → List Step → Type 0
+EachMove P [] = Unit {0}
+EachMove P (Reads ∷ steps) = EachMove P steps
+EachMove P (Changes m ∷ steps) = P (m ∷ []) × EachMove P steps
+EachMove P (Writes m ∷ steps) = P (m ∷ []) × EachMove P steps
+
+step_along : (P : List Move → Type 0) (step : Step) (made : Bool) (values : List (List ℕ)) → GoesAlong P → EachMove P (step ∷ [])
+    → P (step_moves step made values)
+step_along P Reads made values g h = g.others values
+step_along P (Changes m) true values g h = g.more (map Foreign values) (m ∷ []) (g.others values) h.0
+step_along P (Changes m) false values g h = g.more (map Foreign values) [] (g.others values) (g.others [])
+step_along P (Writes m) true values g h = g.more (m ∷ []) (map Foreign values) h.0 (g.others values)
+step_along P (Writes m) false values g h = g.others values
+
+after_along : (P : List Move → Type 0) (step : Step) (values : List (List ℕ)) (ends : End) (rest : Walked) → GoesAlong P
+    → EachMove P (step ∷ []) → P rest.moves → P (after_step step values ends rest).moves
+after_along P step values Done rest g h r = g.more (step_moves step true values) rest.moves (step_along P step true values g h) r
+after_along P step values (Fails fault made) rest g h r = step_along P step made values g h
+
+pub walk_along : (P : List Move → Type 0) → GoesAlong P → (fates : ℕ → Fate) (n : ℕ) (steps : List Step) → EachMove P steps
+    → P (walk fates n steps).moves
+walk_along P g fates n [] h = g.others []
+walk_along P g fates n (Reads ∷ steps) h =
+    after_along P Reads (fates n).brings (fates n).ends (walk fates (n + 1) steps) g tt (walk_along P g fates (n + 1) steps h)
+walk_along P g fates n (Changes m ∷ steps) h =
+    after_along P (Changes m) (fates n).brings (fates n).ends (walk fates (n + 1) steps) g (h.0, tt) (walk_along P g fates (n + 1) steps h.1)
+walk_along P g fates n (Writes m ∷ steps) h =
+    after_along P (Writes m) (fates n).brings (fates n).ends (walk fates (n + 1) steps) g (h.0, tt) (walk_along P g fates (n + 1) steps h.1)
+
+-- what is committed
+
+abbrev CommitsNone : List Move → Type 0
+CommitsNone moves = committed_in moves ≡ []
+
+none_along : GoesAlong CommitsNone
+none_along = record {
+  more = λ xs ys e f. committed-append xs ys ∙ ap (λ v. v ++ committed_in ys) e ∙ f;
+  others = committed-foreign;
+}
+
+-- the reading steps of a call commit nothing, nor does a checkpoint
+pub reading_none : (variant : Variant) (fates : ℕ → Fate) → committed_in (walk fates 1 (reading_steps variant)).moves ≡ []
+reading_none Basic fates = walk_along CommitsNone none_along fates 1 (reading_steps Basic) tt
+reading_none Opt fates = walk_along CommitsNone none_along fates 1 (reading_steps Opt) tt
+
+checkpoint_each : (variant : Variant) (is_open lost : Bool) → EachMove CommitsNone (checkpoint_steps variant is_open lost)
+checkpoint_each Basic is_open lost = tt
+checkpoint_each Opt false lost = tt
+checkpoint_each Opt true true = tt
+checkpoint_each Opt true false = (refl, tt)
+
+pub checkpoint_none : (variant : Variant) (is_open lost : Bool) (fates : ℕ → Fate)
+    → committed_in (walk fates 1 (checkpoint_steps variant is_open lost)).moves ≡ []
+checkpoint_none variant is_open lost fates =
+    walk_along CommitsNone none_along fates 1 (checkpoint_steps variant is_open lost) (checkpoint_each variant is_open lost)
+
+-- which segments are closed
+
+pub closes-append : (xs ys : List Move) → closes xs ≡ false → closes (xs ++ ys) ≡ closes ys
+closes-append [] ys e = refl
+closes-append (Commit b ∷ xs) ys e = closes-append xs ys e
+closes-append (Foreign v ∷ xs) ys e = closes-append xs ys e
+closes-append (Placed b ∷ xs) ys e = closes-append xs ys e
+closes-append (Reset ∷ xs) ys e = closes-append xs ys e
+closes-append (Close ∷ xs) ys e = cc
+closes-append (Power ∷ xs) ys e = closes-append xs ys e
+
+pub closes-foreign : (values : List (List ℕ)) → closes (map Foreign values) ≡ false
+closes-foreign [] = refl
+closes-foreign (v ∷ values) = closes-foreign values
+
+pub closes_first : (values : List (List ℕ)) (rest : List Move) → closes (map Foreign values ++ rest) ≡ closes rest
+closes_first values rest = closes-append (map Foreign values) rest (closes-foreign values)
+
+abbrev pub ClosesNone : List Move → Type 0
+ClosesNone moves = closes moves ≡ false
+
+pub shut_along : GoesAlong ClosesNone
+shut_along = record { more = λ xs ys e f. closes-append xs ys e ∙ f; others = closes-foreign }
+
+changing_each : (flag fresh : Bool) (b : Batch) → EachMove ClosesNone (changing flag fresh b)
+changing_each true true b = (refl, tt)
+changing_each false true b = (refl, (refl, (refl, tt)))
+changing_each true false b = tt
+changing_each false false b = tt
+
+-- a call closes no segment
+pub opt_closes : (fates : ℕ → Fate) (flag fresh : Bool) (b : Batch) → closes (walk fates 1 (Reads ∷ Reads ∷ changing flag fresh b)).moves ≡ false
+opt_closes fates flag fresh b =
+    walk_along ClosesNone shut_along fates 1 (Reads ∷ Reads ∷ changing flag fresh b) (changing_each flag fresh b)
+
+pub commit_keeps : (variant : Variant) (flag : Bool) (y : History) (b : Batch) → (committed variant flag y b).closed ≡ y.closed
+commit_keeps Basic flag y b = refl
+commit_keeps Opt true y b = refl
+commit_keeps Opt false y b = refl
+
+-- where no segment is closed the closed ones are as before
+pub closed_kept : (i : Instance) (moves : List Move) (y : History) → closes moves ≡ false → (all_made (by_lists i) y moves).closed ≡ y.closed
+closed_kept i [] y e = refl
+closed_kept i (Commit b ∷ moves) y e = closed_kept i moves (moved i y (Commit b)) e ∙ commit_keeps i.variant y.is_open y b
+closed_kept i (Foreign v ∷ moves) y e = closed_kept i moves (moved i y (Foreign v)) e
+closed_kept i (Placed b ∷ moves) y e = closed_kept i moves (moved i y (Placed b)) e
+closed_kept i (Reset ∷ moves) y e = closed_kept i moves (moved i y Reset) e
+closed_kept i (Close ∷ moves) y e = cc
+closed_kept i (Power ∷ moves) y e = closed_kept i moves (moved i y Power) e
