@@ -22,3 +22,5 @@ mod LineStep
 mod SessionRuns
 mod SparingLines
 mod Keeping
+mod CellWriting
+mod SessionWriting

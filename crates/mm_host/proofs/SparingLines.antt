@@ -35,11 +35,11 @@ read_of (Some xs) (Some ys) input taken e c =
     let same : xs ≡ input = cc in
     record { rest = ys; is = sym same ∙ c; at_end = λ h. h }
 
-unbroken_served : (variant : Variant) (meaning : Meaning) (from to : Place) (calls : List Served) → Serves variant meaning from calls to → AllByRecursion IsUnbroken (lines_served calls)
+pub unbroken_served : (variant : Variant) (meaning : Meaning) (from to : Place) (calls : List Served) → Serves variant meaning from calls to → AllByRecursion IsUnbroken (lines_served calls)
 unbroken_served variant meaning from to [] s = tt
 unbroken_served variant meaning from to (c ∷ calls) s = (s.within.unbroken, unbroken_served variant meaning (record { platform = s.platform; store = s.store; last = Answered c.answer }) to calls s.rest)
 
-length-lines_served : (calls : List Served) → length (lines_served calls) ≡ length calls
+pub length-lines_served : (calls : List Served) → length (lines_served calls) ≡ length calls
 length-lines_served [] = refl
 length-lines_served (c ∷ calls) = ap (λ (n : ℕ). suc n) (length-lines_served calls)
 

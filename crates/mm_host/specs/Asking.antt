@@ -11,9 +11,11 @@ use Rattle.mm_model.specs.declared.refusal.Refusal.TheVariants.{Long}
 use Rattle.mm_call.specs.CallsOn.{CallsOn}
 use Rattle.mm_call.specs.Leaving.{LeavesUntouched, Blames, whole, whole_in}
 use Rattle.mm_call.specs.Refusals.{fault_in}
+use Rattle.mm_host.specs.CellWrites.{CallWrites}
 
 -- One call, for a request that isn't too long: it goes as a call of the variant does, from any history; its count of
--- faults rose exactly where it tells of a device; and its answer has its sizes.
+-- faults rose exactly where it tells of a device; its answer has its sizes; and it is to write the cell for a new request
+-- in Basic, in Opt for one that opens a segment.
 pub record IsCall (variant : Variant) (meaning : Meaning) (old new : Standing) (offer request : List ℕ)
     (result : Result Answer Refusal) : Type 0 where
   pub goes : CallsOn variant meaning old new offer (One request) (whole_in result)
@@ -21,3 +23,4 @@ pub record IsCall (variant : Variant) (meaning : Meaning) (old new : Standing) (
   pub faults : Blames (fault_in result) old.faults new.faults
   pub short : result ≢ Err Long
   pub fits : IfOk result (λ answer. IsFit (One request) (whole answer))
+  pub counts : CallWrites variant result old new

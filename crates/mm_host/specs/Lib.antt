@@ -16,3 +16,5 @@ pub mod SessionBlame
 pub mod Continuing
 pub mod SessionLines
 pub mod SlotLaws
+pub mod CellWrites
+pub mod SessionWrites

@@ -12,6 +12,7 @@ use mm_platform::Platform;
 use std::alloc::Global;
 
 /// Asks for one request, which isn't too long, offering a snapshot.
+#[tactic(auto, using(crate::proofs::CellWriting::basic_writes, crate::proofs::CellWriting::opt_writes))]
 pub fn ask<M: Module, P: Platform>(
     alloc: Global,
     variant: Variant,

@@ -9,6 +9,7 @@ ghost use Rattle.mm_host.specs.Blame.{Blamed, IsNamed};
 ghost use Rattle.mm_host.specs.Recovery.{Recovers};
 ghost use Rattle.mm_host.specs.Resumes.{Starts, RepeatsPending, AsksAndKeeps, Keeps, Resumes};
 ghost use Rattle.mm_host.specs.Saying.{IsSized};
+ghost use Rattle.mm_host.specs.SessionWrites.{RecoveryWrites};
 
 use crate::asking::ask;
 use crate::fault::HostFault;
@@ -72,6 +73,8 @@ pub fn resume<M: Module, P: Platform, T: Store>(
     ensures sized { IfOk result IsSized }
     ensures recovers { Recovers variant (M.meaning «module».now) (P.standing platform.old)
         (P.standing platform.new) (T.kept store.old) (T.kept store.new) result }
+    ensures writes { RecoveryWrites variant (P.standing platform.old) (P.standing platform.new)
+        result }
 {
     resume_by_steps(alloc, variant, module, platform, store)
 }

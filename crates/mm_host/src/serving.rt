@@ -11,6 +11,7 @@ ghost use Rattle.mm_host.specs.Saying.{IsSized, TellsReply, position_at, snapsho
 ghost use Rattle.mm_host.specs.Serving.{AsksLine};
 ghost use Rattle.mm_host.specs.SessionBlame.{IsRefusalNamed, is_platform_fault, is_read_fault, is_store_fault, is_write_fault};
 ghost use Rattle.mm_host.specs.SessionLines.{SparesLines};
+ghost use Rattle.mm_host.specs.SessionWrites.{SessionWrites};
 ghost use Rattle.mm_host.specs.Sessions.{ServesLines, Sessions, most_lines};
 ghost use Rattle.mm_host.specs.Turns.{AsksAndTells, ServesInput, TakesLine, ServesNext};
 
@@ -54,6 +55,9 @@ pub fn session<M: Module, P: Platform, T: Store, S: Source, K: Sink>(
     ensures named { IsRefusalNamed result }
     ensures lines { SparesLines (S.left input.old) result }
     ensures continues { SessionContinues variant (M.meaning «module».now) (P.standing platform.old)
+        (P.standing platform.new) (T.kept store.old) (T.kept store.new) (S.left input.old)
+        (S.left input.new) (K.received out.old) (K.received out.new) result }
+    ensures writes { SessionWrites variant (M.meaning «module».now) (P.standing platform.old)
         (P.standing platform.new) (T.kept store.old) (T.kept store.new) (S.left input.old)
         (S.left input.new) (K.received out.old) (K.received out.new) result }
 {

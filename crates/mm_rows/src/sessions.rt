@@ -4,6 +4,7 @@ ghost use Rattle.std.specs.Prelude.{◌≡◌, ℕ, List, Some, IfOk, OnOk, leng
 ghost use Rattle.mm_host.specs.Continuing.{SessionContinues};
 ghost use Rattle.mm_host.specs.Begins.{Leaves};
 ghost use Rattle.mm_host.specs.Sessions.{Sessions};
+ghost use Rattle.mm_host.specs.SessionWrites.{SessionWrites};
 ghost use Rattle.mm_rows.specs.Devices.{first_devices, kept_in_pages, two_cells};
 ghost use Rattle.mm_rows.specs.FirstSession.{BeginsAndServes};
 ghost use Rattle.mm_rows.specs.Recovering.{RecoversInMemory};
@@ -81,6 +82,10 @@ pub fn serve<M: Module>(
         (Some input.old.left) (Some input.new.left) (Some out.old.received) (Some out.new.received)
         result }
     ensures continues { SessionContinues variant (M.meaning «module».now) (two_cells platform.old)
+        (two_cells platform.new) (kept_in_pages store.old) (kept_in_pages store.new)
+        (Some input.old.left) (Some input.new.left) (Some out.old.received) (Some out.new.received)
+        result }
+    ensures writes { SessionWrites variant (M.meaning «module».now) (two_cells platform.old)
         (two_cells platform.new) (kept_in_pages store.old) (kept_in_pages store.new)
         (Some input.old.left) (Some input.new.left) (Some out.old.received) (Some out.new.received)
         result }

@@ -1,5 +1,6 @@
 use Rattle.mm_host.proofs.Blaming.{resumes_told}
 use Rattle.mm_host.proofs.BothRecovering.{recovers}
+use Rattle.mm_host.proofs.SessionWriting.{recovery_writes}
 use Rattle.mm_host.proofs.resuming.resume.Goals as goal
 
 pub returns-clause-faults : goal.returns-clause-faults
@@ -17,5 +18,11 @@ returns-clause-named g c =
 pub returns-clause-recovers : goal.returns-clause-recovers
 returns-clause-recovers g c =
     recovers c.args.variant (g.M.Module.meaning c.args.module.now) (g.met.M.Module.is_lawful c.args.module.now) (g.P.Device.standing c.args.platform.now)
+    (g.P.Device.standing c.resume_by_steps.new.platform) (g.T.Store.kept c.args.store.now)
+    (g.T.Store.kept c.resume_by_steps.new.store) c.resume_by_steps.result c.resume_by_steps.ensures
+
+pub returns-clause-writes : goal.returns-clause-writes
+returns-clause-writes g c =
+    recovery_writes c.args.variant (g.M.Module.meaning c.args.module.now) (g.P.Device.standing c.args.platform.now)
     (g.P.Device.standing c.resume_by_steps.new.platform) (g.T.Store.kept c.args.store.now)
     (g.T.Store.kept c.resume_by_steps.new.store) c.resume_by_steps.result c.resume_by_steps.ensures

@@ -1,5 +1,6 @@
 use Rattle.mm_host.proofs.SessionBlaming.{session_told}
 use Rattle.mm_host.proofs.SessionRuns.{continues}
+use Rattle.mm_host.proofs.SessionWriting.{session_writes}
 use Rattle.mm_host.proofs.SparingLines.{spares_lines}
 use Rattle.mm_host.proofs.serving.session.Goals as goal
 
@@ -18,3 +19,6 @@ returns-clause-continues g c =
 
 pub returns-clause-lines : goal.returns-clause-lines
 returns-clause-lines g c = spares_lines _ _ _ _ _ _ _ _ _ _ _ c.session_by_steps.ensures.sessions
+
+pub returns-clause-writes : goal.returns-clause-writes
+returns-clause-writes g c = session_writes _ _ _ _ _ _ _ _ _ _ _ c.session_by_steps.ensures.sessions
