@@ -18,7 +18,7 @@ use Rattle.mm_host.specs.Sessions.{Sessions}
 use Rattle.mm_host.specs.Turns.{ServesInput}
 
 reads_nothing : (slot : ℕ) (kept : StoreStanding) → ReadsSlot slot kept kept (Err fault.Memory)
-reads_nothing slot kept = record { slots = refl; honest = refl; counted = refl; gives = tt; short = tt }
+reads_nothing slot kept = record { slots = refl; honest = refl; counted = refl; gives = tt; short = tt; unsynced = refl }
 
 -- want of memory at once is that of a first read
 resumes_nothing : (variant : Variant) (meaning : Meaning) (before : Standing) (old : StoreStanding) → Resumes variant meaning before before old old (Err host.Memory)

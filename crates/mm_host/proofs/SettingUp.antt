@@ -24,6 +24,7 @@ use Rattle.mm_store.specs.declared.fault.StoreFault.{StoreFault}
 use Rattle.mm_store.specs.declared.fault.StoreFault.TheVariants as fault
 use Rattle.mm_store.specs.Kept.{StoreStanding}
 use Rattle.mm_store.specs.Slots.{Slots, with_slot}
+use Rattle.mm_store.specs.Unsynced.{Unsynced, with_unsynced, marking}
 use Rattle.mm_store.specs.Calls.{CountsFailures, WritesSlot, putting}
 use Rattle.mm_host.specs.declared.init_fault.InitFault.{InitFault}
 use Rattle.mm_host.specs.declared.init_fault.InitFault.TheVariants.{Memory, Platform, Already, ReadFault, Short}
@@ -95,6 +96,28 @@ puts_told (put ∷ puts) slots old new stored h t e p =
     after_told p.1 stored put puts slots old p.0 new (PutsAll puts p.0 new stored)
     (λ honest told rest. puts_told puts (with_slot slots put.slot put.bytes) p.0 new stored honest told e rest) h t p.2 e p.3
 
+-- the slots that were put are synced
+all_marked : Unsynced → List Put → Unsynced
+all_marked marks [] = marks
+all_marked marks (put ∷ puts) = all_marked (with_unsynced marks put.slot false) puts
+
+after_synced : (written stored : Result Unit StoreFault) (put : Put) (puts : List Put) (marks : Unsynced) (old middle new : StoreStanding) (Rest : Type 0)
+    → (middle.unsynced ≡ Some (with_unsynced marks put.slot false) → Rest → new.unsynced ≡ Some (all_marked (with_unsynced marks put.slot false) puts))
+    → old.unsynced ≡ Some marks → WritesSlot put.slot put.bytes old middle written → stored ≡ Ok tt
+    → AfterPut written middle new stored Rest → new.unsynced ≡ Some (all_marked (with_unsynced marks put.slot false) puts)
+after_synced (Ok it) stored put puts marks old middle new Rest more t w e rest =
+    more (w.synced ∙ ap (λ (m : Option Unsynced). marking put.slot false m) t) rest
+after_synced (Err why) stored put puts marks old middle new Rest more t w e rest =
+    let other : stored ≡ Err why = rest.1 in absurd (cc)
+
+puts_synced : (puts : List Put) (marks : Unsynced) (old new : StoreStanding) (stored : Result Unit StoreFault) → old.unsynced ≡ Some marks → stored ≡ Ok tt
+    → PutsAll puts old new stored → new.unsynced ≡ Some (all_marked marks puts)
+unfolding all_marked
+puts_synced [] marks old new stored t e p = ap (λ (k : StoreStanding). k.unsynced) p.0 ∙ t
+puts_synced (put ∷ puts) marks old new stored t e p =
+    after_synced p.1 stored put puts marks old p.0 new (PutsAll puts p.0 new stored)
+    (λ told rest. puts_synced puts (with_unsynced marks put.slot false) p.0 new stored told e rest) t p.2 e p.3
+
 -- the platform stands for the first history
 entries_values : (barrier : List ℕ) (values : List (List ℕ)) → entry_values barrier (map Value values) ≡ values
 entries_values barrier [] = refl
@@ -136,7 +159,7 @@ begins : (variant : Variant) (meaning : Meaning) (before after : Devices) (secre
     → after.platform.cell ≡ option_map (λ _. cell_spelling (cell_of (instance_from variant meaning secrets) first_history)) before.platform.cell
     → PutsAll (first_puts (issued_bytes (instance_from variant meaning secrets) first_history)) before.store after.store stored → stored ≡ Ok tt
     → Begins variant meaning before after
-unfolding all_put
+unfolding all_put all_marked
 begins variant meaning before after secrets stored lawful size taken cell puts e = record {
   secrets = secrets;
   counted = size;
@@ -147,6 +170,7 @@ begins variant meaning before after secrets stored lawful size taken cell puts e
       (cell ∙ ap (λ (c : Option (List ℕ)). option_map (λ _. cell_spelling (cell_of (instance_from variant meaning secrets) first_history)) c) told) shows;
   honest = puts_honest (first_puts (issued_bytes (instance_from variant meaning secrets) first_history)) before.store after.store stored puts;
   stores = λ slots honest told. puts_told (first_puts (issued_bytes (instance_from variant meaning secrets) first_history)) slots before.store after.store stored honest told e puts;
+  synced = λ marks told. puts_synced (first_puts (issued_bytes (instance_from variant meaning secrets) first_history)) marks before.store after.store stored told e puts;
   first = λ values. is_first variant meaning (take 32 secrets) (drop 32 secrets) values lawful;
 }
 

@@ -16,6 +16,7 @@ use Rattle.mm_model.specs.History.{History, Value, first_history}
 use Rattle.mm_model.specs.Standing.{StandsFor, issued_bytes}
 use Rattle.mm_call.specs.Asked.{IsWithin}
 use Rattle.mm_store.specs.Slots.{Slots}
+use Rattle.mm_store.specs.Unsynced.{Unsynced, all_synced}
 use Rattle.mm_host.specs.declared.init_fault.InitFault.{InitFault}
 use Rattle.mm_host.specs.declared.init_fault.InitFault.TheVariants.{Memory, Platform, Already, ReadFault, Short, Store}
 use Rattle.mm_host.specs.Fitting.{FitsHistory}
@@ -42,7 +43,8 @@ pub record IsFirstStore (i : Instance) (y : History) : Type 0 where
       IsWithin all others asked i y
 
 -- 64 bytes were taken. Where the platform tells its cell, and in Opt the register, it stands for the first history of their
--- instance; and an honest store that tells its slots holds the first ones. A store stays as honest as it was.
+-- instance; and an honest store that tells its slots holds the first ones. A store stays as honest as it was, and where
+-- it tells which slots are synced, all are.
 pub record Begins (variant : Variant) (meaning : Meaning) (before after : Devices) : Type 0 where
   pub secrets : List ℕ
   pub counted : length secrets ≡ 64
@@ -52,6 +54,7 @@ pub record Begins (variant : Variant) (meaning : Meaning) (before after : Device
   pub honest : after.store.is_honest ≡ before.store.is_honest
   pub stores : (slots : Slots) → before.store.is_honest ≡ true → before.store.slots ≡ Some slots →
       after.store.slots ≡ Some (first_slots (instance_from variant meaning secrets))
+  pub synced : (marks : Unsynced) → before.store.unsynced ≡ Some marks → after.store.unsynced ≡ Some all_synced
   pub first : (values : List (List ℕ)) → IsFirstStore (instance_from variant meaning secrets) (first_on values)
 
 -- All is set up after Ok. After any fault the cell is as before, so that the call may be made again; or else the platform

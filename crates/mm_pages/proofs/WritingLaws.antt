@@ -8,10 +8,10 @@ use Rattle.mm_base.specs.declared.fault.Failed.{Failed}
 use Rattle.mm_base.specs.Faults.{counted, Rose}
 use Rattle.mm_digest.specs.declared.digest.Digest.{Digest}
 use Rattle.mm_store.specs.Slots.{Slots, slot_in, with_slot}
-use Rattle.mm_store.specs.Unsynced.{MarksAlone, marking}
+use Rattle.mm_store.specs.Unsynced.{Unsynced, MarksAlone, marking}
 use Rattle.mm_store.specs.Calls.{putting}
 use Rattle.mm_store.proofs.SlotLaws.{slot_in-with_slot, with_slot-twice, with_slot-same, putting-twice}
-use Rattle.mm_store.proofs.SyncLaws.{marks_stay, marked_last, marks_after}
+use Rattle.mm_store.proofs.SyncLaws.{marks_alone, marked_last}
 use Rattle.mm_pages.specs.Bytes.{resized, page_of, with_page, page_count}
 use Rattle.mm_pages.specs.Paged.{Paged}
 use Rattle.mm_pages.specs.Calls.{WritesPage, ReadsLength, Syncs, changing}
@@ -30,8 +30,7 @@ slots_stay slot (Some told) = (slot_in told slot, ap Some (sym (with_slot-same t
 -- marks that are as they were
 marks_same : (slot : ℕ) (old new : Paged) → new.unsynced ≡ old.unsynced → MarksAlone slot old.unsynced new.unsynced
 marks_same slot old new e =
-    let stay = marks_stay slot old.unsynced in
-    (stay.0, e ∙ stay.1)
+    ap (λ (x : Option Unsynced). marking slot true x) e
 
 -- a page that is there already
 stays_there : (slot page : ℕ) (part : List ℕ) (slots : Option Slots) →
@@ -139,7 +138,8 @@ put_written slot page part digest kept old mid new rows dropped after done h w l
       faults = w.counted_faults.kept ∙ h.counted_faults.kept;
       lengths = ap (λ (x : Paged). x.length_writes) w.same ∙ ap (λ (x : Paged). x.length_writes) h.same;
       marks =
-          (true, ap (λ (x : Paged). x.unsynced) w.same ∙ ap (λ (x : Paged). marking slot true x.unsynced) h.same);
+          marks_alone slot true old.unsynced new.unsynced
+          (ap (λ (x : Paged). x.unsynced) w.same ∙ ap (λ (x : Paged). marking slot true x.unsynced) h.same);
       rows_are =
           s ∙ ap (λ (x : List (Option Digest)). with_row dropped slot x) alike
           ∙ ap (λ (x : Rows). with_row x slot (keeping page (page_digest part) (row_in rows slot))) r.rows
@@ -206,7 +206,7 @@ puts_none slot bytes paged rows = record {
   honest = refl;
   faults = refl;
   lengths = refl;
-  marks = marks_stay slot paged.unsynced;
+  marks = refl;
   rows_are = sym (with_row-same rows slot);
   looks = refl;
   fills = λ honest. fills_none slot bytes paged.slots;
@@ -274,7 +274,7 @@ puts_more slot count bytes old mid new rows some after f p =
       honest = p.honest ∙ f.honest;
       faults = p.faults ∙ f.faults;
       lengths = p.lengths ∙ f.lengths;
-      marks = marks_after slot old.unsynced mid.unsynced new.unsynced f.marks p.marks;
+      marks = p.marks ∙ f.marks;
       rows_are =
           p.rows_are ∙ ap (λ (x : List (Option Digest)). with_row some slot x) more
           ∙ ap (λ (x : Rows). with_row x slot (page_digests bytes (suc count) ++ drop (suc count) row)) f.rows_are
@@ -337,7 +337,7 @@ fails_in_after slot left old mid new h k s m f = record {
         later.1 ∙ ap (λ (x : Option Slots). putting slot later.0 x) first.1
             ∙ putting-twice slot first.0 later.0 old.slots,
       );
-  marks = marks_after slot old.unsynced mid.unsynced new.unsynced m f.marks;
+  marks = f.marks ∙ m;
 }
 
 pub fails_after : (slot count : ℕ) (bytes : List ℕ) (old mid new : Paged) (rows some after : Rows) →
@@ -407,7 +407,7 @@ fits_and_synced slot size old mid new done f s = record {
   settled = λ told e l. ap (λ (x : Paged). x.length_writes) s.same ∙ f.settled told e l;
   slots = λ honest. s.leaves (f.honest ∙ honest) ∙ f.slots honest;
   marks =
-      marks_after slot old.unsynced mid.unsynced new.unsynced f.marks (false, ap (λ (x : Paged). x.unsynced) s.same);
+      marks_alone slot false mid.unsynced new.unsynced (ap (λ (x : Paged). x.unsynced) s.same) ∙ f.marks;
 }
 
 -- or not
@@ -429,7 +429,7 @@ fits_synced slot size old mid new (Err fault) f s = record {
             ∙ putting-twice slot before.0 left.0 old.slots,
       );
   marks =
-      marks_after slot old.unsynced mid.unsynced new.unsynced f.marks (true, ap (λ (x : Paged). x.unsynced) s.same);
+      marks_alone slot true mid.unsynced new.unsynced (ap (λ (x : Paged). x.unsynced) s.same) ∙ f.marks;
 }
 
 -- what is in a slot whose pages are those of the bytes, once it has their length

@@ -18,4 +18,9 @@ pub record Paged : Type 0 where
 
 -- what a store over the device holds
 abbrev pub kept_on : Paged → StoreStanding
-kept_on paged = record { slots = paged.slots; is_honest = paged.is_honest; faults = paged.faults }
+kept_on paged = record {
+  slots = paged.slots;
+  is_honest = paged.is_honest;
+  faults = paged.faults;
+  unsynced = paged.unsynced;
+}

@@ -3,7 +3,7 @@ use Rattle.std.specs.Prelude.{ℕ, ◌-◌, true, false, List, [], Some, Result,
 use Rattle.mm_base.specs.declared.fault.Failed.{Failed}
 use Rattle.mm_base.specs.Faults.{counted}
 use Rattle.mm_store.specs.Slots.{Slots, slot_in, with_slot}
-use Rattle.mm_store.specs.Unsynced.{Unsynced, with_unsynced}
+use Rattle.mm_store.specs.Unsynced.{Unsynced, with_unsynced, all_synced}
 use Rattle.mm_pages.specs.Paged.{Paged}
 
 -- The slots, the counts of faults, of reads of pages, of writes of pages and of lengths, which slots have changes
@@ -18,10 +18,6 @@ pub record Sheets : Type 0 where
   pub unsynced : Unsynced
   pub ahead : ℕ
   pub leaves : List ℕ
-
--- no slot has such changes
-abbrev pub all_synced : Unsynced
-all_synced = record { zero = false; one = false; two = false; three = false }
 
 -- a new device in memory
 abbrev pub blank : Sheets

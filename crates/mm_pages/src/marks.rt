@@ -1,8 +1,7 @@
 //! Which slots have changes that were not synced.
 
 ghost use Rattle.std.specs.Prelude.{◌≡◌, ◌<◌};
-ghost use Rattle.mm_store.specs.Unsynced.{unsynced_in, with_unsynced};
-ghost use Rattle.mm_pages.specs.Sheets.{all_synced};
+ghost use Rattle.mm_store.specs.Unsynced.{unsynced_in, with_unsynced, all_synced};
 
 use std::marker::Model;
 

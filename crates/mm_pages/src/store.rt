@@ -1,9 +1,8 @@
 //! A store over a device of pages.
 
-ghost use Rattle.std.specs.Prelude.{◌≡◌, ◌≢◌, ◌<◌, ◌≤◌, length, true, false, Some, Err, IfOk, OnOk, OnErr};
+ghost use Rattle.std.specs.Prelude.{◌≡◌, ◌≢◌, ◌<◌, ◌≤◌, length, true, Some, Err, IfOk, OnOk};
 ghost use Rattle.std.specs.Borrow.{Lends, sem};
 ghost use Rattle.mm_store.specs.Slots.{Slots, slot_in};
-ghost use Rattle.mm_store.specs.Unsynced.{marking, MarksAlone};
 ghost use Rattle.mm_store.specs.Calls.{ReadsSlot, WritesSlot};
 ghost use Rattle.mm_store.specs.declared.store.TheConstants.{LONGEST_SLOT};
 ghost use Rattle.mm_pages.specs.Bytes.{page_count};
@@ -68,7 +67,6 @@ impl<D: PageDevice + Drop> Store for PageStore<D> {
         requires { slot < 4 }
         ensures reads { ReadsSlot slot (kept_on (D.pages self.old.device))
             (kept_on (D.pages self.new.device)) result }
-        ensures unsynced { (D.pages self.new.device).unsynced ≡ (D.pages self.old.device).unsynced }
         ensures rows { self.new.rows ≡ rows_after_read slot self.old.rows result }
         ensures step { KeepsStep (D.pages self.old.device) (D.pages self.new.device) self.old.rows
             self.new.rows }
@@ -86,12 +84,6 @@ impl<D: PageDevice + Drop> Store for PageStore<D> {
         ensures writes { WritesSlot slot bytes.now (kept_on (D.pages self.old.device))
             (kept_on (D.pages self.new.device)) result }
         ensures no_want { result ≢ Err StoreFault.Memory }
-
-        // After Ok no change of the slot waits to be synced. Of the other slots the same changes wait as before.
-        ensures synced { OnOk result ((D.pages self.new.device).unsynced
-            ≡ marking slot false (D.pages self.old.device).unsynced) }
-        ensures others { OnErr result (MarksAlone slot (D.pages self.old.device).unsynced
-            (D.pages self.new.device).unsynced) }
         ensures rows { self.new.rows ≡ rows_after_write slot bytes.now self.old.rows result }
 
         // Of the pages of the new bytes those are read back of which no digest is kept, or that of the new page.

@@ -17,6 +17,7 @@ use Rattle.mm_host.specs.Recovery.{CanRecover, Recovers}
 use Rattle.mm_pages.specs.Cached.{Cached}
 use Rattle.mm_pages.specs.Sheets.{Sheets}
 use Rattle.mm_store.specs.Slots.{Slots}
+use Rattle.mm_store.specs.Unsynced.{Unsynced}
 use Rattle.mm_twocell.specs.Pairs.{picked}
 use Rattle.mm_twocell.specs.Torn.{Torn, whole_bytes}
 use Rattle.mm_twocell.specs.declared.pair.TwoCell.{TwoCell}
@@ -57,6 +58,9 @@ tells_picked it bytes e size = (picked bytes, ap (λ (c : Option (List ℕ)). op
 some_same : (a b : Slots) → (let o : Option Slots = Some a in o ≡ Some b) → a ≡ b
 some_same a b h = cc
 
+some_marks : (a b : Unsynced) → (let o : Option Unsynced = Some a in o ≡ Some b) → a ≡ b
+some_marks a b h = cc
+
 starts : (variant : Variant) (meaning : Meaning) (before after : TwoCell Torn) (old new : Cached Sheets) (entropy entropy' : Supply) (cell : List ℕ) →
     (two_cells before).cell ≡ Some cell →
     Begins variant meaning (first_devices before old entropy) (first_devices after new entropy') →
@@ -67,6 +71,7 @@ starts variant meaning before after old new entropy entropy' cell told b = recor
   taken = b.taken;
   stands = λ values shows. b.stands cell values told shows;
   slots = some_same _ _ (b.stores old.device.slots refl refl);
+  synced = some_marks _ _ (b.synced old.device.unsynced refl);
   first = b.first;
 }
 

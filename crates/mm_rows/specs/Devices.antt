@@ -25,9 +25,14 @@ two_cells it = record {
   plan = None;
 }
 
--- the slots are the bytes of the pages, which are told, and honest
+-- the slots are the bytes of the pages, which are told, and honest; it is told which of them are synced
 abbrev pub kept_in_pages : Cached Sheets → StoreStanding
-kept_in_pages store = record { slots = Some store.device.slots; is_honest = true; faults = store.device.faults }
+kept_in_pages store = record {
+  slots = Some store.device.slots;
+  is_honest = true;
+  faults = store.device.faults;
+  unsynced = Some store.device.unsynced;
+}
 
 -- what a first start works with
 abbrev pub first_devices : TwoCell Torn → Cached Sheets → Supply → Devices

@@ -5,6 +5,7 @@ use Rattle.mm_module.specs.Meaning.{Meaning}
 use Rattle.mm_model.specs.Standing.{StandsFor}
 use Rattle.mm_host.specs.Begins.{IsFirstStore, ShowsValues, first_on, first_slots}
 use Rattle.mm_host.specs.Init.{instance_from}
+use Rattle.mm_store.specs.Unsynced.{all_synced}
 use Rattle.mm_pages.specs.Cached.{Cached}
 use Rattle.mm_pages.specs.Sheets.{Sheets}
 use Rattle.mm_twocell.specs.Torn.{Torn}
@@ -12,7 +13,8 @@ use Rattle.mm_twocell.specs.declared.pair.TwoCell.{TwoCell}
 use Rattle.mm_rows.specs.Devices.{two_cells}
 
 -- 64 bytes were taken. Whatever the memory and the pages held before, the picked cell, and in Opt the register, stand
--- for the first history of the instance of these bytes; and the pages are its first slots, which fit that history.
+-- for the first history of the instance of these bytes; and the pages are its first slots, which fit that history. All
+-- of them are synced.
 pub record StartsInMemory (variant : Variant) (meaning : Meaning) (after : TwoCell Torn) (new : Cached Sheets)
     (left left' : List ℕ) : Type 0 where
   pub secrets : List ℕ
@@ -21,4 +23,5 @@ pub record StartsInMemory (variant : Variant) (meaning : Meaning) (after : TwoCe
   pub stands : (values : List (List ℕ)) → ShowsValues variant (two_cells after) values →
       StandsFor (instance_from variant meaning secrets) (two_cells after) (first_on values)
   pub slots : new.device.slots ≡ first_slots (instance_from variant meaning secrets)
+  pub synced : new.device.unsynced ≡ all_synced
   pub first : (values : List (List ℕ)) → IsFirstStore (instance_from variant meaning secrets) (first_on values)

@@ -1,11 +1,12 @@
 -- What each call of a store does to what it holds.
-use Rattle.std.specs.Prelude.{◌≡◌, ◌≤◌, ℕ, true, List, Option, Some, Result, Ok, Err, IfOk, length}
+use Rattle.std.specs.Prelude.{◌≡◌, ◌≤◌, ℕ, true, false, List, Option, Some, Result, Ok, Err, IfOk, length}
 use Rattle.std.specs.Option.{option_map}
 use Rattle.mm_base.specs.Faults.{Rose}
 use Rattle.mm_store.specs.declared.fault.StoreFault.{StoreFault}
 use Rattle.mm_store.specs.declared.fault.StoreFault.TheVariants.{Memory, Failed}
 use Rattle.mm_store.specs.declared.store.TheConstants.{LONGEST_SLOT}
 use Rattle.mm_store.specs.Slots.{Slots, with_slot, slot_read}
+use Rattle.mm_store.specs.Unsynced.{Unsynced, marking, MarksAlone}
 use Rattle.mm_store.specs.Kept.{StoreStanding}
 
 -- the count of faults rose where the call failed, and is as before after Ok and where memory was wanting
@@ -21,6 +22,7 @@ pub record ReadsSlot (slot : ℕ) (old new : StoreStanding) (result : Result (Li
   pub counted : CountsFailures old.faults new.faults result
   pub gives : IfOk result (λ bytes. (slots : Slots) → old.slots ≡ Some slots → bytes ≡ slot_read slots slot)
   pub short : IfOk result (λ bytes. length bytes ≤ LONGEST_SLOT)
+  pub unsynced : new.unsynced ≡ old.unsynced
 
 -- the slots where they are told, with these bytes in one of them
 abbrev pub putting : ℕ → List ℕ → Option Slots → Option Slots
@@ -32,9 +34,17 @@ LeavesInSlot slot bytes old new (Ok _) = new ≡ putting slot bytes old
 LeavesInSlot slot bytes old new (Err Memory) = new ≡ old
 LeavesInSlot slot bytes old new (Err Failed) = (left : List ℕ) × (new ≡ putting slot left old)
 
+-- what waits to be synced after a write to a slot: nothing of the slot after Ok, all as before where memory is wanting,
+-- and of the other slots what waited before
+abbrev pub SyncsSlot : ℕ → Option Unsynced → Option Unsynced → Result Unit StoreFault → Type 0
+SyncsSlot slot old new (Ok _) = new ≡ marking slot false old
+SyncsSlot slot old new (Err Memory) = new ≡ old
+SyncsSlot slot old new (Err Failed) = MarksAlone slot old new
+
 -- a write changes no other slot of an honest store, and none of any store where memory is wanting
 pub record WritesSlot (slot : ℕ) (bytes : List ℕ) (old new : StoreStanding) (result : Result Unit StoreFault) : Type 0 where
   pub honest : new.is_honest ≡ old.is_honest
   pub counted : CountsFailures old.faults new.faults result
   pub leaves : old.is_honest ≡ true → LeavesInSlot slot bytes old.slots new.slots result
   pub spared : result ≡ Err Memory → new.slots ≡ old.slots
+  pub synced : SyncsSlot slot old.unsynced new.unsynced result

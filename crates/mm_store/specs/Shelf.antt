@@ -1,5 +1,5 @@
 -- A store in memory.
-use Rattle.std.specs.Prelude.{ℕ, ◌-◌, Bool, true, List, [], Some, Result, Ok, Err}
+use Rattle.std.specs.Prelude.{ℕ, ◌-◌, Bool, true, List, [], None, Some, Result, Ok, Err}
 use Rattle.mm_base.specs.Faults.{counted}
 use Rattle.mm_store.specs.declared.fault.StoreFault.{StoreFault}
 use Rattle.mm_store.specs.declared.fault.StoreFault.TheVariants.{Memory, Failed}
@@ -25,9 +25,14 @@ new_shelf = record {
   leaves = [];
 }
 
--- what of it each store has
+-- what of it each store has; of syncs nothing is told
 abbrev pub shelf_standing : Shelf → StoreStanding
-shelf_standing shelf = record { slots = Some shelf.slots; is_honest = shelf.is_honest; faults = shelf.faults }
+shelf_standing shelf = record {
+  slots = Some shelf.slots;
+  is_honest = shelf.is_honest;
+  faults = shelf.faults;
+  unsynced = None;
+}
 
 -- one call fewer is ahead
 abbrev pub call_made : Shelf → Shelf

@@ -1,5 +1,5 @@
 -- Which slots have changes that were not synced.
-use Rattle.std.specs.Prelude.{◌≡◌, ℕ, ◌==◌, Bool, Option, if◌then◌else◌}
+use Rattle.std.specs.Prelude.{◌≡◌, ℕ, ◌==◌, Bool, true, false, Option, if◌then◌else◌}
 use Rattle.std.specs.Option.{option_map}
 
 -- of each slot, whether it has such changes
@@ -23,6 +23,10 @@ with_unsynced marks n mark =
 abbrev pub marking : ℕ → Bool → Option Unsynced → Option Unsynced
 marking slot mark marks = option_map (λ told. with_unsynced told slot mark) marks
 
--- of no other slot anything changed
+-- of the other slots the same is told as before
 abbrev pub MarksAlone : ℕ → Option Unsynced → Option Unsynced → Type 0
-MarksAlone slot old new = (mark : Bool) × (new ≡ marking slot mark old)
+MarksAlone slot old new = marking slot true new ≡ marking slot true old
+
+-- no slot has such changes
+abbrev pub all_synced : Unsynced
+all_synced = record { zero = false; one = false; two = false; three = false }

@@ -13,8 +13,8 @@ pub const LONGEST_SLOT: usize = 1_100_000;
 
 /// Four slots of bytes, numbered from 0 to 3, each of at most 1,100,000 bytes.
 ///
-/// `kept` is what the store holds: the slots where it tells them, whether it is honest, and its count of
-/// faults.
+/// `kept` is what the store holds: the slots where it tells them, whether it is honest, its count of faults,
+/// and, where it is told, which slots have changes that were not synced.
 pub trait Store {
     ghost kept: { Self → StoreStanding };
 
@@ -24,7 +24,7 @@ pub trait Store {
         ensures reads { ReadsSlot slot (kept self.old) (kept self.new) result };
 
     /// Puts at most 1,100,000 bytes in place of a slot's. The slot of an honest store holds them
-    /// afterwards; after `Failed` it may hold any bytes. Its other slots stay.
+    /// afterwards, and is synced; after `Failed` it may hold any bytes. Its other slots stay.
     fn write(&mut self, slot: u8, bytes: &[u8]) -> Result<(), StoreFault>
         requires slot { slot < 4 }
         requires short { length bytes.now ≤ LONGEST_SLOT }
