@@ -1,7 +1,7 @@
 //! Sessions over a store and a platform in memory.
 
 use super::*;
-use mm_base::{MemSink, MemSource, Memory};
+use mm_base::{MemSink, MemSource, Memory, read_decimal};
 use mm_call::Provisioned;
 use mm_digest::Variant;
 use mm_module::Counter;
@@ -9,6 +9,60 @@ use mm_platform::{MemPlatform, Stop};
 use mm_store::MemStore;
 use std::alloc::Global;
 use std::test::Fail;
+
+/// The variant; the call of the store that fails; the step of the platform that does, and whether
+/// it has its effect; and what the next session writes.
+///
+/// The store fails at each of its calls in turn, or the platform at its last step, with and
+/// without its effect. The next session answers the request where its record was written, and
+/// tells a repeat where it had been committed.
+const STOPS: &str = "\
+basic 3 0 undone => nothing
+basic 4 0 undone => nothing
+basic 5 0 undone => again 1 5
+basic 0 2 undone => ok 1 5
+basic 0 2 done => again 1 5
+opt 0 5 done => again 1 5
+";
+
+/// A line of the table.
+#[derive(Clone, Copy)]
+struct Row<'a> {
+    variant: Variant,
+    call: u64,
+    step: u8,
+    done: bool,
+    said: &'a str,
+}
+
+fn row_of(line: &str) -> Option<Row<'_>> {
+    let (asked, said) = line.split_once(" => ")?;
+    let (variant, rest) = asked.split_once(' ')?;
+    let (call, rest) = rest.split_once(' ')?;
+    let (step, done) = rest.split_once(' ')?;
+    Some(Row {
+        variant: variant_of(variant),
+        call: read_decimal(call.as_bytes())?,
+        step: step_of(step),
+        done: done == "done",
+        said,
+    })
+}
+
+fn variant_of(word: &str) -> Variant {
+    match word {
+        "basic" => Variant::Basic,
+        _ => Variant::Opt,
+    }
+}
+
+fn step_of(word: &str) -> u8 {
+    match word {
+        "2" => 2,
+        "5" => 5,
+        _ => 0,
+    }
+}
 
 // The cell and the first snapshot.
 fn provisioned(alloc: Global, variant: Variant) -> Result<Provisioned, Memory> {
@@ -18,6 +72,7 @@ fn provisioned(alloc: Global, variant: Variant) -> Result<Provisioned, Memory> {
     }
 }
 
+// Whether a session ends well.
 fn run(
     alloc: Global,
     variant: Variant,
@@ -25,64 +80,59 @@ fn run(
     store: &mut MemStore,
     input: &mut MemSource,
     out: &mut MemSink,
-) -> Result<(), SessionFault> {
-    session(alloc, variant, &Counter, platform, store, input, out)
+) -> bool {
+    session(alloc, variant, &Counter, platform, store, input, out).is_ok()
 }
 
-// Whether a session on these lines ends well, and writes this text.
-fn writes(
+// Whether these are the lines of a text.
+fn are_lines(bytes: &[u8], text: &str) -> bool {
+    match bytes.strip_suffix(b"\n") {
+        Some(lines) => lines == text.as_bytes(),
+        None => bytes.is_empty() && text == "nothing",
+    }
+}
+
+// Whether a session on these lines ends well or not, as is told, and writes this text.
+fn serves(
     alloc: Global,
     variant: Variant,
     platform: &mut MemPlatform,
     store: &mut MemStore,
     lines: &[u8],
-    text: &[u8],
-) -> Result<(bool, bool), Memory> {
+    is_well: bool,
+    text: &str,
+) -> Result<bool, Memory> {
     let mut input = MemSource::new(alloc, lines, &[])?;
     let mut out = MemSink::new(alloc, 1000, &[])?;
-    let ended = run(alloc, variant, platform, store, &mut input, &mut out);
-    Ok((ended.is_ok(), out.content() == text))
+    let is_ended = run(alloc, variant, platform, store, &mut input, &mut out);
+    Ok(is_ended == is_well && are_lines(out.content(), text))
 }
 
-// Whether a session that is to stop at this call of the store, or at this step, does so, and whether the next one, on
-// no lines, ends well and writes this.
+// Whether a session that is to stop as a row says does so, and the next one, on no lines, ends
+// well and writes what the row says.
 fn goes_on(
     alloc: Global,
-    variant: Variant,
-    stop: (u64, u8, bool),
-    text: &[u8],
+    row: &Row<'_>,
     platform: &mut MemPlatform,
     store: &mut MemStore,
 ) -> Result<bool, Fail> {
-    let (call, step, done) = stop;
-    store.stop_at(call, b"torn")?;
-    platform.plan(Stop::Fail { step, done }, &[])?;
-    let first = writes(alloc, variant, platform, store, b"add 5\n", b"")?;
-    let second = writes(alloc, variant, platform, store, b"", text)?;
-    Ok(first == (false, true) && second == (true, true))
-}
-
-/// The store fails at each of its calls in turn, or the platform at its last step, with and without its effect. The
-/// next session answers the request where its record was written, and tells a repeat where it had been committed.
-#[test]
-fn a_stopped_session_is_gone_on_with(rt: HostRuntime) -> Result<(), Fail> {
-    let alloc = rt.alloc();
-    let rows = [
-        (Variant::Basic, (3, 0, false), b"".as_slice()),
-        (Variant::Basic, (4, 0, false), b"".as_slice()),
-        (Variant::Basic, (5, 0, false), b"again 1 5\n".as_slice()),
-        (Variant::Basic, (0, 2, false), b"ok 1 5\n".as_slice()),
-        (Variant::Basic, (0, 2, true), b"again 1 5\n".as_slice()),
-        (Variant::Opt, (0, 5, true), b"again 1 5\n".as_slice()),
-    ];
-    for (variant, stop, text) in rows {
-        let made = provisioned(alloc, variant)?;
-        let mut platform = MemPlatform::new(alloc, &made.cell);
-        let mut store = MemStore::new(alloc);
-        store.set_slot(0, made.snapshot.as_slice())?;
-        assert!(rt; goes_on(alloc, variant, stop, text, &mut platform, &mut store)?);
-    }
-    Ok(())
+    store.stop_at(row.call, b"torn")?;
+    let stop = Stop::Fail {
+        step: row.step,
+        done: row.done,
+    };
+    platform.plan(stop, &[])?;
+    let first = serves(
+        alloc,
+        row.variant,
+        platform,
+        store,
+        b"add 5\n",
+        false,
+        "nothing",
+    )?;
+    let second = serves(alloc, row.variant, platform, store, b"", true, row.said)?;
+    Ok(first && second)
 }
 
 // Whether two lines are answered, and the first snapshot in place of the one before the last request is then refused.
@@ -92,21 +142,53 @@ fn is_stale(
     platform: &mut MemPlatform,
     store: &mut MemStore,
 ) -> Result<bool, Fail> {
-    store.set_slot(0, first)?;
-    let lines = b"add 5\nread\n".as_slice();
-    let answers = b"ok 1 5\nok 2 5\n".as_slice();
-    let served = writes(alloc, Variant::Opt, platform, store, lines, answers)?;
+    let lines = b"add 5\nread\n";
+    let text = "ok 1 5\nok 2 5";
+    let served = serves(alloc, Variant::Opt, platform, store, lines, true, text)?;
     store.set_slot(1, first)?;
-    let refused = writes(alloc, Variant::Opt, platform, store, b"", b"no stale\n")?;
-    Ok(served == (true, true) && refused == (false, true))
+    let refused = serves(alloc, Variant::Opt, platform, store, b"", false, "no stale")?;
+    Ok(served && refused)
+}
+
+// Tries a store and a platform by a row, or without one whether an older snapshot is refused.
+fn tried_on(
+    alloc: Global,
+    row: Option<&Row<'_>>,
+    first: &[u8],
+    platform: &mut MemPlatform,
+    store: &mut MemStore,
+) -> Result<bool, Fail> {
+    store.set_slot(0, first)?;
+    match row {
+        Some(row) => goes_on(alloc, row, platform, store),
+        None => is_stale(alloc, first, platform, store),
+    }
+}
+
+// The same of new ones.
+fn tried_anew(alloc: Global, row: Option<&Row<'_>>, made: &Provisioned) -> Result<bool, Fail> {
+    let mut platform = MemPlatform::new(alloc, &made.cell);
+    let mut store = MemStore::new(alloc);
+    let first = made.snapshot.as_slice();
+    tried_on(alloc, row, first, &mut platform, &mut store)
+}
+
+fn tried(alloc: Global, variant: Variant, row: Option<&Row<'_>>) -> Result<bool, Fail> {
+    let made = provisioned(alloc, variant)?;
+    tried_anew(alloc, row, &made)
+}
+
+#[test]
+fn a_stopped_session_is_gone_on_with(rt: HostRuntime) -> Result<(), Fail> {
+    for line in STOPS.lines() {
+        let row = row_of(line).ok_or("no row")?;
+        assert!(rt; tried(rt.alloc(), row.variant, Some(&row))?, "{line}");
+    }
+    Ok(())
 }
 
 #[test]
 fn an_older_snapshot_is_refused(rt: HostRuntime) -> Result<(), Fail> {
-    let alloc = rt.alloc();
-    let made = provisioned(alloc, Variant::Opt)?;
-    let mut platform = MemPlatform::new(alloc, &made.cell);
-    let mut store = MemStore::new(alloc);
-    assert!(rt; is_stale(alloc, made.snapshot.as_slice(), &mut platform, &mut store)?);
+    assert!(rt; tried(rt.alloc(), Variant::Opt, None)?);
     Ok(())
 }

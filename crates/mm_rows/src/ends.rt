@@ -1,9 +1,11 @@
 //! Replays that stop early.
 
-use crate::run::{ROOM, check, check_all, check_over, lines_of, replay_over, run, sound};
+use crate::run::{
+    Told, check_all, replay_over, replies_of, run_over, schedule_of, sound, writes, writes_over,
+};
 use crate::schedules::{LIMITER, QUOTA};
 use crate::segments::KEPT;
-use mm_base::{MemSink, MemSource};
+use mm_base::Memory;
 use std::alloc::Global;
 use std::process::Abort;
 use std::test::Fail;
@@ -64,51 +66,110 @@ const HEADER: &str = "memoir 1 basic counter\n";
 #[test]
 fn a_line_outside_the_grammar_stops_a_replay(rt: HostRuntime) -> Result<(), Fail> {
     check_all(&rt, rt.alloc(), BAD_LINES, 13)?;
-    check(
-        &rt,
-        rt.alloc(),
-        CUT_OFF.as_bytes(),
-        CUT_OFF_REPLIES.as_bytes(),
-        13,
-    )
+    let schedule = CUT_OFF.as_bytes();
+    assert!(rt; writes(rt.alloc(), schedule, CUT_OFF_REPLIES.as_bytes(), 13)?);
+    Ok(())
 }
 
 // Whether these words are refused.
-fn are_refused(alloc: Global, words: &[&str]) -> Result<bool, Fail> {
-    let mut input = MemSource::new(alloc, HEADER.as_bytes(), &[])?;
-    let mut out = MemSink::new(alloc, ROOM, &[])?;
-    let code = run(alloc, words, &mut input, &mut out).code();
-    Ok(out.content() == "stop usage\n".as_bytes() && code == 2)
+fn are_refused(alloc: Global, words: &[&str]) -> Result<bool, Memory> {
+    let told = run_over(alloc, words, HEADER.as_bytes(), &sound())?;
+    Ok(told.comes_to(b"stop usage\n", 2))
 }
 
 /// Words that are no command.
 #[test]
 fn other_words_are_refused(rt: HostRuntime) -> Result<(), Fail> {
-    let lists: [&[&str]; 5] = [&[], &["replay", "x"], &["-v"], &["help"], &[""]];
-    for words in lists {
-        assert!(&rt; are_refused(rt.alloc(), words)?);
+    assert!(&rt; are_refused(rt.alloc(), &[])?);
+    assert!(&rt; are_refused(rt.alloc(), &["replay", "x"])?);
+    assert!(&rt; are_refused(rt.alloc(), &["-v"])?);
+    assert!(&rt; are_refused(rt.alloc(), &["help"])?);
+    assert!(&rt; are_refused(rt.alloc(), &[""])?);
+    Ok(())
+}
+
+// What is tried on a schedule that has a reply for each event.
+#[derive(Clone, Copy)]
+enum Trial {
+    Pieces,
+    CutOff,
+    Failing,
+}
+
+// Calls of the input and of the output that failed.
+#[derive(Clone, Copy)]
+struct Failed {
+    reads: u64,
+    writes: u64,
+}
+
+fn tried_on(
+    rt: &impl Abort,
+    alloc: Global,
+    schedule: &[u8],
+    replies: &[u8],
+    trial: Trial,
+    failed: &mut Failed,
+) -> Result<(), Fail> {
+    match trial {
+        Trial::Pieces => check_pieces(rt, alloc, schedule, replies),
+        Trial::CutOff => check_cuts(rt, alloc, schedule, replies),
+        Trial::Failing => fails_in_turn(alloc, schedule, replies, failed),
+    }
+}
+
+fn tried(
+    rt: &impl Abort,
+    alloc: Global,
+    table: &str,
+    trial: Trial,
+    failed: &mut Failed,
+) -> Result<(), Fail> {
+    let schedule = schedule_of(alloc, table)?;
+    let replies = replies_of(alloc, table)?;
+    let replies = replies.as_slice();
+    tried_on(rt, alloc, schedule.as_slice(), replies, trial, failed)
+}
+
+// Tries each of the three schedules.
+fn all_tried(rt: &impl Abort, alloc: Global, trial: Trial) -> Result<Failed, Fail> {
+    let mut failed = Failed {
+        reads: 0,
+        writes: 0,
+    };
+    tried(rt, alloc, LIMITER, trial, &mut failed)?;
+    tried(rt, alloc, QUOTA, trial, &mut failed)?;
+    tried(rt, alloc, KEPT, trial, &mut failed)?;
+    Ok(failed)
+}
+
+// Whether an input in pieces of so many bytes makes no difference.
+fn is_same_in(
+    alloc: Global,
+    schedule: &[u8],
+    replies: &[u8],
+    piece: usize,
+) -> Result<bool, Memory> {
+    let mut streams = sound();
+    streams.piece = piece;
+    writes_over(alloc, schedule, &streams, replies, 0)
+}
+
+fn check_pieces(
+    rt: &impl Abort,
+    alloc: Global,
+    schedule: &[u8],
+    replies: &[u8],
+) -> Result<(), Fail> {
+    for piece in [1, 2, 7, 4096] {
+        assert!(rt; is_same_in(alloc, schedule, replies, piece)?, "{piece}");
     }
     Ok(())
 }
 
 #[test]
 fn the_pieces_of_an_input_make_no_difference(rt: HostRuntime) -> Result<(), Fail> {
-    for table in [LIMITER, QUOTA, KEPT] {
-        let schedule = lines_of(rt.alloc(), table, false)?;
-        let replies = lines_of(rt.alloc(), table, true)?;
-        for piece in [1, 2, 7, 4096] {
-            let mut streams = sound();
-            streams.piece = piece;
-            check_over(
-                &rt,
-                rt.alloc(),
-                schedule.as_slice(),
-                &streams,
-                replies.as_slice(),
-                0,
-            )?;
-        }
-    }
+    let _ = all_tried(&rt, rt.alloc(), Trial::Pieces)?;
     Ok(())
 }
 
@@ -124,23 +185,43 @@ fn first_lines(text: &[u8], count: usize) -> &[u8] {
     text.split_at(text.len().saturating_sub(rest.len())).0
 }
 
+// Whether a stop line with this number was written.
+fn stops_at(alloc: Global, last: &[u8], line: usize) -> Result<bool, Fail> {
+    let stop = format!(in alloc; "stop line {line}\n")?;
+    Ok(last == stop.as_bytes())
+}
+
+// Whether what was told of an input of so many whole lines is an end, or where the last line is
+// cut off the line of a stop, behind these replies.
+fn is_cut(
+    alloc: Global,
+    told: &Told,
+    answered: &[u8],
+    whole: usize,
+    is_whole: bool,
+) -> Result<bool, Fail> {
+    let Some(last) = told.written.as_slice().strip_prefix(answered) else {
+        return Ok(false);
+    };
+    if is_whole {
+        return Ok(told.code == 0 && last.starts_with(b"end "));
+    }
+    Ok(told.code == 13 && stops_at(alloc, last, whole.saturating_add(1))?)
+}
+
 // Replays an input that may be cut off, of a schedule with one reply for each event.
-fn check_cut(rt: &impl Abort, alloc: Global, input: &[u8], replies: &[u8]) -> Result<(), Fail> {
+fn is_replayed(alloc: Global, input: &[u8], replies: &[u8]) -> Result<bool, Fail> {
     let whole = input.iter().filter(|byte| **byte == b'\n').count();
     let answered = first_lines(replies, whole.saturating_sub(1));
+    let is_whole = input.last() == Some(&b'\n');
     let told = replay_over(alloc, input, &sound())?;
-    let last = told
-        .written
-        .as_slice()
-        .strip_prefix(answered)
-        .ok_or("the replies before it")?;
-    if input.last() == Some(&b'\n') {
-        assert!(rt; told.code == 0);
-        assert!(rt; last.starts_with(b"end "));
-    } else {
-        let stop = format!(in alloc; "stop line {}\n", whole.saturating_add(1))?;
-        assert!(rt; told.code == 13);
-        assert!(rt; last == stop.as_bytes());
+    is_cut(alloc, &told, answered, whole, is_whole)
+}
+
+fn check_cuts(rt: &impl Abort, alloc: Global, schedule: &[u8], replies: &[u8]) -> Result<(), Fail> {
+    for length in 0..schedule.len() {
+        let (input, _) = schedule.split_at(length);
+        assert!(rt; is_replayed(alloc, input, replies)?, "{length}");
     }
     Ok(())
 }
@@ -149,139 +230,110 @@ fn check_cut(rt: &impl Abort, alloc: Global, input: &[u8], replies: &[u8]) -> Re
 fn an_input_that_is_cut_off_is_replayed_to_its_last_whole_line(
     rt: HostRuntime,
 ) -> Result<(), Fail> {
-    for table in [LIMITER, QUOTA, KEPT] {
-        let schedule = lines_of(rt.alloc(), table, false)?;
-        let replies = lines_of(rt.alloc(), table, true)?;
-        for length in 0..schedule.as_slice().len() {
-            let (input, _) = schedule.as_slice().split_at(length);
-            check_cut(&rt, rt.alloc(), input, replies.as_slice())?;
-        }
-    }
+    let _ = all_tried(&rt, rt.alloc(), Trial::CutOff)?;
     Ok(())
+}
+
+// Whether a failed call was told, none where it wasn't made. Nothing where what was told is
+// neither.
+fn is_failed(told: &Told, replies: &[u8], stop: &[u8], code: u8) -> Option<bool> {
+    let written = told.written.as_slice();
+    if told.code == 0 {
+        return if written == replies {
+            Some(false)
+        } else {
+            None
+        };
+    }
+    let before = written.strip_suffix(stop)?;
+    let is_right = told.code == code && written != replies && replies.starts_with(before);
+    if is_right { Some(true) } else { None }
 }
 
 // Replays a schedule whose input fails at a call, and says whether that call was made.
 fn fails_to_read(
-    rt: &impl Abort,
     alloc: Global,
     call: u64,
     schedule: &[u8],
     replies: &[u8],
-) -> Result<bool, Fail> {
+) -> Result<Option<bool>, Memory> {
+    let calls = [call];
     let mut streams = sound();
     streams.piece = 7;
-    let calls = [call];
     streams.failing_reads = &calls;
     let told = replay_over(alloc, schedule, &streams)?;
-    if told.code == 0 {
-        assert!(rt; told.written.as_slice() == replies);
-        return Ok(false);
-    }
-    let before = told
-        .written
-        .as_slice()
-        .strip_suffix(b"stop read\n")
-        .ok_or("a stop line")?;
-    assert!(rt; told.code == 3);
-    assert!(rt; replies.starts_with(before));
-    Ok(true)
+    Ok(is_failed(&told, replies, b"stop read\n", 3))
 }
 
 // Replays a schedule whose output fails at a call, and says whether that call was made.
 fn fails_to_write(
-    rt: &impl Abort,
     alloc: Global,
     call: u64,
     schedule: &[u8],
     replies: &[u8],
-) -> Result<bool, Fail> {
+) -> Result<Option<bool>, Memory> {
+    let calls = [call];
     let mut streams = sound();
     // byte by byte, so that each reply is a call of its own
     streams.piece = 1;
-    let calls = [call];
     streams.failing_writes = &calls;
     let told = replay_over(alloc, schedule, &streams)?;
-    if told.code == 0 {
-        assert!(rt; told.written.as_slice() == replies);
-        return Ok(false);
-    }
-    assert!(rt; told.code == 4);
-    assert!(rt; told.written.as_slice() != replies);
-    assert!(rt; replies.starts_with(told.written.as_slice()));
-    Ok(true)
+    Ok(is_failed(&told, replies, b"", 4))
 }
 
 // Replays a schedule whose input fails at a call, and one whose output does, and counts those that were made.
 fn fails_at(
-    rt: &impl Abort,
     alloc: Global,
     call: u64,
     schedule: &[u8],
     replies: &[u8],
-    reads: &mut u64,
-    writes: &mut u64,
+    failed: &mut Failed,
 ) -> Result<(), Fail> {
-    if fails_to_read(rt, alloc, call, schedule, replies)? {
-        *reads = reads.saturating_add(1);
-    }
-    if fails_to_write(rt, alloc, call, schedule, replies)? {
-        *writes = writes.saturating_add(1);
-    }
+    let is_read = fails_to_read(alloc, call, schedule, replies)?.ok_or("a stop of the input")?;
+    let is_written = fails_to_write(alloc, call, schedule, replies)?.ok_or("a stop of the output")?;
+    failed.reads = failed.reads.saturating_add(u64::from(is_read));
+    failed.writes = failed.writes.saturating_add(u64::from(is_written));
     Ok(())
 }
 
 // The same at each call.
 fn fails_in_turn(
-    rt: &impl Abort,
     alloc: Global,
     schedule: &[u8],
     replies: &[u8],
-    reads: &mut u64,
-    writes: &mut u64,
+    failed: &mut Failed,
 ) -> Result<(), Fail> {
     for call in 1..100 {
-        fails_at(rt, alloc, call, schedule, replies, reads, writes)?;
+        fails_at(alloc, call, schedule, replies, failed)?;
     }
     Ok(())
 }
 
 #[test]
 fn a_failing_input_or_output_stops_a_replay(rt: HostRuntime) -> Result<(), Fail> {
-    let mut reads = 0u64;
-    let mut writes = 0u64;
-    for table in [LIMITER, QUOTA, KEPT] {
-        let schedule = lines_of(rt.alloc(), table, false)?;
-        let replies = lines_of(rt.alloc(), table, true)?;
-        fails_in_turn(
-            &rt,
-            rt.alloc(),
-            schedule.as_slice(),
-            replies.as_slice(),
-            &mut reads,
-            &mut writes,
-        )?;
-    }
-    assert!(&rt; reads > 50 && reads < 100);
-    assert!(&rt; writes > 20 && writes < 100);
+    let failed = all_tried(&rt, rt.alloc(), Trial::Failing)?;
+    assert!(&rt; failed.reads > 50 && failed.reads < 100);
+    assert!(&rt; failed.writes > 20 && failed.writes < 100);
     Ok(())
+}
+
+// Whether an output with room for three bytes has them at its end, with this exit status, where
+// these calls of the input fail.
+fn keeps_status(alloc: Global, schedule: &[u8], failing: &[u64], code: u8) -> Result<bool, Memory> {
+    let mut streams = sound();
+    streams.room = 3;
+    streams.failing_reads = failing;
+    writes_over(alloc, schedule, &streams, b"sto", code)
 }
 
 /// The stop line can't be written: the status stays that of the first cause.
 #[test]
 fn an_output_that_fails_at_the_stop_line_changes_no_status(rt: HostRuntime) -> Result<(), Fail> {
-    let long = [b'a'; 8401];
-    let cases: [(&[u8], &[u64], u8); 4] = [
-        (b"", &[], 13),
-        (b"memoir 1 basic counter\nPower\n", &[], 13),
-        (b"", &[1], 3),
-        (&long, &[], 14),
-    ];
-    for (schedule, failing, code) in cases {
-        let mut streams = sound();
-        streams.room = 3;
-        streams.failing_reads = failing;
-        check_over(&rt, rt.alloc(), schedule, &streams, b"sto", code)?;
-    }
+    let bad = b"memoir 1 basic counter\nPower\n";
+    assert!(&rt; keeps_status(rt.alloc(), b"", &[], 13)?);
+    assert!(&rt; keeps_status(rt.alloc(), bad, &[], 13)?);
+    assert!(&rt; keeps_status(rt.alloc(), b"", &[1], 3)?);
+    assert!(&rt; keeps_status(rt.alloc(), &[b'a'; 8401], &[], 14)?);
     Ok(())
 }
 
@@ -291,8 +343,9 @@ fn a_first_call_that_fails_is_the_end(rt: HostRuntime) -> Result<(), Fail> {
     let schedule = b"memoir 1 basic counter\nask last add 5\n";
     let mut streams = sound();
     streams.failing_reads = &[1];
-    check_over(&rt, rt.alloc(), schedule, &streams, b"stop read\n", 3)?;
+    assert!(&rt; writes_over(rt.alloc(), schedule, &streams, b"stop read\n", 3)?);
     streams.failing_reads = &[];
     streams.failing_writes = &[1];
-    check_over(&rt, rt.alloc(), schedule, &streams, b"", 4)
+    assert!(&rt; writes_over(rt.alloc(), schedule, &streams, b"", 4)?);
+    Ok(())
 }

@@ -1,8 +1,6 @@
 //! Schedules that the program makes itself.
 
-use crate::run::{NoBytes, ROOM, replay_over, run, sound};
-use mm_app::Status;
-use mm_base::{Bytes, MemSink, Memory};
+use crate::run::{replay_over, run, sound};
 use std::alloc::Global;
 use std::test::Fail;
 
@@ -13,33 +11,38 @@ gen 7 100 basic limiter
 gen 7 100 opt quota
 gen 7 100 opt receipt-counter";
 
-// What is written for these words, parted by spaces.
-fn written(alloc: Global, text: &str) -> Result<Bytes, Fail> {
-    let words: Vec<&str> = text.split(" ").collect(alloc)?;
-    Ok(written_for(alloc, words.as_slice())?)
+// Whether what is written for these words is replayed to its end.
+fn is_replayed(alloc: Global, text: &str) -> Result<bool, Fail> {
+    let schedule = run(alloc, text, b"")?;
+    ends(alloc, schedule.written.as_slice())
 }
 
-fn written_for(alloc: Global, words: &[&str]) -> Result<Bytes, Memory> {
-    let mut out = MemSink::new(alloc, ROOM, &[])?;
-    let _ = run(alloc, words, &mut NoBytes, &mut out).code();
-    Bytes::copy_of(alloc, out.content())
+// Whether a schedule is replayed to its end.
+fn ends(alloc: Global, schedule: &[u8]) -> Result<bool, Fail> {
+    let told = replay_over(alloc, schedule, &sound())?;
+    Ok(told.code == 0)
 }
 
 #[test]
 fn a_generated_schedule_is_replayed_to_its_end(rt: HostRuntime) -> Result<(), Fail> {
     for text in SCHEDULES.lines() {
-        let schedule = written(rt.alloc(), text)?;
-        let told = replay_over(rt.alloc(), schedule.as_slice(), &sound())?;
-        assert!(&rt; told.code == 0, "{text}");
+        assert!(rt; is_replayed(rt.alloc(), text)?, "{text}");
     }
     Ok(())
 }
 
+// Whether help is written, and the status is that of what was done.
+fn is_helped(alloc: Global, text: &str) -> Result<bool, Fail> {
+    let told = run(alloc, text, b"")?;
+    let is_help = told
+        .written
+        .as_slice()
+        .starts_with(b"memoir init VARIANT MODULE\n");
+    Ok(is_help && told.code == 0)
+}
+
 #[test]
 fn help_alone_lists_the_forms(rt: HostRuntime) -> Result<(), Fail> {
-    let mut out = MemSink::new(rt.alloc(), ROOM, &[])?;
-    let status = run(rt.alloc(), ["--help"].as_slice(), &mut NoBytes, &mut out);
-    assert_eq!(rt; status, Status::Done);
-    assert!(rt; out.content().starts_with(b"memoir init VARIANT MODULE\n"));
+    assert!(rt; is_helped(rt.alloc(), "--help")?);
     Ok(())
 }

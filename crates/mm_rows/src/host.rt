@@ -1,7 +1,7 @@
 //! Runs of the host's commands, one after another over the same platform and store.
 
-use crate::run::{ROOM, command};
-use mm_base::{Bytes, MemSink, MemSource, Memory};
+use crate::run::{command_over, marked, sound, words_of};
+use mm_base::Memory;
 use mm_pages::{MemPages, PageStore};
 use mm_platform::{MemPlatform, Platform};
 use mm_store::{MemStore, Store};
@@ -80,43 +80,56 @@ run
 checkpoint
 => stop lost";
 
-// The lines of a text that begin so, without that beginning.
-fn marked(alloc: Global, text: &str, mark: &str) -> Result<Bytes, Memory> {
-    let mut lines = Bytes::new(alloc);
-    for line in text.lines() {
-        if let Some(rest) = line.strip_prefix(mark) {
-            lines.append(rest.as_bytes())?;
-            lines.push(b'\n')?;
-        }
-    }
-    Ok(lines)
-}
-
-// Runs these words on that input, and gives what was written.
-fn written<P: Platform, T: Store>(
+// Whether a command comes to these lines.
+fn comes_to<P: Platform, T: Store>(
     alloc: Global,
-    words: &[&str],
+    text: &str,
     platform: &mut P,
     store: &mut T,
     secrets: &[u8],
     content: &[u8],
-) -> Result<Bytes, Memory> {
-    let mut input = MemSource::new(alloc, content, &[])?;
-    let mut entropy = MemSource::new(alloc, secrets, &[])?;
-    let mut out = MemSink::new(alloc, ROOM, &[])?;
-    let _ = command(
-        alloc,
-        words,
-        platform,
-        store,
-        &mut input,
-        &mut entropy,
-        &mut out,
-    );
-    Bytes::copy_of(alloc, out.content())
+    written: &[u8],
+) -> Result<bool, Memory> {
+    let mut streams = sound();
+    streams.secrets = secrets;
+    let words = words_of(alloc, text, "")?;
+    let told = command_over(alloc, &words, platform, store, content, &streams)?;
+    Ok(told.written.as_slice() == written)
 }
 
-// Runs the commands of a scene, and compares what each writes. Empty lines part them.
+// Whether a command of a scene writes what stands behind it.
+fn is_so<P: Platform, T: Store>(
+    alloc: Global,
+    platform: &mut P,
+    store: &mut T,
+    secrets: &[u8],
+    part: &str,
+) -> Result<bool, Fail> {
+    let (text, _) = part.split_once("\n").ok_or("a command")?;
+    let content = marked(alloc, part, "< ")?;
+    let written = marked(alloc, part, "=> ")?;
+    let content = content.as_slice();
+    let written = written.as_slice();
+    Ok(comes_to(alloc, text, platform, store, secrets, content, written)?)
+}
+
+// Runs the commands of a scene with these bytes of entropy, and compares what each writes. Empty
+// lines part them.
+fn play_with<P: Platform, T: Store>(
+    rt: &impl Abort,
+    alloc: Global,
+    platform: &mut P,
+    store: &mut T,
+    secrets: &[u8],
+    scene: &str,
+) -> Result<(), Fail> {
+    for part in scene.split("\n\n") {
+        assert!(rt; is_so(alloc, platform, store, secrets, part)?, "{part}");
+    }
+    Ok(())
+}
+
+// The same with enough of it.
 fn play<P: Platform, T: Store>(
     rt: &impl Abort,
     alloc: Global,
@@ -127,43 +140,40 @@ fn play<P: Platform, T: Store>(
     play_with(rt, alloc, platform, store, &SECRETS, scene)
 }
 
-// The same with these bytes of entropy.
-fn play_with<P: Platform, T: Store>(
+// Runs a first start with too few bytes of entropy, and then a scene.
+fn play_after_short(
     rt: &impl Abort,
     alloc: Global,
-    platform: &mut P,
-    store: &mut T,
-    secrets: &[u8],
+    platform: &mut MemPlatform,
+    store: &mut MemStore,
     scene: &str,
 ) -> Result<(), Fail> {
-    for part in scene.split("\n\n") {
-        let (command, _) = part.split_once("\n").ok_or("a command")?;
-        let words: Vec<&str> = command.split(" ").collect(alloc)?;
-        let content = marked(alloc, part, "< ")?;
-        let expected = marked(alloc, part, "=> ")?;
-        let told = written(alloc, &words, platform, store, secrets, content.as_slice())?;
-        assert!(rt; told.as_slice() == expected.as_slice());
-    }
-    Ok(())
+    let short = "init basic counter\n=> stop short";
+    play_with(rt, alloc, platform, store, &[7; 63], short)?;
+    play(rt, alloc, platform, store, scene)
+}
+
+fn play_in_memory(rt: &impl Abort, alloc: Global, scene: &str) -> Result<(), Fail> {
+    let mut platform = MemPlatform::new(alloc, &[0; 104]);
+    let mut store = MemStore::new(alloc);
+    play_after_short(rt, alloc, &mut platform, &mut store, scene)
 }
 
 #[test]
 fn commands_go_on_from_one_another(rt: HostRuntime) -> Result<(), Fail> {
-    let alloc = rt.alloc();
-    for scene in [BASIC, OPT] {
-        let mut platform = MemPlatform::new(alloc, &[0; 104]);
-        let mut store = MemStore::new(alloc);
-        let short = "init basic counter\n=> stop short";
-        play_with(&rt, alloc, &mut platform, &mut store, &[7; 63], short)?;
-        play(&rt, alloc, &mut platform, &mut store, scene)?;
-    }
-    Ok(())
+    play_in_memory(&rt, rt.alloc(), BASIC)?;
+    play_in_memory(&rt, rt.alloc(), OPT)
+}
+
+// An empty store of pages.
+fn pages(alloc: Global) -> Result<PageStore<MemPages>, Memory> {
+    PageStore::new(alloc, MemPages::new(alloc)?)
 }
 
 // A scene over two cells and pages.
 fn play_over_pages(rt: &impl Abort, alloc: Global, scene: &str) -> Result<(), Fail> {
+    let mut store = pages(alloc)?;
     let mut platform = TwoCell::new(MemRaw::new(alloc));
-    let mut store = PageStore::new(alloc, MemPages::new(alloc)?)?;
     play(rt, alloc, &mut platform, &mut store, scene)
 }
 
@@ -194,13 +204,8 @@ fn roll_back(
     copy_slots(store, old)?;
     let second = "run\n< add 7\n=> again 1 5\n=> ok 2 12";
     play(rt, alloc, platform, store, second)?;
-    play(
-        rt,
-        alloc,
-        platform,
-        old,
-        "run\n=> no stale\n=> stop refused",
-    )
+    let third = "run\n=> no stale\n=> stop refused";
+    play(rt, alloc, platform, old, third)
 }
 
 #[test]

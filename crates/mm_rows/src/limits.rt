@@ -2,10 +2,9 @@
 
 ghost use Rattle.std.specs.Prelude.{None};
 
-use crate::run::{ROOM, check, replay, replay_over, sound};
-use mm_base::{Bytes, Failed, MemSink, Source};
+use crate::run::{ROOM, replay, replay_over, sound, writes};
+use mm_base::{Bytes, Failed, MemSink, Memory, Source};
 use std::alloc::Global;
-use std::process::Abort;
 use std::test::Fail;
 
 const HEADER: &[u8] = b"memoir 1 basic counter\n";
@@ -38,40 +37,75 @@ impl Source for Repeated<'_> {
 }
 
 // Puts a line of these words and so many letters at the end of a schedule.
-fn put_line(schedule: &mut Bytes, words: &[u8], letters: usize) -> Result<(), Fail> {
+fn put_line(schedule: &mut Bytes, words: &[u8], letters: usize) -> Result<(), Memory> {
     schedule.append(words)?;
     for _ in 0..letters {
         schedule.push(b'a')?;
     }
-    schedule.push(b'\n')?;
+    schedule.push(b'\n')
+}
+
+// A schedule of a request of 4096 bytes, and of one of 4097, which is refused before its first
+// step.
+fn with_longest(alloc: Global, header: &[u8]) -> Result<Bytes, Memory> {
+    let mut schedule = Bytes::copy_of(alloc, header)?;
+    put_line(&mut schedule, b"ask 0 ", 4096)?;
+    put_line(&mut schedule, b"cut 1 ask 1 ", 4097)?;
+    Ok(schedule)
+}
+
+fn longer_is_refused(alloc: Global, header: &[u8]) -> Result<bool, Memory> {
+    let schedule = with_longest(alloc, header)?;
+    writes(
+        alloc,
+        schedule.as_slice(),
+        b"ok 1 bad\nno long\nend 1 2\n",
+        0,
+    )
+}
+
+#[test]
+fn a_request_has_4096_bytes(rt: HostRuntime) -> Result<(), Fail> {
+    assert!(rt; longer_is_refused(rt.alloc(), HEADER)?);
+    assert!(rt; longer_is_refused(rt.alloc(), b"memoir 1 opt counter\n")?);
     Ok(())
 }
 
-/// The longer one is refused before the first step.
-#[test]
-fn a_request_has_4096_bytes(rt: HostRuntime) -> Result<(), Fail> {
-    for header in [HEADER, b"memoir 1 opt counter\n".as_slice()] {
-        let mut schedule = Bytes::copy_of(rt.alloc(), header)?;
-        put_line(&mut schedule, b"ask 0 ", 4096)?;
-        put_line(&mut schedule, b"cut 1 ask 1 ", 4097)?;
-        let written = b"ok 1 bad\nno long\nend 1 2\n";
-        check(&rt, rt.alloc(), schedule.as_slice(), written, 0)?;
-    }
-    Ok(())
+// Whether these bytes are written for a request of so many letters, with this exit status.
+fn request_comes_to(
+    alloc: Global,
+    letters: usize,
+    written: &[u8],
+    code: u8,
+) -> Result<bool, Memory> {
+    let mut schedule = Bytes::copy_of(alloc, HEADER)?;
+    put_line(&mut schedule, b"ask 0 ", letters)?;
+    writes(alloc, schedule.as_slice(), written, code)
 }
 
 #[test]
 fn a_line_has_8400_bytes(rt: HostRuntime) -> Result<(), Fail> {
-    let cases: [(usize, &[u8], u8); 2] = [
-        (8394, b"no long\nend 0 1\n", 0),
-        (8395, b"stop long 2\n", 14),
-    ];
-    for (letters, written, code) in cases {
-        let mut schedule = Bytes::copy_of(rt.alloc(), HEADER)?;
-        put_line(&mut schedule, b"ask 0 ", letters)?;
-        check(&rt, rt.alloc(), schedule.as_slice(), written, code)?;
-    }
+    assert!(rt; request_comes_to(rt.alloc(), 8394, b"no long\nend 0 1\n", 0)?);
+    assert!(rt; request_comes_to(rt.alloc(), 8395, b"stop long 2\n", 14)?);
     Ok(())
+}
+
+// Whether so many lines are in an output, and it ends so.
+fn has_lines(content: &[u8], lines: usize, last: &[u8]) -> bool {
+    content.ends_with(last) && content.iter().filter(|byte| **byte == b'\n').count() == lines
+}
+
+// Replays an input, and tells whether the exit status, the number of lines written and the last of
+// them are these.
+fn events_come_to(
+    alloc: Global,
+    input: &mut Repeated<'_>,
+    lines: usize,
+    last: &[u8],
+    code: u8,
+) -> Result<bool, Memory> {
+    let mut out = MemSink::new(alloc, ROOM, &[])?;
+    Ok(replay(alloc, input, &mut out) == code && has_lines(out.content(), lines, last))
 }
 
 #[test]
@@ -81,98 +115,112 @@ fn a_line_without_an_end_is_not_read_to_it(rt: HostRuntime) -> Result<(), Fail> 
         again: b"aaaaaaaaaaaaaaaa",
         times: u64::MAX,
     };
-    check_events(&rt, rt.alloc(), &mut input, 1, b"stop long 2\n", 14)
+    assert!(rt; events_come_to(rt.alloc(), &mut input, 1, b"stop long 2\n", 14)?);
+    Ok(())
 }
 
-// Replays so many events, and compares the exit status, the number of lines written and the last of them.
-fn check_events(
-    rt: &impl Abort,
-    alloc: Global,
-    input: &mut Repeated<'_>,
-    lines: usize,
-    last: &[u8],
-    code: u8,
-) -> Result<(), Fail> {
-    let mut out = MemSink::new(alloc, ROOM, &[])?;
-    assert!(rt; replay(alloc, input, &mut out) == code);
-    assert!(rt; out.content().iter().filter(|byte| **byte == b'\n').count() == lines);
-    assert!(rt; out.content().ends_with(last));
-    Ok(())
+// Whether so many events write 20,001 lines, the last of which are these, with this exit status.
+fn powers_come_to(alloc: Global, times: u64, last: &[u8], code: u8) -> Result<bool, Memory> {
+    let mut input = Repeated {
+        next: HEADER,
+        again: b"power\n",
+        times,
+    };
+    events_come_to(alloc, &mut input, 20_001, last, code)
 }
 
 #[test]
 fn a_schedule_has_20000_events(rt: HostRuntime) -> Result<(), Fail> {
-    let cases: [(u64, &[u8], u8); 2] = [
-        (20_000, b"\npower\nend 0 1\n", 0),
-        (20_001, b"\npower\nstop much\n", 15),
-    ];
-    for (times, last, code) in cases {
-        let mut input = Repeated {
-            next: HEADER,
-            again: b"power\n",
-            times,
-        };
-        check_events(&rt, rt.alloc(), &mut input, 20_001, last, code)?;
-    }
+    assert!(rt; powers_come_to(rt.alloc(), 20_000, b"\npower\nend 0 1\n", 0)?);
+    assert!(rt; powers_come_to(rt.alloc(), 20_001, b"\npower\nstop much\n", 15)?);
     Ok(())
+}
+
+// A schedule of 20,000 events.
+fn with_powers(alloc: Global) -> Result<Bytes, Memory> {
+    let mut schedule = Bytes::copy_of(alloc, HEADER)?;
+    for _ in 0..20_000u32 {
+        schedule.append(b"power\n")?;
+    }
+    Ok(schedule)
+}
+
+// Whether it is replayed to its end, given in pieces of so many bytes.
+fn ends_in_pieces(alloc: Global, piece: usize) -> Result<bool, Memory> {
+    let mut streams = sound();
+    streams.piece = piece;
+    let schedule = with_powers(alloc)?;
+    let told = replay_over(alloc, schedule.as_slice(), &streams)?;
+    Ok(told.code == 0 && told.written.as_slice().ends_with(b"\nend 0 1\n"))
 }
 
 /// Would not end in its time if bytes held were looked at again.
 #[test]
 fn single_bytes_take_no_longer(rt: HostRuntime) -> Result<(), Fail> {
-    let mut schedule = Bytes::copy_of(rt.alloc(), HEADER)?;
-    for _ in 0..20_000u32 {
-        schedule.append(b"power\n")?;
-    }
-    for piece in [1, 4096] {
-        let mut streams = sound();
-        streams.piece = piece;
-        let told = replay_over(rt.alloc(), schedule.as_slice(), &streams)?;
-        assert!(&rt; told.code == 0);
-        assert!(&rt; told.written.as_slice().ends_with(b"\nend 0 1\n"));
-    }
+    assert!(&rt; ends_in_pieces(rt.alloc(), 1)?);
+    assert!(&rt; ends_in_pieces(rt.alloc(), 4096)?);
     Ok(())
 }
 
-// A header, and lines that open so many accounts with names of 32 bytes.
+// Puts a line that opens an account of this number, with a name of 32 bytes.
+fn put_account(schedule: &mut String, alloc: Global, number: u32) -> Result<(), Fail> {
+    let line = format!(in alloc; "ask last open {number:032} 1\n")?;
+    Ok(schedule.push_str(line.as_str())?)
+}
+
+// A header, and lines that open so many accounts.
 fn with_accounts(alloc: Global, header: &str, count: u32) -> Result<String, Fail> {
-    let mut schedule = format!(in alloc; "{header}\n")?;
+    let mut schedule = String::from_str(alloc, header)?;
     for number in 0..count {
-        schedule.push_str(format!(in alloc; "ask last open {number:032} 1\n")?.as_str())?;
+        put_account(&mut schedule, alloc, number)?;
     }
     Ok(schedule)
 }
 
+// Whether 257 accounts of a module come to these last lines.
+fn accounts_come_to(alloc: Global, header: &str, last: &[u8]) -> Result<bool, Fail> {
+    let schedule = with_accounts(alloc, header, 257)?;
+    let mut input = Repeated {
+        next: schedule.as_bytes(),
+        again: b"",
+        times: 0,
+    };
+    Ok(events_come_to(alloc, &mut input, 258, last, 0)?)
+}
+
 #[test]
 fn the_small_ledger_alone_is_full_at_256_accounts(rt: HostRuntime) -> Result<(), Fail> {
-    let cases = [
-        ("memoir 1 basic quota", "\nok 257 full\nend 257 258\n"),
-        ("memoir 1 basic ledger", "\nok 257 opened\nend 257 258\n"),
-    ];
-    for (header, last) in cases {
-        let schedule = with_accounts(rt.alloc(), header, 257)?;
-        let mut input = Repeated {
-            next: schedule.as_bytes(),
-            again: b"",
-            times: 0,
-        };
-        check_events(&rt, rt.alloc(), &mut input, 258, last.as_bytes(), 0)?;
-    }
+    let small = b"\nok 257 full\nend 257 258\n";
+    assert!(rt; accounts_come_to(rt.alloc(), "memoir 1 basic quota\n", small)?);
+    let large = b"\nok 257 opened\nend 257 258\n";
+    assert!(rt; accounts_come_to(rt.alloc(), "memoir 1 basic ledger\n", large)?);
     Ok(())
+}
+
+// A line whose request has 4096 bytes.
+fn longest_line(alloc: Global) -> Result<Bytes, Memory> {
+    let mut line = Bytes::copy_of(alloc, b"ask last ")?;
+    line.append(&[b'a'; 4096])?;
+    line.push(b'\n')?;
+    Ok(line)
+}
+
+// Whether such lines behind a schedule come to an end.
+fn long_lines_come_to_an_end(alloc: Global, schedule: &[u8]) -> Result<bool, Memory> {
+    let line = longest_line(alloc)?;
+    let mut input = Repeated {
+        next: schedule,
+        again: line.as_slice(),
+        times: 20_000,
+    };
+    let last = b"\nok 16200 bad\nstop much\n";
+    events_come_to(alloc, &mut input, 16_201, last, 15)
 }
 
 /// Each of the later events keeps 4,105 bytes of its line and 12,628 of its snapshot.
 #[test]
 fn lines_and_snapshots_have_268435456_bytes(rt: HostRuntime) -> Result<(), Fail> {
-    let schedule = with_accounts(rt.alloc(), "memoir 1 basic quota", 256)?;
-    let mut line = Bytes::copy_of(rt.alloc(), b"ask last ")?;
-    line.append(&[b'a'; 4096])?;
-    line.push(b'\n')?;
-    let mut input = Repeated {
-        next: schedule.as_bytes(),
-        again: line.as_slice(),
-        times: 20_000,
-    };
-    let last = b"\nok 16200 bad\nstop much\n";
-    check_events(&rt, rt.alloc(), &mut input, 16_201, last, 15)
+    let schedule = with_accounts(rt.alloc(), "memoir 1 basic quota\n", 256)?;
+    assert!(rt; long_lines_come_to_an_end(rt.alloc(), schedule.as_bytes())?);
+    Ok(())
 }

@@ -2,8 +2,8 @@
 
 ghost use Rattle.std.specs.Prelude.{Some, []};
 
-use mm_app::{Status, memoir};
-use mm_base::{Bytes, Failed, MemSink, MemSource, Sink, Source};
+use mm_app::memoir;
+use mm_base::{Bytes, Failed, MemSink, MemSource, Memory, Sink, Source};
 use mm_platform::{MemPlatform, Platform};
 use mm_store::{MemStore, Store};
 use std::alloc::Global;
@@ -27,18 +27,27 @@ impl Source for NoBytes {
     }
 }
 
-/// Does what the words say over these streams, a blank platform, an empty store and no entropy.
-pub fn run<S: Source, K: Sink>(
+/// Does what the words say over these objects, and answers the exit status.
+pub fn command<P: Platform, T: Store, S: Source, E: Source, K: Sink>(
     alloc: Global,
     words: &[&str],
+    platform: &mut P,
+    store: &mut T,
     input: &mut S,
+    entropy: &mut E,
     out: &mut K,
-) -> Status {
+) -> u8 {
+    memoir(alloc, words, platform, store, input, entropy, out).code()
+}
+
+/// Replays an input over a blank platform, an empty store and no entropy, and answers the exit
+/// status.
+pub fn replay<S: Source, K: Sink>(alloc: Global, input: &mut S, out: &mut K) -> u8 {
     let mut platform = MemPlatform::new(alloc, &[0; 104]);
     let mut store = MemStore::new(alloc);
-    memoir(
+    command(
         alloc,
-        words,
+        &["replay"],
         &mut platform,
         &mut store,
         input,
@@ -47,25 +56,7 @@ pub fn run<S: Source, K: Sink>(
     )
 }
 
-/// Does what the words say over these objects, and answers the exit status.
-pub fn command<P: Platform, T: Store>(
-    alloc: Global,
-    words: &[&str],
-    platform: &mut P,
-    store: &mut T,
-    input: &mut MemSource,
-    entropy: &mut MemSource,
-    out: &mut MemSink,
-) -> u8 {
-    memoir(alloc, words, platform, store, input, entropy, out).code()
-}
-
-/// Replays an input, and answers the exit status.
-pub fn replay<S: Source, K: Sink>(alloc: Global, input: &mut S, out: &mut K) -> u8 {
-    run(alloc, &["replay"], input, out).code()
-}
-
-/// How an input is given and an output received.
+/// How an input and the entropy are given, and an output received.
 #[derive(Clone, Copy, Drop)]
 pub struct Streams<'a> {
     /// The most bytes that a call of the input gives.
@@ -76,127 +67,222 @@ pub struct Streams<'a> {
     pub room: usize,
     /// The numbers of the output's calls that fail.
     pub failing_writes: &'a [u64],
+    /// What the entropy gives.
+    pub secrets: &'a [u8],
+    /// The most bytes that a call of it gives.
+    pub secrets_piece: usize,
+    /// The numbers of its calls that fail.
+    pub failing_secrets: &'a [u64],
 }
 
-/// Streams that give all at once, have room, and never fail.
+/// Streams that give all at once, have room, and never fail; and no entropy.
 pub fn sound<'a>() -> Streams<'a> {
     Streams {
         piece: usize::MAX,
         failing_reads: &[],
         room: ROOM,
         failing_writes: &[],
+        secrets: &[],
+        secrets_piece: usize::MAX,
+        failing_secrets: &[],
     }
 }
 
-/// What a replay wrote, and the exit status.
+/// What a command wrote, and the exit status.
 #[derive(Drop)]
-pub struct Replayed {
+pub struct Told {
     pub written: Bytes,
     pub code: u8,
 }
 
-/// Replays a schedule over such streams.
-pub fn replay_over(
-    alloc: Global,
-    schedule: &[u8],
-    streams: &Streams<'_>,
-) -> Result<Replayed, Fail> {
-    let piece = streams.piece.max(1);
-    let mut input = MemSource::in_pieces(alloc, schedule, streams.failing_reads, piece)?;
-    let mut out = MemSink::new(alloc, streams.room, streams.failing_writes)?;
-    let code = replay(alloc, &mut input, &mut out);
-    let written = Bytes::copy_of(alloc, out.content())?;
-    Ok(Replayed { written, code })
+impl Told {
+    /// Whether these bytes were written, with this exit status.
+    pub fn comes_to(&self, written: &[u8], code: u8) -> bool {
+        self.written.as_slice() == written && self.code == code
+    }
 }
 
-/// Replays a schedule, and compares what is written and the exit status.
-pub fn check(
-    rt: &impl Abort,
+fn received(alloc: Global, code: u8, out: &MemSink) -> Result<Told, Memory> {
+    let written = Bytes::copy_of(alloc, out.content())?;
+    Ok(Told { written, code })
+}
+
+/// Does what the words say over these devices and streams, on this input.
+pub fn command_over<P: Platform, T: Store>(
     alloc: Global,
-    schedule: &[u8],
-    written: &[u8],
-    code: u8,
-) -> Result<(), Fail> {
-    check_over(rt, alloc, schedule, &sound(), written, code)
+    words: &[&str],
+    platform: &mut P,
+    store: &mut T,
+    content: &[u8],
+    streams: &Streams<'_>,
+) -> Result<Told, Memory> {
+    let piece = streams.piece.max(1);
+    let secrets_piece = streams.secrets_piece.max(1);
+    let mut input = MemSource::in_pieces(alloc, content, streams.failing_reads, piece)?;
+    let mut entropy = MemSource::in_pieces(
+        alloc,
+        streams.secrets,
+        streams.failing_secrets,
+        secrets_piece,
+    )?;
+    let mut out = MemSink::new(alloc, streams.room, streams.failing_writes)?;
+    let code = command(
+        alloc,
+        words,
+        platform,
+        store,
+        &mut input,
+        &mut entropy,
+        &mut out,
+    );
+    received(alloc, code, &out)
+}
+
+/// The same over a blank platform and an empty store.
+pub fn run_over(
+    alloc: Global,
+    words: &[&str],
+    content: &[u8],
+    streams: &Streams<'_>,
+) -> Result<Told, Memory> {
+    let mut platform = MemPlatform::new(alloc, &[0; 104]);
+    let mut store = MemStore::new(alloc);
+    command_over(alloc, words, &mut platform, &mut store, content, streams)
+}
+
+/// The same of words that stand between spaces.
+pub fn run(alloc: Global, text: &str, content: &[u8]) -> Result<Told, Fail> {
+    let words = words_of(alloc, text, "")?;
+    Ok(run_over(alloc, &words, content, &sound())?)
+}
+
+/// The words of a text between spaces, with another word in the place of a star.
+pub fn words_of<'a>(alloc: Global, text: &'a str, star: &'a str) -> Result<Vec<&'a str>, Memory> {
+    let mut words = Vec::new(alloc);
+    for word in text.split(" ") {
+        words.push(if word == "*" { star } else { word })?;
+    }
+    Ok(words)
+}
+
+/// Replays a schedule over such streams.
+pub fn replay_over(alloc: Global, schedule: &[u8], streams: &Streams<'_>) -> Result<Told, Memory> {
+    run_over(alloc, &["replay"], schedule, streams)
+}
+
+/// Whether these bytes are written for a schedule, with this exit status.
+pub fn writes(alloc: Global, schedule: &[u8], written: &[u8], code: u8) -> Result<bool, Memory> {
+    writes_over(alloc, schedule, &sound(), written, code)
 }
 
 /// The same over such streams.
-pub fn check_over(
-    rt: &impl Abort,
+pub fn writes_over(
     alloc: Global,
     schedule: &[u8],
     streams: &Streams<'_>,
     written: &[u8],
     code: u8,
-) -> Result<(), Fail> {
+) -> Result<bool, Memory> {
     let told = replay_over(alloc, schedule, streams)?;
-    assert!(rt; told.written.as_slice() == written);
-    assert!(rt; told.code == code);
-    Ok(())
+    Ok(told.comes_to(written, code))
 }
 
-/// The lines of a table that are read, or with `told` those that are told, each with its LF. What is told
-/// stands behind an arrow.
-pub fn lines_of(alloc: Global, table: &str, told: bool) -> Result<Bytes, Fail> {
+/// The lines of a text that begin so, without that beginning, each with its LF.
+pub fn marked(alloc: Global, text: &str, mark: &str) -> Result<Bytes, Memory> {
     let mut lines = Bytes::new(alloc);
-    for line in table.lines() {
-        let (is_told, text) = match line.strip_prefix("=> ") {
-            Some(reply) => (true, reply),
-            None => (false, line),
-        };
-        if is_told == told {
-            lines.append(text.as_bytes())?;
+    for line in text.lines() {
+        if let Some(rest) = line.strip_prefix(mark) {
+            lines.append(rest.as_bytes())?;
             lines.push(b'\n')?;
         }
     }
     Ok(lines)
 }
 
+/// The lines of a table that are read: those that aren't told behind an arrow, each with its LF.
+pub fn schedule_of(alloc: Global, table: &str) -> Result<Bytes, Memory> {
+    let mut lines = Bytes::new(alloc);
+    for line in table.lines() {
+        if !line.starts_with("=> ") {
+            lines.append(line.as_bytes())?;
+            lines.push(b'\n')?;
+        }
+    }
+    Ok(lines)
+}
+
+/// The lines of a table that are told.
+pub fn replies_of(alloc: Global, table: &str) -> Result<Bytes, Memory> {
+    marked(alloc, table, "=> ")
+}
+
+// Whether a schedule gets the replies that stand in it.
+fn is_so(alloc: Global, part: &str, code: u8) -> Result<bool, Memory> {
+    let schedule = schedule_of(alloc, part)?;
+    let replies = replies_of(alloc, part)?;
+    writes(alloc, schedule.as_slice(), replies.as_slice(), code)
+}
+
 /// Replays each schedule of a table with its replies. Empty lines part them.
 pub fn check_all(rt: &impl Abort, alloc: Global, table: &str, code: u8) -> Result<(), Fail> {
     for part in table.split("\n\n") {
-        let schedule = lines_of(alloc, part, false)?;
-        let replies = lines_of(alloc, part, true)?;
-        check(rt, alloc, schedule.as_slice(), replies.as_slice(), code)?;
+        assert!(rt; is_so(alloc, part, code)?, "{part}");
     }
     Ok(())
 }
 
-// Lines parted by arrows, each with its LF.
-fn lines_between(alloc: Global, text: &str) -> Result<Bytes, Fail> {
+/// Lines that stand between marks, each with its LF.
+pub fn lines_between(alloc: Global, text: &str, mark: &str) -> Result<Bytes, Memory> {
     let mut lines = Bytes::new(alloc);
-    for line in text.split(" => ") {
+    for line in text.split(mark) {
         lines.append(line.as_bytes())?;
         lines.push(b'\n')?;
     }
     Ok(lines)
 }
 
-// Replays a schedule to its end with each of these texts, parted by bars, in the place of its star.
-fn check_with(
-    rt: &impl Abort,
+// Puts three texts and an LF together.
+fn joined(alloc: Global, before: &str, text: &str, after: &str) -> Result<Bytes, Memory> {
+    let mut input = Bytes::copy_of(alloc, before.as_bytes())?;
+    input.append(text.as_bytes())?;
+    input.append(after.as_bytes())?;
+    input.push(b'\n')?;
+    Ok(input)
+}
+
+// Whether a schedule gets these replies with this text in the place of its star.
+fn is_so_with(alloc: Global, schedule: &str, text: &str, replies: &[u8]) -> Result<bool, Fail> {
+    let (before, after) = schedule.split_once("*").ok_or("a star")?;
+    let input = joined(alloc, before, text, after)?;
+    Ok(writes(alloc, input.as_slice(), replies, 0)?)
+}
+
+// Whether a schedule gets these replies with each of these texts, parted by bars.
+fn is_so_with_all(
     alloc: Global,
     schedule: &str,
     texts: &str,
     replies: &[u8],
-) -> Result<(), Fail> {
-    let (before, after) = schedule.split_once("*").ok_or("a star")?;
+) -> Result<bool, Fail> {
     for text in texts.split("|") {
-        let mut input = Bytes::copy_of(alloc, before.as_bytes())?;
-        input.append(text.as_bytes())?;
-        input.append(after.as_bytes())?;
-        input.push(b'\n')?;
-        check(rt, alloc, input.as_slice(), replies, 0)?;
+        if !is_so_with(alloc, schedule, text, replies)? {
+            return Ok(false);
+        }
     }
-    Ok(())
+    Ok(true)
 }
 
-// Replays a schedule with each text of such lines, which name behind an arrow what is then written.
+// Whether a schedule gets what a row says, with each of its texts.
+fn row_is_so(alloc: Global, schedule: &str, row: &str) -> Result<bool, Fail> {
+    let (texts, replies) = row.split_once(" => ").ok_or("replies")?;
+    let replies = lines_between(alloc, replies, " => ")?;
+    is_so_with_all(alloc, schedule, texts, replies.as_slice())
+}
+
+// Replays a schedule with each text of such rows, which name behind an arrow what is then written.
 fn check_rows(rt: &impl Abort, alloc: Global, schedule: &str, rows: &str) -> Result<(), Fail> {
     for row in rows.lines() {
-        let (texts, replies) = row.split_once(" => ").ok_or("replies")?;
-        let replies = lines_between(alloc, replies)?;
-        check_with(rt, alloc, schedule, texts, replies.as_slice())?;
+        assert!(rt; row_is_so(alloc, schedule, row)?, "{schedule}: {row}");
     }
     Ok(())
 }

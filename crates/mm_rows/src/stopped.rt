@@ -5,8 +5,8 @@
 //! 5). `run` reads it (6 and 7); then each request reads it, in Opt the register too, and makes its changing steps.
 
 use crate::failing::{FailingRaw, Leaves};
-use crate::run::{ROOM, command};
-use mm_base::{Bytes, MemSink, MemSource, Memory, put_decimal, read_decimal};
+use crate::run::{Streams, command_over, lines_between, sound, words_of};
+use mm_base::{Bytes, Memory, put_decimal, read_decimal};
 use mm_pages::{MemPages, PageStore};
 use mm_platform::Platform;
 use mm_store::Store;
@@ -154,7 +154,7 @@ const ANY: &str = "none half all even odd";
 
 /// Which call fails of each object that a command is handed, but for the platform: counted from the start of one of
 /// the scene's commands; none where it is 0.
-#[derive(Clone, Copy, Drop)]
+#[derive(Clone, Copy)]
 struct Stops {
     command: u64,
     store: u64,
@@ -183,32 +183,50 @@ fn leaves_of(word: &str) -> Option<Leaves> {
     }
 }
 
-// The lines of a text, each with its LF.
-fn lines_between(alloc: Global, text: &str, mark: &str) -> Result<Bytes, Memory> {
-    let mut lines = Bytes::new(alloc);
-    for line in text.split(mark) {
-        lines.append(line.as_bytes())?;
-        lines.push(b'\n')?;
-    }
-    Ok(lines)
-}
-
 // Whether this status with these lines is what a row says.
 fn is_told(alloc: Global, row: &str, code: u8, content: &[u8]) -> Result<bool, Memory> {
-    let (number, lines) = match row.split_once(" ") {
-        Some((number, text)) => (number, lines_between(alloc, text, ", ")?),
-        None => (row, Bytes::new(alloc)),
+    let Some((number, text)) = row.split_once(" ") else {
+        return Ok(is_code(row, code) && content.is_empty());
     };
-    Ok(read_decimal(number.as_bytes()) == Some(u64::from(code)) && content == lines.as_slice())
+    let lines = lines_between(alloc, text, ", ")?;
+    Ok(is_code(number, code) && content == lines.as_slice())
 }
 
-// The words of a command, with the variant in the place of a star.
-fn words_of<'a>(alloc: Global, text: &'a str, variant: &'a str) -> Result<Vec<&'a str>, Fail> {
-    let mut words = Vec::new(alloc);
-    for word in text.split(" ") {
-        words.push(if word == "*" { variant } else { word })?;
+fn is_code(word: &str, code: u8) -> bool {
+    read_decimal(word.as_bytes()) == Some(u64::from(code))
+}
+
+/// What the entropy gives: a key and a barrier.
+const SECRETS: [u8; 64] = [7; 64];
+
+// The words of a command's line.
+fn text_of(line: &str) -> &str {
+    match line.split_once(" < ") {
+        Some((text, _)) => text,
+        None => line,
     }
-    Ok(words)
+}
+
+// What a command is given behind marks, each line with its LF.
+fn content_of(alloc: Global, line: &str) -> Result<Bytes, Memory> {
+    match line.split_once(" < ") {
+        Some((_, rest)) => lines_between(alloc, rest, " < "),
+        None => Ok(Bytes::new(alloc)),
+    }
+}
+
+// Runs a command over these streams, and says whether that comes to what a row says.
+fn does<P: Platform, T: Store>(
+    alloc: Global,
+    words: &[&str],
+    content: &[u8],
+    streams: &Streams<'_>,
+    row: &str,
+    platform: &mut P,
+    store: &mut T,
+) -> Result<bool, Memory> {
+    let told = command_over(alloc, words, platform, store, content, streams)?;
+    is_told(alloc, row, told.code, told.written.as_slice())
 }
 
 // Runs a command: its words, and its lines behind marks. Says whether that comes to what a row says.
@@ -220,25 +238,28 @@ fn comes_to<P: Platform, T: Store>(
     row: &str,
     platform: &mut P,
     store: &mut T,
-) -> Result<bool, Fail> {
-    let (text, content) = match line.split_once(" < ") {
-        Some((text, rest)) => (text, lines_between(alloc, rest, " < ")?),
-        None => (line, Bytes::new(alloc)),
-    };
-    let words = words_of(alloc, text, variant)?;
-    let mut input = MemSource::in_pieces(alloc, content.as_slice(), &[stops.input], 3)?;
-    let mut entropy = MemSource::in_pieces(alloc, &[7; 64], &[stops.entropy], 30)?;
-    let mut out = MemSink::new(alloc, ROOM, &[stops.output])?;
-    let code = command(
+) -> Result<bool, Memory> {
+    let mut streams = sound();
+    let reads = [stops.input];
+    let writes = [stops.output];
+    let secrets = [stops.entropy];
+    streams.piece = 3;
+    streams.failing_reads = &reads;
+    streams.failing_writes = &writes;
+    streams.secrets = &SECRETS;
+    streams.secrets_piece = 30;
+    streams.failing_secrets = &secrets;
+    let content = content_of(alloc, line)?;
+    let words = words_of(alloc, text_of(line), variant)?;
+    does(
         alloc,
         &words,
+        content.as_slice(),
+        &streams,
+        row,
         platform,
         store,
-        &mut input,
-        &mut entropy,
-        &mut out,
-    );
-    Ok(is_told(alloc, row, code, out.content())?)
+    )
 }
 
 // Lets a call of the store fail, none where it is 0.
@@ -246,47 +267,81 @@ fn stop_store(store: &mut PageStore<MemPages>, call: u64) -> Result<(), Memory> 
     store.device().stop_at(call, b"torn")
 }
 
+// What is played over new devices: the commands of a scene, or its counts alone.
+#[derive(Clone, Copy)]
+struct Play<'a> {
+    variant: &'a str,
+    scene: &'a str,
+    stops: Stops,
+    row: &'a str,
+    is_counted: bool,
+}
+
+// The stops of a command with this number.
+fn stops_in(stops: &Stops, number: u64) -> Stops {
+    if number == stops.command {
+        *stops
+    } else {
+        NONE
+    }
+}
+
 // Whether the commands of a scene come to what a row says of each.
 fn plays(
     alloc: Global,
-    variant: &str,
-    scene: &str,
-    stops: &Stops,
-    row: &str,
+    play: &Play<'_>,
     platform: &mut TwoCell<FailingRaw>,
     store: &mut PageStore<MemPages>,
 ) -> Result<bool, Fail> {
-    let mut told = row.split(" / ");
+    let mut told = play.row.split(" / ");
     let mut number = 0u64;
-    for line in scene.lines() {
+    for line in play.scene.lines() {
         number = number.saturating_add(1);
-        let these = if number == stops.command {
-            *stops
-        } else {
-            NONE
-        };
-        stop_store(store, these.store)?;
+        let stops = stops_in(&play.stops, number);
+        stop_store(store, stops.store)?;
         let part = told.next().ok_or("a part for each command")?;
-        if !comes_to(alloc, variant, line, &these, part, platform, store)? {
+        if !comes_to(alloc, play.variant, line, &stops, part, platform, store)? {
             return Ok(false);
         }
     }
     Ok(told.next().is_none())
 }
 
-// The same over new devices, of which this call of the platform fails.
-fn plays_anew(
+// Whether the counts of a scene are those of a row.
+fn counts(
     alloc: Global,
-    variant: &str,
-    scene: &str,
-    failing: u64,
-    leaves: Leaves,
-    stops: &Stops,
-    row: &str,
+    play: &Play<'_>,
+    platform: &mut TwoCell<FailingRaw>,
+    store: &mut PageStore<MemPages>,
 ) -> Result<bool, Fail> {
+    let mut text = Bytes::new(alloc);
+    put_counts(alloc, play, &mut text, platform, store)?;
+    Ok(text.as_slice() == play.row.as_bytes())
+}
+
+// Plays over devices.
+fn plays_on(
+    alloc: Global,
+    play: &Play<'_>,
+    platform: &mut TwoCell<FailingRaw>,
+    store: &mut PageStore<MemPages>,
+) -> Result<bool, Fail> {
+    if play.is_counted {
+        return counts(alloc, play, platform, store);
+    }
+    plays(alloc, play, platform, store)
+}
+
+// An empty store of pages.
+fn pages(alloc: Global) -> Result<PageStore<MemPages>, Memory> {
+    PageStore::new(alloc, MemPages::new(alloc)?)
+}
+
+// Plays over new devices, of which this call of the platform fails.
+fn plays_anew(alloc: Global, play: &Play<'_>, failing: u64, leaves: Leaves) -> Result<bool, Fail> {
+    let mut store = pages(alloc)?;
     let mut platform = TwoCell::new(FailingRaw::new(failing, leaves));
-    let mut store = PageStore::new(alloc, MemPages::new(alloc)?)?;
-    plays(alloc, variant, scene, stops, row, &mut platform, &mut store)
+    plays_on(alloc, play, &mut platform, &mut store)
 }
 
 // Plays a scene with a call of the platform that fails, once for each of these words for what it leaves.
@@ -300,12 +355,16 @@ fn check_call(
     row: &str,
 ) -> Result<(), Fail> {
     let words = if words == "any" { ANY } else { words };
+    let play = Play {
+        variant,
+        scene,
+        stops: NONE,
+        row,
+        is_counted: false,
+    };
     for word in words.split(" ") {
         let leaves = leaves_of(word).ok_or("what is left")?;
-        assert!(rt;
-            plays_anew(alloc, variant, scene, call, leaves, &NONE, row)?,
-            "{row}"
-        );
+        assert!(rt; plays_anew(alloc, &play, call, leaves)?, "{row}");
     }
     Ok(())
 }
@@ -344,19 +403,13 @@ fn check_rows(
 /// Each call of the memory and of the register fails, with what it may leave.
 #[test]
 fn a_failing_platform_is_gone_on_from(rt: HostRuntime) -> Result<(), Fail> {
-    let tables = [
-        ("basic", STARTS, INIT_ROWS),
-        ("opt", STARTS, INIT_ROWS),
-        ("basic", REQUESTS, BASIC_ROWS),
-        ("opt", REQUESTS, OPT_ROWS),
-        ("basic", CUT, BASIC_CUTS),
-        ("opt", CUT, OPT_CUTS),
-        ("opt", CLOSING, CLOSING_ROWS),
-    ];
-    for (variant, scene, rows) in tables {
-        check_rows(&rt, rt.alloc(), variant, scene, rows)?;
-    }
-    Ok(())
+    check_rows(&rt, rt.alloc(), "basic", STARTS, INIT_ROWS)?;
+    check_rows(&rt, rt.alloc(), "opt", STARTS, INIT_ROWS)?;
+    check_rows(&rt, rt.alloc(), "basic", REQUESTS, BASIC_ROWS)?;
+    check_rows(&rt, rt.alloc(), "opt", REQUESTS, OPT_ROWS)?;
+    check_rows(&rt, rt.alloc(), "basic", CUT, BASIC_CUTS)?;
+    check_rows(&rt, rt.alloc(), "opt", CUT, OPT_CUTS)?;
+    check_rows(&rt, rt.alloc(), "opt", CLOSING, CLOSING_ROWS)
 }
 
 /// Whose calls fail.
@@ -386,6 +439,24 @@ impl Object {
 /// The most calls of a row; the last row, where none fails, has as many.
 const MOST_CALLS: u64 = 20;
 
+// Whether a scene comes to this row where this call of an object fails.
+fn plays_stopped(
+    alloc: Global,
+    variant: &str,
+    scene: &str,
+    stops: Stops,
+    row: &str,
+) -> Result<bool, Fail> {
+    let play = Play {
+        variant,
+        scene,
+        stops,
+        row,
+        is_counted: false,
+    };
+    plays_anew(alloc, &play, 0, Leaves::Nothing)
+}
+
 // The first call from this one on at which a scene doesn't come to this row.
 fn first_other(
     alloc: Global,
@@ -399,7 +470,7 @@ fn first_other(
     let end = first.saturating_add(MOST_CALLS);
     for call in first..end {
         let stops = object.stops(number, call);
-        if !plays_anew(alloc, variant, scene, 0, Leaves::Nothing, &stops, row)? {
+        if !plays_stopped(alloc, variant, scene, stops, row)? {
             return Ok(call);
         }
     }
@@ -429,21 +500,34 @@ fn check_stages(
     Ok(())
 }
 
+// The same in both variants.
+fn check_both(
+    rt: &impl Abort,
+    alloc: Global,
+    scene: &str,
+    object: Object,
+    number: u64,
+    rows: &str,
+) -> Result<(), Fail> {
+    check_stages(rt, alloc, "basic", scene, object, number, rows)?;
+    check_stages(rt, alloc, "opt", scene, object, number, rows)
+}
+
 /// Each call of the store, of the input, of the entropy and of the output fails.
 #[test]
 fn failing_objects_are_gone_on_from(rt: HostRuntime) -> Result<(), Fail> {
-    let tables = [
-        (STARTS, Object::Store, 1, STORE_STARTS),
-        (STARTS, Object::Entropy, 1, ENTROPY_STARTS),
-        (REQUESTS, Object::Store, 2, STORE_REQUESTS),
-        (REQUESTS, Object::Input, 2, INPUT_REQUESTS),
-        (REQUESTS, Object::Output, 2, OUTPUT_REQUESTS),
-    ];
-    for (scene, object, number, rows) in tables {
-        check_stages(&rt, rt.alloc(), "basic", scene, object, number, rows)?;
-        check_stages(&rt, rt.alloc(), "opt", scene, object, number, rows)?;
-    }
-    Ok(())
+    check_both(&rt, rt.alloc(), STARTS, Object::Store, 1, STORE_STARTS)?;
+    check_both(&rt, rt.alloc(), STARTS, Object::Entropy, 1, ENTROPY_STARTS)?;
+    check_both(&rt, rt.alloc(), REQUESTS, Object::Store, 2, STORE_REQUESTS)?;
+    check_both(&rt, rt.alloc(), REQUESTS, Object::Input, 2, INPUT_REQUESTS)?;
+    check_both(
+        &rt,
+        rt.alloc(),
+        REQUESTS,
+        Object::Output,
+        2,
+        OUTPUT_REQUESTS,
+    )
 }
 
 // Writes how many writes of the cell were called behind a line, with a space before.
@@ -452,62 +536,60 @@ fn put_count(text: &mut Bytes, count: u64) -> Result<(), Memory> {
     put_decimal(text, count)
 }
 
-// Runs commands, and writes how many writes of the cell were called after each.
+// Runs commands, and writes how many writes of the cell were called after each, and how many
+// extensions at the end.
 fn put_counts(
     alloc: Global,
-    variant: &str,
-    scene: &str,
+    play: &Play<'_>,
     text: &mut Bytes,
     platform: &mut TwoCell<FailingRaw>,
     store: &mut PageStore<MemPages>,
-) -> Result<(), Fail> {
-    for line in scene.lines() {
-        comes_to(alloc, variant, line, &NONE, "", platform, store)?;
+) -> Result<(), Memory> {
+    for line in play.scene.lines() {
+        comes_to(alloc, play.variant, line, &NONE, "", platform, store)?;
         put_count(text, platform.raw().cell_writes())?;
     }
     text.append(b" |")?;
-    put_count(text, platform.raw().extensions())?;
-    Ok(())
+    put_count(text, platform.raw().extensions())
 }
 
-// A scene with two sessions of so many requests.
-fn sessions_of(alloc: Global, count: u64) -> Result<String, Fail> {
+// So many requests.
+fn requests_of(alloc: Global, count: u64) -> Result<String, Fail> {
     let mut requests = String::new(alloc);
     for _ in 0..count {
         requests.push_str(" < add 1")?;
     }
+    Ok(requests)
+}
+
+// A scene with two sessions of so many requests.
+fn sessions_of(alloc: Global, count: u64) -> Result<String, Fail> {
+    let requests = requests_of(alloc, count)?;
     let requests = requests.as_str();
     Ok(format!(in alloc; "init * counter\nrun{requests}\ncheckpoint\nrun{requests}")?)
 }
 
-// The same over new devices.
-fn put_counts_anew(
-    alloc: Global,
-    variant: &str,
-    scene: &str,
-    text: &mut Bytes,
-) -> Result<(), Fail> {
-    let mut platform = TwoCell::new(FailingRaw::new(0, Leaves::Nothing));
-    let mut store = PageStore::new(alloc, MemPages::new(alloc)?)?;
-    put_counts(alloc, variant, scene, text, &mut platform, &mut store)
-}
-
 // Whether a row's counts are those of its sessions.
-fn counts(alloc: Global, row: &str) -> Result<bool, Fail> {
+fn row_counts(alloc: Global, row: &str) -> Result<bool, Fail> {
     let (names, told) = row.split_once(" |").ok_or("counts")?;
     let (variant, number) = names.split_once(" ").ok_or("a number")?;
     let count = read_decimal(number.as_bytes()).ok_or("a number")?;
     let scene = sessions_of(alloc, count)?;
-    let mut text = Bytes::new(alloc);
-    put_counts_anew(alloc, variant, scene.as_str(), &mut text)?;
-    Ok(text.as_slice() == told.as_bytes())
+    let play = Play {
+        variant,
+        scene: scene.as_str(),
+        stops: NONE,
+        row: told,
+        is_counted: true,
+    };
+    plays_anew(alloc, &play, 0, Leaves::Nothing)
 }
 
 /// Basic writes the cell for each request, Opt for each segment and to close it.
 #[test]
 fn a_session_writes_the_cell_so_often(rt: HostRuntime) -> Result<(), Fail> {
     for row in COUNT_ROWS.lines() {
-        assert!(rt; counts(rt.alloc(), row)?, "{row}");
+        assert!(rt; row_counts(rt.alloc(), row)?, "{row}");
     }
     Ok(())
 }

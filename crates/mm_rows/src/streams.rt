@@ -5,7 +5,8 @@ ghost use Rattle.std.specs.Prelude.{None};
 
 use crate::run::{ROOM, replay};
 use mm_app::{StdSink, StdSource};
-use mm_base::{Failed, MemSink, MemSource, Sink, Source};
+use mm_base::{Failed, MemSink, MemSource, Memory, Sink, Source};
+use std::alloc::Global;
 use std::cell::Cell;
 use std::io;
 use std::io::{ErrorKind, Read, Write};
@@ -62,46 +63,66 @@ impl Write for FailingWriter {
     }
 }
 
+// Whether these bytes are written for an input, with this exit status.
+fn comes_to<S: Source>(
+    alloc: Global,
+    input: &mut S,
+    written: &[u8],
+    code: u8,
+) -> Result<bool, Memory> {
+    let mut out = MemSink::new(alloc, ROOM, &[])?;
+    Ok(replay(alloc, input, &mut out) == code && out.content() == written)
+}
+
+// The same where this call of the reader fails.
+fn reads(alloc: Global, failing: u64, written: &[u8], code: u8) -> Result<bool, Memory> {
+    let mut input = StdSource::new(FailingReader {
+        left: SCHEDULE,
+        calls: 0,
+        failing,
+    });
+    comes_to(alloc, &mut input, written, code)
+}
+
 #[test]
 fn an_error_of_the_reader_is_no_end(rt: HostRuntime) -> Result<(), Fail> {
-    let cases: [(u64, &[u8], u8); 4] = [
-        (1, b"stop read\n", 3),
-        (6, b"stop read\n", 3),
-        (7, b"ok 1 5\nstop read\n", 3),
-        (8, b"ok 1 5\nend 1 2\n", 0),
-    ];
-    for (failing, written, code) in cases {
-        let mut input = StdSource::new(FailingReader {
-            left: SCHEDULE,
-            calls: 0,
-            failing,
-        });
-        let mut out = MemSink::new(rt.alloc(), ROOM, &[])?;
-        assert!(&rt; replay(rt.alloc(), &mut input, &mut out) == code);
-        assert!(&rt; out.content() == written);
-    }
+    assert!(&rt; reads(rt.alloc(), 1, b"stop read\n", 3)?);
+    assert!(&rt; reads(rt.alloc(), 6, b"stop read\n", 3)?);
+    assert!(&rt; reads(rt.alloc(), 7, b"ok 1 5\nstop read\n", 3)?);
+    assert!(&rt; reads(rt.alloc(), 8, b"ok 1 5\nend 1 2\n", 0)?);
     Ok(())
+}
+
+// Replays an input into a writer, and answers the exit status.
+fn replay_into(alloc: Global, input: &mut MemSource, writer: &mut FailingWriter) -> u8 {
+    let mut out = StdSink::new(writer);
+    replay(alloc, input, &mut out)
+}
+
+// Replays the schedule into a writer, and answers the exit status.
+fn code_into(alloc: Global, writer: &mut FailingWriter) -> Result<u8, Memory> {
+    let mut input = MemSource::new(alloc, SCHEDULE, &[])?;
+    Ok(replay_into(alloc, &mut input, writer))
+}
+
+// Whether the exit status is this one where this call of the writer fails, and the writer received
+// these bytes.
+fn gives(alloc: Global, failing: u64, received: &[u8], code: u8) -> Result<bool, Memory> {
+    let mut writer = FailingWriter {
+        received: Vec::new(alloc),
+        calls: 0,
+        failing,
+    };
+    let is_code = code_into(alloc, &mut writer)? == code;
+    Ok(is_code && writer.received.as_slice() == received)
 }
 
 #[test]
 fn an_error_of_the_writer_is_no_write(rt: HostRuntime) -> Result<(), Fail> {
-    let cases: [(u64, &[u8], u8); 4] = [
-        (1, b"", 4),
-        (3, b"ok 1 5", 4),
-        (5, b"ok 1 5\nend", 4),
-        (7, b"ok 1 5\nend 1 2\n", 0),
-    ];
-    for (failing, written, code) in cases {
-        let mut writer = FailingWriter {
-            received: Vec::new(rt.alloc()),
-            calls: 0,
-            failing,
-        };
-        let mut input = MemSource::new(rt.alloc(), SCHEDULE, &[])?;
-        let mut out = StdSink::new(&mut writer);
-        assert!(&rt; replay(rt.alloc(), &mut input, &mut out) == code);
-        assert!(&rt; writer.received.as_slice() == written);
-    }
+    assert!(&rt; gives(rt.alloc(), 1, b"", 4)?);
+    assert!(&rt; gives(rt.alloc(), 3, b"ok 1 5", 4)?);
+    assert!(&rt; gives(rt.alloc(), 5, b"ok 1 5\nend", 4)?);
+    assert!(&rt; gives(rt.alloc(), 7, b"ok 1 5\nend 1 2\n", 0)?);
     Ok(())
 }
 

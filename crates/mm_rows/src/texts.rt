@@ -7,78 +7,99 @@ use mm_platform::StepFault;
 use mm_schedule::EventFault;
 use mm_store::StoreFault;
 use mm_words::WordsFault;
+use std::alloc::Global;
+use std::fmt::Display;
 use std::test::Fail;
+
+// Whether a fault says this.
+fn says<T: Display>(alloc: Global, fault: &T, expected: &str) -> Result<bool, Fail> {
+    let text = format!(in alloc; "{fault}")?;
+    Ok(text.as_str() == expected)
+}
 
 #[test]
 fn faults_say_what_happened(rt: HostRuntime) -> Result<(), Fail> {
-    let texts = [
-        format!(in rt.alloc(); "{}", EventFault::Memory)?,
-        format!(in rt.alloc(); "{}", EventFault::Bad)?,
-        format!(in rt.alloc(); "{}", StoreFault::Memory)?,
-        format!(in rt.alloc(); "{}", StoreFault::Failed)?,
-        format!(in rt.alloc(); "{}", WordsFault::Memory)?,
-        format!(in rt.alloc(); "{}", WordsFault::Usage)?,
-        format!(in rt.alloc(); "{}", BulkFault::Memory)?,
-        format!(in rt.alloc(); "{}", BulkFault::TooMuch)?,
-    ];
-    let expected = [
-        "out of memory",
-        "the line is no event",
-        "out of memory",
-        "the store failed",
-        "out of memory",
-        "the words are no command",
-        "out of memory",
-        "too many bytes are kept",
-    ];
-    for (text, expected) in texts.iter().zip(expected) {
-        assert_eq!(rt; text.as_str(), expected);
-    }
+    assert!(rt; says(rt.alloc(), &EventFault::Memory, "out of memory")?);
+    assert!(rt; says(rt.alloc(), &EventFault::Bad, "the line is no event")?);
+    assert!(rt; says(rt.alloc(), &StoreFault::Memory, "out of memory")?);
+    assert!(rt; says(rt.alloc(), &StoreFault::Failed, "the store failed")?);
+    assert!(rt; says(rt.alloc(), &WordsFault::Memory, "out of memory")?);
+    assert!(rt; says(rt.alloc(), &WordsFault::Usage, "the words are no command")?);
+    assert!(rt; says(rt.alloc(), &BulkFault::Memory, "out of memory")?);
+    assert!(rt; says(rt.alloc(), &BulkFault::TooMuch, "too many bytes are kept")?);
     Ok(())
 }
 
 #[test]
 fn faults_of_the_host_say_what_happened(rt: HostRuntime) -> Result<(), Fail> {
-    let texts = [
-        format!(in rt.alloc(); "{}", HostFault::Memory)?,
-        format!(in rt.alloc(); "{}", HostFault::Store)?,
-        format!(in rt.alloc(); "{}", HostFault::Refused(Refusal::Stale))?,
-        format!(in rt.alloc(); "{}", SessionFault::Memory)?,
-        format!(in rt.alloc(); "{}", SessionFault::Store)?,
-        format!(in rt.alloc(); "{}", SessionFault::Refused(Refusal::Full))?,
-        format!(in rt.alloc(); "{}", SessionFault::ReadFault)?,
-        format!(in rt.alloc(); "{}", SessionFault::WriteFault)?,
-        format!(in rt.alloc(); "{}", SessionFault::LineLong { line: 2 })?,
-        format!(in rt.alloc(); "{}", SessionFault::BadLine { line: 3 })?,
-        format!(in rt.alloc(); "{}", SessionFault::TooMuch)?,
-        format!(in rt.alloc(); "{}", InitFault::Memory)?,
-        format!(in rt.alloc(); "{}", InitFault::Platform(StepFault::Off))?,
-        format!(in rt.alloc(); "{}", InitFault::Already)?,
-        format!(in rt.alloc(); "{}", InitFault::ReadFault)?,
-        format!(in rt.alloc(); "{}", InitFault::Short { got: 63 })?,
-        format!(in rt.alloc(); "{}", InitFault::Store)?,
-    ];
-    let expected = [
-        "out of memory",
-        "the store failed",
-        "the call was refused",
-        "out of memory",
-        "the store failed",
-        "the call was refused",
-        "the input failed",
-        "the output failed",
-        "line 2 is too long",
-        "line 3 has no end",
-        "the input is too large",
-        "out of memory",
-        "the platform failed",
-        "the cell is not blank",
-        "the source of entropy failed",
-        "the source of entropy has too few bytes",
-        "the store failed",
-    ];
-    for (text, expected) in texts.iter().zip(expected) {
-        assert_eq!(rt; text.as_str(), expected);
-    }
+    assert!(rt; says(rt.alloc(), &HostFault::Memory, "out of memory")?);
+    assert!(rt; says(rt.alloc(), &HostFault::Store, "the store failed")?);
+    assert!(rt;
+        says(
+            rt.alloc(),
+            &HostFault::Refused(Refusal::Stale),
+            "the call was refused"
+        )?
+    );
+    Ok(())
+}
+
+#[test]
+fn faults_of_a_session_say_what_happened(rt: HostRuntime) -> Result<(), Fail> {
+    assert!(rt; says(rt.alloc(), &SessionFault::Memory, "out of memory")?);
+    assert!(rt; says(rt.alloc(), &SessionFault::Store, "the store failed")?);
+    assert!(rt;
+        says(
+            rt.alloc(),
+            &SessionFault::Refused(Refusal::Full),
+            "the call was refused"
+        )?
+    );
+    assert!(rt; says(rt.alloc(), &SessionFault::ReadFault, "the input failed")?);
+    assert!(rt; says(rt.alloc(), &SessionFault::WriteFault, "the output failed")?);
+    assert!(rt;
+        says(
+            rt.alloc(),
+            &SessionFault::LineLong { line: 2 },
+            "line 2 is too long"
+        )?
+    );
+    assert!(rt;
+        says(
+            rt.alloc(),
+            &SessionFault::BadLine { line: 3 },
+            "line 3 has no end"
+        )?
+    );
+    assert!(rt; says(rt.alloc(), &SessionFault::TooMuch, "the input is too large")?);
+    Ok(())
+}
+
+#[test]
+fn faults_of_a_first_start_say_what_happened(rt: HostRuntime) -> Result<(), Fail> {
+    assert!(rt; says(rt.alloc(), &InitFault::Memory, "out of memory")?);
+    assert!(rt;
+        says(
+            rt.alloc(),
+            &InitFault::Platform(StepFault::Off),
+            "the platform failed"
+        )?
+    );
+    assert!(rt; says(rt.alloc(), &InitFault::Already, "the cell is not blank")?);
+    assert!(rt;
+        says(
+            rt.alloc(),
+            &InitFault::ReadFault,
+            "the source of entropy failed"
+        )?
+    );
+    assert!(rt;
+        says(
+            rt.alloc(),
+            &InitFault::Short { got: 63 },
+            "the source of entropy has too few bytes"
+        )?
+    );
+    assert!(rt; says(rt.alloc(), &InitFault::Store, "the store failed")?);
     Ok(())
 }
