@@ -77,7 +77,8 @@ pub record LooksAtInstance (before after : Standing) (found : Result Header Stat
   pub finds : FindsInstance fault before found
 
 -- A session over the instance, which ended with an answer of this status: its steps; that lines within the limits aren't to
--- blame; and from which history to which it went, by one run of the module, with slots to go on from. Each count of faults rose exactly where its object is to blame.
+-- blame; and from which history to which it went, by one run of the module, with slots to go on from. Each count of faults
+-- rose exactly where its object is to blame.
 pub record ServedInstance (header : Header) (before after : Standing) (old new : StoreStanding)
     (left left' received received' : Option (List ℕ))
     (reads reads' writes writes' : ℕ) (status : Status) : Type 0 where

@@ -25,7 +25,8 @@ header_fewer None reply next h = absurd (no_answer Bad reply next h)
 header_fewer (Some header) reply next h =
     fewer (most_events + most_recorded + 2) reply [] next (InEvents (first_read header)) h (omega arith)
 
-event_fewer : (r : Read) (line : List ℕ) (event : Event) (much : Bool) (reply : List ℕ) (next : CheckStage) → is_too_much r.running line ≡ much
+event_fewer : (r : Read) (line : List ℕ) (event : Event) (much : Bool) (reply : List ℕ) (next : CheckStage)
+    → is_too_much r.running line ≡ much
     → (let a : Result (List ℕ × CheckStage) Refused = if much then Err Much else Ok ([], InEvents (with_event r line event)) in
     a ≡ Ok (reply, next))
     → check_left next < check_left (InEvents r)
@@ -33,7 +34,8 @@ event_fewer r line event true reply next is h = absurd (no_answer Much reply nex
 event_fewer r line event false reply next is h =
     fewer (check_left (InEvents r)) reply [] next (InEvents (with_event r line event)) h (omega (arith, few_events r.running line is))
 
-found_fewer : (r : Read) (line : List ℕ) (found : Option Event) (reply : List ℕ) (next : CheckStage) → read_event r line found ≡ Ok (reply, next)
+found_fewer : (r : Read) (line : List ℕ) (found : Option Event) (reply : List ℕ) (next : CheckStage)
+    → read_event r line found ≡ Ok (reply, next)
     → check_left next < check_left (InEvents r)
 found_fewer r line None reply next h = absurd (no_answer Bad reply next h)
 found_fewer r line (Some event) reply next h = event_fewer r line event (is_too_much r.running line) reply next refl h
