@@ -4,7 +4,12 @@ use super::*;
 use mm_base::{Failed, Memory};
 use mm_store::{LONGEST_SLOT, Store, StoreFault};
 use std::alloc::{AllocError, Global};
+use std::process::Abort;
 use std::test::Fail;
+
+const ZEROS: [u8; 600] = [0; 600];
+
+const ONES: [u8; 600] = [1; 600];
 
 // So many bytes, one of which is another.
 fn bytes_but(alloc: Global, size: usize, at: usize) -> Result<Vec<u8>, AllocError> {
@@ -17,126 +22,166 @@ fn bytes_but(alloc: Global, size: usize, at: usize) -> Result<Vec<u8>, AllocErro
 
 // A write to a slot, of bytes that are few enough.
 fn put(store: &mut PageStore<MemPages>, slot: u8, bytes: &[u8]) -> Result<(), StoreFault> {
-    if slot > 3 || bytes.len() > LONGEST_SLOT {
+    if slot > 3 {
+        return Err(StoreFault::Memory);
+    }
+    if bytes.len() > LONGEST_SLOT {
         return Err(StoreFault::Memory);
     }
     store.write(slot, bytes)
 }
 
-// Whether a slot is read as these bytes.
-fn holds(
+// Whether a slot is read, and then as these bytes or as others.
+fn is_read(
     store: &mut PageStore<MemPages>,
     alloc: Global,
     slot: u8,
     bytes: &[u8],
-) -> Result<bool, StoreFault> {
+    is_same: bool,
+) -> bool {
     if slot > 3 {
-        return Ok(false);
+        return false;
     }
-    let read = store.read(alloc, slot)?;
-    Ok(read.as_slice() == bytes)
+    match store.read(alloc, slot) {
+        Ok(read) => (read.as_slice() == bytes) == is_same,
+        Err(_) => false,
+    }
 }
 
-// How many pages were read and written, and lengths set, so far.
-fn counts(store: &mut PageStore<MemPages>) -> (u64, u64, u64) {
+// Whether a slot is read as these bytes.
+fn holds(store: &mut PageStore<MemPages>, alloc: Global, slot: u8, bytes: &[u8]) -> bool {
+    is_read(store, alloc, slot, bytes, true)
+}
+
+// How many pages were read so far.
+fn page_reads(store: &mut PageStore<MemPages>) -> u64 {
+    store.device().page_reads()
+}
+
+// Whether so many pages were written, and lengths set, so far.
+fn has_written(store: &mut PageStore<MemPages>, pages: u64, lengths: u64) -> bool {
     let device = store.device();
-    (
-        device.page_reads(),
-        device.page_writes(),
-        device.length_writes(),
-    )
+    device.page_writes() == pages && device.length_writes() == lengths
 }
 
-// A store over an empty device.
-fn empty(alloc: Global) -> Result<PageStore<MemPages>, Memory> {
-    PageStore::new(alloc, MemPages::new(alloc)?)
-}
-
-// The counts after a write.
-fn counts_after(
+// Writes so many zero bytes, one of which is another, to a slot. Says whether so many pages were
+// read and written, and lengths set, by then.
+fn is_counted(
     store: &mut PageStore<MemPages>,
+    alloc: Global,
     slot: u8,
-    bytes: &[u8],
-) -> Result<(u64, u64, u64), StoreFault> {
-    put(store, slot, bytes)?;
-    Ok(counts(store))
+    size: usize,
+    at: usize,
+    counts: [u64; 3],
+) -> Result<bool, Fail> {
+    put_but(store, alloc, slot, size, at)?;
+    let [reads, pages, lengths] = counts;
+    Ok(page_reads(store) == reads && has_written(store, pages, lengths))
 }
 
-#[test]
-fn pages_that_changed_are_written_alone(rt: HostRuntime) -> Result<(), Fail> {
-    let zeros = bytes_but(rt.alloc(), 70_000, 70_000)?;
-    let other = bytes_but(rt.alloc(), 70_000, 300)?;
-    let short = bytes_but(rt.alloc(), 90, 0)?;
-    let mut store = empty(rt.alloc())?;
-    let rows = [
-        (0, zeros.as_slice(), (274, 0, 1)),
-        (0, other.as_slice(), (547, 1, 1)),
-        (0, other.as_slice(), (821, 1, 1)),
-        (1, short.as_slice(), (822, 2, 2)),
-        (1, &[], (822, 2, 3)),
-    ];
-    for (slot, bytes, expected) in rows {
-        assert!(rt; counts_after(&mut store, slot, bytes) == Ok(expected));
-    }
-    assert!(rt; holds(&mut store, rt.alloc(), 0, &other) == Ok(true));
-    assert!(rt; holds(&mut store, rt.alloc(), 1, &[]) == Ok(true));
+fn put_but(
+    store: &mut PageStore<MemPages>,
+    alloc: Global,
+    slot: u8,
+    size: usize,
+    at: usize,
+) -> Result<(), Fail> {
+    let bytes = bytes_but(alloc, size, at)?;
+    Ok(put(store, slot, &bytes)?)
+}
+
+// Whether a slot is read as such bytes.
+fn holds_but(
+    store: &mut PageStore<MemPages>,
+    alloc: Global,
+    slot: u8,
+    size: usize,
+    at: usize,
+) -> Result<bool, Fail> {
+    let bytes = bytes_but(alloc, size, at)?;
+    Ok(holds(store, alloc, slot, &bytes))
+}
+
+// Pages that changed are written alone.
+fn changed_pages_are_written(
+    rt: &impl Abort,
+    store: &mut PageStore<MemPages>,
+    alloc: Global,
+) -> Result<(), Fail> {
+    assert!(rt; is_counted(store, alloc, 0, 70_000, 70_000, [274, 0, 1])?);
+    assert!(rt; is_counted(store, alloc, 0, 70_000, 300, [547, 1, 1])?);
+    assert!(rt; is_counted(store, alloc, 0, 70_000, 300, [821, 1, 1])?);
+    assert!(rt; is_counted(store, alloc, 1, 90, 0, [822, 2, 2])?);
+    assert!(rt; is_counted(store, alloc, 1, 0, 0, [822, 2, 3])?);
+    assert!(rt; holds_but(store, alloc, 0, 70_000, 300)?);
+    assert!(rt; holds(store, alloc, 1, &[]));
     Ok(())
 }
 
-// Whether a write to slot 0 fails at this call of the device, or at none, and how many pages a later write
-// to slot 1, and then one to slot 0, read back.
-fn reads_after(
-    store: &mut PageStore<MemPages>,
-    call: u64,
-    zeros: &[u8],
-    ones: &[u8],
-) -> Result<(bool, u64, u64), StoreFault> {
-    put(store, 0, ones)?;
-    put(store, 1, ones)?;
-    store.device().stop_at(call, b"left")?;
-    let failed = put(store, 0, zeros) == Err(StoreFault::Failed);
-    let (before, _, _) = counts(store);
-    let (known, _, _) = counts_after(store, 1, zeros)?;
-    let (unknown, _, _) = counts_after(store, 0, ones)?;
-    Ok((
-        failed,
-        known.saturating_sub(before),
-        unknown.saturating_sub(known),
-    ))
+// Whether a write of zero bytes to slot 0 fails.
+fn is_stopped(store: &mut PageStore<MemPages>) -> bool {
+    match put(store, 0, &ZEROS) {
+        Err(StoreFault::Failed) => true,
+        _ => false,
+    }
+}
+
+// How many pages a write reads back.
+fn reads_of(store: &mut PageStore<MemPages>, slot: u8, bytes: &[u8]) -> Result<u64, StoreFault> {
+    let before = page_reads(store);
+    put(store, slot, bytes)?;
+    Ok(page_reads(store).saturating_sub(before))
+}
+
+// Writes the same to slots 0 and 1.
+fn put_ones(store: &mut PageStore<MemPages>) -> Result<(), StoreFault> {
+    put(store, 0, &ONES)?;
+    put(store, 1, &ONES)
+}
+
+fn stop_at(store: &mut PageStore<MemPages>, call: u64) -> Result<(), Memory> {
+    store.device().stop_at(call, b"left")
+}
+
+// Whether a write to slot 0 fails at this call of the device, or at none where it is 0; and a
+// later write to slot 1 reads no page back, and then one to slot 0 all pages or none.
+fn is_dropped(store: &mut PageStore<MemPages>, call: u64) -> Result<bool, Fail> {
+    put_ones(store)?;
+    stop_at(store, call)?;
+    let is_failed = is_stopped(store);
+    let known = reads_of(store, 1, &ZEROS)?;
+    let unknown = reads_of(store, 0, &ONES)?;
+    let expected = if call == 0 { 0 } else { 3 };
+    Ok(is_failed == (call > 0) && known == 0 && unknown == expected)
 }
 
 // Each of the six calls of a write fails in turn, or none: of the slot nothing is known then, and of the
 // others all. Bytes of which no page was known are all read back, and bytes whose pages all have another
 // digest are not.
-#[test]
-fn a_failed_write_drops_what_was_known_of_its_slot(rt: HostRuntime) -> Result<(), Fail> {
-    let zeros = vec![in rt.alloc(); 0u8; 600]?;
-    let ones = vec![in rt.alloc(); 1u8; 600]?;
-    let mut store = empty(rt.alloc())?;
+fn failed_writes_are_dropped(
+    rt: &impl Abort,
+    store: &mut PageStore<MemPages>,
+    alloc: Global,
+) -> Result<(), Fail> {
     for call in 0..7u64 {
-        let expected = if call == 0 {
-            (false, 0, 0)
-        } else {
-            (true, 0, 3)
-        };
-        assert!(rt; reads_after(&mut store, call, &zeros, &ones) == Ok(expected));
-        assert!(rt; holds(&mut store, rt.alloc(), 0, &ones) == Ok(true));
-        assert!(rt; holds(&mut store, rt.alloc(), 1, &zeros) == Ok(true));
+        assert!(rt; is_dropped(store, call)?, "{call}");
+        assert!(rt;
+            holds(store, alloc, 0, &ONES) && holds(store, alloc, 1, &ZEROS),
+            "{call}"
+        );
     }
     Ok(())
 }
 
-// A page of this byte alone.
-fn page_of_byte(byte: u8) -> [u8; 256] {
-    [byte; 256]
-}
-
 // Writes a page of this byte to a slot of a device.
 fn fill(pages: &mut MemPages, slot: u8, page: u16, byte: u8) -> Result<(), Failed> {
-    if slot > 3 || page > 4296 {
+    if slot > 3 {
         return Err(Failed);
     }
-    pages.write_page(slot, page, &page_of_byte(byte))
+    if page > 4296 {
+        return Err(Failed);
+    }
+    pages.write_page(slot, page, &[byte; 256])
 }
 
 // Whether bytes are put right by a second write of them, after others changed one of their pages.
@@ -144,46 +189,103 @@ fn is_put_right(
     store: &mut PageStore<MemPages>,
     alloc: Global,
     bytes: &[u8],
-) -> Result<bool, StoreFault> {
+) -> Result<bool, Fail> {
     put(store, 2, bytes)?;
-    let is_changed = fill(store.device(), 2, 1, 7).is_ok() && !holds(store, alloc, 2, bytes)?;
+    fill(store.device(), 2, 1, 7)?;
+    let is_changed = is_read(store, alloc, 2, bytes, false);
     put(store, 2, bytes)?;
-    Ok(is_changed && holds(store, alloc, 2, bytes)?)
+    Ok(is_changed && holds(store, alloc, 2, bytes))
 }
 
 // A page that others changed is put right, though its digest is the one that is kept.
-#[test]
-fn an_equal_digest_alone_skips_nothing(rt: HostRuntime) -> Result<(), Fail> {
-    let bytes = bytes_but(rt.alloc(), 600, 300)?;
-    let mut store = empty(rt.alloc())?;
-    assert!(rt; is_put_right(&mut store, rt.alloc(), &bytes) == Ok(true));
+fn changed_pages_are_put_right(
+    rt: &impl Abort,
+    store: &mut PageStore<MemPages>,
+    alloc: Global,
+) -> Result<(), Fail> {
+    let bytes = bytes_but(alloc, 600, 300)?;
+    assert!(rt; is_put_right(store, alloc, &bytes)?);
     Ok(())
 }
 
-// Puts these bytes into all slots, and tells whether all hold them then.
-fn fills_all(
-    store: &mut PageStore<MemPages>,
-    alloc: Global,
-    bytes: &[u8],
-) -> Result<bool, StoreFault> {
+// The most bytes that a slot is read with.
+fn most_bytes(alloc: Global) -> Result<Vec<u8>, AllocError> {
+    vec![in alloc; 7u8; LONGEST_SLOT]
+}
+
+// Writes these bytes to each slot.
+fn fill_all(store: &mut PageStore<MemPages>, bytes: &[u8]) -> Result<(), StoreFault> {
     for slot in 0..4 {
         put(store, slot, bytes)?;
     }
-    let mut is_full = true;
+    Ok(())
+}
+
+fn most_are_held(
+    rt: &impl Abort,
+    store: &mut PageStore<MemPages>,
+    alloc: Global,
+) -> Result<(), Fail> {
+    let bytes = most_bytes(alloc)?;
+    fill_all(store, &bytes)?;
     for slot in 0..4 {
-        is_full = is_full && holds(store, alloc, slot, bytes)?;
+        assert!(rt; holds(store, alloc, slot, &bytes), "{slot}");
     }
-    Ok(is_full)
+    assert!(rt; has_written(store, 4 * 4297, 4));
+    Ok(())
+}
+
+// What a new store is tried by.
+#[derive(Clone, Copy)]
+enum Trial {
+    Changed,
+    FailedWrites,
+    PutRight,
+    MostBytes,
+}
+
+// A store over an empty device.
+fn empty(alloc: Global) -> Result<PageStore<MemPages>, Memory> {
+    PageStore::new(alloc, MemPages::new(alloc)?)
+}
+
+fn tried_on(
+    rt: &impl Abort,
+    store: &mut PageStore<MemPages>,
+    alloc: Global,
+    trial: Trial,
+) -> Result<(), Fail> {
+    match trial {
+        Trial::Changed => changed_pages_are_written(rt, store, alloc),
+        Trial::FailedWrites => failed_writes_are_dropped(rt, store, alloc),
+        Trial::PutRight => changed_pages_are_put_right(rt, store, alloc),
+        Trial::MostBytes => most_are_held(rt, store, alloc),
+    }
+}
+
+fn tried(rt: &impl Abort, alloc: Global, trial: Trial) -> Result<(), Fail> {
+    let mut store = empty(alloc)?;
+    tried_on(rt, &mut store, alloc, trial)
+}
+
+#[test]
+fn pages_that_changed_are_written_alone(rt: HostRuntime) -> Result<(), Fail> {
+    tried(&rt, rt.alloc(), Trial::Changed)
+}
+
+#[test]
+fn a_failed_write_drops_what_was_known_of_its_slot(rt: HostRuntime) -> Result<(), Fail> {
+    tried(&rt, rt.alloc(), Trial::FailedWrites)
+}
+
+#[test]
+fn an_equal_digest_alone_skips_nothing(rt: HostRuntime) -> Result<(), Fail> {
+    tried(&rt, rt.alloc(), Trial::PutRight)
 }
 
 #[test]
 fn slots_hold_the_most_bytes(rt: HostRuntime) -> Result<(), Fail> {
-    let bytes = vec![in rt.alloc(); 7u8; LONGEST_SLOT]?;
-    let mut store = empty(rt.alloc())?;
-    assert!(rt; fills_all(&mut store, rt.alloc(), &bytes) == Ok(true));
-    let (_, page_writes, length_writes) = counts(&mut store);
-    assert!(rt; page_writes == 4 * 4297 && length_writes == 4);
-    Ok(())
+    tried(&rt, rt.alloc(), Trial::MostBytes)
 }
 
 // Whether slots 0 and 3 have changes that were not synced.
@@ -216,20 +318,42 @@ fn count_set(pages: &mut MemPages, page: u16) -> Result<usize, Failed> {
     if page > 4296 {
         return Err(Failed);
     }
-    let mut there = page_of_byte(9);
+    let mut there = [9; 256];
     pages.read_page(3, page, &mut there)?;
-    Ok(there.iter().filter(|&byte| *byte != 0).count())
+    Ok(count_in(&there))
+}
+
+fn count_in(bytes: &[u8; 256]) -> usize {
+    bytes.iter().filter(|&byte| *byte != 0).count()
+}
+
+// Whether so many bytes of a page of slot 3 are not zero.
+fn has_set(pages: &mut MemPages, page: u16, count: usize) -> bool {
+    match count_set(pages, page) {
+        Ok(there) => there == count,
+        Err(Failed) => false,
+    }
+}
+
+// Whether slot 3 has this length once it was given it.
+fn fits(pages: &mut MemPages, length: u32) -> bool {
+    match fit(pages, length) {
+        Ok(there) => there == length,
+        Err(Failed) => false,
+    }
+}
+
+fn holes_are_zero(rt: &impl Abort, pages: &mut MemPages) -> Result<(), Fail> {
+    fill(pages, 3, 2, 7)?;
+    assert!(rt; has_set(pages, 1, 0) && has_set(pages, 2, 256));
+    assert!(rt; fits(pages, 513) && has_set(pages, 2, 1) && has_set(pages, 4296, 0));
+    assert!(rt; fits(pages, 1_100_032) && has_set(pages, 2, 1));
+    Ok(())
 }
 
 // A hole before a page is filled with zero bytes, and bytes past the end read as zero.
 #[test]
 fn holes_and_ends_read_as_zero(rt: HostRuntime) -> Result<(), Fail> {
     let mut pages = MemPages::new(rt.alloc())?;
-    assert!(rt; fill(&mut pages, 3, 2, 7).is_ok());
-    assert!(rt; count_set(&mut pages, 1) == Ok(0) && count_set(&mut pages, 2) == Ok(256));
-    assert!(rt; fit(&mut pages, 513) == Ok(513));
-    assert!(rt; count_set(&mut pages, 2) == Ok(1) && count_set(&mut pages, 4296) == Ok(0));
-    assert!(rt; fit(&mut pages, 1_100_032) == Ok(1_100_032));
-    assert!(rt; count_set(&mut pages, 2) == Ok(1));
-    Ok(())
+    holes_are_zero(&rt, &mut pages)
 }
