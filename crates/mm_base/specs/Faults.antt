@@ -5,11 +5,11 @@ use Rattle.std.specs.Prelude.{◌≡◌, ℕ, ◌+◌, ◌-◌, ◌^◌, ◌≤�
 abbrev pub counted : ℕ → ℕ
 counted count = min (count + 1) (2 ^ 64 - 1)
 
--- the count rose at least once, or stands at its greatest value
+-- one call failed: the count rose by exactly one, or stays at its greatest value
 abbrev pub Rose : ℕ → ℕ → Type 0
-Rose before now = counted before ≤ now
+Rose before now = now ≡ counted before
 
--- the count never falls, is as before after Ok, and rose where the call failed
+-- the count never falls, is as before after Ok, and rose by exactly one where the call failed
 pub record CountsFaults {T E : Type 0} (before now : ℕ) (result : Result T E) : Type 0 where
   pub later : before ≤ now
   pub kept : OnOk result (now ≡ before)

@@ -81,6 +81,7 @@ steps_go act old = record {
   items = refl;
   steps = refl;
   writes = refl;
+  cycles = refl;
   room = room_left act (makes old) old.spare;
   plan = refl;
   ends = ends_by old.is_on (next_plan old) old (step_made act old) refl refl refl;

@@ -31,6 +31,7 @@ as_told act old new fault step plan known =
         is_on = told.power ∙ ap (will_be_on old.is_on) same;
         steps = step.steps;
         writes = step.writes;
+        cycles = step.cycles;
         faults = told.counts ∙ ap (λ f. faults_after f old.faults) answers;
         plan = step.plan;
       };
@@ -50,6 +51,7 @@ stepped-alike act one other a =
       is_on = rw (a.is_on, a.plan) refl;
       steps = rw a.steps refl;
       writes = rw a.writes refl;
+      cycles = a.cycles;
       faults = rw (answers, a.faults) refl;
       plan = rw a.plan refl;
     }
@@ -61,12 +63,13 @@ alike-then one other last a b = record {
   is_on = a.is_on ∙ b.is_on;
   steps = a.steps ∙ b.steps;
   writes = a.writes ∙ b.writes;
+  cycles = a.cycles ∙ b.cycles;
   faults = a.faults ∙ b.faults;
   plan = a.plan ∙ b.plan;
 }
 
 pub alike-self : (one : Standing) → AreAlike one one
-alike-self one = record { cell = refl; items = refl; is_on = refl; steps = refl; writes = refl; faults = refl; plan = refl }
+alike-self one = record { cell = refl; items = refl; is_on = refl; steps = refl; writes = refl; cycles = refl; faults = refl; plan = refl }
 
 -- Several steps, of which none comes after one that fails.
 if-alike : (b c : Bool) (x y z w : Standing) → b ≡ c → AreAlike x z → AreAlike y w

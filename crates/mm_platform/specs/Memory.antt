@@ -12,6 +12,7 @@ new_platform cell = record {
   is_on = true;
   steps = 0;
   writes = 0;
+  cycles = 0;
   spare = 0;
   faults = 0;
   plan = Some quiet_plan;

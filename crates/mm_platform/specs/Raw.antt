@@ -19,6 +19,7 @@ pub record LeavesRest (old new : Standing) : Type 0 where
   pub items : new.items ≡ beside others old.items
   pub steps : new.steps ≡ old.steps
   pub writes : new.writes ≡ old.writes
+  pub cycles : new.cycles ≡ old.cycles
   pub room : old.spare ≤ new.spare
   pub plan : new.plan ≡ old.plan
 

@@ -39,6 +39,8 @@ pub record Standing : Type 0 where
   -- the steps called, and those of them that were to write the cell
   pub steps : ℕ
   pub writes : ℕ
+  -- the losses of power that were called for, whether they failed or not
+  pub cycles : ℕ
   -- the own extensions that can still be recorded without memory
   pub spare : ℕ
   pub faults : ℕ

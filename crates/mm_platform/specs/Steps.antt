@@ -136,6 +136,7 @@ pub record Goes (act : Act) (old new : Standing) (fault : Option StepFault) : Ty
   pub items : new.items ≡ items_after act is_made (beside others old.items)
   pub steps : new.steps ≡ counted old.steps
   pub writes : new.writes ≡ writes_after act old.writes
+  pub cycles : new.cycles ≡ old.cycles
   pub room : old.spare ≤ new.spare + room_taken act is_made
   pub plan : new.plan ≡ option_map plan_after old.plan
   pub ends : EndsBy fault old new is_made
@@ -147,7 +148,7 @@ pub record Readies (old new : Standing) : Type 0 where
   pub same : new ≡ record old { spare = new.spare }
 
 -- Power was lost and came back. After Ok the register is empty and the platform on; after a fault the
--- register is empty or as before. Where the platform tells its plan, this never fails.
+-- register is empty or as before. It is counted once, failed or not. Where the platform tells its plan, it never fails.
 abbrev pub items_cycled : Bool → Option (List Item) → Option (List Item)
 items_cycled true items = option_map (λ _. []) items
 items_cycled false items = items
@@ -162,6 +163,7 @@ pub record Cycles (old new : Standing) (fault : Option StepFault) : Type 0 where
   pub items : new.items ≡ items_cycled is_emptied old.items
   pub steps : new.steps ≡ old.steps
   pub writes : new.writes ≡ old.writes
+  pub cycles : new.cycles ≡ counted old.cycles
   pub room : old.spare ≤ new.spare
   pub plan : new.plan ≡ old.plan
   pub ends : EndsCycle fault old new is_emptied

@@ -65,5 +65,6 @@ pub record AreAlike (one other : Standing) : Type 0 where
   pub is_on : one.is_on ≡ other.is_on
   pub steps : one.steps ≡ other.steps
   pub writes : one.writes ≡ other.writes
+  pub cycles : one.cycles ≡ other.cycles
   pub faults : one.faults ≡ other.faults
   pub plan : one.plan ≡ other.plan

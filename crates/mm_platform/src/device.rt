@@ -12,7 +12,7 @@ use mm_digest::Digest;
 /// The devices of one platform. It has no call: it carries what stands on the platform, so that a
 /// step of one device says what stays of the others.
 pub trait Device {
-    /// The cell, the register's items, power, counts of steps, writes and faults, room for items.
+    /// The cell, the register's items, power, counts of steps, writes, power losses and faults, room for items.
     ghost standing: { Self → Standing };
 }
 

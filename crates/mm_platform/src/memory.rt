@@ -28,6 +28,7 @@ pub struct MemPlatform {
     is_on: bool,
     steps: u64,
     writes: u64,
+    cycles: u64,
     faults: u64,
     stop: Stop,
     meddles: Vec<Meddle>,
@@ -43,6 +44,7 @@ impl Model for MemPlatform {
       is_on = p.is_on;
       steps = p.steps;
       writes = p.writes;
+      cycles = p.cycles;
       spare = p.spare;
       faults = p.faults;
       plan = Some (record { stop = p.stop; meddles = p.meddles.items; at = p.at });
@@ -64,6 +66,7 @@ impl MemPlatform {
             is_on: true,
             steps: 0,
             writes: 0,
+            cycles: 0,
             faults: 0,
             stop: Stop::Quiet,
             meddles: Vec::new(alloc),
@@ -258,6 +261,7 @@ impl Register for MemPlatform {
 
 impl Platform for MemPlatform {
     fn cycle(&mut self) -> Result<(), StepFault> {
+        self.cycles = self.cycles.saturating_add(1);
         self.register.clear();
         self.is_on = true;
         Ok(())
