@@ -1,5 +1,5 @@
 -- The device steps of a call, each with the move that it makes.
-use Rattle.std.specs.Prelude.{ℕ, ◌+◌, Bool, true, false, List, [], ◌∷◌, Option, Some, None}
+use Rattle.std.specs.Prelude.{Bool, true, false, List, [], ◌∷◌}
 use Rattle.mm_digest.specs.declared.variant.Variant.{Variant}
 use Rattle.mm_digest.specs.declared.variant.Variant.TheVariants.{Basic, Opt}
 use Rattle.mm_module.specs.Batch.{Batch}
@@ -27,16 +27,3 @@ checkpoint_steps Basic is_open is_zero = Reads ∷ []
 checkpoint_steps Opt false is_zero = Reads ∷ []
 checkpoint_steps Opt true true = Reads ∷ Reads ∷ []
 checkpoint_steps Opt true false = Reads ∷ Reads ∷ Writes Close ∷ []
-
--- the number, from n on, of the step that commits a batch
-abbrev pub commits_at : ℕ → List Step → Option ℕ
-commits_at n [] = None
-commits_at n (Reads ∷ steps) = commits_at (n + 1) steps
-commits_at n (Changes (Commit b) ∷ steps) = Some n
-commits_at n (Changes m ∷ steps) = commits_at (n + 1) steps
-commits_at n (Writes (Commit b) ∷ steps) = Some n
-commits_at n (Writes m ∷ steps) = commits_at (n + 1) steps
-
--- the step at which a call commits its batch, counted from 1: by this step's effect, and by nothing else
-abbrev pub commit_step : List Step → Option ℕ
-commit_step steps = commits_at 1 steps
