@@ -1,6 +1,6 @@
 -- A right offer that the verdict accepts is answered.
 use Rattle.std.proofs.Common.{◌≡◌, ℕ, ◌+◌, ◌≤◌, Bool, true, false, List, Option, None, Some, Result, Ok, Err, refl, sym, ap, subst, inl, inr}
-use Rattle.std.specs.Prelude.{nat_le}
+use Rattle.std.specs.Prelude.{is_some, nat_le}
 use Rattle.std.specs.Str.{bytes_eq}
 use Rattle.std.proofs.lemmas.Bool.{le-leb}
 use Rattle.std.proofs.lemmas.Slice.Eq.{bytes_eq-Decides}
@@ -53,13 +53,13 @@ accepted_found meaning key y content b spelled accepted fits =
 memory_only : (found : Found) (why : Refusal) → OrMemory (Ok found) (Err why) → why ≡ Memory
 memory_only found why o = elim o [ inl e ↦ cc | inr e ↦ cc ]
 
-refused_only : (fault : Option StepFault) (i : Instance) (y : History) (b : Batch) (found : Found) (old new : Standing) (why : Refusal) → Blames fault old.faults new.faults → RefusesFrom i y b (Ok found) new why fault → IsAnswered (Err why) old new
-refused_only None i y b found old new why h r = inr (inl (ap (λ (w : Refusal). Err w) (memory_only found why r.0)))
-refused_only (Some fault) i y b found old new why h r = inr (inr h)
+refused_only : (fault : Option StepFault) (i : Instance) (y : History) (b : Batch) (found : Found) (old new : Standing) (why : Refusal) → fault_of why ≡ fault → Blames fault old.faults new.faults → RefusesFrom i y b (Ok found) new why fault → IsAnswered (Err why) old new
+refused_only None i y b found old new why e h r = inr (inl (ap (λ (w : Refusal). Err w) (memory_only found why r.0)))
+refused_only (Some fault) i y b found old new why e h r = inr (inr (ap is_some e, h))
 
 answered_only : (result : Result BatchAnswer Refusal) (i : Instance) (y : History) (b : Batch) (found : Found) (old new : Standing) → Blames (fault_in result) old.faults new.faults → GivesFrom i y b (Ok found) new result → IsAnswered result old new
 answered_only (Ok answer) i y b found old new h g = inl refl
-answered_only (Err why) i y b found old new h g = refused_only (fault_of why) i y b found old new why h g
+answered_only (Err why) i y b found old new h g = refused_only (fault_of why) i y b found old new why refl h g
 
 pub complete : (meaning : Meaning) (old new : Standing) (offer : List ℕ) (b : Batch) (result : Result BatchAnswer Refusal) → Calls meaning old new offer b result → IsComplete meaning old new offer b result
 complete meaning old new offer b result c short key y all content asked right accepted fits =

@@ -28,3 +28,4 @@ pub mod Checkpoints
 pub mod Keeping
 pub mod Tied
 pub mod Showing
+pub mod Idle

@@ -1,6 +1,6 @@
 -- A right offer that the verdict on the history accepts is answered, where a call's steps bring nothing into a segment.
 use Rattle.std.proofs.Common.{◌≡◌, ℕ, ◌+◌, ◌≤◌, ◌^◌, ◌&&◌, Bool, true, false, List, [], ◌∷◌, ◌++◌, length, map, Option, None, Some, Result, Ok, Err, refl, sym, ap, ◌∙◌, subst, inl, inr, le-leb}
-use Rattle.std.specs.Prelude.{if◌then◌else◌, nat_eq, nat_le}
+use Rattle.std.specs.Prelude.{if◌then◌else◌, is_some, nat_eq, nat_le}
 use Rattle.std.specs.Str.{bytes_eq}
 use Rattle.std.proofs.lemmas.Slice.Eq.{bytes_eq-Decides}
 use Rattle.mm_digest.specs.declared.variant.Variant.TheVariants.{Opt}
@@ -15,34 +15,37 @@ use Rattle.mm_seal.proofs.SealLaws.{sealed_parts}
 use Rattle.mm_model.specs.Instance.{Instance, opt}
 use Rattle.mm_model.specs.History.{History, Move, Foreign, Value, total_of}
 use Rattle.mm_model.specs.Judge.{judge, judged, is_last}
-use Rattle.mm_model.specs.Life.{Life, Live, Spoiled, Lost, life_of, is_lost}
+use Rattle.mm_model.specs.Life.{Life, Live, Spoiled, Lost as LostLife, life_of, is_lost}
 use Rattle.mm_model.specs.Moves.{Digests, digests_of}
 use Rattle.mm_model.specs.Standing.{StandsFor, IsRight}
 use Rattle.mm_model.specs.Steps.{ask_steps}
 use Rattle.mm_model.specs.declared.answer.BatchAnswer.{BatchAnswer}
 use Rattle.mm_model.specs.declared.refusal.Refusal.{Refusal}
 use Rattle.mm_model.specs.declared.refusal.Refusal.TheVariants as refusal
+use Rattle.mm_model.specs.declared.verdict.Verdict.{Verdict}
+use Rattle.mm_model.specs.declared.verdict.Verdict.TheVariants.{Fresh, Again, Lost, Stale}
 use Rattle.mm_call.specs.Asked.{counted_moves, foreign_in, IsAsked}
 use Rattle.mm_call.specs.Called.{called, ended_by, given_for}
 use Rattle.mm_call.specs.CallsOn.{CallsOn}
 use Rattle.mm_call.specs.Courses.{End, Done, Course, Walked, walk}
 use Rattle.mm_call.specs.Found.{Found, found_with, found_by_verdict, found_at, found_unless_wanting, is_fresh}
 use Rattle.mm_call.specs.Leaving.{Blames, IsAccepted, IsAnswered}
+use Rattle.mm_call.specs.Order.{admitted, weighed}
 use Rattle.mm_call.specs.Levels.{by_lists, by_digests, all_made}
 use Rattle.mm_call.specs.Premises.{AreAsked, AreShown}
 use Rattle.mm_call.specs.Refusals.{fault_in}
 use Rattle.mm_call.specs.Standing.{shown}
 use Rattle.mm_call.specs.Tied.{standing_items, foreign_items}
 use Rattle.mm_call.proofs.Continuing.{stands_at}
+use Rattle.mm_call.proofs.Idle.{asked_for}
 use Rattle.mm_call.proofs.Moving.{same_batches}
 use Rattle.mm_call.proofs.OptHolding.{is_agrees}
 use Rattle.mm_call.proofs.OptLaw.{before, sight_is, opt_calls_agree}
 use Rattle.mm_call.proofs.OptShapes.{two_reads, reading, past, cut}
 use Rattle.mm_call.proofs.OptShut.{life_bare}
-use Rattle.mm_call.proofs.Showing.{asked_of, shown_same, counts_open}
+use Rattle.mm_call.proofs.Showing.{shown_same, counts_open}
 use Rattle.mm_call.proofs.Tied.{opt_tied}
 use Rattle.mm_call.proofs.Walks.{changing, asks, foreign_first, foreign_in-first}
-use Rattle.mm_call.proofs.Weighing.{weighs}
 use Rattle.mm_opt.specs.Asks.{Calls}
 use Rattle.mm_opt.specs.Complete.{AnswersAccepted}
 use Rattle.mm_opt.proofs.Calling.{calls_on}
@@ -53,7 +56,7 @@ use Rattle.mm_opt.proofs.Calling.{calls_on}
 live_if : (l : Life) (here repeat : Bool) → IsAccepted (judged l here repeat) → l ≡ Live
 live_if Live here repeat a = refl
 live_if Spoiled here repeat a = absurd a
-live_if Lost here repeat a = absurd a
+live_if LostLife here repeat a = absurd a
 
 -- the verdict by this life and these batches
 abbrev IsAcceptedBy : Life → List Batch → ℕ → Batch → Type 0
@@ -73,24 +76,44 @@ record IsFound (x : Result Found Refusal) : Type 0 where
   found : Found
   is : x ≡ Ok found
 
-accepted_found : (i : Instance) (y : History) (offer : List ℕ) (b : Batch) (content : Content) → life_of i.variant y ≡ Live
-    → IsRight i offer content → IsAccepted (judge i.variant y content.position b) → content.position + size_of b ≤ 2 ^ 48
-    → IsFound (found_at i (by_lists i) y b offer)
-accepted_found i y offer b content live right accepted fits =
+admitted_found : (content : Content) (v : Verdict) → IsAccepted v → IsFound (found_with content (admitted v true))
+admitted_found content Fresh a = record { found = record { offered = content; again = false }; is = refl }
+admitted_found content Again a = record { found = record { offered = content; again = true }; is = refl }
+admitted_found content Lost a = absurd a
+admitted_found content Stale a = absurd a
+
+weighed_whole : (s t fits : Bool) (v : Verdict) → s ≡ true → t ≡ true → fits ≡ true → weighed s t v fits ≡ admitted v true
+weighed_whole s t fits v p q r = rw (p, q, r) refl
+
+-- what is found at a live history of a right offer, while there are positions left
+found_right : (i : Instance) (y : History) (offer : List ℕ) (b : Batch) (content : Content) → life_of i.variant y ≡ Live
+    → IsRight i offer content → content.position + size_of b ≤ 2 ^ 48
+    → found_at i (by_lists i) y b offer ≡ found_with content (admitted (judge i.variant y content.position b) true)
+found_right i y offer b content live right fits =
     let parts : parts_of i.variant i.meaning.id offer ≡ Ok (offered_of i.key content) =
     ap (parts_of i.variant i.meaning.id) right.sealed
     ∙ sealed_parts i.key content i.variant i.meaning.id right.formed right.variant right.id in
     let spelled : i.meaning.is_spelled content.state ≡ true = right.state in
     let tag : List ℕ = tag_of i.key content in
-    let e = weighs (i.meaning.is_spelled content.state) (bytes_eq tag tag) (nat_le (content.position + size_of b) (2 ^ 48))
+    let e = weighed_whole (i.meaning.is_spelled content.state) (bytes_eq tag tag) (nat_le (content.position + size_of b) (2 ^ 48))
     (judge i.variant y content.position b) spelled ((bytes_eq-Decides tag tag).1 refl)
-    (le-leb (content.position + size_of b) (2 ^ 48) fits) accepted in
-    record {
-      found = record { offered = content; again = e.again };
-      is = ap (λ (l : Life). if is_lost l then Err refusal.Lost else found_by_verdict i (by_lists i) y b (parts_of i.variant i.meaning.id offer)) live
-          ∙ ap (found_by_verdict i (by_lists i) y b) parts
-          ∙ ap (found_with content) e.is;
-    }
+    (le-leb (content.position + size_of b) (2 ^ 48) fits) in
+    ap (λ (l : Life). if is_lost l then Err refusal.Lost else found_by_verdict i (by_lists i) y b (parts_of i.variant i.meaning.id offer)) live
+    ∙ ap (found_by_verdict i (by_lists i) y b) parts
+    ∙ ap (found_with content) e
+
+accepted_found : (i : Instance) (y : History) (offer : List ℕ) (b : Batch) (content : Content) → life_of i.variant y ≡ Live
+    → IsRight i offer content → IsAccepted (judge i.variant y content.position b) → content.position + size_of b ≤ 2 ^ 48
+    → IsFound (found_at i (by_lists i) y b offer)
+accepted_found i y offer b content live right accepted fits =
+    subst IsFound (sym (found_right i y offer b content live right fits)) (admitted_found content (judge i.variant y content.position b) accepted)
+
+-- a repeat isn't taken for new
+repeat_found : (i : Instance) (y : History) (offer : List ℕ) (b : Batch) (content : Content) → life_of i.variant y ≡ Live
+    → IsRight i offer content → judge i.variant y content.position b ≡ Again → content.position + size_of b ≤ 2 ^ 48
+    → is_fresh (found_at i (by_lists i) y b offer) ≡ false
+repeat_found i y offer b content live right again fits =
+    ap is_fresh (found_right i y offer b content live right fits) ∙ ap (λ (v : Verdict). is_fresh (found_with content (admitted v true))) again
 
 -- What a call sees.
 
@@ -140,7 +163,7 @@ answered_by : (broken : Option StepFault) (i : Instance) (sees end : History) (b
     → (x : Result Found Refusal) → (broken ≡ None → IsFound x)
     → result ≡ given_for (ended_by (by_lists i) sees end b (found_unless_wanting x lacks) moves broken) → IsAnswered result old new
 answered_by (Some fault) i sees end b lacks moves result old new blames x finds e =
-    inr (inr (subst (λ (r : Result BatchAnswer Refusal). Blames (fault_in r) old.faults new.faults) e blames))
+    inr (inr (ap (λ (r : Result BatchAnswer Refusal). is_some (fault_in r)) e, subst (λ (r : Result BatchAnswer Refusal). Blames (fault_in r) old.faults new.faults) e blames))
 answered_by None i sees end b lacks moves result old new blames x finds e =
     let f = finds refl in
     whole_answers lacks i sees end b f.found moves result old new
@@ -152,7 +175,8 @@ accepted_answers : (meaning : Meaning) (key barrier : List ℕ) (all others : Li
     → StandsFor (opt meaning key barrier) old y → old.items ≡ Some items
     → new.items ≡ Some (standing_items y.is_open items ++ more) → (y.is_open ≡ true → foreign_items more ≡ [])
     → AreAsked all others asked (opt meaning key barrier) y offer (normal batch)
-    → AreShown all others (opt meaning key barrier) y more → IsRight (opt meaning key barrier) offer content
+    → (((y.is_open ≡ false) × (judge Opt y content.position (normal batch) ≡ Again) → ⊥) → AreShown all others (opt meaning key barrier) y more)
+    → IsRight (opt meaning key barrier) offer content
     → IsAccepted (judge Opt y content.position (normal batch)) → content.position + size_of (normal batch) ≤ 2 ^ 48
     → IsAnswered result old new
 accepted_answers meaning key barrier all others asked y old new offer batch result items more content blames c s known ends alone a shown_so right accepted fits =
@@ -162,7 +186,10 @@ accepted_answers meaning key barrier all others asked y old new offer batch resu
     let moves : List Move = (called i (by_digests i) d c.course offer b).moves in
     let g = c.goes key barrier d (stands_at i old y s) in
     let tie = opt_tied meaning key barrier y d c.course offer b refl in
-    let is_asked : IsAsked all others asked i y moves offer b = asked_of meaning key barrier all others asked y moves offer b old new items more a shown_so known g.items ends tie in
+    let live : life_of Opt y ≡ Live = live_if (life_of Opt y) (nat_eq content.position (total_of y.batches))
+    (nat_eq (content.position + size_of b) (total_of y.batches) && is_last y.batches b) accepted in
+    let is_asked : IsAsked all others asked i y moves offer b = asked_for meaning key barrier all others asked y c.course offer b old new items more a
+    (λ busy. shown_so (λ k. busy (record { shut = k.0; not_new = repeat_found i y offer b content live right k.1 fits }))) known g.items ends in
     let k = c.continues key barrier y all others asked s is_asked in
     let same = opt_calls_agree meaning key barrier all others asked y d c.course offer b (is_agrees i y d refl) is_asked in
     let v : List (List ℕ) = (c.course.fates 1).brings in
@@ -183,8 +210,6 @@ accepted_answers meaning key barrier all others asked y old new offer batch resu
     ∙ ap (λ (x : Walked). foreign_in x.moves) (sym steps) ∙ ap foreign_in (sym same.moves) ∙ empty in
     no_values v u rest.moves there in
     let batches : sees.batches ≡ y.batches = same_batches i (before c.course) y (foreign_first v (map Foreign u ++ []) ∙ foreign_first u []) in
-    let live : life_of Opt y ≡ Live = live_if (life_of Opt y) (nat_eq content.position (total_of y.batches))
-    (nat_eq (content.position + size_of b) (total_of y.batches) && is_last y.batches b) accepted in
     let finds : walked.broken ≡ None → IsFound at = λ whole.
     let there = sees_live y.is_open meaning key barrier y c.course live refl (brought whole) in
     accepted_found i sees offer b content there right (accepted_then y sees content.position b batches there live accepted) fits in

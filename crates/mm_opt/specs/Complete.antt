@@ -12,13 +12,15 @@ use Rattle.mm_model.specs.Long.{is_long}
 use Rattle.mm_model.specs.Standing.{StandsFor, IsRight}
 use Rattle.mm_model.specs.declared.answer.BatchAnswer.{BatchAnswer}
 use Rattle.mm_model.specs.declared.refusal.Refusal.{Refusal}
+use Rattle.mm_model.specs.declared.verdict.Verdict.TheVariants.{Again}
 use Rattle.mm_call.specs.Leaving.{IsAccepted, IsAnswered}
 use Rattle.mm_call.specs.Premises.{AreAsked, AreShown}
 use Rattle.mm_call.specs.Tied.{standing_items, foreign_items}
 
 -- Completeness: a right offer of the last position of a live history, or of the one before the
 -- batch that was committed last and is asked again, is answered, while there are positions left;
--- where nobody else extended the register inside a segment.
+-- where nobody else extended the register inside a segment. Of a repeat with no segment open
+-- nothing is asked of the register's items, as it neither reads them nor empties the register.
 abbrev pub AnswersAccepted : Meaning → Standing → Standing → List ℕ → Batch →
     Result BatchAnswer Refusal → Type 0
 AnswersAccepted meaning old new offer b result =
@@ -28,7 +30,8 @@ AnswersAccepted meaning old new offer b result =
     old.items ≡ Some items → new.items ≡ Some (standing_items y.is_open items ++ more) →
     (y.is_open ≡ true → foreign_items more ≡ []) →
     AreAsked all others asked (opt meaning key barrier) y offer (normal b) →
-    AreShown all others (opt meaning key barrier) y more →
+    (((y.is_open ≡ false) × (judge Opt y content.position (normal b) ≡ Again) → ⊥) →
+    AreShown all others (opt meaning key barrier) y more) →
     IsRight (opt meaning key barrier) offer content →
     IsAccepted (judge Opt y content.position (normal b)) → content.position + size_of b ≤ 2 ^ 48 →
     IsAnswered result old new
