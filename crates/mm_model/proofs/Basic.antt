@@ -27,6 +27,19 @@ verdicts true y = refl
 verdicts false true = refl
 verdicts false false = refl
 
+-- the summary of the first batches is that of all of them exactly where they count as many requests
+pub basic_here : (id : ℕ) (batches named rest : List Batch) (all : List (List ℕ)) → IsClear all → Contains all (start_message Basic id) → Within (trail link_message (start_of Basic id) batches) all → batches ≡ named ++ rest → bytes_eq (summary_of id named) (summary_of id batches) ≡ nat_eq (total_of named) (total_of batches)
+basic_here id batches named rest all clear starts listed e =
+    let wn : Within (trail link_message (start_of Basic id) named) all =
+    trail_front link_message (start_of Basic id) named rest all
+    (subst (λ (v : List Batch). Within (trail link_message (start_of Basic id) v) all) e listed) in
+    same_tests _ _
+    (λ h. (at_the_end batches named rest e).1
+    (same_summaries id all clear starts named batches wn listed
+    ((bytes_eq-Decides (summary_of id named) (summary_of id batches)).0 h)))
+    (λ h. (bytes_eq-Decides (summary_of id named) (summary_of id batches)).1
+    (ap (summary_of id) ((at_the_end batches named rest e).0 h)))
+
 -- the verdict by digests on the summary of the first batches
 basic_at : (id : ℕ) (batches named rest : List Batch) (b : Batch) (all : List (List ℕ)) → IsClear all → Contains all (start_message Basic id) → Within (trail link_message (start_of Basic id) batches) all → Contains all (link_message (summary_of id named) b) → batches ≡ named ++ rest → basic_verdict (summary_of id batches) (summary_of id named) b ≡ judged Live (nat_eq (total_of named) (total_of batches)) (nat_eq (total_of named + size_of b) (total_of batches) && is_last batches b)
 unfolding summary_of
@@ -37,13 +50,7 @@ basic_at id batches named rest b all clear starts listed called e =
     (subst (λ (v : List Batch). Within (trail link_message (start_of Basic id) v) all) e listed) in
     let wb : Within (trail link_message (start_of Basic id) (named ++ b ∷ [])) all =
     trail_push link_message (start_of Basic id) named b all wn called in
-    let here : bytes_eq (summary_of id named) (summary_of id batches) ≡ nat_eq (total_of named) (total_of batches) =
-    same_tests _ _
-    (λ h. (at_the_end batches named rest e).1
-    (same_summaries id all clear starts named batches wn listed
-    ((bytes_eq-Decides (summary_of id named) (summary_of id batches)).0 h)))
-    (λ h. (bytes_eq-Decides (summary_of id named) (summary_of id batches)).1
-    (ap (summary_of id) ((at_the_end batches named rest e).0 h))) in
+    let here = basic_here id batches named rest all clear starts listed e in
     let again : bytes_eq (link (summary_of id named) b) (summary_of id batches) ≡ (nat_eq (total_of named + size_of b) (total_of batches) && is_last batches b) =
     same_tests _ _
     (λ h. (before_the_last batches named rest b e).1

@@ -11,6 +11,7 @@ pub mod Histories
 pub mod Paths
 pub mod Opt
 pub mod OptJudge
+pub mod StandsHere
 pub mod Moves
 pub mod MovedDigests
 pub mod Named

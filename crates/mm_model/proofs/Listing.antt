@@ -3,7 +3,7 @@ use Rattle.std.proofs.Common.{ℕ, ◌≡◌, ◌-◌, ◌≤◌, Bool, true, fa
 use Rattle.std.specs.List.{AllByRecursion, Contains, flat_map}
 use Rattle.std.proofs.lemmas.List.{append-nil, map-append, length-drop, take-append-le, drop-append-le, take_all, take_at, drop_at}
 use Rattle.mm_digest.specs.declared.variant.Variant.TheVariants.{Opt}
-use Rattle.mm_digest.specs.Messages.{zero_bytes, start_of, extended_message, anchored_message}
+use Rattle.mm_digest.specs.Messages.{start_of, extended_message, anchored_message}
 use Rattle.mm_module.specs.Batch.{Batch}
 use Rattle.mm_module.specs.Meaning.{Meaning}
 use Rattle.mm_model.specs.Chains.{trail, guard_message, closing_message, guard, register_of, anchor_of, own_values}

@@ -73,15 +73,14 @@ second_listed id all clear before rest v l m some =
 second_is : (id : ℕ) (before : List (List (List ℕ))) (rest : List (List ℕ)) → point_of id (before ++ rest ∷ []) [] ≡ record { anchor = anchored_of (anchor_of id before) (register_of rest); extension = zero_bytes }
 second_is id before rest = λ j. record { anchor = anchor-push id before rest j; extension = reads_zero j }
 
-pub fresh_somehow : (id : ℕ) (all : List (List ℕ)) → Clears id all → (flag : Bool) (closed : List (List (List ℕ))) (items : List (List ℕ)) (before : List (List (List ℕ))) (rest : List (List ℕ)) (v : List ℕ) → Listed id all closed items → Listed id all before rest → Within (point_messages (anchor_of id before) (register_of rest) v) all → Decides (list_any (fits_fresh flag (anchor_of id closed) (register_of items)) (forms_of (anchor_of id before) (register_of rest))) (FreshSomehow flag closed items before rest)
-fresh_somehow id all clears flag closed items before rest v k l m =
+pub fresh_somehow : (id : ℕ) (all : List (List ℕ)) → Clears id all → (flag : Bool) (closed : List (List (List ℕ))) (items : List (List ℕ)) (before : List (List (List ℕ))) (rest : List (List ℕ)) → Listed id all closed items → Listed id all before rest → (is_empty rest ≡ false → Contains all (anchored_message (anchor_of id before) (register_of rest))) → Decides (list_any (fits_fresh flag (anchor_of id closed) (register_of items)) (forms_of (anchor_of id before) (register_of rest))) (FreshSomehow flag closed items before rest)
+fresh_somehow id all clears flag closed items before rest k l closes =
     on_forms (Fresh flag closed items before rest) (Fresh flag closed items (before ++ rest ∷ []) [])
     (fits_fresh flag (anchor_of id closed) (register_of items)) (anchor_of id before) (register_of rest) rest
     (bytes_eq (register_of rest) zero_bytes) (zero_tells all clears.clear rest l.last)
     (fresh_tells id all clears flag closed items before rest k l)
     (λ some.
-    let second = second_listed id all clears.clear before rest v l m some in
-    let listed = listed_segment id all before rest l.inner l.outer l.last second.closes in
+    let listed = listed_segment id all before rest l.inner l.outer l.last (closes some) in
     subst (λ (x : Point). Decides (fits_fresh flag (anchor_of id closed) (register_of items) x) (Fresh flag closed items (before ++ rest ∷ []) []))
     (second_is id before rest) (fresh_tells id all clears flag closed items (before ++ rest ∷ []) [] k listed))
 

@@ -30,7 +30,7 @@ use Rattle.mm_model.proofs.Segments.{joined-push, true_not_false, taken_in, fres
 use Rattle.mm_model.proofs.Forms.{Listed, Clears}
 use Rattle.mm_model.proofs.Histories.{own_values-append, values_of-append, joined-values, has_value-append, values_of-clean, values_of-own, meets}
 use Rattle.mm_model.proofs.Paths.{path_of, RunsListed, empty_cases, marred_has}
-use Rattle.mm_model.proofs.Opt.{zero_tells, FreshSomehow, AgainSomehow, fresh_somehow, again_somehow}
+use Rattle.mm_model.proofs.Opt.{zero_tells, FreshSomehow, AgainSomehow, second_listed, fresh_somehow, again_somehow}
 
 each_flat : {A B : Type 0} (P : B → Type 0) (f : A → List B) (xs : List A) → AllByRecursion P (flat_map f xs) → AllByRecursion (λ x. AllByRecursion P (f x)) xs
 each_flat P f [] h = tt
@@ -109,7 +109,7 @@ spoiled_parts true false false m e = inr (refl, refl, refl)
 spoiled_parts false p o false e = absurd (live_spoiled e)
 spoiled_parts false p o true e = inl refl
 
-lost_test : (f p o m : Bool) → (f && p) ≡ is_lost_life (life_by f p o m)
+pub lost_test : (f p o m : Bool) → (f && p) ≡ is_lost_life (life_by f p o m)
 lost_test true true o m = refl
 lost_test true false true false = refl
 lost_test true false true true = refl
@@ -162,7 +162,7 @@ or_first : (a b : Bool) → a ≡ true → (a || b) ≡ true
 or_first true b e = refl
 or_first false b e = absurd (true_not_false (sym e))
 
-spoiled_has_at : (y : History) (flag : Bool) → IsSound y → y.is_open ≡ flag → life_by flag (is_empty y.items) (are_own y.items y.current) (has_value (joined y.closed)) ≡ Spoiled → has_value (joined y.closed ++ (if flag then y.items else [])) ≡ true
+pub spoiled_has_at : (y : History) (flag : Bool) → IsSound y → y.is_open ≡ flag → life_by flag (is_empty y.items) (are_own y.items y.current) (has_value (joined y.closed)) ≡ Spoiled → has_value (joined y.closed ++ (if flag then y.items else [])) ≡ true
 spoiled_has_at y flag sound f e =
     elim (spoiled_parts flag (is_empty y.items) (are_own y.items y.current) (has_value (joined y.closed)) e) [
       | inl m ↦
@@ -172,19 +172,15 @@ spoiled_has_at y flag sound f e =
           let is : has_value y.items ≡ true =
           elim (sound.register (f ∙ o.0)) [
             | inl own ↦ absurd (true_not_false (sym own ∙ o.2))
-            | inr others ↦
-                elim others [
-                  | inl none ↦ absurd (true_not_false (ap is_empty (sym none) ∙ o.1))
-                  | inr has ↦ has
-                ]
+            | inr others ↦ elim others [ inl none ↦ absurd (true_not_false (ap is_empty (sym none) ∙ o.1)) | inr has ↦ has ]
           ] in
           has_value-append (joined y.closed) (if flag then y.items else [])
           ∙ or_second (has_value (joined y.closed)) (has_value (if flag then y.items else []))
           (ap (λ (b : Bool). has_value (if b then y.items else [])) o.0 ∙ is)
     ]
 
--- A path, with all that the verdict on it looks at.
-pub record Standpoint (i : Instance) (y : History) (named rest : List Batch) (b : Batch) (all : List (List ℕ)) (before : List (List (List ℕ))) (taken : List (List ℕ)) : Type 0 where
+-- A path, with what a verdict on it looks at, but for the messages of a call.
+pub record Standpoint (i : Instance) (y : History) (named rest : List Batch) (all : List (List ℕ)) (before : List (List (List ℕ))) (taken : List (List ℕ)) : Type 0 where
   pub first : y.batches ≡ named ++ rest
   pub later : List (List (List ℕ))
   pub split : map (values_of i.barrier) y.closed ≡ before ++ later
@@ -195,12 +191,10 @@ pub record Standpoint (i : Instance) (y : History) (named rest : List Batch) (b 
   pub history : Listed i.meaning.id all (map (values_of i.barrier) y.closed) (values_of i.barrier y.items)
   pub path : Listed i.meaning.id all before taken
   pub guards : Within (map (guard_message i.barrier) y.batches) all
-  pub call_guard : Contains all (guard_message i.barrier b)
-  pub call : Within (point_messages (anchor_of i.meaning.id before) (register_of taken) (guard i.barrier b)) all
 
 -- the values that count are all there is to a fresh path, and to a repeat with one more value
-fresh_counts : (i : Instance) (y : History) (named rest : List Batch) (b : Batch) (all : List (List ℕ)) (before : List (List (List ℕ))) (taken : List (List ℕ)) → Standpoint i y named rest b all before taken → FreshSomehow y.is_open (map (values_of i.barrier) y.closed) (values_of i.barrier y.items) before taken → own_values i.barrier named ≡ values_of i.barrier (counting y)
-fresh_counts i y named rest b all before taken s f =
+pub fresh_counts : (i : Instance) (y : History) (named rest : List Batch) (all : List (List ℕ)) (before : List (List (List ℕ))) (taken : List (List ℕ)) → Standpoint i y named rest all before taken → FreshSomehow y.is_open (map (values_of i.barrier) y.closed) (values_of i.barrier y.items) before taken → own_values i.barrier named ≡ values_of i.barrier (counting y)
+fresh_counts i y named rest all before taken s f =
     let closed = map (values_of i.barrier) y.closed in
     let items = values_of i.barrier y.items in
     let joins : joined before ++ taken ≡ joined closed ++ taken_in y.is_open items =
@@ -212,7 +206,7 @@ fresh_counts i y named rest b all before taken s f =
     ] in
     sym s.flat ∙ joins ∙ counted_values i.barrier y.is_open y.closed y.items
 
-again_counts : (i : Instance) (y : History) (named rest : List Batch) (b : Batch) (all : List (List ℕ)) (before : List (List (List ℕ))) (taken : List (List ℕ)) → Standpoint i y named rest b all before taken → AgainSomehow y.is_open (map (values_of i.barrier) y.closed) (values_of i.barrier y.items) (guard i.barrier b) before taken → own_values i.barrier (named ++ b ∷ []) ≡ values_of i.barrier (counting y)
+again_counts : (i : Instance) (y : History) (named rest : List Batch) (b : Batch) (all : List (List ℕ)) (before : List (List (List ℕ))) (taken : List (List ℕ)) → Standpoint i y named rest all before taken → AgainSomehow y.is_open (map (values_of i.barrier) y.closed) (values_of i.barrier y.items) (guard i.barrier b) before taken → own_values i.barrier (named ++ b ∷ []) ≡ values_of i.barrier (counting y)
 again_counts i y named rest b all before taken s f =
     let closed = map (values_of i.barrier) y.closed in
     let items = values_of i.barrier y.items in
@@ -227,32 +221,32 @@ again_counts i y named rest b all before taken s f =
     own_values-append i.barrier named (b ∷ []) ∙ ap (λ (w : List (List ℕ)). w ++ v ∷ []) (sym s.flat) ∙ joins
     ∙ counted_values i.barrier y.is_open y.closed y.items
 
-guards_of_named : (i : Instance) (y : History) (named rest : List Batch) (b : Batch) (all : List (List ℕ)) (before : List (List (List ℕ))) (taken : List (List ℕ)) → Standpoint i y named rest b all before taken → Within (map (guard_message i.barrier) named) all
-guards_of_named i y named rest b all before taken s =
+guards_of_named : (i : Instance) (y : History) (named rest : List Batch) (all : List (List ℕ)) (before : List (List (List ℕ))) (taken : List (List ℕ)) → Standpoint i y named rest all before taken → Within (map (guard_message i.barrier) named) all
+guards_of_named i y named rest all before taken s =
     each_left (Contains all) (map (guard_message i.barrier) named) (map (guard_message i.barrier) rest)
     (subst (λ (v : List (List ℕ)). Within v all)
     (ap (map (guard_message i.barrier)) s.first ∙ map-append (guard_message i.barrier) named rest) s.guards)
 
-live_fresh : (i : Instance) (y : History) (named rest : List Batch) (b : Batch) (all : List (List ℕ)) (before : List (List (List ℕ))) (taken : List (List ℕ)) → Standpoint i y named rest b all before taken → IsHeld y.is_open (values_of i.barrier y.items) → values_of i.barrier (counting y) ≡ own_values i.barrier y.batches → (test : Bool) → Decides test (FreshSomehow y.is_open (map (values_of i.barrier) y.closed) (values_of i.barrier y.items) before taken) → test ≡ nat_eq (total_of named) (total_of y.batches)
-live_fresh i y named rest b all before taken s held live test decides =
+pub live_fresh : (i : Instance) (y : History) (named rest : List Batch) (all : List (List ℕ)) (before : List (List (List ℕ))) (taken : List (List ℕ)) → Standpoint i y named rest all before taken → IsHeld y.is_open (values_of i.barrier y.items) → values_of i.barrier (counting y) ≡ own_values i.barrier y.batches → (test : Bool) → Decides test (FreshSomehow y.is_open (map (values_of i.barrier) y.closed) (values_of i.barrier y.items) before taken) → test ≡ nat_eq (total_of named) (total_of y.batches)
+live_fresh i y named rest all before taken s held live test decides =
     let closed = map (values_of i.barrier) y.closed in
     let items = values_of i.barrier y.items in
     same_tests test (nat_eq (total_of named) (total_of y.batches))
     (λ t. (at_the_end y.batches named rest s.first).1
-    (same_own_values i.barrier all s.clears.clear named y.batches (guards_of_named i y named rest b all before taken s) s.guards
-    (fresh_counts i y named rest b all before taken s (decides.0 t) ∙ live)))
+    (same_own_values i.barrier all s.clears.clear named y.batches (guards_of_named i y named rest all before taken s) s.guards
+    (fresh_counts i y named rest all before taken s (decides.0 t) ∙ live)))
     (λ t. decides.1 (fresh_from y.is_open closed before s.later items taken s.split s.filled held s.reaches
     (s.flat ∙ ap (own_values i.barrier) ((at_the_end y.batches named rest s.first).0 t)
     ∙ sym live ∙ sym (counted_values i.barrier y.is_open y.closed y.items))))
 
-live_again : (i : Instance) (y : History) (named rest : List Batch) (b : Batch) (all : List (List ℕ)) (before : List (List (List ℕ))) (taken : List (List ℕ)) → Standpoint i y named rest b all before taken → IsHeld y.is_open (values_of i.barrier y.items) → values_of i.barrier (counting y) ≡ own_values i.barrier y.batches → (test : Bool) → Decides test (AgainSomehow y.is_open (map (values_of i.barrier) y.closed) (values_of i.barrier y.items) (guard i.barrier b) before taken) → test ≡ (nat_eq (total_of named + size_of b) (total_of y.batches) && is_last y.batches b)
-live_again i y named rest b all before taken s held live test decides =
+live_again : (i : Instance) (y : History) (named rest : List Batch) (b : Batch) (all : List (List ℕ)) (before : List (List (List ℕ))) (taken : List (List ℕ)) → Standpoint i y named rest all before taken → Contains all (guard_message i.barrier b) → IsHeld y.is_open (values_of i.barrier y.items) → values_of i.barrier (counting y) ≡ own_values i.barrier y.batches → (test : Bool) → Decides test (AgainSomehow y.is_open (map (values_of i.barrier) y.closed) (values_of i.barrier y.items) (guard i.barrier b) before taken) → test ≡ (nat_eq (total_of named + size_of b) (total_of y.batches) && is_last y.batches b)
+live_again i y named rest b all before taken s called held live test decides =
     let closed = map (values_of i.barrier) y.closed in
     let items = values_of i.barrier y.items in
     let longer : Within (map (guard_message i.barrier) (named ++ b ∷ [])) all =
     subst (λ (v : List (List ℕ)). Within v all) (sym (map-append (guard_message i.barrier) named (b ∷ [])))
     (each_append (Contains all) (map (guard_message i.barrier) named) (guard_message i.barrier b ∷ [])
-    (guards_of_named i y named rest b all before taken s) (s.call_guard, tt)) in
+    (guards_of_named i y named rest all before taken s) (called, tt)) in
     same_tests test (nat_eq (total_of named + size_of b) (total_of y.batches) && is_last y.batches b)
     (λ t. (before_the_last y.batches named rest b s.first).1
     (same_own_values i.barrier all s.clears.clear (named ++ b ∷ []) y.batches longer s.guards
@@ -263,57 +257,61 @@ live_again i y named rest b all before taken s held live test decides =
     ∙ sym live ∙ sym (counted_values i.barrier y.is_open y.closed y.items))))
 
 -- where a value that stands for no batch counts, the values that count are no guards of batches
-never_guards : (i : Instance) (y : History) (named rest : List Batch) (b : Batch) (bs : List Batch) → y.batches ≡ named ++ rest → AreNoGuards i.barrier (values_in (counting y)) (b ∷ y.batches) → has_value (counting y) ≡ true → ((c : Batch) → Contains bs c → Contains named c ⊎ (b ≡ c)) → own_values i.barrier bs ≢ values_of i.barrier (counting y)
-never_guards i y named rest b bs first foreign has among e =
+pub never_guards : (i : Instance) (y : History) (asked bs : List Batch) → AreNoGuards i.barrier (values_in (counting y)) asked → has_value (counting y) ≡ true → ((c : Batch) → Contains bs c → Contains asked c) → own_values i.barrier bs ≢ values_of i.barrier (counting y)
+never_guards i y asked bs foreign has among e =
     let m = meets i.barrier (counting y) bs has (sym e) in
-    let asked : Contains (b ∷ y.batches) m.batch =
-    elim (among m.batch m.asked) [
-      | inl old ↦
-          Contains-append_right (b ∷ []) y.batches m.batch
-          (subst (λ (v : List Batch). Contains v m.batch) (sym first) (Contains-append_left named rest m.batch old))
-      | inr new ↦ subst (λ (c : Batch). Contains (b ∷ y.batches) c) new (Contains-append_left (b ∷ []) y.batches b (Contains-push [] b))
-    ] in
-    foreign m.value m.batch m.among asked m.same
+    foreign m.value m.batch m.among (among m.batch m.asked) m.same
 
-never : (test : Bool) → (test ≡ true → ⊥) → test ≡ false
+pub among_all : (batches named rest : List Batch) → batches ≡ named ++ rest → (c : Batch) → Contains named c → Contains batches c
+among_all batches named rest first c h = subst (λ (v : List Batch). Contains v c) (sym first) (Contains-append_left named rest c h)
+
+-- those of a call too
+among_asked : (batches named rest : List Batch) (b : Batch) → batches ≡ named ++ rest → (c : Batch) → Contains named c ⊎ (b ≡ c) → Contains (b ∷ batches) c
+among_asked batches named rest b first c h =
+    elim h [
+      | inl old ↦ Contains-append_right (b ∷ []) batches c (among_all batches named rest first c old)
+      | inr new ↦ subst (λ (d : Batch). Contains (b ∷ batches) d) new (Contains-append_left (b ∷ []) batches b (Contains-push [] b))
+    ]
+
+pub never : (test : Bool) → (test ≡ true → ⊥) → test ≡ false
 never true h = absurd (h refl)
 never false h = refl
 
 -- by the life of the history
-opt_by : (i : Instance) (y : History) (named rest : List Batch) (b : Batch) (all : List (List ℕ)) (before : List (List (List ℕ))) (taken : List (List ℕ)) → Standpoint i y named rest b all before taken → IsSound y → AreNoGuards i.barrier (values_in (counting y)) (b ∷ y.batches) → (fresh again : Bool) → Decides fresh (FreshSomehow y.is_open (map (values_of i.barrier) y.closed) (values_of i.barrier y.items) before taken) → Decides again (AgainSomehow y.is_open (map (values_of i.barrier) y.closed) (values_of i.barrier y.items) (guard i.barrier b) before taken) → (life : Life) → life_of Opt y ≡ life → verdict_by (is_lost_life life) fresh again ≡ judged life (nat_eq (total_of named) (total_of y.batches)) (nat_eq (total_of named + size_of b) (total_of y.batches) && is_last y.batches b)
-opt_by i y named rest b all before taken s sound foreign fresh again df da Live is =
+opt_by : (i : Instance) (y : History) (named rest : List Batch) (b : Batch) (all : List (List ℕ)) (before : List (List (List ℕ))) (taken : List (List ℕ)) → Standpoint i y named rest all before taken → Contains all (guard_message i.barrier b) → IsSound y → AreNoGuards i.barrier (values_in (counting y)) (b ∷ y.batches) → (fresh again : Bool) → Decides fresh (FreshSomehow y.is_open (map (values_of i.barrier) y.closed) (values_of i.barrier y.items) before taken) → Decides again (AgainSomehow y.is_open (map (values_of i.barrier) y.closed) (values_of i.barrier y.items) (guard i.barrier b) before taken) → (life : Life) → life_of Opt y ≡ life → verdict_by (is_lost_life life) fresh again ≡ judged life (nat_eq (total_of named) (total_of y.batches)) (nat_eq (total_of named + size_of b) (total_of y.batches) && is_last y.batches b)
+opt_by i y named rest b all before taken s called sound foreign fresh again df da Live is =
     let parts = live_parts y.is_open (is_empty y.items) (are_own y.items y.current) (has_value (joined y.closed)) is in
     let held = held_at y.is_open y.items i.barrier parts.held in
     let live = live_values_at i.barrier y y.is_open sound refl (live_clean y sound parts.clean) parts in
-    ap (λ (x : Bool). verdict_by false x again) (live_fresh i y named rest b all before taken s held live fresh df)
+    ap (λ (x : Bool). verdict_by false x again) (live_fresh i y named rest all before taken s held live fresh df)
     ∙ ap (λ (x : Bool). verdict_by false (nat_eq (total_of named) (total_of y.batches)) x)
-    (live_again i y named rest b all before taken s held live again da)
+    (live_again i y named rest b all before taken s called held live again da)
     ∙ verdicts (nat_eq (total_of named) (total_of y.batches)) (nat_eq (total_of named + size_of b) (total_of y.batches) && is_last y.batches b)
-opt_by i y named rest b all before taken s sound foreign fresh again df da Spoiled is =
+opt_by i y named rest b all before taken s called sound foreign fresh again df da Spoiled is =
     let has = spoiled_has_at y y.is_open sound refl is in
     let not_fresh : fresh ≡ false = never fresh (λ t.
-    never_guards i y named rest b named s.first foreign has (λ c h. inl h)
-    (fresh_counts i y named rest b all before taken s (df.0 t))) in
+    never_guards i y (b ∷ y.batches) named foreign has (λ c h. among_asked y.batches named rest b s.first c (inl h))
+    (fresh_counts i y named rest all before taken s (df.0 t))) in
     let not_again : again ≡ false = never again (λ t.
-    never_guards i y named rest b (named ++ b ∷ []) s.first foreign has (λ c h. Contains-push_cases named b c h)
+    never_guards i y (b ∷ y.batches) (named ++ b ∷ []) foreign has (λ c h. among_asked y.batches named rest b s.first c (Contains-push_cases named b c h))
     (again_counts i y named rest b all before taken s (da.0 t))) in
     ap (λ (x : Bool). verdict_by false x again) not_fresh ∙ ap (verdict_by false false) not_again
-opt_by i y named rest b all before taken s sound foreign fresh again df da Lost is = refl
+opt_by i y named rest b all before taken s called sound foreign fresh again df da Lost is = refl
 
-zero_items : (barrier : List ℕ) (items : List Entry) → is_empty (values_of barrier items) ≡ is_empty items
+pub zero_items : (barrier : List ℕ) (items : List Entry) → is_empty (values_of barrier items) ≡ is_empty items
 zero_items barrier [] = refl
 zero_items barrier (x ∷ items) = refl
 
 -- an offered place as a path, with all that the verdict on it looks at
-pub record Stood (i : Instance) (y : History) (named rest : List Batch) (a e : List ℕ) (b : Batch) (all : List (List ℕ)) : Type 0 where
+pub record Stood (i : Instance) (y : History) (named rest : List Batch) (a e : List ℕ) (all : List (List ℕ)) : Type 0 where
   pub before : List (List (List ℕ))
   pub taken : List (List ℕ)
   pub anchor_is : a ≡ anchor_of i.meaning.id before
   pub extension_is : e ≡ register_of taken
-  pub point : Standpoint i y named rest b all before taken
+  pub point : Standpoint i y named rest all before taken
 
-pub stood_of : (i : Instance) (y : History) (named rest : List Batch) (a e : List ℕ) (b : Batch) (all : List (List ℕ)) → IsSound y → IsClear all → Within (messages_of Opt i y) all → Contains all (guard_message i.barrier b) → Within (point_messages a e (guard i.barrier b)) all → y.batches ≡ named ++ rest → IsPoint i y named a e → Stood i y named rest a e b all
-stood_of i y named rest a e b all sound clear history called call first place =
+pub stood_of : (i : Instance) (y : History) (named rest : List Batch) (a e : List ℕ) (all : List (List ℕ)) → IsSound y → IsClear all → Within (messages_of Opt i y) all → y.batches ≡ named ++ rest → IsPoint i y named a e → Stood i y named rest a e all
+stood_of i y named rest a e all sound clear history first place =
     let h = history_listed i y all history in
     let p = path_of i y named rest a e all sound first h.runs place in
     let V = values_of i.barrier in
@@ -321,9 +319,6 @@ stood_of i y named rest a e b all sound clear history called call first place =
     let taken = own_values i.barrier p.taken in
     let id = i.meaning.id in
     let split : map V y.closed ≡ before ++ map V p.later = ap (map V) p.split ∙ map-append V p.before p.later in
-    let call' : Within (point_messages (anchor_of id before) (register_of taken) (guard i.barrier b)) all =
-    subst (λ (v : List ℕ). Within (point_messages (anchor_of id before) v (guard i.barrier b)) all) p.extension_is
-    (subst (λ (v : List ℕ). Within (point_messages v e (guard i.barrier b)) all) p.anchor_is call) in
     let path : Listed id all before taken = record {
       inner = each_left (λ vs. Within (register_trail vs) all) before (map V p.later)
           (subst (λ (v : List (List (List ℕ))). AllByRecursion (λ vs. Within (register_trail vs) all) v) split h.listed.inner);
@@ -351,16 +346,21 @@ stood_of i y named rest a e b all sound clear history called call first place =
         history = h.listed;
         path = path;
         guards = h.guards;
-        call_guard = called;
-        call = call';
       };
     }
+
+-- the messages of a call at the path
+pub path_messages : (i : Instance) (y : History) (named rest : List Batch) (a e v : List ℕ) (all : List (List ℕ)) → (q : Stood i y named rest a e all) → Within (point_messages a e v) all → Within (point_messages (anchor_of i.meaning.id q.before) (register_of q.taken) v) all
+path_messages i y named rest a e v all q call =
+    subst (λ (w : List ℕ). Within (point_messages (anchor_of i.meaning.id q.before) w v) all) q.extension_is
+    (subst (λ (w : List ℕ). Within (point_messages w e v) all) q.anchor_is call)
 
 -- the verdict on a place, by the path that it is
 opt_on : (i : Instance) (y : History) (named rest : List Batch) (a e : List ℕ) (b : Batch) (all : List (List ℕ)) → IsSound y → IsClear all → Within (messages_of Opt i y) all → Contains all (guard_message i.barrier b) → Within (point_messages a e (guard i.barrier b)) all → AreNoGuards i.barrier (values_in (counting y)) (b ∷ y.batches) → y.batches ≡ named ++ rest → IsPoint i y named a e → opt_verdict y.is_open (anchor_after i y.closed) (register_of (values_of i.barrier y.items)) (forms_of a e) (guard i.barrier b) ≡ judge Opt y (total_of named) b
 opt_on i y named rest a e b all sound clear history called call foreign first place =
-    let q = stood_of i y named rest a e b all sound clear history called call first place in
+    let q = stood_of i y named rest a e all sound clear history first place in
     let s = q.point in
+    let call' = path_messages i y named rest a e (guard i.barrier b) all q call in
     let id = i.meaning.id in
     let closed = map (values_of i.barrier) y.closed in
     let items = values_of i.barrier y.items in
@@ -373,9 +373,10 @@ opt_on i y named rest a e b all sound clear history called call foreign first pl
     ap (λ (w : List ℕ). opt_verdict y.is_open (anchor_of id closed) (register_of items) (forms_of w e) v) q.anchor_is
     ∙ ap (λ (w : List ℕ). opt_verdict y.is_open (anchor_of id closed) (register_of items) (forms_of (anchor_of id q.before) w) v) q.extension_is
     ∙ ap (λ (x : Bool). verdict_by x fresh again) lost
-    ∙ opt_by i y named rest b all q.before q.taken s sound foreign fresh again
-    (fresh_somehow id all s.clears y.is_open closed items q.before q.taken v s.history s.path s.call)
-    (again_somehow id all s.clears y.is_open closed items q.before q.taken v s.history s.path s.call)
+    ∙ opt_by i y named rest b all q.before q.taken s called sound foreign fresh again
+    (fresh_somehow id all s.clears y.is_open closed items q.before q.taken s.history s.path
+    (λ some. (second_listed id all clear q.before q.taken v s.path call' some).closes))
+    (again_somehow id all s.clears y.is_open closed items q.before q.taken v s.history s.path call')
     (life_of Opt y) refl
 
 opt_at : (meaning : Meaning) (key barrier : List ℕ) (y : History) (named rest : List Batch) (place : Place) (b : Batch) (all : List (List ℕ)) → IsSound y → IsClearFor all (opt meaning key barrier) y place b → y.batches ≡ named ++ rest → IsPlaceOf Opt (opt meaning key barrier) y named place → verdict_by_digests barrier y.is_open (cell_digest_of (opt meaning key barrier) Opt y) (register_value_of (opt meaning key barrier) y) place b ≡ judge Opt y (total_of named) b

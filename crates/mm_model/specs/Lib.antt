@@ -4,6 +4,7 @@ pub mod History
 pub mod Life
 pub mod Places
 pub mod Judge
+pub mod StandingHere
 pub mod Sound
 pub mod Steps
 pub mod Messages

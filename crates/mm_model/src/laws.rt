@@ -21,6 +21,7 @@ ghost use Rattle.mm_model.specs.Life.{is_lost, life_of, Spoiled, Lost as LostLif
 ghost use Rattle.mm_model.specs.declared.verdict.Verdict.TheVariants.{Lost, Stale};
 ghost use Rattle.mm_seal.specs.declared.snapshot.Place.{Place};
 ghost use Rattle.mm_model.specs.Sound.{IsSound};
+ghost use Rattle.mm_model.specs.StandingHere.{is_new, place_messages};
 
 /// A batch of one request has the messages and digests of that request, and a batch of several those of
 /// its text.
@@ -130,6 +131,27 @@ pub fn ended_histories_accept_nothing()
         Names (opt meaning key barrier) y offered → life_of Opt y ≡ LostLife →
         verdict_by_digests barrier y.is_open (cell_digest_of (opt meaning key barrier) Opt y)
         (register_value_of (opt meaning key barrier) y) offered.place b ≡ Lost }
+{}
+
+/// Whether an offer that names a position stands where the module does: whatever the batch, the verdict by digests tells
+/// what the verdict on the history tells, and no message of a batch is asked about.
+pub fn offers_stand_here()
+    ensures basic { (meaning : Meaning) (key register : List ℕ) (y : History) (offered : Content)
+        (b : Batch) (all : List (List ℕ)) → IsClear all →
+        Within (history_messages (basic meaning key) y) all → Names (basic meaning key) y offered →
+        is_new (verdict_by_digests zero_bytes false (cell_digest_of (basic meaning key) Basic y)
+        register offered.place b)
+        ≡ is_new (judge Basic y offered.position b) }
+    ensures opt { (meaning : Meaning) (key barrier : List ℕ) (y : History) (offered : Content)
+        (b : Batch) (all : List (List ℕ)) → IsSound y → IsClear all →
+        Within (history_messages (opt meaning key barrier) y) all →
+        Within (place_messages offered.place) all →
+        AreNoGuards barrier (values_in (counting y)) y.batches →
+        Names (opt meaning key barrier) y offered →
+        is_new (verdict_by_digests barrier y.is_open
+        (cell_digest_of (opt meaning key barrier) Opt y)
+        (register_value_of (opt meaning key barrier) y) offered.place b)
+        ≡ is_new (judge Opt y offered.position b) }
 {}
 
 /// The messages of a history and a call alone may be that list.

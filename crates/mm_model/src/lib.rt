@@ -17,7 +17,7 @@ pub use examples::{after_one_request, after_two_requests};
 pub use kept::{KeptBatch, KeptEntry, copy_entries, has_tab, last_is, normal, some_value};
 pub use laws::{
     anchors_are_told_apart, basic_verdict_is_judged, batches_are_hashed, batches_are_told_apart,
-    chains_go_on, ended_histories_accept_nothing, histories_list_their_messages,
+    chains_go_on, ended_histories_accept_nothing, histories_list_their_messages, offers_stand_here,
     opt_verdict_is_judged, registers_are_told_apart, summaries_are_told_apart, zero_is_lost,
 };
 pub use long::is_long;
