@@ -1,5 +1,5 @@
 -- The clauses of callers of Opt, from those of their calls.
-use Rattle.std.proofs.Common.{◌≡◌, ℕ, ◌≤◌, Bool, true, false, List, ◌++◌, Some, Result, Ok, refl, sym, ap, ◌∙◌, subst}
+use Rattle.std.proofs.Common.{◌≡◌, ℕ, ◌≤◌, Bool, true, false, List, ◌++◌, Some, Result, Ok, refl, sym, ap, ◌∙◌, subst, inl, inr}
 use Rattle.mm_base.specs.Limits.{last_position}
 use Rattle.mm_digest.specs.declared.variant.Variant.TheVariants.{Opt}
 use Rattle.mm_digest.proofs.Lengths.{length-zero_bytes}
@@ -27,6 +27,7 @@ use Rattle.mm_call.specs.CallsOn.{CallsOn}
 use Rattle.mm_call.specs.Found.{right_content}
 use Rattle.mm_call.specs.Leaving.{whole}
 use Rattle.mm_call.specs.Premises.{AreAsked, AreShown}
+use Rattle.mm_call.proofs.Idle.{unless_idle}
 use Rattle.mm_call.specs.Tied.{standing_items}
 use Rattle.mm_opt.specs.Asks.{Calls}
 use Rattle.mm_callers.specs.Basic.{IsOnce, AnswersNext}
@@ -36,18 +37,26 @@ use Rattle.mm_callers.proofs.Again.{twice_by}
 use Rattle.mm_callers.proofs.Twice.{right_of, listed_by, once_after, answered_at, not_again}
 use Rattle.mm_callers.proofs.OptCalls.{answered_short}
 use Rattle.mm_callers.proofs.OptAlike.{Alike, still, grown_by, issued_alike}
-use Rattle.mm_callers.proofs.OptLeaves.{Left, hands, call_goes_on, last, asked_again}
+use Rattle.mm_callers.proofs.OptLeaves.{Left, hands, call_goes_on, last, left_idle, asked_again}
 
 -- a call that is made again after a device's fault, where it answers
 pub answered_after_fault : (meaning : Meaning) (old middle new : Standing) (offer request : List ℕ) (first : Result BatchAnswer Refusal) (answer : Answer) → (is_long (One request) ≡ false → CallsOn Opt meaning old middle offer (One request) first) → Calls meaning middle new offer (One request) (Ok (whole answer))
     → (is_long (One request) ≡ false → CallsOn Opt meaning middle new offer (One request) (Ok (whole answer))) → AsksOnce meaning old new offer request (Ok answer)
 answered_after_fault meaning old middle new offer request first answer f calls goes key barrier y all others asked items more s known ends a shown_so =
     let short = answered_short meaning middle new offer (One request) (whole answer) calls in
-    let h = hands meaning key barrier all others asked y old middle new offer request first items more (f short)
-    (call_goes_on meaning key barrier all others asked middle new offer request (Ok (whole answer)) (goes short)) s known ends a shown_so in
-    let l = last meaning key barrier all others asked h.left.after middle new offer request (Ok (whole answer)) h.items h.more (goes short) h.left.stands h.known h.ends
-    (asked_again meaning key barrier all others asked y middle offer request first h.left a) h.shown_are in
-    twice_by (opt meaning key barrier) y h.left.after l.after new offer (One request) first (whole answer) l.stands h.left.comes l.comes
+    elim (unless_idle (opt meaning key barrier) y offer (One request) shown_so) [
+      | inl shown_are ↦
+          let h = hands meaning key barrier all others asked y old middle new offer request first items more (f short)
+          (call_goes_on meaning key barrier all others asked middle new offer request (Ok (whole answer)) (goes short)) s known ends a shown_are in
+          let l = last meaning key barrier all others asked h.left.after middle new offer request (Ok (whole answer)) h.items h.more (goes short) h.left.stands h.known h.ends
+          (asked_again meaning key barrier all others asked y middle offer request first h.left a) h.shown_are in
+          twice_by (opt meaning key barrier) y h.left.after l.after new offer (One request) first (whole answer) l.stands h.left.comes l.comes
+      | inr idle ↦
+          let h = left_idle meaning key barrier all others asked y old middle offer request first (f short) s a idle in
+          let l = left_idle meaning key barrier all others asked h.left.after middle new offer request (Ok (whole answer)) (goes short) h.left.stands
+          (asked_again meaning key barrier all others asked y middle offer request first h.left a) h.idle in
+          twice_by (opt meaning key barrier) y h.left.after l.left.after new offer (One request) first (whole answer) l.left.stands h.left.comes l.left.comes
+    ]
 
 -- the snapshot of an answer says what the history issues
 

@@ -31,7 +31,7 @@ use Rattle.mm_call.specs.Called.{called, ended_by, given_for}
 use Rattle.mm_call.specs.CallsOn.{CallsOn}
 use Rattle.mm_call.specs.Leaving.{whole}
 use Rattle.mm_call.specs.Asked.{IsAsked}
-use Rattle.mm_call.specs.Premises.{AreAsked, AreShown}
+use Rattle.mm_call.specs.Premises.{AreAsked, AreShown, IsIdle}
 use Rattle.mm_call.specs.Tied.{standing_items}
 use Rattle.mm_call.proofs.BasicLaw.{unlacked}
 use Rattle.mm_call.proofs.Continuing.{stands_at}
@@ -39,8 +39,7 @@ use Rattle.mm_call.proofs.Finding.{Asking, found_with_tells, weighed_tells}
 use Rattle.mm_call.proofs.Moving.{same_batches, more_batches}
 use Rattle.mm_call.proofs.OptFinding.{placed, unless_lost}
 use Rattle.mm_call.proofs.Reading.{is_right}
-use Rattle.mm_call.proofs.Showing.{asked_of}
-use Rattle.mm_call.proofs.Tied.{opt_tied}
+use Rattle.mm_call.proofs.Idle.{asked_for}
 use Rattle.mm_call.proofs.Walks.{Commits, nothing as none, batch, asks, opt_commits, foreign_first, made-append}
 use Rattle.mm_call.proofs.Endings.{fresh_found}
 use Rattle.mm_call.proofs.OptLaw.{names_foreign, sound_foreign}
@@ -130,15 +129,14 @@ comes meaning key barrier all others asked y c offer b a =
 
 -- an answered call
 pub once_shown : (meaning : Meaning) (key barrier : List ℕ) (all others : List (List ℕ)) (asked : List Batch) (y : History) (old new : Standing) (offer request : List ℕ) (answer : BatchAnswer) (items more : List Item) → CallsOn Opt meaning old new offer (One request) (Ok answer) → StandsFor (opt meaning key barrier) old y → old.items ≡ Some items → new.items ≡ Some (standing_items y.is_open items ++ more)
-    → AreAsked all others asked (opt meaning key barrier) y offer (One request) → AreShown all others (opt meaning key barrier) y more → AnswersOnce (opt meaning key barrier) y new (One request) answer
+    → AreAsked all others asked (opt meaning key barrier) y offer (One request) → ((IsIdle (opt meaning key barrier) y offer (One request) → ⊥) → AreShown all others (opt meaning key barrier) y more) → AnswersOnce (opt meaning key barrier) y new (One request) answer
 once_shown meaning key barrier all others asked y old new offer request answer items more c s known ends a shown_so =
     let i : Instance = opt meaning key barrier in
     let o = called i (by_lists i) y c.course offer (One request) in
     let moves : List Move = (called i (by_digests i) (digests_of i y) c.course offer (One request)).moves in
     let g = c.goes key barrier (digests_of i y) (stands_at i old y s) in
     let is_asked : IsAsked all others asked i y moves offer (One request) =
-    asked_of meaning key barrier all others asked y moves offer (One request) old new items more a shown_so known g.items ends
-    (opt_tied meaning key barrier y (digests_of i y) c.course offer (One request) refl) in
+    asked_for meaning key barrier all others asked y c.course offer (One request) old new items more a shown_so known g.items ends in
     let k = c.continues key barrier y all others asked s is_asked in
     answers_by i y o.state new offer (One request) answer k.stands
     (subst (λ (r : Result BatchAnswer Refusal). Comes i y offer (One request) o.state r) (sym k.gives)

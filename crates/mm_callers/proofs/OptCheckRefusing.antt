@@ -150,7 +150,7 @@ module _ (meaning : Meaning) (key barrier : List ℕ) (all others : List (List �
 
   -- what is asked of a checkpoint, by what is asked of the items
   check_asked : (flag : Bool) (y : History) (old new : Standing) (result : Result Said CheckpointRefusal) (items more : List Item) (k : ChecksOn old new result) → StandsFor (opt meaning key barrier) old y → old.items ≡ Some items → new.items ≡ Some (standing_items y.is_open items ++ more)
-      → IsClear all → IsWithin all others asked (opt meaning key barrier) y → AreShown all others (opt meaning key barrier) y more → (y.is_open ≡ true → MayClose all (opt meaning key barrier) y more) → y.is_open ≡ flag
+      → IsClear all → IsWithin all others asked (opt meaning key barrier) y → (y.is_open ≡ true → AreShown all others (opt meaning key barrier) y more) → (y.is_open ≡ true → MayClose all (opt meaning key barrier) y more) → y.is_open ≡ flag
       → IsClosedWithin all others asked (opt meaning key barrier) y (checkpointed (opt meaning key barrier) (by_digests (opt meaning key barrier)) (digests_of (opt meaning key barrier) y) k.course).moves
   check_asked true y old new result items more k s known ends clear within shown_so may e =
       let i : Instance = opt meaning key barrier in
@@ -161,7 +161,7 @@ module _ (meaning : Meaning) (key barrier : List ℕ) (all others : List (List �
       let g = k.goes Opt meaning key barrier d (stands_at i old y s) in
       let there : Some (items ++ map foreign_item (brought moves x)) ≡ Some (items ++ more) =
       sym (g.items ∙ ap (option_map (shown i d moves)) known ∙ ap (λ (xs : List Item). Some xs) (shown_shaped moves x d items)) ∙ ends ∙ ap (λ (flag : Bool). Some (standing_items flag items ++ more)) e in
-      inside_asked y more moves x (same_rest items (map foreign_item (brought moves x)) more (cc)) clear within shown_so (may e) e
+      inside_asked y more moves x (same_rest items (map foreign_item (brought moves x)) more (cc)) clear within (shown_so e) (may e) e
   check_asked false y old new result items more k s known ends clear within shown_so may e =
       let i : Instance = opt meaning key barrier in
       let lost : Bool = (by_digests i).is_lost (seen_at i (by_digests i) (digests_of i y) k.course) in
@@ -193,7 +193,7 @@ module _ (meaning : Meaning) (key barrier : List ℕ) (all others : List (List �
       let q = only refl in names_quiet y end moves q.0 q.1 reach content n
 
   pub check_fell : (y : History) (old new : Standing) (why : CheckpointRefusal) (items more : List Item) (k : ChecksOn old new (Err why)) → StandsFor (opt meaning key barrier) old y → old.items ≡ Some items → new.items ≡ Some (standing_items y.is_open items ++ more)
-      → IsClear all → IsWithin all others asked (opt meaning key barrier) y → AreShown all others (opt meaning key barrier) y more → (y.is_open ≡ true → MayClose all (opt meaning key barrier) y more) → CheckFell y new why
+      → IsClear all → IsWithin all others asked (opt meaning key barrier) y → (y.is_open ≡ true → AreShown all others (opt meaning key barrier) y more) → (y.is_open ≡ true → MayClose all (opt meaning key barrier) y more) → CheckFell y new why
   check_fell y old new why items more k s known ends clear within shown_so may =
       let i : Instance = opt meaning key barrier in
       let is_asked = check_asked y.is_open y old new (Err why) items more k s known ends clear within shown_so may refl in

@@ -224,7 +224,7 @@ module _ (meaning : Meaning) (key barrier : List ℕ) where
       )
 
   -- with no segment open
-  shut_still : (all others : List (List ℕ)) (asked : List Batch) (y : History) (old new : Standing) (said : Said) (k : ChecksOn old new (Ok said)) → StandsFor (opt meaning key barrier) old y → IsClear all → IsWithin all others asked (opt meaning key barrier) y → y.is_open ≡ false
+  pub shut_still : (all others : List (List ℕ)) (asked : List Batch) (y : History) (old new : Standing) (said : Said) (k : ChecksOn old new (Ok said)) → StandsFor (opt meaning key barrier) old y → IsClear all → IsWithin all others asked (opt meaning key barrier) y → y.is_open ≡ false
       → Shut all others asked y new
   shut_still all others asked y old new said k s clear within e =
       let i : Instance = opt meaning key barrier in
@@ -350,10 +350,10 @@ module _ (meaning : Meaning) (key barrier : List ℕ) where
       closed_then all others asked y o.state new m.values m.later e within.sound (ap (all_made (by_lists i) y) (sym agree.moves ∙ m.are)) f.stands f.within
 
   shut_by : (flag : Bool) (all others : List (List ℕ)) (asked : List Batch) (y : History) (old new : Standing) (said : Said) (items more : List Item) (k : ChecksOn old new (Ok said)) → StandsFor (opt meaning key barrier) old y → old.items ≡ Some items → new.items ≡ Some (standing_items y.is_open items ++ more)
-      → IsClear all → IsWithin all others asked (opt meaning key barrier) y → AreShown all others (opt meaning key barrier) y more → (y.is_open ≡ true → MayClose all (opt meaning key barrier) y more) → y.is_open ≡ flag → Shut all others asked y new
-  shut_by true all others asked y old new said items more k s known ends clear within shown_so may e = shut_closing all others asked y old new said items more k s known ends clear within shown_so (may e) e
+      → IsClear all → IsWithin all others asked (opt meaning key barrier) y → (y.is_open ≡ true → AreShown all others (opt meaning key barrier) y more) → (y.is_open ≡ true → MayClose all (opt meaning key barrier) y more) → y.is_open ≡ flag → Shut all others asked y new
+  shut_by true all others asked y old new said items more k s known ends clear within shown_so may e = shut_closing all others asked y old new said items more k s known ends clear within (shown_so e) (may e) e
   shut_by false all others asked y old new said items more k s known ends clear within shown_so may e = shut_still all others asked y old new said k s clear within e
 
   pub shuts : (all others : List (List ℕ)) (asked : List Batch) (y : History) (old new : Standing) (said : Said) (items more : List Item) (k : ChecksOn old new (Ok said)) → StandsFor (opt meaning key barrier) old y → old.items ≡ Some items → new.items ≡ Some (standing_items y.is_open items ++ more)
-      → IsClear all → IsWithin all others asked (opt meaning key barrier) y → AreShown all others (opt meaning key barrier) y more → (y.is_open ≡ true → MayClose all (opt meaning key barrier) y more) → Shut all others asked y new
+      → IsClear all → IsWithin all others asked (opt meaning key barrier) y → (y.is_open ≡ true → AreShown all others (opt meaning key barrier) y more) → (y.is_open ≡ true → MayClose all (opt meaning key barrier) y more) → Shut all others asked y new
   shuts all others asked y old new said items more k s known ends clear within shown_so may = shut_by y.is_open all others asked y old new said items more k s known ends clear within shown_so may refl

@@ -1,5 +1,5 @@
 -- Opt: what a refused call leaves and says, and the callers' clauses where they end with an error.
-use Rattle.std.proofs.Common.{◌≡◌, ℕ, Bool, true, false, List, [], ◌∷◌, ◌++◌, map, None, Some, Result, Ok, Err, refl, sym, ap, ◌∙◌, subst}
+use Rattle.std.proofs.Common.{◌≡◌, ℕ, Bool, true, false, List, [], ◌∷◌, ◌++◌, map, None, Some, Result, Ok, Err, refl, sym, ap, ◌∙◌, subst, inl, inr}
 use Rattle.std.proofs.lemmas.List.{append-nil}
 use Rattle.mm_digest.specs.declared.variant.Variant.TheVariants.{Opt}
 use Rattle.mm_platform.specs.declared.fault.StepFault.{StepFault}
@@ -26,14 +26,13 @@ use Rattle.mm_call.specs.Courses.{End, Done, Fails as FailsAs, Fate, Walked, wal
 use Rattle.mm_call.specs.Found.{Found, found_at, found_unless_wanting, is_fresh}
 use Rattle.mm_call.specs.Leaving.{Blames, whole, whole_in}
 use Rattle.mm_call.specs.Levels.{by_lists, all_made}
-use Rattle.mm_call.specs.Premises.{AreAsked, AreShown}
+use Rattle.mm_call.specs.Premises.{AreAsked, AreShown, IsIdle}
 use Rattle.mm_call.specs.Refusals.{fault_of, fault_in}
 use Rattle.mm_call.specs.Tied.{standing_items}
 use Rattle.mm_call.proofs.Continuing.{stands_at}
 use Rattle.mm_call.proofs.OptShapes.{two_reads}
 use Rattle.mm_call.proofs.OptShut.{bare}
-use Rattle.mm_call.proofs.Showing.{asked_of}
-use Rattle.mm_call.proofs.Tied.{opt_tied}
+use Rattle.mm_call.proofs.Idle.{asked_idle, asked_for, unless_idle}
 use Rattle.mm_call.proofs.Walks.{finished, changing, asks, opt_commits, foreign_first}
 use Rattle.mm_call.proofs.Along.{opt_closes}
 use Rattle.mm_opt.specs.Asks.{Calls}
@@ -44,7 +43,7 @@ use Rattle.mm_callers.proofs.Refusing.{Fails, fails, said_by, calm_then, IsCalm,
 use Rattle.mm_callers.proofs.Twice.{once_after, answered_at}
 use Rattle.mm_callers.proofs.OptCalls.{comes, answered_short, answered_once}
 use Rattle.mm_callers.proofs.OptAlike.{alike_still, Alike, names_after, issued_alike}
-use Rattle.mm_callers.proofs.OptLeaves.{alike_of, seen_closes, DigestMoves, GoesOn, call_goes_on, hands, asked_again}
+use Rattle.mm_callers.proofs.OptLeaves.{alike_of, seen_closes, DigestMoves, GoesOn, call_goes_on, hands, left_idle, asked_again}
 use Rattle.mm_callers.proofs.OptAsking.{asked_next, answered_after_fault, answered_twice}
 
 -- a call that is refused by what it found has made its reading steps alone
@@ -113,7 +112,7 @@ module _ (meaning : Meaning) (key barrier : List ℕ) (all others : List (List �
 
   pub fell_by : (t : Bool) (y : History) (old new : Standing) (offer request : List ℕ) (why : Refusal) (items more : List Item) → is_long (One request) ≡ t → Calls meaning old new offer (One request) (Err why)
       → (is_long (One request) ≡ false → CallsOn Opt meaning old new offer (One request) (Err why)) → StandsFor (opt meaning key barrier) old y → old.items ≡ Some items → new.items ≡ Some (standing_items y.is_open items ++ more)
-      → AreAsked all others asked (opt meaning key barrier) y offer (One request) → AreShown all others (opt meaning key barrier) y more → Fell all others asked (opt meaning key barrier) y new offer (One request) why
+      → AreAsked all others asked (opt meaning key barrier) y offer (One request) → ((IsIdle (opt meaning key barrier) y offer (One request) → ⊥) → AreShown all others (opt meaning key barrier) y more) → Fell all others asked (opt meaning key barrier) y new offer (One request) why
   fell_by true y old new offer request why items more e calls goes s known ends a shown_so =
       let long : why ≡ Long = (let gives = (calls.long e).1 in cc) in
       fell_long all others asked (opt meaning key barrier) y old new offer (One request) why e (calls.long e).0 long s a
@@ -122,8 +121,7 @@ module _ (meaning : Meaning) (key barrier : List ℕ) (all others : List (List �
       let c = goes e in
       let g = c.goes key barrier (digests_of i y) (stands_at i old y s) in
       fell_short y old new offer request why e c s a
-      (asked_of meaning key barrier all others asked y (DigestMoves meaning key barrier all others asked old new offer request (Err why) c y) offer (One request) old new items more a shown_so known g.items ends
-      (opt_tied meaning key barrier y (digests_of i y) c.course offer (One request) refl))
+      (asked_for meaning key barrier all others asked y c.course offer (One request) old new items more a shown_so known g.items ends)
 
   -- too long a second batch leaves all as it was
   still_goes_on : (old new : Standing) → new ≡ old → GoesOn meaning key barrier all others asked old new
@@ -160,11 +158,21 @@ refused_after_fault meaning old middle new offer request first fault why is rose
     let i : Instance = opt meaning key barrier in
     let t : Bool = is_long (One request) in
     let short = short_by t meaning old middle offer (One request) first fault refl is before in
-    let h = hands meaning key barrier all others asked y old middle new offer request (Err first) items more (goes_first short)
-    (call_goes_on meaning key barrier all others asked middle new offer request (Err why) (goes short)) s known ends a shown_so in
-    refuses_again all others asked i y h.left.after old middle new offer (One request) (Err first) why (subst (λ (w : Refusal). Blames (fault_of w) old.faults middle.faults) is rose) blames h.left.comes
-    (fell_by meaning key barrier all others asked t h.left.after middle new offer request why h.items h.more refl calls goes h.left.stands h.known h.ends
-    (asked_again meaning key barrier all others asked y middle offer request (Err first) h.left a) h.shown_are)
+    let counts = subst (λ (w : Refusal). Blames (fault_of w) old.faults middle.faults) is rose in
+    elim (unless_idle i y offer (One request) shown_so) [
+      | inl shown_are ↦
+          let h = hands meaning key barrier all others asked y old middle new offer request (Err first) items more (goes_first short)
+          (call_goes_on meaning key barrier all others asked middle new offer request (Err why) (goes short)) s known ends a shown_are in
+          refuses_again all others asked i y h.left.after old middle new offer (One request) (Err first) why counts blames h.left.comes
+          (fell_by meaning key barrier all others asked t h.left.after middle new offer request why h.items h.more refl calls goes h.left.stands h.known h.ends
+          (asked_again meaning key barrier all others asked y middle offer request (Err first) h.left a) (λ busy. h.shown_are))
+      | inr idle ↦
+          let l = left_idle meaning key barrier all others asked y old middle offer request (Err first) (goes_first short) s a idle in
+          let again = asked_again meaning key barrier all others asked y middle offer request (Err first) l.left a in
+          refuses_again all others asked i y l.left.after old middle new offer (One request) (Err first) why counts blames l.left.comes
+          (fell_short meaning key barrier all others asked l.left.after middle new offer request why short (goes short) l.left.stands again
+          (asked_idle meaning key barrier all others asked l.left.after (goes short).course offer (One request) again l.idle))
+    ]
 
 pub asked_after_fault : (meaning : Meaning) (old middle new : Standing) (offer request : List ℕ) (first : Refusal) (fault : StepFault) (result : Result Answer Refusal) → first ≡ Device fault → Blames (fault_of first) old.faults middle.faults → Calls meaning old middle offer (One request) (Err first)
     → (is_long (One request) ≡ false → CallsOn Opt meaning old middle offer (One request) (Err first)) → Blames (fault_in (whole_in result)) middle.faults new.faults → Calls meaning middle new offer (One request) (whole_in result)
@@ -178,7 +186,7 @@ asked_after_fault meaning old middle new offer request first fault (Ok answer) i
 pub refused_first : (meaning : Meaning) (old new : Standing) (offer first second : List ℕ) (why : Refusal) → Blames (fault_of why) old.faults new.faults → Calls meaning old new offer (One first) (Err why)
     → (is_long (One first) ≡ false → CallsOn Opt meaning old new offer (One first) (Err why)) → AsksTwice meaning old new offer first second (Err why)
 refused_first meaning old new offer first second why blames calls goes key barrier y all others asked items more s known ends a n shown_so =
-    in_first (refused_once meaning old new offer first why blames calls goes key barrier y all others asked items more s known ends a shown_so)
+    in_first (refused_once meaning old new offer first why blames calls goes key barrier y all others asked items more s known ends a (λ busy. shown_so))
 
 -- the second
 refused_second : (meaning : Meaning) → IsLawful meaning → (old middle new : Standing) (offer next first second : List ℕ) (one : Answer) (why : Refusal) → middle.faults ≡ old.faults → Calls meaning old middle offer (One first) (Ok (whole one))
@@ -194,7 +202,7 @@ refused_second meaning lawful old middle new offer next first second one why sam
     refuses_next all others asked i y after old middle new offer next (One first) (One second) why same blames (once_after i y after offer (One first) (whole one) h.left.comes)
     (λ content names. names_after meaning key barrier y after (One first) content a.within.sound h.left.within.sound h.left.alike names)
     (e ∙ (answered_at i y after offer (One first) (whole one) h.left.comes).1) a
-    (fell_by meaning key barrier all others asked t after middle new next second why h.items h.more refl then goes_on h.left.stands h.known h.ends asked_so.1 h.shown_are)
+    (fell_by meaning key barrier all others asked t after middle new next second why h.items h.more refl then goes_on h.left.stands h.known h.ends asked_so.1 (λ busy. h.shown_are))
 
 pub asked_twice : (meaning : Meaning) → IsLawful meaning → (old middle new : Standing) (offer next first second : List ℕ) (one : Answer) (result : Result Answer Refusal) → middle.faults ≡ old.faults → Calls meaning old middle offer (One first) (Ok (whole one))
     → (is_long (One first) ≡ false → CallsOn Opt meaning old middle offer (One first) (Ok (whole one))) → IsFit (One first) (whole one) → next ≡ one.snapshot → Blames (fault_in (whole_in result)) middle.faults new.faults

@@ -1,5 +1,5 @@
 -- Opt: the same request behind a checkpoint is answered by its earlier reply.
-use Rattle.std.proofs.Common.{◌≡◌, ℕ, Bool, true, false, List, [], ◌++◌, map, Option, None, Some, Result, Ok, Err, refl, sym, ap, ◌∙◌, subst, append_assoc}
+use Rattle.std.proofs.Common.{◌≡◌, ℕ, Bool, true, false, List, [], ◌++◌, map, Option, None, Some, Result, Ok, Err, refl, sym, ap, ◌∙◌, subst, append_assoc, inl, inr}
 use Rattle.std.specs.Prelude.{if◌then◌else◌}
 use Rattle.std.specs.List.{fold}
 use Rattle.std.specs.Option.{option_map}
@@ -24,7 +24,7 @@ use Rattle.mm_call.specs.Found.{Found, found_at, found_unless_wanting, is_fresh}
 use Rattle.mm_call.specs.Courses.{Fate, Walked, walk, closes}
 use Rattle.mm_call.specs.Called.{called, seen_at, ended_by, given_for}
 use Rattle.mm_call.specs.CallsOn.{CallsOn}
-use Rattle.mm_call.specs.Premises.{AreAsked, AreShown}
+use Rattle.mm_call.specs.Premises.{AreAsked, AreShown, IsIdle}
 use Rattle.mm_call.specs.Standing.{StandsAt, shown}
 use Rattle.mm_call.specs.Tied.{standing_items}
 use Rattle.mm_call.proofs.BasicLaw.{unlacked}
@@ -33,6 +33,7 @@ use Rattle.mm_call.proofs.Finding.{Asking}
 use Rattle.mm_call.proofs.OptFinding.{found_same, placed}
 use Rattle.mm_call.proofs.OptHolding.{is_agrees}
 use Rattle.mm_call.proofs.OptShut.{bare, bare_digests, found_digests, foreign_digests, holds_shut}
+use Rattle.mm_call.proofs.Idle.{unless_idle}
 use Rattle.mm_call.proofs.Showing.{same_rest}
 use Rattle.mm_call.proofs.Walks.{asks}
 use Rattle.mm_call.proofs.Along.{opt_closes}
@@ -40,14 +41,14 @@ use Rattle.mm_call.proofs.Endings.{fresh_found}
 use Rattle.mm_opt.specs.declared.segment.Checkpointed.{Checkpointed as Said}
 use Rattle.mm_opt.specs.ChecksOn.{ChecksOn}
 use Rattle.mm_callers.specs.Basic.{IsOnce, EndsWith}
-use Rattle.mm_callers.specs.Closing.{MayClose, RepeatsReply}
+use Rattle.mm_callers.specs.Closing.{MayClose, AreShownUnlessIdle, RepeatsReply}
 use Rattle.mm_callers.proofs.Calls.{Comes, kept, grown, one_content}
 use Rattle.mm_callers.proofs.Twice.{once_after, answered_at, not_again}
 use Rattle.mm_callers.proofs.OptCalls.{right_at}
 use Rattle.mm_callers.proofs.OptAlike.{Alike, still, grown_by, same_closed, names_alike}
 use Rattle.mm_callers.proofs.OptShown.{Brought, reads_only, flag_kept, shown_front}
-use Rattle.mm_callers.proofs.OptLeaves.{Left, DigestMoves, hands, left_reading, asked_again, call_goes_on}
-use Rattle.mm_callers.proofs.OptClosing.{may_close_front, may_close_back, shown_values, Shut, check_goes_on, shuts}
+use Rattle.mm_callers.proofs.OptLeaves.{Left, DigestMoves, hands, left_idle, left_reading, asked_again, call_goes_on}
+use Rattle.mm_callers.proofs.OptClosing.{may_close_front, may_close_back, shown_values, Shut, check_goes_on, shut_still, shuts}
 
 -- a call whose answer is told as a repeat made its reading steps alone
 told_again : (broken : Option StepFault) (i : Instance) (seen s : Digests) (b : Batch) (found : Result Found Refusal) (moves : List Move) (answer : BatchAnswer) → given_for (ended_by (by_digests i) seen s b found moves broken) ≡ Ok answer → answer.again ≡ true → is_fresh found ≡ false
@@ -137,7 +138,18 @@ module _ (meaning : Meaning) (key barrier : List ℕ) (all others : List (List �
       may_close_back all i y after p.front h.more (closed_same meaning key barrier y after (One request) h.left.alike) p.register (subst (λ (xs : List Item). MayClose all i y xs) (sym p.whole) may) in
       record {
         one = h.left;
-        two = shuts meaning key barrier all others asked after answered closed said h.items h.more k h.left.stands h.known h.ends a.clear h.left.within h.shown_are may_then;
+        two = shuts meaning key barrier all others asked after answered closed said h.items h.more k h.left.stands h.known h.ends a.clear h.left.within (λ is. h.shown_are) may_then;
+      }
+
+  -- where the first call is idle
+  behind_idle : (y : History) (old answered closed : Standing) (offer request : List ℕ) (first : BatchAnswer) (said : Said) → CallsOn Opt meaning old answered offer (One request) (Ok first) → ChecksOn answered closed (Ok said)
+      → StandsFor (opt meaning key barrier) old y → AreAsked all others asked (opt meaning key barrier) y offer (One request) → IsIdle (opt meaning key barrier) y offer (One request)
+      → Behind y answered closed offer request first
+  behind_idle y old answered closed offer request first said c k s a idle =
+      let l = left_idle meaning key barrier all others asked y old answered offer request (Ok first) c s a idle in
+      record {
+        one = l.left;
+        two = shut_still meaning key barrier all others asked l.left.after answered closed said k l.left.stands a.clear l.left.within l.idle.shut;
       }
 
   -- what is asked of the second call
@@ -240,10 +252,13 @@ module _ (meaning : Meaning) (key barrier : List ℕ) (all others : List (List �
   -- the second reply, where the register's items are known when the checkpoint was over
   pub repeats_between : (y : History) (old answered closed new : Standing) (offer request : List ℕ) (first second : BatchAnswer) (said : Said) (items more : List Item) → CallsOn Opt meaning old answered offer (One request) (Ok first) → ChecksOn answered closed (Ok said) → CallsOn Opt meaning closed new offer (One request) (Ok second)
       → StandsFor (opt meaning key barrier) old y → old.items ≡ Some items → closed.items ≡ Some (standing_items y.is_open items ++ more)
-      → AreAsked all others asked (opt meaning key barrier) y offer (One request) → AreShown all others (opt meaning key barrier) y more → MayClose all (opt meaning key barrier) y more
+      → AreAsked all others asked (opt meaning key barrier) y offer (One request) → AreShownUnlessIdle all others (opt meaning key barrier) y offer (One request) more
       → RepeatsReply (opt meaning key barrier) y new (One request) first second
-  repeats_between y old answered closed new offer request first second said items more c k d s known ends a shown_so may =
-      let x = behind y old answered closed offer request first said items more c k s known ends a shown_so may in
+  repeats_between y old answered closed new offer request first second said items more c k d s known ends a shown_so =
+      let x : Behind y answered closed offer request first = elim (unless_idle (opt meaning key barrier) y offer (One request) shown_so) [
+        | inl it ↦ behind y old answered closed offer request first said items more c k s known ends a it.0 it.1
+        | inr idle ↦ behind_idle y old answered closed offer request first said c k s a idle
+      ] in
       repeats_either (Fresh closed new offer request (Ok second) d (digests_of (opt meaning key barrier) x.two.after)) y answered closed new offer request first second x d a refl
 
   -- the items when the checkpoint was over
@@ -330,13 +345,27 @@ module _ (meaning : Meaning) (key barrier : List ℕ) (all others : List (List �
         may = may_close_front all i y front.more later (subst (λ (xs : List Item). MayClose all i y xs) (sym same) may);
       }
 
+  -- the first two, where the register's items are known at the end, and the second call left those of the checkpoint in front
+  pub behind_seen : (y : History) (old answered closed new : Standing) (offer request : List ℕ) (first : BatchAnswer) (said : Said) (items more there later : List Item) → CallsOn Opt meaning old answered offer (One request) (Ok first) → ChecksOn answered closed (Ok said)
+      → closed.items ≡ Some there → new.items ≡ Some (there ++ later)
+      → StandsFor (opt meaning key barrier) old y → old.items ≡ Some items → new.items ≡ Some (standing_items y.is_open items ++ more)
+      → AreAsked all others asked (opt meaning key barrier) y offer (One request) → AreShownUnlessIdle all others (opt meaning key barrier) y offer (One request) more
+      → Behind y answered closed offer request first
+  behind_seen y old answered closed new offer request first said items more there later c k shown_there t s known ends a shown_so =
+      elim (unless_idle (opt meaning key barrier) y offer (One request) shown_so) [
+        | inl it ↦
+            let before = seen_before y old answered closed new offer request first said items more there later c k shown_there t s known ends it.0 it.1 in
+            behind y old answered closed offer request first said items before.more c k s known before.is a before.shown_are before.may
+        | inr idle ↦ behind_idle y old answered closed offer request first said c k s a idle
+      ]
+
   -- the second reply, where it is told as a repeat, and the register's items are known at the end
   pub repeats_shown : (y : History) (old answered closed new : Standing) (offer request : List ℕ) (first second : BatchAnswer) (said : Said) (items more : List Item) → CallsOn Opt meaning old answered offer (One request) (Ok first) → ChecksOn answered closed (Ok said) → CallsOn Opt meaning closed new offer (One request) (Ok second) → second.again ≡ true
       → StandsFor (opt meaning key barrier) old y → old.items ≡ Some items → new.items ≡ Some (standing_items y.is_open items ++ more)
-      → AreAsked all others asked (opt meaning key barrier) y offer (One request) → AreShown all others (opt meaning key barrier) y more → MayClose all (opt meaning key barrier) y more
+      → AreAsked all others asked (opt meaning key barrier) y offer (One request) → AreShownUnlessIdle all others (opt meaning key barrier) y offer (One request) more
       → RepeatsReply (opt meaning key barrier) y new (One request) first second
-  repeats_shown y old answered closed new offer request first second said items more c k r again s known ends a shown_so may =
+  repeats_shown y old answered closed new offer request first second said items more c k r again s known ends a shown_so =
       let x = reached y old answered closed offer request first said items c k s known in
       let t = repeat_shows closed new offer request second r x.at x.stands again x.there x.known in
-      let before = seen_before y old answered closed new offer request first said items more x.there t.0 c k x.known t.1 s known ends shown_so may in
-      repeats_between y old answered closed new offer request first second said items before.more c k r s known before.is a before.shown_are before.may
+      let z = behind_seen y old answered closed new offer request first said items more x.there t.0 c k x.known t.1 s known ends a shown_so in
+      repeats_either (Fresh closed new offer request (Ok second) r (digests_of (opt meaning key barrier) z.two.after)) y answered closed new offer request first second z r a refl

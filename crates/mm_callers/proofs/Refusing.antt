@@ -94,7 +94,7 @@ left_by : (f : Option StepFault) (i : Instance) (y after : History) (old new : S
     → (f ≡ None → after.batches ≡ y.batches) → IsLeft y.batches b after.batches old new
 left_by None i y after old new offer b why blames c calm = inl (calm refl)
 left_by (Some fault) i y after old new offer b why rose (kept same gives) calm = inl same
-left_by (Some fault) i y after old new offer b why rose (grown content right at more gives) calm = inr (more, rose)
+left_by (Some fault) i y after old new offer b why rose (grown content right at more gives) calm = inr (more, omega (arith, rose))
 
 -- one call
 pub refuses_once : (all others : List (List ℕ)) (asked : List Batch) (i : Instance) (y : History) (old new : Standing) (offer : List ℕ) (b : Batch) (why : Refusal) → Blames (fault_of why) old.faults new.faults
@@ -106,11 +106,11 @@ refuses_once all others asked i y old new offer b why blames x = record {
 }
 
 -- a count that rose stays risen
-pub rose_on : (f : Option StepFault) (before middle now : ℕ) → Rose before middle → Blames f middle now → Rose before now
-rose_on None before middle now rose same = subst (λ (n : ℕ). counted before ≤ n) (sym same) rose
+pub rose_on : (f : Option StepFault) (before middle now : ℕ) → Rose before middle → Blames f middle now → counted before ≤ now
+rose_on None before middle now rose same = omega (arith, rose, same)
 rose_on (Some fault) before middle now rose later = omega (arith, rose, later)
 
-left_again : (i : Instance) (y middle after : History) (old new : Standing) (offer : List ℕ) (b : Batch) (first : Result BatchAnswer Refusal) (why : Refusal) → Rose old.faults new.faults
+left_again : (i : Instance) (y middle after : History) (old new : Standing) (offer : List ℕ) (b : Batch) (first : Result BatchAnswer Refusal) (why : Refusal) → counted old.faults ≤ new.faults
     → Comes i y offer b middle first → Comes i middle offer b after (Err why) → IsLeft y.batches b after.batches old new
 left_again i y middle after old new offer b first why rose (kept same none) (kept also gives) = inl (also ∙ same)
 left_again i y middle after old new offer b first why rose (kept same none) (grown content right at more gives) =

@@ -1,7 +1,7 @@
 -- What callers of Basic get, by lists alone.
-use Rattle.std.specs.Prelude.{◌≡◌, ℕ, Bool, false, List, [], ◌∷◌, ◌++◌, Option, None, Some, Result, Ok, Err, ◌⊎◌, if◌then◌else◌}
+use Rattle.std.specs.Prelude.{◌≡◌, ◌≤◌, ℕ, Bool, false, List, [], ◌∷◌, ◌++◌, Option, None, Some, Result, Ok, Err, ◌⊎◌, if◌then◌else◌}
 use Rattle.std.specs.List.{Contains}
-use Rattle.mm_base.specs.Faults.{Rose}
+use Rattle.mm_base.specs.Faults.{counted}
 use Rattle.mm_platform.specs.declared.fault.StepFault.{StepFault}
 use Rattle.mm_platform.specs.Standing.{Standing}
 use Rattle.mm_module.specs.Meaning.{Meaning}
@@ -66,9 +66,9 @@ pub record Stays (all others : List (List ℕ)) (asked : List Batch) (i : Instan
   pub stands : StandsFor i new after
   pub asked_then : AreAsked all others asked i after offer b
 
--- The batches are as before; or this one was committed too, and a fault was counted.
+-- The batches are as before; or this one was committed too, and at least one fault was counted.
 abbrev pub IsLeft : List Batch → Batch → List Batch → Standing → Standing → Type 0
-IsLeft before b after old new = (after ≡ before) ⊎ ((after ≡ before ++ b ∷ []) × Rose old.faults new.faults)
+IsLeft before b after old new = (after ≡ before) ⊎ ((after ≡ before ++ b ∷ []) × (counted old.faults ≤ new.faults))
 
 -- A call ended with an error, as did what was made of it once more after a fault: what stands, and what is told.
 pub record Refuses (all others : List (List ℕ)) (asked : List Batch) (i : Instance) (y : History) (old new : Standing) (offer : List ℕ)

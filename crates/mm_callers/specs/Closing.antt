@@ -17,7 +17,7 @@ use Rattle.mm_model.specs.declared.refusal.Refusal.{Refusal}
 use Rattle.mm_call.specs.Asked.{counted_part}
 use Rattle.mm_call.specs.CallsOn.{CallsOn}
 use Rattle.mm_call.specs.Leaving.{whole}
-use Rattle.mm_call.specs.Premises.{AreAsked, AreShown}
+use Rattle.mm_call.specs.Premises.{AreAsked, AreShown, IsIdle}
 use Rattle.mm_call.specs.Refusals.{fault_of}
 use Rattle.mm_call.specs.Tied.{standing_items}
 use Rattle.mm_opt.specs.declared.segment.Checkpointed.{Checkpointed}
@@ -38,6 +38,12 @@ closing_messages anchor register (v ∷ values) = anchored_message anchor regist
 -- What is asked besides for a checkpoint: the messages by which it may close the segment, at any of these items.
 abbrev pub MayClose : List (List ℕ) → Instance → History → List Item → Type 0
 MayClose all i y more = Within (closing_messages (cell_digest_of i Opt y) (register_value_of i (counted_part y)) (item_values more)) all
+
+-- What is asked of the items that the register shows. Where the first call is idle nothing is: it leaves no segment open,
+-- so there is none to close, and the second call is idle too.
+abbrev pub AreShownUnlessIdle : List (List ℕ) → List (List ℕ) → Instance → History → List ℕ → Batch → List Item → Type 0
+AreShownUnlessIdle all others i y offer b more =
+    (IsIdle i y offer b → ⊥) → AreShown all others i y more × MayClose all i y more
 
 -- The second reply is the first one again: it is told as a repeat, at the first one's position and with its outputs, and
 -- the batch stands once in the run that it is of.
@@ -90,15 +96,15 @@ abbrev pub RepeatsBehind : Meaning → Standing → Standing → List ℕ → Li
 RepeatsBehind meaning old new offer request (Err why) =
     (key barrier : List ℕ) (y : History) (all others : List (List ℕ)) (asked : List Batch) (items more : List Item) →
     StandsFor (opt meaning key barrier) old y → old.items ≡ Some items → new.items ≡ Some (standing_items y.is_open items ++ more) →
-    AreAsked all others asked (opt meaning key barrier) y offer (One request) → AreShown all others (opt meaning key barrier) y more →
-    MayClose all (opt meaning key barrier) y more →
+    AreAsked all others asked (opt meaning key barrier) y offer (One request) →
+    AreShownUnlessIdle all others (opt meaning key barrier) y offer (One request) more →
     RefusesRepeat all others asked (opt meaning key barrier) y old new offer (One request) why
 RepeatsBehind meaning old new offer request (Ok replies) =
     replies.second.again ≡ true →
     (key barrier : List ℕ) (y : History) (all others : List (List ℕ)) (asked : List Batch) (items more : List Item) →
     StandsFor (opt meaning key barrier) old y → old.items ≡ Some items → new.items ≡ Some (standing_items y.is_open items ++ more) →
-    AreAsked all others asked (opt meaning key barrier) y offer (One request) → AreShown all others (opt meaning key barrier) y more →
-    MayClose all (opt meaning key barrier) y more →
+    AreAsked all others asked (opt meaning key barrier) y offer (One request) →
+    AreShownUnlessIdle all others (opt meaning key barrier) y offer (One request) more →
     RepeatsReply (opt meaning key barrier) y new (One request) (whole replies.first) (whole replies.second)
 
 -- It is told as a repeat. A request that is taken as new empties the register, so what was in it when the segment was
@@ -113,8 +119,8 @@ pub record ClosesBetween (meaning : Meaning) (old new : Standing) (offer request
   pub asks_again : CallsOn Opt meaning closed new offer (One request) (Ok (whole second))
   pub repeats : (key barrier : List ℕ) (y : History) (all others : List (List ℕ)) (asked : List Batch) (items more : List Item) →
       StandsFor (opt meaning key barrier) old y → old.items ≡ Some items → closed.items ≡ Some (standing_items y.is_open items ++ more) →
-      AreAsked all others asked (opt meaning key barrier) y offer (One request) → AreShown all others (opt meaning key barrier) y more →
-      MayClose all (opt meaning key barrier) y more →
+      AreAsked all others asked (opt meaning key barrier) y offer (One request) →
+      AreShownUnlessIdle all others (opt meaning key barrier) y offer (One request) more →
       RepeatsReply (opt meaning key barrier) y new (One request) (whole first) (whole second)
 
 abbrev pub NeverTwice : Meaning → Standing → Standing → List ℕ → List ℕ → Result Replies Halted → Type 0

@@ -19,22 +19,25 @@ use Rattle.mm_model.specs.declared.refusal.Refusal.{Refusal}
 use Rattle.mm_model.specs.declared.refusal.Refusal.TheVariants.{Memory}
 use Rattle.mm_call.specs.Asked.{counted_part}
 use Rattle.mm_call.specs.Leaving.{whole, whole_in, IsAnswered}
-use Rattle.mm_call.specs.Premises.{AreAsked, AreShown}
+use Rattle.mm_call.specs.Premises.{AreAsked, AreShown, IsIdle}
 use Rattle.mm_call.specs.Tied.{standing_items, foreign_items}
 use Rattle.mm_callers.specs.Basic.{AnswersOnce, AnswersNext, IsOfRun, Refuses, RefusesNext}
 use Rattle.mm_callers.specs.Complete.{IsWelcome, batches_then}
 
--- One call, or one that is made again after a device's fault; inside a segment or across an opening.
+-- One call, or one that is made again after a device's fault; inside a segment or across an opening. Where it is idle,
+-- as a repeat with no segment open, nothing is asked of the register's items.
 abbrev pub AsksOnce : Meaning → Standing → Standing → List ℕ → List ℕ → Result Answer Refusal → Type 0
 AsksOnce meaning old new offer request (Err why) =
     (key barrier : List ℕ) (y : History) (all others : List (List ℕ)) (asked : List Batch) (items more : List Item) →
     StandsFor (opt meaning key barrier) old y → old.items ≡ Some items → new.items ≡ Some (standing_items y.is_open items ++ more) →
-    AreAsked all others asked (opt meaning key barrier) y offer (One request) → AreShown all others (opt meaning key barrier) y more →
+    AreAsked all others asked (opt meaning key barrier) y offer (One request) →
+    ((IsIdle (opt meaning key barrier) y offer (One request) → ⊥) → AreShown all others (opt meaning key barrier) y more) →
     Refuses all others asked (opt meaning key barrier) y old new offer (One request) why
 AsksOnce meaning old new offer request (Ok answer) =
     (key barrier : List ℕ) (y : History) (all others : List (List ℕ)) (asked : List Batch) (items more : List Item) →
     StandsFor (opt meaning key barrier) old y → old.items ≡ Some items → new.items ≡ Some (standing_items y.is_open items ++ more) →
-    AreAsked all others asked (opt meaning key barrier) y offer (One request) → AreShown all others (opt meaning key barrier) y more →
+    AreAsked all others asked (opt meaning key barrier) y offer (One request) →
+    ((IsIdle (opt meaning key barrier) y offer (One request) → ⊥) → AreShown all others (opt meaning key barrier) y more) →
     AnswersOnce (opt meaning key barrier) y new (One request) (whole answer)
 
 -- What is asked besides for a second batch, on the snapshot of the first answer: the messages at the place that this
@@ -87,11 +90,13 @@ AsksInMemory meaning old new offer request result =
     old.is_on ≡ true → AnswersUndisturbed meaning old new offer request result
 
 -- Over any platform: a call on a welcome offer is answered, unless memory was wanting, or a device's step failed, which was
--- counted; where nobody else extended the register inside a segment.
+-- counted; where nobody else extended the register inside a segment. Of a repeat with no segment open nothing is asked of
+-- the register's items.
 abbrev pub AsksWelcome : Meaning → Standing → Standing → List ℕ → List ℕ → Result Answer Refusal → Type 0
 AsksWelcome meaning old new offer request result =
     (key barrier : List ℕ) (y : History) (all others : List (List ℕ)) (asked : List Batch) (items more : List Item) (again : Bool) →
     is_long (One request) ≡ false → StandsFor (opt meaning key barrier) old y →
     old.items ≡ Some items → new.items ≡ Some (standing_items y.is_open items ++ more) → (y.is_open ≡ true → foreign_items more ≡ []) →
-    AreAsked all others asked (opt meaning key barrier) y offer (One request) → AreShown all others (opt meaning key barrier) y more →
+    AreAsked all others asked (opt meaning key barrier) y offer (One request) →
+    (((y.is_open ≡ false) × (again ≡ true) → ⊥) → AreShown all others (opt meaning key barrier) y more) →
     IsWelcome (opt meaning key barrier) y offer (One request) again → IsAnswered (whole_in result) old new

@@ -9,7 +9,7 @@ use Rattle.mm_store.specs.Slots.{Slots, with_slot, slot_read}
 use Rattle.mm_store.specs.Unsynced.{Unsynced, marking, MarksAlone}
 use Rattle.mm_store.specs.Kept.{StoreStanding}
 
--- the count of faults rose where the call failed, and is as before after Ok and where memory was wanting
+-- the count of faults rose by exactly one where the call failed, and is as before after Ok and where memory was wanting
 abbrev pub CountsFailures : {T : Type 0} → ℕ → ℕ → Result T StoreFault → Type 0
 CountsFailures before now (Ok _) = now ≡ before
 CountsFailures before now (Err Memory) = now ≡ before

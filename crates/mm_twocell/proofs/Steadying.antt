@@ -33,19 +33,19 @@ steadies_by {act} {old} {new} {fault} g (Some plan) known on quiet =
     }
 
 -- the memory that has this register
-abbrev pub torn_of : List ℕ → ℕ → ℕ → List ℕ → Standing → Torn
-torn_of bytes faults ahead leaves register = record {
-  standing = record register { cell = Some bytes; faults = faults; plan = None };
+abbrev pub torn_of : List ℕ → ℕ → ℕ → ℕ → List ℕ → Standing → Torn
+torn_of bytes cycles faults ahead leaves register = record {
+  standing = record register { cell = Some bytes; cycles = cycles; faults = faults; plan = None };
   ahead = ahead;
   leaves = leaves;
 }
 
-steps_by : (act : Act) (old new : Standing) (fault : Option StepFault) (bytes : List ℕ) (faults ahead : ℕ) (leaves : List ℕ)
+steps_by : (act : Act) (old new : Standing) (fault : Option StepFault) (bytes : List ℕ) (cycles faults ahead : ℕ) (leaves : List ℕ)
     → ((made : Bool) (cell : Option (List ℕ)) → cell_after act made cell ≡ cell) → IsSteady old → Goes act old new fault
-    → StepsRegister act (torn_of bytes faults ahead leaves old) (torn_of bytes faults ahead leaves new)
-steps_by act old new fault bytes faults ahead leaves same steady g =
+    → StepsRegister act (torn_of bytes cycles faults ahead leaves old) (torn_of bytes cycles faults ahead leaves new)
+steps_by act old new fault bytes cycles faults ahead leaves same steady g =
     let s = steadies_by g old.plan refl steady.0 steady.1 in
-    let t : Standing = told_by (torn_of bytes faults ahead leaves old) in
+    let t : Standing = told_by (torn_of bytes cycles faults ahead leaves old) in
     let made : makes t ≡ true = ap (λ (o : Bool). will_be_made o quiet_plan) steady.0 in
     let brings : will_bring old.is_on quiet_plan ≡ [] = ap (λ (o : Bool). will_bring o quiet_plan) steady.0 in
     let answers : next_answer t ≡ None = ap (λ (o : Bool). will_answer o quiet_plan) steady.0 in
@@ -57,6 +57,7 @@ steps_by act old new fault bytes faults ahead leaves same steady g =
         is_on = s.on ∙ sym (ap (λ (o : Bool). will_be_on o quiet_plan) steady.0);
         steps = g.steps;
         writes = g.writes;
+        cycles = refl;
         faults = sym (ap (λ (f : Option StepFault). faults_after f faults) answers);
         plan = refl;
       };
@@ -64,20 +65,20 @@ steps_by act old new fault bytes faults ahead leaves same steady g =
       leaves = refl;
     }
 
-pub read_steps : (old new : Standing) (fault : Option StepFault) (bytes : List ℕ) (faults ahead : ℕ) (leaves : List ℕ)
+pub read_steps : (old new : Standing) (fault : Option StepFault) (bytes : List ℕ) (cycles faults ahead : ℕ) (leaves : List ℕ)
     → IsSteady old → Goes ReadRegister old new fault
-    → StepsRegister ReadRegister (torn_of bytes faults ahead leaves old) (torn_of bytes faults ahead leaves new)
-read_steps old new fault bytes faults ahead leaves steady g =
-    steps_by ReadRegister old new fault bytes faults ahead leaves (λ _ _. refl) steady g
+    → StepsRegister ReadRegister (torn_of bytes cycles faults ahead leaves old) (torn_of bytes cycles faults ahead leaves new)
+read_steps old new fault bytes cycles faults ahead leaves steady g =
+    steps_by ReadRegister old new fault bytes cycles faults ahead leaves (λ _ _. refl) steady g
 
-pub reset_steps : (old new : Standing) (fault : Option StepFault) (bytes : List ℕ) (faults ahead : ℕ) (leaves : List ℕ)
+pub reset_steps : (old new : Standing) (fault : Option StepFault) (bytes : List ℕ) (cycles faults ahead : ℕ) (leaves : List ℕ)
     → IsSteady old → Goes ResetRegister old new fault
-    → StepsRegister ResetRegister (torn_of bytes faults ahead leaves old) (torn_of bytes faults ahead leaves new)
-reset_steps old new fault bytes faults ahead leaves steady g =
-    steps_by ResetRegister old new fault bytes faults ahead leaves (λ _ _. refl) steady g
+    → StepsRegister ResetRegister (torn_of bytes cycles faults ahead leaves old) (torn_of bytes cycles faults ahead leaves new)
+reset_steps old new fault bytes cycles faults ahead leaves steady g =
+    steps_by ResetRegister old new fault bytes cycles faults ahead leaves (λ _ _. refl) steady g
 
-pub extend_steps : (value : List ℕ) (old new : Standing) (fault : Option StepFault) (bytes : List ℕ) (faults ahead : ℕ) (leaves : List ℕ)
+pub extend_steps : (value : List ℕ) (old new : Standing) (fault : Option StepFault) (bytes : List ℕ) (cycles faults ahead : ℕ) (leaves : List ℕ)
     → IsSteady old → Goes (ExtendRegister value) old new fault
-    → StepsRegister (ExtendRegister value) (torn_of bytes faults ahead leaves old) (torn_of bytes faults ahead leaves new)
-extend_steps value old new fault bytes faults ahead leaves steady g =
-    steps_by (ExtendRegister value) old new fault bytes faults ahead leaves (λ _ _. refl) steady g
+    → StepsRegister (ExtendRegister value) (torn_of bytes cycles faults ahead leaves old) (torn_of bytes cycles faults ahead leaves new)
+extend_steps value old new fault bytes cycles faults ahead leaves steady g =
+    steps_by (ExtendRegister value) old new fault bytes cycles faults ahead leaves (λ _ _. refl) steady g

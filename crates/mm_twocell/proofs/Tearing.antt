@@ -23,7 +23,7 @@ told_is it r = ap whole_bytes r.cell ∙ whole_is r.bytes r.size
 faults_rose : (it : Torn) → will_fail it ≡ true → Rose it.standing.faults (call_made it).standing.faults
 faults_rose it w =
     let f : ℕ = it.standing.faults in
-    subst (λ (b : Bool). counted f ≤ (if b then counted f else f)) (sym w) (omega arith)
+    ap (λ (b : Bool). if b then counted f else f) w
 
 -- the told bytes once a part was put in place
 told_put : (at : ℕ) (part : List ℕ) (it : Torn) (r : IsUsable it) → at + length part ≤ 209
@@ -61,6 +61,7 @@ write_fails at bytes old mid new h r w e f =
         items = sym (beside-none old.standing.items);
         steps = refl;
         writes = refl;
+        cycles = refl;
         room = omega arith;
         plan = refl;
       };

@@ -38,6 +38,7 @@ leaves_then old one two a b = record {
   items = b.items ∙ ap (beside b.others) a.items ∙ beside-beside a.others b.others old.items;
   steps = b.steps ∙ a.steps;
   writes = b.writes ∙ a.writes;
+  cycles = b.cycles ∙ a.cycles;
   room = omega (arith, a.room, b.room);
   plan = b.plan ∙ a.plan;
 }

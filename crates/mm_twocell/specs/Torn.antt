@@ -23,6 +23,7 @@ first_torn = record {
     is_on = true;
     steps = 0;
     writes = 0;
+    cycles = 0;
     spare = 0;
     faults = 0;
     plan = None;
@@ -57,6 +58,10 @@ call_made it = record it {
   standing = record it.standing { faults = if will_fail it then counted it.standing.faults else it.standing.faults };
   ahead = it.ahead - 1;
 }
+
+-- what stands once a loss of power was called that fails
+abbrev pub cycle_called : Torn → Torn
+cycle_called it = let now : Torn = call_made it in record now { standing = record now.standing { cycles = counted it.standing.cycles } }
 
 -- with these bytes in place of those from `at` on
 abbrev pub put_in : ℕ → List ℕ → Torn → Torn

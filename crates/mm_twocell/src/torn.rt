@@ -5,7 +5,7 @@ ghost use Rattle.std.specs.Result.{result_err};
 ghost use Rattle.mm_platform.specs.Standing.{Item, register_after, item_values};
 ghost use Rattle.mm_platform.specs.Steps.{Cycles, Goes, Readies, ReadRegister, ResetRegister, ExtendRegister};
 ghost use Rattle.mm_platform.specs.Raw.{range_of, spliced, ReadsRaw, WritesRaw};
-ghost use Rattle.mm_twocell.specs.Torn.{Torn, IsUsable, IsSteady, first_torn, told_by, will_fail, call_made, put_in, torn_after, StepsRegister};
+ghost use Rattle.mm_twocell.specs.Torn.{Torn, IsUsable, IsSteady, first_torn, told_by, will_fail, call_made, cycle_called, put_in, torn_after, StepsRegister};
 ghost use Rattle.mm_twocell.specs.Wholes.{told_size};
 
 use mm_base::{CELL_LENGTH, Memory};
@@ -20,6 +20,7 @@ pub struct MemRaw {
     bytes: [u8; 209],
     // Only its register is used.
     register: MemPlatform,
+    cycles: u64,
     faults: u64,
     ahead: u64,
     leaves: Vec<u8>,
@@ -29,7 +30,12 @@ impl Model for MemRaw {
     ghost Value = { Torn };
 
     ghost view = { λ it. record {
-      standing = record it.register { cell = Some it.bytes; faults = it.faults; plan = None };
+      standing = record it.register {
+        cell = Some it.bytes;
+        cycles = it.cycles;
+        faults = it.faults;
+        plan = None;
+      };
       ahead = it.ahead;
       leaves = it.leaves.items;
     } };
@@ -45,6 +51,7 @@ impl MemRaw {
         MemRaw {
             bytes: [0; 209],
             register: MemPlatform::new(alloc, &[0; CELL_LENGTH]),
+            cycles: 0,
             faults: 0,
             ahead: 0,
             leaves: Vec::new(alloc),
@@ -153,10 +160,11 @@ impl RawNv for MemRaw {
     fn raw_cycle(&mut self) -> Result<(), StepFault>
         ensures goes { Cycles (told_by self.old) (told_by self.new) (result_err result) }
         ensures failing { IsErr result ↔ (self.old.ahead ≡ 1) }
-        ensures failed { OnErr result (self.new ≡ call_made self.old) }
+        ensures failed { OnErr result (self.new ≡ cycle_called self.old) }
         ensures ahead { self.new.ahead ≡ self.old.ahead - 1 }
         ensures leaves { self.new.leaves ≡ self.old.leaves }
     {
+        self.cycles = self.cycles.saturating_add(1);
         if self.fails() {
             return Err(StepFault::Failed);
         }
