@@ -89,9 +89,10 @@ fn done<P: Platform, T: Store, S: Source, E: Source, K: Sink>(
 /// Does what the words after the program's name say, writes the stop line of any other status than `Done` and
 /// `WriteFault`, and answers the status. `replay` replays the schedule that the input gives, `gen NUMBER COUNT VARIANT
 /// MODULE` writes a schedule made from a number, `bulk` with the same words runs it and tells what came of it in five
-/// lines, `receipts KEY` checks the receipts that the input gives, `checkpoint` closes the platform's open segment,
-/// `init VARIANT MODULE` starts an instance on a blank platform, `run` serves the lines of the input by the instance,
-/// `power` lets the platform lose its power and get it back, and `--help` alone lists the forms of words.
+/// lines, `check` decides the premises of the schedule that the input gives and compares recorded replies, `receipts KEY`
+/// checks the receipts that the input gives, `checkpoint` closes the platform's open segment, `init VARIANT MODULE` starts
+/// an instance on a blank platform, `run` serves the lines of the input by the instance, `power` lets the platform lose
+/// its power and get it back, and `--help` alone lists the forms of words.
 ///
 /// Where the stop line can't be written the status stays that of the first cause.
 pub fn memoir<P: Platform, T: Store, S: Source, E: Source, K: Sink>(

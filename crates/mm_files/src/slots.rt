@@ -2,7 +2,7 @@
 
 ghost use Rattle.std.specs.Prelude.{◌<◌, ◌≤◌};
 
-use crate::disk::{open_to_read, open_to_write, read_at, sync_folder, write_at};
+use crate::disk::{open_or_make, open_there, read_at, sync_folder, write_at};
 use std::fs::OpenFile;
 use std::io;
 use std::rt::Files;
@@ -41,22 +41,21 @@ impl<'a, R: Files> Slots<'a, R> {
         if let Some(length) = self.lengths[usize::from(slot)] {
             return Ok(u32::try_from(length).unwrap_or(u32::MAX));
         }
-        let Some(file) = open_to_read(self.files, name_of(slot))? else {
+        let Some((file, size)) = open_there(self.files, name_of(slot))? else {
             return Ok(0);
         };
         self.sync_file(slot, &file)?;
-        let size = file.metadata()?.len();
         Ok(u32::try_from(size).unwrap_or(u32::MAX))
     }
 
     /// Reads a page. Bytes past the slot's end are zero.
     pub fn read(&self, slot: u8, page: u16, into: &mut [u8; 256]) -> io::Result<()> {
         *into = [0; 256];
-        let Some(mut file) = open_to_read(self.files, name_of(slot))? else {
+        let Some((mut file, size)) = open_there(self.files, name_of(slot))? else {
             return Ok(());
         };
         let start = start_of(page);
-        let (front, _) = into.split_at_mut(part_of(file.metadata()?.len(), start));
+        let (front, _) = into.split_at_mut(part_of(size, start));
         read_at(&mut file, start, front)
     }
 
@@ -65,9 +64,8 @@ impl<'a, R: Files> Slots<'a, R> {
         requires { slot < 4 }
     {
         let length = self.forget(slot);
-        let mut file = open_to_write(self.files, name_of(slot))?;
+        let (mut file, size) = open_or_make(self.files, name_of(slot))?;
         let start = start_of(page);
-        let size = file.metadata()?.len();
         let (front, _) = bytes.split_at(size_set(bytes).max(part_of(size, start)));
         write_at(&mut file, start, front)?;
         self.lengths[usize::from(slot)] = Some(size.max(length).max(start + PAGE));
@@ -80,8 +78,8 @@ impl<'a, R: Files> Slots<'a, R> {
         requires { slot < 4 }
     {
         let _ = self.forget(slot);
-        let file = open_to_write(self.files, name_of(slot))?;
-        if file.metadata()?.len() == length {
+        let (file, size) = open_or_make(self.files, name_of(slot))?;
+        if size == length {
             return Ok(());
         }
         file.set_len(length)
@@ -94,8 +92,8 @@ impl<'a, R: Files> Slots<'a, R> {
         if let Some(length) = self.lengths[usize::from(slot)] {
             self.set_length(slot, length)?;
         }
-        match open_to_read(self.files, name_of(slot))? {
-            Some(file) => self.sync_file(slot, &file),
+        match open_there(self.files, name_of(slot))? {
+            Some((file, _)) => self.sync_file(slot, &file),
             None => Ok(()),
         }
     }

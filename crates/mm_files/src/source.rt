@@ -5,7 +5,8 @@ ghost use Rattle.std.specs.Prelude.{◌≡◌, ◌≤◌, None, IfOk, length};
 use crate::counting::counted;
 use mm_base::{Failed, Source};
 use std::fs;
-use std::io::{self, Read};
+use std::io::{self, ErrorKind, Read};
+use std::os::unix::fs::FileTypeExt;
 use std::rt::Files;
 
 /// The bytes of a file of the current directory. They aren't told.
@@ -18,7 +19,8 @@ pub struct FileSource<'a, R: Files> {
 }
 
 impl<'a, R: Files> FileSource<'a, R> {
-    /// A source over the file of this name, which is opened at the first call. Where there is none that call fails.
+    /// A source over the file of this name, which is opened at the first call. Where there is none, or a FIFO or a
+    /// folder is in its place, that call fails.
     pub fn new(files: &'a R, name: &'a str) -> FileSource<'a, R>
         ensures { result.faults ≡ 0 }
     {
@@ -30,6 +32,14 @@ impl<'a, R: Files> FileSource<'a, R> {
         }
     }
 
+    // Opens the file, which may be one that can't be written. A FIFO isn't opened, since that would wait.
+    fn open(&self) -> io::Result<R::File> {
+        if fs::metadata(self.files, self.name)?.file_type().is_fifo() {
+            return Err(io::Error::from(ErrorKind::InvalidInput));
+        }
+        fs::open(self.files, self.name)
+    }
+
     // Reads the next bytes.
     fn read(&mut self, buf: &mut [u8]) -> io::Result<usize>
         ensures within { IfOk result (λ count. count ≤ length buf.new) }
@@ -38,7 +48,7 @@ impl<'a, R: Files> FileSource<'a, R> {
         if let Some(file) = &mut self.file {
             return file.read(buf);
         }
-        let mut file = fs::open(self.files, self.name)?;
+        let mut file = self.open()?;
         let count = file.read(buf)?;
         self.file = Some(file);
         Ok(count)

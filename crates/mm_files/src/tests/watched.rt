@@ -6,6 +6,7 @@ use std::alloc::Allocator;
 use std::cell::Cell;
 use std::fs::{self, File, Metadata, OpenFile, OpenOptions};
 use std::io::{self, ErrorKind, Read, Seek, SeekFrom, Write};
+use std::os::unix::fs::symlink;
 use std::process;
 use std::rt::Files;
 
@@ -19,7 +20,7 @@ pub struct Watched<'r> {
     // The calls that are still to come, and whether those that came were the ones that were to.
     ahead: Cell<&'static str>,
     is_met: Cell<bool>,
-    failing: Cell<u64>,
+    failing: Cell<u16>,
 }
 
 impl<'r> Watched<'r> {
@@ -47,9 +48,25 @@ impl<'r> Watched<'r> {
         self.is_met.get() && self.ahead.get().is_empty()
     }
 
-    /// Lets the call with this number fail, counted from 1 from now on.
-    pub fn fail_at(&self, call: u64) {
+    /// Lets the call with this number fail, counted from 1 from now on. It can always be done.
+    pub fn fail_at(&self, call: u16) -> bool {
         self.failing.set(call);
+        true
+    }
+
+    /// Puts a file of so many bytes 5, at most 256, into the folder.
+    pub fn put(&self, name: &str, count: u16) -> io::Result<()> {
+        let bytes = [5; 256];
+        let (front, _) = bytes.split_at(usize::from(count).min(256));
+        let path = self.path(name)?;
+        fs::write(self.rt, path.as_str(), front)
+    }
+
+    /// Puts a device in a file's place.
+    pub fn put_device(&self, name: &str) -> io::Result<()> {
+        let path = self.path(name)?;
+        fs::remove_file(self.rt, path.as_str())?;
+        symlink(self.rt, "/dev/null", path.as_str())
     }
 
     /// Takes the folder away.
@@ -78,9 +95,9 @@ impl<'r> Watched<'r> {
         fs::rename(self.rt, from.as_str(), to.as_str())
     }
 
-    fn write(&self, name: &str, bytes: &[u8]) -> io::Result<()> {
+    fn metadata(&self, name: &str) -> io::Result<Metadata> {
         let path = self.path(name)?;
-        fs::write(self.rt, path.as_str(), bytes)
+        fs::metadata(self.rt, path.as_str())
     }
 
     // Takes the next word of the calls that are to come.
@@ -122,11 +139,6 @@ pub fn is_number(word: &str, number: u64) -> bool {
     read_decimal(word.as_bytes()) == Some(number)
 }
 
-/// Puts a file into the folder.
-pub fn put(mount: &Mount<'_>, name: &str, bytes: &[u8]) -> io::Result<()> {
-    mount.0.write(name, bytes)
-}
-
 /// The file system that the adapters see.
 #[derive(Clone, Copy)]
 pub struct Mount<'a>(pub &'a Watched<'a>);
@@ -150,8 +162,9 @@ impl<'a> Files for Mount<'a> {
         Err(io::Error::from(ErrorKind::Unsupported))
     }
 
-    fn metadata(&self, _path: &str) -> io::Result<Metadata> {
-        Err(io::Error::from(ErrorKind::Unsupported))
+    fn metadata(&self, path: &str) -> io::Result<Metadata> {
+        self.0.meet("look", path)?;
+        self.0.metadata(path)
     }
 
     fn symlink_metadata(&self, _path: &str) -> io::Result<Metadata> {
