@@ -303,7 +303,7 @@ handing refusal.Stale = other refl
 handing refusal.Full = other refl
 
 -- what was ready is given, where no step failed
-abbrev GivenBy : BatchAnswer → Result BatchAnswer StepFault → Type 0
+abbrev pub GivenBy : BatchAnswer → Result BatchAnswer StepFault → Type 0
 GivenBy answer (Ok it) = it ≡ answer
 GivenBy answer (Err fault) = Unit {0}
 
@@ -397,7 +397,7 @@ placed_trail (Ok it) meaning key barrier d b opening old middle new written f g 
     (subst (λ (x : Digests). IsCell (cell_at i x)) (sym kept) spells)
     (ap (λ (o : Opening). o.next) p.gives ∙ next_is ∙ ap (λ (c : Cell). cell_spelling c) (opened_same i d e r kept)))))
 
-emptied_trail : (emptied : Result Opening StepFault) (meaning : Meaning) (key barrier : List ℕ) (d : Digests) (b : Batch) (opening : Opening) (old middle new : Standing) (written : Result BatchAnswer StepFault) (f g : Fate) (plan : Plan) → d.flag ≡ false → IsCell (cell_at (opt meaning key barrier) d) → opening.value.bytes ≡ guard barrier b → opening.next ≡ cell_spelling (opened_at (opt meaning key barrier) d) → (x : Empties opening old middle emptied) → (on : EmptiedOn emptied middle new written)
+pub emptied_trail : (emptied : Result Opening StepFault) (meaning : Meaning) (key barrier : List ℕ) (d : Digests) (b : Batch) (opening : Opening) (old middle new : Standing) (written : Result BatchAnswer StepFault) (f g : Fate) (plan : Plan) → d.flag ≡ false → IsCell (cell_at (opt meaning key barrier) d) → opening.value.bytes ≡ guard barrier b → opening.next ≡ cell_spelling (opened_at (opt meaning key barrier) d) → (x : Empties opening old middle emptied) → (on : EmptiedOn emptied middle new written)
     → Trail (opt meaning key barrier) d (met (f ∷ g ∷ fate_of ResetRegister old middle (result_err emptied) x.goes ∷ emptied_fates emptied middle new written on) 1 plan) 3 (Changes Reset ∷ Changes (Placed b) ∷ Writes (Commit b) ∷ []) old new (result_err written)
 emptied_trail (Err fault) meaning key barrier d b opening old middle new written f g plan shut spells value_is next_is x on =
     let i : Instance = opt meaning key barrier in
@@ -427,7 +427,7 @@ placed_given (Err fault) opening old middle new written p on = subst (λ (w : Re
 placed_given (Ok it) opening old middle new written p on =
     subst (λ (o : Opening). GivenBy o.answer written) p.gives (made_given it.answer written on.gives)
 
-emptied_given : (emptied : Result Opening StepFault) (opening : Opening) (old middle new : Standing) (written : Result BatchAnswer StepFault) → Empties opening old middle emptied → EmptiedOn emptied middle new written → GivenBy opening.answer written
+pub emptied_given : (emptied : Result Opening StepFault) (opening : Opening) (old middle new : Standing) (written : Result BatchAnswer StepFault) → Empties opening old middle emptied → EmptiedOn emptied middle new written → GivenBy opening.answer written
 emptied_given (Err fault) opening old middle new written x on = subst (λ (w : Result BatchAnswer StepFault). GivenBy opening.answer w) (sym on.1) tt
 emptied_given (Ok it) opening old middle new written x on =
     subst (λ (o : Opening). GivenBy o.answer written) x.gives (placed_given on.placed it middle on.middle new written on.places on.on)

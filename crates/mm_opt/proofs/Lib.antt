@@ -15,3 +15,4 @@ pub mod Checking
 pub mod Finishing
 pub mod Completeness
 pub mod Asked
+pub mod Preparing

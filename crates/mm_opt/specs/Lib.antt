@@ -11,6 +11,7 @@ pub mod ChecksOn
 pub mod CheckpointTurnsOn
 pub mod Finishes
 pub mod Complete
+pub mod Prepares
 pub mod Asked
 pub mod Moved
 pub mod Closed

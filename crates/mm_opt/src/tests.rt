@@ -96,6 +96,13 @@ quiet parts 0 add 1 => ok 1 1, 1
 quiet parts 0 add 1 => again 1 1, 1
 quiet parts 1 add 1 => ok 2 2, 1
 quiet parts 0 add 1 => no 11, 1
+drop-3 parts 3 add 1 => no 3, 1
+quiet parts 3 add 1 => again 3 3, 1
+undone-3 parts 4 add 1 => no 3, 1
+quiet parts 4 add 1 => ok 4 4, 1
+new
+drop-5 parts 0 add 1 => no 3, 1
+quiet parts 0 add 1 => again 1 1, 1
 new
 quiet ask 0 add 1 => ok 1 1, 1
 quiet checkpoint 0 . => checkpointed, 2

@@ -9,6 +9,7 @@ ghost use Rattle.mm_call.specs.Refusals.{fault_in};
 ghost use Rattle.mm_call.specs.Leaving.{Blames, whole_in};
 ghost use Rattle.mm_opt.specs.declared.stage.Stage.TheVariants.{Begun};
 ghost use Rattle.mm_opt.specs.Asked.{AskedInOpt};
+ghost use Rattle.mm_opt.specs.Prepares.{PreparesOn, CommitsOn};
 ghost use Rattle.mm_opt.specs.Asks.{Reads, ReadsOn, MayCommit, LeavesRoom, CommitsFound, Calls};
 
 use crate::call::{Call, begin};
@@ -65,6 +66,9 @@ pub fn prepare<M: Module, P: Platform>(
     ensures reads { is_long (One request.now) ≡ false →
         Reads (M.meaning «module».now) (P.standing platform.old) (P.standing platform.new)
         offer.now (One request.now) result }
+    ensures goes { is_long (One request.now) ≡ false →
+        PreparesOn (M.meaning «module».now) (P.standing platform.old) (P.standing platform.new)
+        offer.now (One request.now) result }
     ensures room { LeavesRoom result (P.standing platform.new) }
     ensures faults { Blames (fault_in result)
         (P.standing platform.old).faults (P.standing platform.new).faults }
@@ -84,6 +88,9 @@ fn prepare_batch<M: Module, P: Platform>(
     ensures reads { is_long (batch_of batch.entry) ≡ false →
         Reads (M.meaning «module».now) (P.standing platform.old) (P.standing platform.new)
         offer.now (batch_of batch.entry) result }
+    ensures goes { is_long (batch_of batch.entry) ≡ false →
+        PreparesOn (M.meaning «module».now) (P.standing platform.old) (P.standing platform.new)
+        offer.now (batch_of batch.entry) result }
     ensures room { LeavesRoom result (P.standing platform.new) }
     ensures faults { Blames (fault_in result)
         (P.standing platform.old).faults (P.standing platform.new).faults }
@@ -91,10 +98,29 @@ fn prepare_batch<M: Module, P: Platform>(
     if mm_model::is_long(&batch) {
         return Err(Refusal::Long);
     }
-    match read(alloc, module, platform, offer, batch, &mut KeptKey::new()) {
+    match read_apart(alloc, module, platform, offer, batch, &mut KeptKey::new()) {
         Err(refusal) => Err(refusal),
         Ok(found) => Ok(Prepared { found }),
     }
+}
+
+// Makes the reading steps of a call in two parts.
+fn read_apart<M: Module, P: Platform>(
+    alloc: Global,
+    module: &M,
+    platform: &mut P,
+    offer: &[u8],
+    batch: Batch<'_>,
+    keys: &mut KeptKey,
+) -> Result<Found, Refusal>
+    requires { is_long (batch_of batch) ≡ false }
+    ensures reads { Reads (M.meaning «module».now) (P.standing platform.old)
+        (P.standing platform.new) offer.now (batch_of batch.entry) result }
+    ensures goes { PreparesOn (M.meaning «module».now) (P.standing platform.old)
+        (P.standing platform.new) offer.now (batch_of batch.entry) result }
+    ensures room { LeavesRoom result (P.standing platform.new) }
+{
+    read(alloc, module, platform, offer, batch, keys)
 }
 
 /// Makes the reading steps.
@@ -143,6 +169,7 @@ impl Prepared {
         requires { MayCommit self (P.standing platform.old) }
         ensures commits { CommitsFound self
             (P.standing platform.old) (P.standing platform.new) result }
+        ensures goes { CommitsOn self (P.standing platform.old) (P.standing platform.new) result }
         ensures faults { Blames (result_err result)
             (P.standing platform.old).faults (P.standing platform.new).faults }
     {
@@ -152,7 +179,8 @@ impl Prepared {
 
 fn commit_found<P: Platform>(found: Found, platform: &mut P) -> Result<Committed, StepFault>
     requires { MayCommit found (P.standing platform.old) }
-    ensures { CommitsFound found (P.standing platform.old) (P.standing platform.new) result }
+    ensures commits { CommitsFound found (P.standing platform.old) (P.standing platform.new) result }
+    ensures goes { CommitsOn found (P.standing platform.old) (P.standing platform.new) result }
 {
     match finish_found(Ok(found), platform) {
         Ended::Answered(answer) => Ok(Committed { answer }),
