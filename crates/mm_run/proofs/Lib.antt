@@ -6,4 +6,7 @@ pub mod OptRuns
 pub mod Running
 pub mod Counting
 pub mod Naming
+pub mod FirstBytes
 pub mod MetPremises
+pub mod SegmentDigests
+pub mod MetSegments
