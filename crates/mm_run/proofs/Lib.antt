@@ -6,5 +6,8 @@ pub mod OptRuns
 pub mod Running
 pub mod Counting
 pub mod Naming
+pub mod FirstBytes
 pub mod MetPremises
 pub mod KeepingNames
+pub mod SegmentDigests
+pub mod MetSegments

@@ -1,12 +1,10 @@
 -- The premises of the laws are met by a run of one request, as its digests show.
-use Rattle.std.proofs.Common.{ℕ, zero, suc, ◌≡◌, ◌≢◌, ◌+◌, ◌*◌, ◌/◌, take, drop, Bool, true, false, ◌&&◌, List, [], ◌∷◌, ◌++◌, length, map, None, Some, Result, Ok, Err, refl, sym, ap, ◌∙◌, subst, arith, inl, inr, ◌⊎◌}
-use Rattle.std.specs.Prelude.{if◌then◌else◌, nat_eq, slice_index, codes}
-use Rattle.std.specs.List.{AllByRecursion, Contains}
+use Rattle.std.proofs.Common.{ℕ, ◌≡◌, ◌+◌, Bool, true, false, ◌&&◌, List, [], ◌∷◌, ◌++◌, length, None, Some, Result, Ok, Err, refl, sym, ap, ◌∙◌, subst, arith}
+use Rattle.std.specs.Prelude.{if◌then◌else◌, slice_index, codes}
+use Rattle.std.specs.List.{Contains}
 use Rattle.std.specs.Str.{bytes_eq}
 use Rattle.std.proofs.lemmas.Bool.{and_parts}
-use Rattle.std.proofs.lemmas.Bool.Decides.{nat_tests}
-use Rattle.std.proofs.lemmas.List.Elements.{Contains-append_cases, Contains-push_cases}
-use Rattle.sha2.specs.Sha256.{sha256, next_word, first_words, schedule, rounds, add_state, compress, hash_after, digest_bytes, initial_hash_256, padded_message}
+use Rattle.sha2.specs.Sha256.{sha256, first_words, rounds, digest_bytes}
 use Rattle.mm_digest.specs.declared.variant.Variant.TheVariants.{Basic, Opt}
 use Rattle.mm_digest.specs.Messages.{zero_bytes, start_message, start_of, extended_of, extended_message, anchored_message, anchored_of}
 use Rattle.mm_digest.proofs.Lengths.{length-zero_bytes, length-start_of}
@@ -19,7 +17,7 @@ use Rattle.mm_schedule.specs.declared.event.Offer.TheVariants.{Last}
 use Rattle.mm_model.specs.Long.{is_long}
 use Rattle.mm_model.specs.Chains.{link_message, guard_message, guard, anchor_of}
 use Rattle.mm_model.specs.Instance.{Instance, basic, opt}
-use Rattle.mm_model.specs.History.{first_history, Move}
+use Rattle.mm_model.specs.History.{History, first_history, Move}
 use Rattle.mm_model.specs.Messages.{IsClear, Within, form_messages, point_messages, offer_messages}
 use Rattle.mm_model.specs.Places.{Names, anchor_after, digest_of, issued}
 use Rattle.mm_model.specs.Standing.{IsRight, IsGenuine, issued_bytes}
@@ -40,138 +38,11 @@ use Rattle.mm_run.specs.Folds.{course_of}
 use Rattle.mm_call.specs.Levels.{by_lists}
 use Rattle.mm_seal.specs.Parts.{parts_of}
 use Rattle.mm_call.specs.Asked.{right_messages, moves_messages}
+use Rattle.mm_run.proofs.FirstBytes.{first_byte, all_apart, clear_by_first, clear_within, digest_is}
 use Rattle.mm_run.specs.Premises.{run_messages, IsClearRun, IsGenuineRun}
 use Rattle.mm_call.specs.Courses.{walk}
 use Rattle.mm_call.proofs.Moving.{summary-nil}
-use Rattle.mm_call.proofs.OptFinding.{each_at}
 use Rattle.mm_call.proofs.Reading.{is_right}
-
--- the first byte of a message's digest
-first_byte : (List ℕ → List ℕ) → List ℕ → ℕ
-first_byte hash m = slice_index (hash m) 0
-
--- no number of the list is this one
-abbrev pub apart_from : ℕ → List ℕ → Bool
-apart_from a [] = true
-apart_from a (b ∷ bs) = if nat_eq b a then false else apart_from a bs
-
--- no number is 0, and none stands twice
-abbrev pub all_apart : List ℕ → Bool
-all_apart [] = true
-all_apart (a ∷ others) = if apart_from a others then (if nat_eq a 0 then false else all_apart others) else false
-
-if_true : (c : Bool) (b : Bool) → (if c then b else false) ≡ true → (c ≡ true) × (b ≡ true)
-if_true true b e = (refl, e)
-if_true false b e = cc
-
-if_false : (c : Bool) (b : Bool) → (if c then false else b) ≡ true → (c ≡ false) × (b ≡ true)
-if_false false b e = (refl, e)
-if_false true b e = cc
-
-nat_eq_self : (a b : ℕ) → nat_eq b a ≡ false → b ≢ a
-nat_eq_self a b e f = grind (arith, nat_tests)
-
-apart_at : (hash : List ℕ → List ℕ) (a : ℕ) (ms : List (List ℕ)) → apart_from a (map (first_byte hash) ms) ≡ true
-    → AllByRecursion (λ m. first_byte hash m ≢ a) ms
-apart_at hash a [] e = tt
-apart_at hash a (m ∷ ms) e =
-    let t = if_false (nat_eq (first_byte hash m) a) (apart_from a (map (first_byte hash) ms)) e in
-    (nat_eq_self a (first_byte hash m) t.0, apart_at hash a ms t.1)
-
-member : (x m : List ℕ) (xs : List (List ℕ)) → Contains (x ∷ xs) m → (x ≡ m) ⊎ Contains xs m
-member x m xs c =
-    elim (Contains-append_cases (x ∷ []) xs m c) [
-      | inl first ↦
-          elim (Contains-push_cases [] x m first) [
-            | inl none ↦ absurd (omega (arith, none.1))
-            | inr e ↦ inl e
-          ]
-      | inr later ↦ inr later
-    ]
-
--- messages whose digests begin with bytes that are apart are apart
-same_by_first : (hash : List ℕ → List ℕ) (all : List (List ℕ)) → all_apart (map (first_byte hash) all) ≡ true
-    → (m n : List ℕ) → Contains all m → Contains all n → first_byte hash m ≡ first_byte hash n → m ≡ n
-same_by_first hash [] e m n c d f = absurd (omega (arith, c.1))
-same_by_first hash (x ∷ xs) e m n c d f =
-    let t = if_true (apart_from (first_byte hash x) (map (first_byte hash) xs)) _ e in
-    let u = if_false (nat_eq (first_byte hash x) 0) (all_apart (map (first_byte hash) xs)) t.1 in
-    let others = apart_at hash (first_byte hash x) xs t.0 in
-    elim (member x m xs c) [
-      | inl a ↦
-          elim (member x n xs d) [
-            | inl b ↦ sym a ∙ b
-            | inr b ↦ absurd (each_at (λ v. first_byte hash v ≢ first_byte hash x) xs n others b (sym f ∙ ap (first_byte hash) (sym a)))
-          ]
-      | inr a ↦
-          elim (member x n xs d) [
-            | inl b ↦ absurd (each_at (λ v. first_byte hash v ≢ first_byte hash x) xs m others a (f ∙ ap (first_byte hash) (sym b)))
-            | inr b ↦ same_by_first hash xs u.1 m n a b f
-          ]
-    ]
-
-none_zero : (hash : List ℕ → List ℕ) (all : List (List ℕ)) → all_apart (map (first_byte hash) all) ≡ true
-    → AllByRecursion (λ m. first_byte hash m ≢ 0) all
-none_zero hash [] e = tt
-none_zero hash (x ∷ xs) e =
-    let t = if_true (apart_from (first_byte hash x) (map (first_byte hash) xs)) _ e in
-    let u = if_false (nat_eq (first_byte hash x) 0) (all_apart (map (first_byte hash) xs)) t.1 in
-    (nat_eq_self 0 (first_byte hash x) u.0, none_zero hash xs u.1)
-
-zero_first : slice_index zero_bytes 0 ≡ 0
-unfolding zero_bytes
-zero_first = refl
-
-clear_by_first : (all : List (List ℕ)) → all_apart (map (first_byte sha256) all) ≡ true → IsClear all
-unfolding first_byte
-clear_by_first all e = record {
-  apart = λ m n c d same. same_by_first sha256 all e m n c d (ap (λ v. slice_index v 0) same);
-  nonzero = λ m c same. each_at (λ v. first_byte sha256 v ≢ 0) all m (none_zero sha256 all e) c (ap (λ v. slice_index v 0) same ∙ zero_first);
-}
-
--- what is asked of a list is asked of each part of it
-clear_within : (all some : List (List ℕ)) → IsClear all → Within some all → IsClear some
-clear_within all some clear within = record {
-  apart = λ m n c d same. clear.apart m n (each_at (Contains all) some m within c) (each_at (Contains all) some n within d) same;
-  nonzero = λ m c. clear.nonzero m (each_at (Contains all) some m within c);
-}
-
--- SHA-256 with each word of a block's schedule computed once
-abbrev grown : List ℕ → ℕ → List ℕ
-grown w n = w ++ next_word w (n + 16) ∷ []
-
-abbrev words : List ℕ → ℕ → List ℕ
-words b zero = first_words b 16
-words b (suc n) = grown (words b n) n
-
-words_are : (b : List ℕ) (n : ℕ) → words b n ≡ schedule b n
-unfolding schedule
-words_are b zero = refl
-words_are b (suc n) = ap (λ w. grown w n) (words_are b n)
-
-abbrev compressed : List ℕ → List ℕ → List ℕ
-compressed h b = add_state h (rounds h (words b 48) 64)
-
-compressed_is : (h b : List ℕ) → compressed h b ≡ compress h b
-unfolding compress
-compressed_is h b = ap (λ w. add_state h (rounds h w 64)) (words_are b 48)
-
-abbrev blocks : List ℕ → List ℕ → ℕ → List ℕ
-blocks h p zero = h
-blocks h p (suc n) = compressed (blocks h p n) (take 64 (drop (n * 64) p))
-
-blocks_are : (h p : List ℕ) (n : ℕ) → blocks h p n ≡ hash_after h p n
-unfolding hash_after
-blocks_are h p zero = refl
-blocks_are h p (suc n) =
-    ap (λ x. compressed x (take 64 (drop (n * 64) p))) (blocks_are h p n) ∙ compressed_is (hash_after h p n) (take 64 (drop (n * 64) p))
-
-abbrev digest : List ℕ → List ℕ
-digest m = digest_bytes (blocks initial_hash_256 (padded_message m) (length (padded_message m) / 64)) 8
-
-digest_is : (m : List ℕ) → digest m ≡ sha256 m
-unfolding sha256
-digest_is m = ap (λ h. digest_bytes h 8) (blocks_are initial_hash_256 (padded_message m) (length (padded_message m) / 64))
 
 -- Basic: the digests of the run's messages
 
@@ -208,40 +79,40 @@ basic_clear =
 
 -- Opt: the digests of the run's messages
 
-abbrev opt_start : List ℕ
+abbrev pub opt_start : List ℕ
 opt_start = 0x8d ∷ 0x9f ∷ 0xe7 ∷ 0x31 ∷ 0x7f ∷ 0x06 ∷ 0x6d ∷ 0xea ∷ 0xca ∷ 0x4f ∷ 0xdb ∷ 0x6c ∷ 0x31 ∷ 0x31 ∷ 0x94 ∷ 0xe5 ∷ 0xbb ∷ 0x5d ∷ 0x22 ∷ 0x69 ∷ 0xec ∷ 0xf6 ∷ 0x72 ∷ 0xf1 ∷ 0xaf ∷ 0x9f ∷ 0xc7 ∷ 0x90 ∷ 0xa2 ∷ 0x20 ∷ 0x59 ∷ 0x91 ∷ []
 
-opt_starts : start_of Opt 1 ≡ opt_start
+pub opt_starts : start_of Opt 1 ≡ opt_start
 unfolding start_of first_words rounds digest_bytes
 opt_starts = sym (digest_is (start_message Opt 1)) ∙ refl
 
-abbrev the_guard : List ℕ
+abbrev pub the_guard : List ℕ
 the_guard = 0x98 ∷ 0xe0 ∷ 0x13 ∷ 0xc5 ∷ 0x85 ∷ 0xfd ∷ 0x16 ∷ 0x27 ∷ 0x0b ∷ 0x69 ∷ 0x8a ∷ 0xd6 ∷ 0xd2 ∷ 0xb6 ∷ 0x16 ∷ 0x4a ∷ 0x92 ∷ 0x44 ∷ 0x12 ∷ 0x7b ∷ 0xda ∷ 0xaf ∷ 0xc7 ∷ 0x7b ∷ 0xf5 ∷ 0xc0 ∷ 0xcc ∷ 0x2f ∷ 0x19 ∷ 0xde ∷ 0x90 ∷ 0xcd ∷ []
 
-guards : guard world_barrier (One (codes "add 5")) ≡ the_guard
+pub guards : guard world_barrier (One (codes "add 5")) ≡ the_guard
 unfolding guard world_barrier rising_from first_words rounds digest_bytes
 guards = sym (digest_is (guard_message world_barrier (One (codes "add 5")))) ∙ refl
 
-abbrev the_extension : List ℕ
+abbrev pub the_extension : List ℕ
 the_extension = 0x4b ∷ 0x1c ∷ 0x76 ∷ 0x7b ∷ 0x03 ∷ 0x73 ∷ 0x96 ∷ 0x15 ∷ 0xa1 ∷ 0x87 ∷ 0x9a ∷ 0xf1 ∷ 0xe9 ∷ 0x82 ∷ 0x9c ∷ 0x0b ∷ 0x72 ∷ 0xa4 ∷ 0xfc ∷ 0x44 ∷ 0x31 ∷ 0xf2 ∷ 0xbd ∷ 0xf3 ∷ 0xee ∷ 0x13 ∷ 0x78 ∷ 0x0b ∷ 0x81 ∷ 0x9a ∷ 0xe7 ∷ 0x6d ∷ []
 
-extends : extended_of zero_bytes the_guard ≡ the_extension
+pub extends : extended_of zero_bytes the_guard ≡ the_extension
 unfolding extended_of zero_bytes first_words rounds digest_bytes
 extends = sym (digest_is (extended_message zero_bytes the_guard)) ∙ refl
 
-opt_start_byte : first_byte sha256 (start_message Opt 1) ≡ 141
+pub opt_start_byte : first_byte sha256 (start_message Opt 1) ≡ 141
 unfolding first_byte start_of
 opt_start_byte = ap (λ d. slice_index d 0) opt_starts
 
-guard_byte : first_byte sha256 (guard_message world_barrier (One (codes "add 5"))) ≡ 152
+pub guard_byte : first_byte sha256 (guard_message world_barrier (One (codes "add 5"))) ≡ 152
 unfolding first_byte guard
 guard_byte = ap (λ d. slice_index d 0) guards
 
-extension_byte : first_byte sha256 (extended_message zero_bytes the_guard) ≡ 75
+pub extension_byte : first_byte sha256 (extended_message zero_bytes the_guard) ≡ 75
 unfolding first_byte extended_of
 extension_byte = ap (λ d. slice_index d 0) extends
 
-anchored_byte : first_byte sha256 (anchored_message opt_start the_extension) ≡ 41
+pub anchored_byte : first_byte sha256 (anchored_message opt_start the_extension) ≡ 41
 unfolding first_byte first_words rounds digest_bytes
 anchored_byte = ap (λ d. slice_index d 0) (sym (digest_is (anchored_message opt_start the_extension))) ∙ refl
 
@@ -290,19 +161,19 @@ right_by i bytes b all (Ok s) e h =
     (λ test. let t = and_parts (i.meaning.is_spelled s.content.state) (bytes_eq s.tag (tag_of i.key s.content)) test in
     h s.content (is_right i bytes s e t.0 t.1))
 
--- what is asked of the first snapshot
-right_within : (i : Instance) (b : Batch) (all : List (List ℕ)) → IsContent (issued i first_history)
-    → Within (offer_messages i (issued i first_history).place b) all
-    → Within (right_messages i b (right_content i (issued_bytes i first_history))) all
-right_within i b all formed h =
-    right_by i (issued_bytes i first_history) b all (parts_of i.variant i.meaning.id (issued_bytes i first_history)) refl
+-- what is asked of the snapshot of a history
+pub right_within : (i : Instance) (y : History) (b : Batch) (all : List (List ℕ)) → IsContent (issued i y)
+    → Within (offer_messages i (issued i y).place b) all
+    → Within (right_messages i b (right_content i (issued_bytes i y))) all
+right_within i y b all formed h =
+    right_by i (issued_bytes i y) b all (parts_of i.variant i.meaning.id (issued_bytes i y)) refl
     (λ c right. subst (λ (x : Content). Within (offer_messages i x.place b) all)
-    (sealed_once i.key i.key (issued i first_history) c formed right.formed right.sealed) h)
+    (sealed_once i.key i.key (issued i y) c formed right.formed right.sealed) h)
 
-first_genuine : (i : Instance) → IsContent (issued i first_history) → Names i first_history (issued i first_history)
-    → IsGenuine i first_history (issued_bytes i first_history)
-first_genuine i formed names content right =
-    subst (λ (x : Content). Names i first_history x) (sealed_once i.key i.key (issued i first_history) content formed right.formed right.sealed) names
+-- it names a position of a later one
+pub is_genuine : (i : Instance) (y later : History) → IsContent (issued i y) → Names i later (issued i y) → IsGenuine i later (issued_bytes i y)
+is_genuine i y later formed names content right =
+    subst (λ (x : Content). Names i later x) (sealed_once i.key i.key (issued i y) content formed right.formed right.sealed) names
 
 -- a list, unless the batch is too long
 if_short : (all : List (List ℕ)) (long : Bool) (xs : List (List ℕ)) → long ≡ false → Within xs all → Within (if long then [] else xs) all
@@ -351,15 +222,15 @@ basic_met key =
     let offered : Within (offer_messages i (issued i first_history).place (One (codes "add 5"))) basic_messages = (subst P (summary-nil 1) basic_listed.1, tt) in (
       record {
         clear = clear_within basic_messages (run_messages i one_ask) basic_clear
-            (basic_run counter key (codes "add 5") basic_messages refl basic_listed.0 (right_within i (One (codes "add 5")) basic_messages formed offered));
+            (basic_run counter key (codes "add 5") basic_messages refl basic_listed.0 (right_within i first_history (One (codes "add 5")) basic_messages formed offered));
         apart = tt;
       },
-      (first_genuine i formed (basic_issued counter key first_history), tt),
+      (is_genuine i first_history first_history formed (basic_issued counter key first_history), tt),
     )
 
 -- Opt
 
-anchor_nil : (meaning : Meaning) (key barrier : List ℕ) → anchor_after (opt meaning key barrier) [] ≡ start_of Opt meaning.id
+pub anchor_nil : (meaning : Meaning) (key barrier : List ℕ) → anchor_after (opt meaning key barrier) [] ≡ start_of Opt meaning.id
 unfolding anchor_of
 anchor_nil meaning key barrier = refl
 
@@ -396,7 +267,7 @@ opt_run meaning key barrier r all short starts asked listed =
           (if_moves i all (is_long (One r)) (walk (course_of Quiet []).fates 1 (ask_steps Opt false (is_fresh found) (One r))).moves short (opt_moves meaning key barrier r all (is_fresh found) listed))) tt,
     )
 
-opt_offered : (meaning : Meaning) (key barrier r : List ℕ) (all : List (List ℕ)) → Contains all (guard_message barrier (One r))
+pub opt_offered : (meaning : Meaning) (key barrier r : List ℕ) (all : List (List ℕ)) → Contains all (guard_message barrier (One r))
     → Contains all (extended_message zero_bytes (guard barrier (One r)))
     → Contains all (anchored_message (start_of Opt meaning.id) (extended_of zero_bytes (guard barrier (One r))))
     → Within (offer_messages (opt meaning key barrier) (issued (opt meaning key barrier) first_history).place (One r)) all
@@ -416,8 +287,8 @@ opt_met key =
       record {
         clear = clear_within opt_messages (run_messages i one_ask) opt_clear
             (opt_run counter key world_barrier (codes "add 5") opt_messages refl opt_listed.0
-            (right_within i (One (codes "add 5")) opt_messages formed offered) opt_listed.2);
+            (right_within i first_history (One (codes "add 5")) opt_messages formed offered) opt_listed.2);
         apart = λ d b c among. absurd (omega (arith, c.1));
       },
-      (first_genuine i formed (opt_issued counter key world_barrier first_history first_sound refl), tt),
+      (is_genuine i first_history first_history formed (opt_issued counter key world_barrier first_history first_sound refl), tt),
     )

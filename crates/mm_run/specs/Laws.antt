@@ -1,14 +1,14 @@
 -- The laws of whole runs.
-use Rattle.std.specs.Prelude.{◌≡◌, ℕ, ◌+◌, List, [], ◌∷◌, ◌++◌, codes}
+use Rattle.std.specs.Prelude.{◌≡◌, ℕ, ◌+◌, true, List, [], ◌∷◌, ◌++◌, codes, replicate}
 use Rattle.std.specs.List.{AllByRecursion}
 use Rattle.mm_module.specs.Meaning.{Meaning}
 use Rattle.mm_module.specs.Batch.{One}
 use Rattle.mm_platform.specs.declared.plan.Stop.TheVariants.{Quiet}
 use Rattle.mm_seal.specs.Snapshot.{Content, sealed_of}
 use Rattle.mm_model.specs.Instance.{Instance, basic, opt}
-use Rattle.mm_model.specs.History.{History, requests_of}
+use Rattle.mm_model.specs.History.{History, Own, requests_of}
 use Rattle.mm_model.specs.Places.{Names}
-use Rattle.mm_schedule.specs.Events.{Event, Ask}
+use Rattle.mm_schedule.specs.Events.{Event, Ask, Checkpoint, Extend}
 use Rattle.mm_schedule.specs.declared.event.Offer.TheVariants.{Last}
 use Rattle.mm_schedule.specs.Machine.{Runs}
 use Rattle.mm_model.specs.Moves.{Digests}
@@ -78,3 +78,20 @@ IssuedNamePositions i = (events : List Event) →
 -- One request is asked once: `ask last add 5`.
 abbrev pub one_ask : List Event
 one_ask = Ask [] Quiet Last (One (codes "add 5")) ∷ []
+
+-- `ask last add 5` twice, `checkpoint`, `extend` by 32 bytes ff, and `ask last add 5`: a request is committed inside a segment, the
+-- segment is closed, others extend the register, and the last request is fresh behind the closing.
+abbrev pub two_segments : List Event
+two_segments =
+    Ask [] Quiet Last (One (codes "add 5")) ∷ Ask [] Quiet Last (One (codes "add 5")) ∷ Checkpoint [] Quiet ∷ Extend (replicate 32 255)
+    ∷ Ask [] Quiet Last (One (codes "add 5")) ∷ []
+
+-- where it ends: all three are committed, two of them in the closed segment
+abbrev pub after_two_segments : History
+after_two_segments = record {
+  batches = One (codes "add 5") ∷ One (codes "add 5") ∷ One (codes "add 5") ∷ [];
+  closed = (Own (One (codes "add 5")) ∷ Own (One (codes "add 5")) ∷ []) ∷ [];
+  current = One (codes "add 5") ∷ [];
+  is_open = true;
+  items = Own (One (codes "add 5")) ∷ [];
+}

@@ -1,12 +1,13 @@
 //! The laws of whole runs, each the contract of a function that does nothing.
 
-ghost use Rattle.std.specs.Prelude.{ℕ, List};
+ghost use Rattle.std.specs.Prelude.{◌≡◌, ℕ, List};
 ghost use Rattle.mm_module.specs.Meaning.{Meaning};
 ghost use Rattle.mm_module.specs.CounterTable.{counter};
 ghost use Rattle.mm_model.specs.Instance.{basic, opt};
 ghost use Rattle.mm_run.specs.Held.{world_barrier};
+ghost use Rattle.mm_run.specs.Folds.{expected};
 ghost use Rattle.mm_run.specs.Premises.{IsClearRun, IsGenuineRun};
-ghost use Rattle.mm_run.specs.Laws.{BasicIsExpected, OptIsExpected, ExpectedRuns, SchedulesGoOn, IssuedNamePositions, one_ask};
+ghost use Rattle.mm_run.specs.Laws.{BasicIsExpected, OptIsExpected, ExpectedRuns, SchedulesGoOn, IssuedNamePositions, one_ask, two_segments, after_two_segments};
 ghost use Rattle.mm_run.specs.OneEvent.{EventsAgree, EventsStep, EventsKeepNames};
 
 /// A schedule of Basic is told as expected, where no two messages of the run share a digest and each right offer
@@ -58,10 +59,14 @@ pub fn issued_snapshots_name_positions()
 {}
 
 /// The premises on digests and offers can be met: a counter's run of `ask last add 5` meets them, under every key; in Opt
-/// with the barrier of each world.
+/// with the barrier of each world. There a run meets them too that commits a request inside a segment, closes it, has a value
+/// of others, and commits a request behind them.
 pub fn premises_are_met()
     ensures basic { (key : List ℕ)
         → IsClearRun (basic counter key) one_ask × IsGenuineRun (basic counter key) one_ask }
     ensures opt { (key : List ℕ) → IsClearRun (opt counter key world_barrier) one_ask
         × IsGenuineRun (opt counter key world_barrier) one_ask }
+    ensures segments { (key : List ℕ) → IsClearRun (opt counter key world_barrier) two_segments
+        × IsGenuineRun (opt counter key world_barrier) two_segments
+        × ((expected (opt counter key world_barrier) two_segments).state ≡ after_two_segments) }
 {}
