@@ -34,7 +34,7 @@ Settles lines whole next left taken sent (Err (LineLong number)) =
     ForWhole left taken (λ input. whole input ≡ told sent (Err (LineLong number)))
 Settles lines whole next left taken sent (Err TooMuch) = ForWhole left taken (λ input. whole input ≡ told sent (Err TooMuch))
 
--- A count of faults rose exactly where it is to blame for the answer.
+-- A count of faults rose exactly where it is to blame for the answer, and then by exactly one: no call follows one that failed.
 abbrev pub IsBlamed : Bool → ℕ → ℕ → Type 0
 IsBlamed true before now = Rose before now
 IsBlamed false before now = now ≡ before
