@@ -320,23 +320,44 @@ fn extend(platform: &mut FilePlatform<'_, Mount<'_>>, byte: u16) -> Option<u64> 
     }))
 }
 
-// Does one call on the memory or the register, or puts a file there.
+// Does one call on the memory.
+fn call_memory(platform: &mut FilePlatform<'_, Mount<'_>>, row: &Row) -> Option<u64> {
+    match row.word {
+        "cell" => done(platform.raw_write(row.first.min(105), &[7; 104])),
+        "pick" => done(platform.raw_write(208, &[1])),
+        _ => memory_byte(platform, row.first),
+    }
+}
+
+// Does one call on the register.
+fn call_register(platform: &mut FilePlatform<'_, Mount<'_>>, row: &Row) -> Option<u64> {
+    match row.word {
+        "extend" => extend(platform, row.first),
+        "reset" => done(platform.reg_reset()),
+        "power" => done(platform.raw_cycle()),
+        _ => register_byte(platform, row.first),
+    }
+}
+
+// Does what a line says without the platform: a second program's call, or a file that is put there.
+fn call_beside(mount: &Mount<'_>, row: &Row) -> Option<u64> {
+    match row.word {
+        "other" => other_byte(mount, row.first),
+        "device" => done(mount.0.put_device("nv")),
+        name => done(mount.0.put(name, row.first)),
+    }
+}
+
+// Does what a line says.
 fn call_platform(
     mount: &Mount<'_>,
     platform: &mut FilePlatform<'_, Mount<'_>>,
     row: &Row,
 ) -> Option<u64> {
     match row.word {
-        "cell" => done(platform.raw_write(row.first.min(105), &[7; 104])),
-        "pick" => done(platform.raw_write(208, &[1])),
-        "byte" => memory_byte(platform, row.first),
-        "extend" => extend(platform, row.first),
-        "reset" => done(platform.reg_reset()),
-        "power" => done(platform.raw_cycle()),
-        "shown" => register_byte(platform, row.first),
-        "other" => other_byte(mount, row.first),
-        "device" => done(mount.0.put_device("nv")),
-        name => done(mount.0.put(name, row.first)),
+        "cell" | "pick" | "byte" => call_memory(platform, row),
+        "extend" | "reset" | "power" | "shown" => call_register(platform, row),
+        _ => call_beside(mount, row),
     }
 }
 
