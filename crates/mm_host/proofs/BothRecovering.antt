@@ -20,7 +20,7 @@ use Rattle.mm_call.specs.Called.{called, given_for}
 use Rattle.mm_call.specs.CallsOn.{CallsOn}
 use Rattle.mm_call.specs.Levels.{by_lists, by_digests, all_made}
 use Rattle.mm_call.specs.Leaving.{whole_in}
-use Rattle.mm_call.specs.Premises.{AreAsked, AreShown}
+use Rattle.mm_call.specs.Premises.{AreAsked, AreShown, IsIdle}
 use Rattle.mm_call.specs.Refusals.{fault_of}
 use Rattle.mm_call.specs.Tied.{standing_items}
 use Rattle.mm_call.proofs.Continuing.{stands_at}
@@ -28,7 +28,7 @@ use Rattle.mm_call.proofs.Moving.{same_batches}
 use Rattle.mm_call.proofs.OptLaw.{before as seen_before}
 use Rattle.mm_call.proofs.Tied.{opt_tied}
 use Rattle.mm_call.proofs.OptShut.{bare}
-use Rattle.mm_call.proofs.Showing.{asked_of as asked_by_items}
+use Rattle.mm_call.proofs.Idle.{asked_for}
 use Rattle.mm_call.proofs.Walks.{foreign_first}
 use Rattle.mm_callers.proofs.Calls.{is_asked as basic_asked, names_made, Comes, comes as basic_comes}
 use Rattle.mm_callers.proofs.OptAlike.{Alike, still, grown_by}
@@ -39,7 +39,7 @@ use Rattle.mm_store.specs.Slots.{Slots, slot_read}
 use Rattle.mm_host.specs.declared.fault.HostFault.{HostFault}
 use Rattle.mm_host.specs.declared.resuming.Resumed.{Resumed}
 use Rattle.mm_host.specs.Fitting.{offer_slot, FitsBy}
-use Rattle.mm_host.specs.Recovery.{CanRecover, Recovers}
+use Rattle.mm_host.specs.Recovery.{CanRecover, AsksIdly, Recovers}
 use Rattle.mm_host.specs.Resumes.{Resumes}
 use Rattle.mm_host.proofs.Awaited.{grows}
 use Rattle.mm_host.proofs.Machining.{IsIssued, issued_in_basic, issued_in_opt}
@@ -107,7 +107,8 @@ basic_called meaning lawful key all others asked y old new offer p gives c s a f
 
 pub opt_called : (meaning : Meaning) → IsLawful meaning → (key barrier : List ℕ) (all others : List (List ℕ)) (asked : List Batch) (y : History) (old new : Standing) (offer : List ℕ) (p : Pending) (gives : Result BatchAnswer Refusal) (items more : List Item)
     → CallsOn Opt meaning old new offer (One p.request) gives → StandsFor (opt meaning key barrier) old y → AreAsked all others asked (opt meaning key barrier) y offer (One p.request)
-    → old.items ≡ Some items → new.items ≡ Some (standing_items y.is_open items ++ more) → AreShown all others (opt meaning key barrier) y more
+    → old.items ≡ Some items → new.items ≡ Some (standing_items y.is_open items ++ more)
+    → ((IsIdle (opt meaning key barrier) y offer (One p.request) → ⊥) → AreShown all others (opt meaning key barrier) y more)
     → IsOffered (opt meaning key barrier) y p offer → Called all others asked (opt meaning key barrier) y new offer p gives
 opt_called meaning lawful key barrier all others asked y old new offer p gives items more c s a known ends shown_so f =
     let i : Instance = opt meaning key barrier in
@@ -115,8 +116,7 @@ opt_called meaning lawful key barrier all others asked y old new offer p gives i
     let moves : List Move = (called i (by_digests i) (digests_of i y) c.course offer (One p.request)).moves in
     let g = c.goes key barrier (digests_of i y) (stands_at i old y s) in
     let is_asked : IsAsked all others asked i y moves offer (One p.request) =
-    asked_by_items meaning key barrier all others asked y moves offer (One p.request) old new items more a shown_so known g.items ends
-    (opt_tied meaning key barrier y (digests_of i y) c.course offer (One p.request) refl) in
+    asked_for meaning key barrier all others asked y c.course offer (One p.request) old new items more a shown_so known g.items ends in
     let k = c.continues key barrier y all others asked s is_asked in
     let v : List (List ℕ) = (c.course.fates 1).brings in
     let w : List (List ℕ) = (c.course.fates 2).brings in
@@ -193,13 +193,15 @@ basic_leads meaning lawful key all others asked y slots before after old result 
     (asked_at all others asked i y slots before old can p e) (offered_at all others asked i y slots before old can p e)) tt
 
 opt_leads : (meaning : Meaning) → IsLawful meaning → (key barrier : List ℕ) (all others : List (List ℕ)) (asked : List Batch) (y : History) (slots : Slots) (before after : Standing) (old : StoreStanding) (items more : List Item) (result : Result Resumed HostFault) (can : CanRecover all others asked (opt meaning key barrier) y slots before old)
-    → before.items ≡ Some items → after.items ≡ Some (standing_items y.is_open items ++ more) → AreShown all others (opt meaning key barrier) y more
+    → before.items ≡ Some items → after.items ≡ Some (standing_items y.is_open items ++ more)
+    → ((AsksIdly (opt meaning key barrier) y slots can.fits.waiting → ⊥) → AreShown all others (opt meaning key barrier) y more)
     → LeadsOn NoMore all others asked Opt (opt meaning key barrier) y slots can.fits.waiting before after result
 opt_leads meaning lawful key barrier all others asked y slots before after old items more result can known ends shown_so = λ p call e given_for c.
     let i : Instance = opt meaning key barrier in
     left_by all others asked i y slots before old can NoMore after p (whole_in call) e
     (opt_called meaning lawful key barrier all others asked y before after (slot_read slots (offer_slot p)) p (whole_in call) items more c.goes can.stands
-    (asked_at all others asked i y slots before old can p e) known ends shown_so (offered_at all others asked i y slots before old can p e)) tt
+    (asked_at all others asked i y slots before old can p e) known ends
+    (λ busy. shown_so (λ k. busy (subst (λ (w : Option Pending). AsksIdly i y slots w) e k))) (offered_at all others asked i y slots before old can p e)) tt
 
 pub recovers : (variant : Variant) (meaning : Meaning) → IsLawful meaning → (before after : Standing) (old new : StoreStanding) (result : Result Resumed HostFault) → Resumes variant meaning before after old new result → Recovers variant meaning before after old new result
 recovers Basic meaning lawful before after old new result r = λ key y slots all others asked can.

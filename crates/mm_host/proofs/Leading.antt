@@ -339,7 +339,7 @@ module _ (meaning : Meaning) (lawful : IsLawful meaning) (key barrier : List ℕ
       let items : h.items ≡ standing_items y.is_open shows.items ++ pushed.front = append_cancel_right h.items (standing_items y.is_open shows.items ++ pushed.front) h.more reach in
       let o = opt_called meaning lawful key barrier all others asked y old middle offer p (Ok answer) shows.items pushed.front c s a shows.known
       (h.known ∙ ap (λ (xs : List Item). Some xs) items)
-      (shown_front all others i y pushed.front h.more (subst (λ (xs : List Item). AreShown all others i y xs) (sym pushed.whole) shows.shown_are)) f in
+      (λ busy. shown_front all others i y pushed.front h.more (subst (λ (xs : List Item). AreShown all others i y xs) (sym pushed.whole) shows.shown_are)) f in
       let total : total_of h.left.after.batches ≡ total_of o.after.batches =
       sym (answered_at i y h.left.after offer (One p.request) answer h.left.comes).0 ∙ (answered_at i y o.after offer (One p.request) answer o.comes).0 in
       let is_open : o.after.is_open ≡ true = open_by h.left.after o.after h.left.alike o.grown total e in
@@ -393,7 +393,7 @@ opt_laws meaning lawful key barrier all others asked final = record {
   between = λ y old middle offer p gives c s a f shows reaches ok.
       opt_between meaning lawful key barrier all others asked final y old middle offer p gives c s a f shows reaches ok;
   last = λ y old offer p gives c s a f shows.
-      opt_called meaning lawful key barrier all others asked y old final offer p gives shows.items shows.more c s a shows.known shows.ends shows.shown_are f;
+      opt_called meaning lawful key barrier all others asked y old final offer p gives shows.items shows.more c s a shows.known shows.ends (λ busy. shows.shown_are) f;
   reach = λ old new offer request gives c. opt_reach meaning key barrier old new offer request gives c;
   formed = λ y most. issued_content meaning lawful key barrier y most;
   issue = λ y z e. issued_alike meaning key barrier y z e;

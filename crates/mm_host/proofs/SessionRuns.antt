@@ -1,5 +1,6 @@
 -- A session by lists, in either variant: from what waited, over the lines, to each of its ends.
 use Rattle.std.proofs.Common.{◌≡◌, ◌≢◌, ◌∙◌, ◌+◌, ◌<◌, ◌≤◌, ℕ, Bool, true, false, List, [], ◌∷◌, ◌++◌, length, Option, None, Some, Result, Ok, Err, refl, sym, ap, subst, inl, inr, arith, append_assoc}
+use Rattle.std.proofs.lemmas.List.{append-nil}
 use Rattle.std.specs.Prelude.{◌⊎◌, if◌then◌else◌, nat_eq}
 use Rattle.std.specs.Io.KnownBytes.{Consumes}
 use Rattle.std.specs.List.{AllByRecursion}
@@ -29,6 +30,7 @@ use Rattle.mm_call.specs.Asked.{IsLedTo}
 use Rattle.mm_call.specs.Leaving.{whole, whole_in}
 use Rattle.mm_call.proofs.Calling.{requests-push}
 use Rattle.mm_callers.proofs.Calls.{one_content}
+use Rattle.mm_call.proofs.Idle.{unless_idle}
 use Rattle.mm_store.specs.declared.fault.StoreFault.{StoreFault}
 use Rattle.mm_store.specs.Kept.{StoreStanding}
 use Rattle.mm_store.specs.Pending.{Pending}
@@ -42,13 +44,13 @@ use Rattle.mm_host.specs.declared.resuming.Resumed.TheVariants.{Start, Answered}
 use Rattle.mm_host.specs.Continuing.{AreToFollow, CanServe, SessionContinues, ContinuesTo, HasUntold, IsInHand, MayBeUntold, RefusesAs, RunsOver, history_then, waiting_position, told_first, told_in}
 use Rattle.mm_host.specs.Faults.{as_session_fault}
 use Rattle.mm_host.specs.Fitting.{FitsHistory, FitsBy, Holds, IsAwaited, offer_slot}
-use Rattle.mm_host.specs.Recovery.{CanRecover, IsGrown, MayHaveCommitted, RecoversTo}
+use Rattle.mm_host.specs.Recovery.{AsksIdly, CanRecover, IsGrown, MayHaveCommitted, RecoversTo}
 use Rattle.mm_host.specs.Resumes.{Resumes}
 use Rattle.mm_host.specs.Saying.{SendsReply, comes_as, snapshot_at, reply_text}
 use Rattle.mm_host.specs.Serving.{AfterRecord, AsksLine, Place, Served, Serves, lines_served, record_for}
 use Rattle.mm_host.specs.Sessions.{AfterResume, BeginsWith, EndsSession, GoesOn, IsAtRest, Stops, StopsAtOnce, StopsInLine}
 use Rattle.mm_host.proofs.Awaited.{one_more}
-use Rattle.mm_host.proofs.BothRecovering.{IsGrownBy, IsSame, NoMore, asked_at, left_by, offered_at}
+use Rattle.mm_host.proofs.BothRecovering.{IsGrownBy, IsSame, NoMore, asked_at, left_by, offered_at, recovers}
 use Rattle.mm_host.proofs.Leading.{IsBetween, IsLike, Laws, Reaches, Shows, basic_laws, opt_laws, reach_same, reach_then}
 use Rattle.mm_host.proofs.LineStep.{IsReady, IsRefusedBy, IsSettledAt, MayFollow, line_between, line_last, no_refusal, refused_of, same_pending}
 use Rattle.mm_host.proofs.Machining.{RunsOver-append, steps_again, steps_fresh}
@@ -310,6 +312,31 @@ module _ (all others : List (List ℕ)) (asked : List Batch) (i : Instance) (fin
       let flag : nat_eq p.position (total_of y.batches) ≡ false = not_there p.position (total_of y.batches) (at ∙ ap total_of more ∙ one_more y.batches p.request) in
       subst (λ (h : History). IsSame i.variant after h) (sym (then_more i y p false flag refl)) same
 
+  -- what was told of what waited is a run
+  run_start : (y : History) (slots : Slots) (waiting : Option Pending) (standing : Standing) (kept : StoreStanding) (first : List ℕ) → waiting ≡ None
+      → (came : RecoversTo all others asked i y slots waiting standing kept (Ok (Start first)))
+      → RunsOver i.meaning (requests_of y.batches) (told_first waiting (Start first)) (requests_of came.after.batches)
+  run_start y slots None standing kept first none came = ap requests_of came.grown
+  run_start y slots (Some p) standing kept first none came = absurd (cc)
+
+  run_answered : (y : History) (slots : Slots) (waiting : Option Pending) (standing : Standing) (kept : StoreStanding) (answer : Answer) (p : Pending) → waiting ≡ Some p → FitsBy i slots y waiting
+      → (came : RecoversTo all others asked i y slots waiting standing kept (Ok (Answered answer)))
+      → p.position ≡ total_of came.after.batches → whole answer ≡ answer_on i came.after (One p.request) (nat_eq p.position (total_of y.batches))
+      → RunsOver i.meaning (requests_of y.batches) (told_first waiting (Answered answer)) (requests_of came.after.batches)
+  run_answered y slots None standing kept answer p e f came at is = absurd (cc)
+  run_answered y slots (Some q) standing kept answer p e f came at is =
+      let same : p ≡ q = cc in
+      answered_first i y came.after q answer f.0 (ap (λ (x : Pending). x.position) (sym same) ∙ at)
+      (is ∙ ap (λ (x : Pending). answer_on i came.after (One x.request) (nat_eq x.position (total_of y.batches))) same) came.grown
+
+  run_told : (y : History) (slots : Slots) (before : Standing) (old : StoreStanding) (can : CanRecover all others asked i y slots before old) (standing : Standing) (kept : StoreStanding) (first : Resumed)
+      → (came : RecoversTo all others asked i y slots can.fits.waiting standing kept (Ok first))
+      → RunsOver i.meaning (requests_of y.batches) (told_first can.fits.waiting first) (requests_of came.after.batches)
+  run_told y slots before old can standing kept (Start first) came =
+      run_start y slots can.fits.waiting standing kept first came.comes.0 came
+  run_told y slots before old can standing kept (Answered answer) came =
+      run_answered y slots can.fits.waiting standing kept answer came.comes.p came.comes.waits can.fits.fits came came.comes.position came.comes.answer_is
+
   begins_start : (y : History) (slots : Slots) (waiting : Option Pending) (standing : Standing) (kept : StoreStanding) (first : List ℕ) → waiting ≡ None → Began y slots waiting standing kept (Start first) → BeginsAt y waiting (record { platform = standing; store = kept; last = Start first })
   begins_start y slots None standing kept first none m =
       let r = m.0 in
@@ -338,7 +365,7 @@ module _ (all others : List (List ℕ)) (asked : List Batch) (i : Instance) (fin
               ap (λ (c : Content). c.place) (one_content i first content r.holds.content right r.holds.right) ∙ laws.placed r.after r.holds.content r.within.sound r.holds.names r.holds.at;
           shows = m.1.0;
         };
-        run = ap requests_of r.grown;
+        run = run_start y slots None standing kept first none r;
         powered = r.powered;
       }
   begins_start y slots (Some p) standing kept first none m = absurd (cc)
@@ -377,7 +404,7 @@ module _ (all others : List (List ℕ)) (asked : List Batch) (i : Instance) (fin
           placed = placed_issued r.after (history_then i y (Some q)) answer.snapshot (most_of r.after answer.snapshot answer.position r.holds end) (ap (λ (b : BatchAnswer). b.snapshot) answers) grown;
           shows = m.1.0;
         };
-        run = answered_first i y r.after q answer f.0 here answers r.grown;
+        run = run_answered y slots (Some q) standing kept answer p e f r at is;
         powered = r.powered;
       }
 
@@ -526,6 +553,95 @@ module _ (all others : List (List ℕ)) (asked : List Batch) (i : Instance) (fin
       recovers_by (IsBetween all others i y can.fits.waiting platform final) i.variant all others asked i laws.lawful y slots before platform old can new (Ok first)
       (λ e. (subst (λ (x : Standing). Shows i.variant all others i y x final) (sym e) shows, inl (same_self i.variant y))) leads r
 
+  -- where there is no line, it rests where the recovery left it
+
+  no_line : (more rest line held : List ℕ) → BeginsWith more line held → lines_of (more ++ rest) ≡ [] → ⊥
+  no_line more rest line held b e =
+      let lines : lines_of (more ++ rest) ≡ line ∷ lines_of (held ++ rest) =
+      ap (λ (x : List ℕ). lines_of (x ++ rest)) b.cut ∙ ap lines_of (append_assoc line (10 ∷ held) rest) ∙ lines_of-line line (held ++ rest) b.within.unbroken in
+      let clash : line ∷ lines_of (held ++ rest) ≡ [] = sym lines ∙ e in absurd (cc)
+
+  record Rested (at : Place) (new : StoreStanding) (sent : List ℕ) (result : Result Unit SessionFault) : Type 0 where
+    rest : IsAtRest at final new sent
+    refuses : (how : Life) → RefusesAs result how
+
+  rests_stopped : (number : ℕ) (at : Place) (new : StoreStanding) (left : Option (List ℕ)) (more rest sent : List ℕ) (fault : SessionFault) → lines_of (more ++ rest) ≡ []
+      → Stops i.variant i.meaning number at final new left more sent fault → Rested at new sent (Err fault)
+  rests_stopped number at new left more rest sent Memory none e = absurd (no_line more rest e.line e.held e.begins none)
+  rests_stopped number at new left more rest sent Store none e = absurd (no_line more rest e.line e.held e.begins none)
+  rests_stopped number at new left more rest sent (Refused why) none e = absurd (no_line more rest e.line e.held e.begins none)
+  rests_stopped number at new left more rest sent WriteFault none e = absurd (no_line more rest e.line e.held e.begins none)
+  rests_stopped number at new left more rest sent ReadFault none e = record { rest = e.0; refuses = λ how. tt }
+  rests_stopped number at new left more rest sent (BadLine line) none e = record { rest = e.0; refuses = λ how. tt }
+  rests_stopped number at new left more rest sent (LineLong line) none e = record { rest = e.0; refuses = λ how. tt }
+  rests_stopped number at new left more rest sent TooMuch none e = record { rest = e.0; refuses = λ how. tt }
+
+  rests_ended : (number : ℕ) (at : Place) (new : StoreStanding) (left : Option (List ℕ)) (more rest sent : List ℕ) (result : Result Unit SessionFault) → lines_of (more ++ rest) ≡ []
+      → EndsSession i.variant i.meaning number at final new left more sent result → Rested at new sent result
+  rests_ended number at new left more rest sent (Ok it) none e = record { rest = e.0; refuses = λ how. tt }
+  rests_ended number at new left more rest sent (Err fault) none e = rests_stopped number at new left more rest sent fault none e
+
+  none_served : (calls : List Served) (lines : List (List ℕ)) → lines_served calls ++ lines ≡ [] → (calls ≡ []) × (lines ≡ [])
+  none_served [] lines e = (refl, e)
+  none_served (c ∷ calls) lines e = absurd (cc)
+
+  place_kept : (calls : List Served) (from at : Place) → calls ≡ [] → Serves i.variant i.meaning from calls at → at ≡ from
+  place_kept [] from at e s = s
+  place_kept (c ∷ calls) from at e s = absurd (cc)
+
+  rests_on : (y : History) (slots : Slots) (before : Standing) (old new : StoreStanding) (input taken sent : List ℕ) (left : Option (List ℕ)) (begun : Result Resumed HostFault) (platform : Standing) (store : StoreStanding) (result : Result Unit SessionFault)
+      → IsRead input taken → (can : CanServe all others asked i y slots before old (lines_of input)) → lines_of input ≡ []
+      → (platform ≡ final → RecoversTo all others asked i y slots can.can.fits.waiting final store begun)
+      → (g : GoesOn i.variant i.meaning begun platform final store new left taken sent result)
+      → ContinuesTo all others asked i y final new (told_first can.can.fits.waiting g.first ++ g.lines.calls) (λ (request : List ℕ). (held : List ℕ) × BeginsWith g.lines.more request held) result
+  rests_on y slots before old new input taken sent left begun platform store result input_is can none recovers_so g =
+      let l = g.lines in
+      let waiting : Option Pending = can.can.fits.waiting in
+      let from : Place = record { platform = platform; store = store; last = g.first } in
+      let bytes : input ≡ lines_joined (lines_served l.calls) ++ (l.more ++ input_is.rest) =
+      input_is.is ∙ ap (λ (x : List ℕ). x ++ input_is.rest) l.took ∙ append_assoc (lines_joined (lines_served l.calls)) l.more input_is.rest in
+      let lines : lines_of input ≡ lines_served l.calls ++ lines_of (l.more ++ input_is.rest) =
+      ap lines_of bytes ∙ lines_of-joined (lines_served l.calls) (l.more ++ input_is.rest) (unbroken_served i.variant i.meaning from l.at l.calls l.serves) in
+      let nothing = none_served l.calls (lines_of (l.more ++ input_is.rest)) (sym lines ∙ none) in
+      let x = rests_ended (length l.calls + 1) l.at new left l.more input_is.rest l.last result nothing.1 l.ends in
+      let at : l.at ≡ from = place_kept l.calls from l.at nothing.0 l.serves in
+      let same : platform ≡ final = sym (x.rest.platform ∙ ap (λ (p : Place). p.platform) at) in
+      let kept : new ≡ store = x.rest.store ∙ ap (λ (p : Place). p.store) at in
+      let came : RecoversTo all others asked i y slots waiting final store (Ok g.first) =
+      subst (λ (b : Result Resumed HostFault). RecoversTo all others asked i y slots waiting final store b) g.begins (recovers_so same) in
+      let told : told_first waiting g.first ++ l.calls ≡ told_first waiting g.first =
+      ap (λ (cs : List Served). told_first waiting g.first ++ cs) nothing.0 ∙ append-nil (told_first waiting g.first) in
+      record {
+        after = came.after;
+        stands = came.stands;
+        within = came.within;
+        slots_after = came.slots_after;
+        honest = ap (λ (k : StoreStanding). k.is_honest) kept ∙ came.honest;
+        slots_told = ap (λ (k : StoreStanding). k.slots) kept ∙ came.told;
+        fits = λ n. came.fits;
+        whole = λ n. came.fits;
+        requests = requests_of came.after.batches;
+        run = subst (λ (cs : List Served). RunsOver i.meaning (requests_of y.batches) cs (requests_of came.after.batches)) (sym told)
+            (run_told y slots before old can.can final store g.first came);
+        committed = inl refl;
+        refuses = x.refuses (life_of i.variant came.after);
+        unspoiled = unspoiled i.variant others came.after came.within.sound came.within.outside;
+        powered = came.powered;
+      }
+
+  by_rest : (y : History) (slots : Slots) (before : Standing) (old new : StoreStanding) (input taken sent : List ℕ) (left : Option (List ℕ)) (begun : Result Resumed HostFault) (platform : Standing) (store : StoreStanding) (result : Result Unit SessionFault)
+      → IsRead input taken → (can : CanServe all others asked i y slots before old (lines_of input)) → lines_of input ≡ []
+      → (platform ≡ final → RecoversTo all others asked i y slots can.can.fits.waiting final store begun)
+      → (goes : AfterResume i.variant i.meaning begun platform final store new left taken sent result)
+      → ContinuesTo all others asked i y final new (told_in can.can.fits.waiting goes) (IsInHand can.can.fits.waiting goes) result
+  by_rest y slots before old new input taken sent left begun platform store result input_is can none recovers_so (inl e) =
+      stops_at_once y slots can.can.fits.waiting store new begun taken sent result
+      (λ (request : List ℕ). (p : Pending) × (can.can.fits.waiting ≡ Some p) × (p.request ≡ request))
+      (λ (p : Pending) (w : can.can.fits.waiting ≡ Some p). (p, w, refl))
+      (recovers_so (sym e.0)) e.1 e.2
+  by_rest y slots before old new input taken sent left begun platform store result input_is can none recovers_so (inr g) =
+      rests_on y slots before old new input taken sent left begun platform store result input_is can none recovers_so g
+
   by_start : (y : History) (slots : Slots) (before : Standing) (old new : StoreStanding) (input taken sent : List ℕ) (left : Option (List ℕ)) (begun : Result Resumed HostFault) (platform : Standing) (store : StoreStanding) (result : Result Unit SessionFault)
       → IsRead input taken → (can : CanServe all others asked i y slots before old (lines_of input)) → Shows i.variant all others i y before final
       → Resumes i.variant i.meaning before platform old store begun
@@ -543,11 +659,31 @@ module _ (all others : List (List ℕ)) (asked : List Batch) (i : Instance) (fin
       serves_on y slots before old new input taken sent left begun platform store result input_is can g
       (recovers_between y slots before platform old store g.first can.can shows reaches (subst (λ (x : Result Resumed HostFault). Resumes i.variant i.meaning before platform old store x) g.begins r))
 
+-- the session has lines, or its recovery minds the register; or neither
+unless_resting : {A : Type 0} (i : Instance) (y : History) (slots : Slots) (waiting : Option Pending) (lines : List (List ℕ))
+    → ((AsksIdly i y slots waiting × (lines ≡ []) → ⊥) → A) → A ⊎ (AsksIdly i y slots waiting × (lines ≡ []))
+unless_resting i y slots waiting (line ∷ lines) unless = inl (unless (λ k. let clash : line ∷ lines ≡ [] = k.1 in absurd (cc)))
+unless_resting i y slots None [] unless = inr (tt, refl)
+unless_resting i y slots (Some p) [] unless = elim (unless_idle i y (slot_read slots (offer_slot p)) (One p.request) (λ busy. unless (λ k. busy k.0))) [
+  | inl it ↦ inl it
+  | inr idle ↦ inr (idle, refl)
+]
+
 pub continues : (variant : Variant) (meaning : Meaning) → IsLawful meaning → (before after : Standing) (old new : StoreStanding) (left left' received received' : Option (List ℕ)) (result : Result Unit SessionFault) → SessionContinues variant meaning before after old new left left' received received' result
 continues Basic meaning lawful before after old new left left' received received' result = λ s key y slots all others asked input e can.
     by_start all others asked (basic meaning key) after (basic_laws meaning lawful key all others asked after) y slots before old new input s.taken s.sent left' s.begun s.platform s.store result
     (read_of left left' input s.taken e s.consumed) can tt s.resumes s.goes
 continues Opt meaning lawful before after old new left left' received received' result = λ s key barrier y slots all others asked input items more e can known ends shown_so.
-    by_start all others asked (opt meaning key barrier) after (opt_laws meaning lawful key barrier all others asked after) y slots before old new input s.taken s.sent left' s.begun s.platform s.store result
-    (read_of left left' input s.taken e s.consumed) can
-    (record { items = items; known = known; more = more; ends = ends; shown_are = shown_so }) s.resumes s.goes
+    let i : Instance = opt meaning key barrier in
+    let laws = opt_laws meaning lawful key barrier all others asked after in
+    let read = read_of left left' input s.taken e s.consumed in
+    elim (unless_resting i y slots can.can.fits.waiting (lines_of input) shown_so) [
+      | inl shown_are ↦
+          by_start all others asked i after laws y slots before old new input s.taken s.sent left' s.begun s.platform s.store result read can
+          (record { items = items; known = known; more = more; ends = ends; shown_are = shown_are }) s.resumes s.goes
+      | inr rests ↦
+          by_rest all others asked i after laws y slots before old new input s.taken s.sent left' s.begun s.platform s.store result read can rests.1
+          (λ same. recovers Opt meaning lawful before after old s.store s.begun
+          (subst (λ (x : Standing). Resumes Opt meaning before x old s.store s.begun) same s.resumes)
+          key barrier y slots all others asked items more can.can known ends (λ busy. absurd (busy rests.0))) s.goes
+    ]

@@ -33,7 +33,7 @@ use Rattle.mm_host.specs.declared.fault.SessionFault.TheVariants.{Memory, Store,
 use Rattle.mm_host.specs.declared.resuming.Resumed.{Resumed}
 use Rattle.mm_host.specs.declared.resuming.Resumed.TheVariants.{Start, Answered}
 use Rattle.mm_host.specs.Fitting.{FitsHistory}
-use Rattle.mm_host.specs.Recovery.{CanRecover, IsRefusedAs}
+use Rattle.mm_host.specs.Recovery.{AsksIdly, CanRecover, IsRefusedAs}
 use Rattle.mm_host.specs.Serving.{Served}
 use Rattle.mm_host.specs.Sessions.{AfterResume, BeginsWith, Sessions}
 use Rattle.mm_host.specs.Waiting.{IsWaiting}
@@ -155,7 +155,8 @@ pub record ContinuesTo (all others : List (List ℕ)) (asked : List Batch) (i : 
 
 -- Over an honest store and an input that tell what they hold: by whatever steps the session went, from every history.
 -- Over a platform of Basic under every key; over one of Opt under every key and barrier, where what others did is known
--- by the items that the register shows at the session's end behind those that counted at its start.
+-- by the items that the register shows at the session's end behind those that counted at its start, unless it asks idly
+-- and has no line.
 abbrev pub SessionContinues : Variant → Meaning → Standing → Standing → StoreStanding → StoreStanding → Option (List ℕ) → Option (List ℕ)
     → Option (List ℕ)
     → Option (List ℕ) → Result Unit SessionFault → Type 0
@@ -171,6 +172,7 @@ SessionContinues Opt meaning before after old new left left' received received' 
     (items more : List Item) →
     left ≡ Some input → (can : CanServe all others asked (opt meaning key barrier) y slots before old (lines_of input)) →
     before.items ≡ Some items → after.items ≡ Some (standing_items y.is_open items ++ more) →
-    AreShown all others (opt meaning key barrier) y more →
+    ((AsksIdly (opt meaning key barrier) y slots can.can.fits.waiting × (lines_of input ≡ []) → ⊥) →
+    AreShown all others (opt meaning key barrier) y more) →
     ContinuesTo all others asked (opt meaning key barrier) y after new (told_in can.can.fits.waiting s.goes)
     (IsInHand can.can.fits.waiting s.goes) result

@@ -18,7 +18,7 @@ use Rattle.mm_call.specs.Answers.{answer_on}
 use Rattle.mm_call.specs.Asked.{IsWithin, right_messages}
 use Rattle.mm_call.specs.Found.{right_content}
 use Rattle.mm_call.specs.Leaving.{whole}
-use Rattle.mm_call.specs.Premises.{AreShown}
+use Rattle.mm_call.specs.Premises.{AreShown, IsIdle}
 use Rattle.mm_call.specs.Refusals.{fault_of}
 use Rattle.mm_call.specs.Tied.{standing_items}
 use Rattle.mm_store.specs.Kept.{StoreStanding}
@@ -50,6 +50,11 @@ pub record CanRecover (all others : List (List ℕ)) (asked : List Batch) (i : I
   pub apart : AreNoGuards i.barrier others asked
   pub within : IsWithin all others asked i y
   pub is_asked : IsAskedFor all asked i slots fits.waiting
+
+-- Nothing waits, so nothing is asked; or what waits is asked with no segment open, and isn't taken for new.
+abbrev pub AsksIdly : Instance → History → Slots → Option Pending → Type 0
+AsksIdly i y slots None = Unit {0}
+AsksIdly i y slots (Some p) = IsIdle i y (slot_read slots (offer_slot p)) (One p.request)
 
 -- the batches of the history, and the request that waits, where that is new
 abbrev pub IsGrown : History → Option Pending → History → Type 0
@@ -107,7 +112,8 @@ pub record RecoversTo (all others : List (List ℕ)) (asked : List Batch) (i : I
   pub comes : ComesTo i y slots waiting after result
 
 -- Over a platform of Basic it recovers from every history, under every key; over one of Opt under every key and barrier,
--- where what others did is known by the items that the register shows at exit behind those that counted at entry.
+-- where what others did is known by the items that the register shows at exit behind those that counted at entry, unless
+-- it asks idly.
 abbrev pub Recovers : Variant → Meaning → Standing → Standing → StoreStanding → StoreStanding → Result Resumed HostFault → Type 0
 Recovers Basic meaning before after old new result =
     (key : List ℕ) (y : History) (slots : Slots) (all others : List (List ℕ)) (asked : List Batch)
@@ -117,5 +123,5 @@ Recovers Opt meaning before after old new result =
     (key barrier : List ℕ) (y : History) (slots : Slots) (all others : List (List ℕ)) (asked : List Batch) (items more : List Item)
     (can : CanRecover all others asked (opt meaning key barrier) y slots before old) →
     before.items ≡ Some items → after.items ≡ Some (standing_items y.is_open items ++ more) →
-    AreShown all others (opt meaning key barrier) y more →
+    ((AsksIdly (opt meaning key barrier) y slots can.fits.waiting → ⊥) → AreShown all others (opt meaning key barrier) y more) →
     RecoversTo all others asked (opt meaning key barrier) y slots can.fits.waiting after new result
