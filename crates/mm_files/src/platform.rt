@@ -13,8 +13,9 @@ use mm_platform::{Device, RawNv, Register, StepFault};
 use std::io;
 use std::rt::Files;
 
-/// Non-volatile memory of 209 bytes in the file `nv`, and a register in the file `register`, both of the current
-/// directory. No content is told. The first call locks the directory; where another program holds the lock each call
+/// Non-volatile memory of 209 bytes in the file `nv`, and a register of 32 bytes in the file `register`, both of the
+/// current directory. They emulate devices that the host can't put back: whoever may write these files can. No content
+/// is told. The first call locks the directory and syncs both files; where another program holds the lock each call
 /// fails.
 #[derive(Drop)]
 pub struct FilePlatform<'a, R: Files> {
