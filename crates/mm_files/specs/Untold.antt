@@ -3,14 +3,15 @@ use Rattle.std.specs.Prelude.{◌≡◌, ℕ, true, false, List, length, None, S
 use Rattle.mm_pages.specs.Paged.{Paged}
 use Rattle.mm_platform.specs.Standing.{Standing}
 
--- a platform that is on and has room, of which only the steps and faults are counted
-abbrev pub untold : ℕ → ℕ → Standing
-untold steps faults = record {
+-- a platform that is on and has room, of which only the steps, losses of power and faults are counted
+abbrev pub untold : ℕ → ℕ → ℕ → Standing
+untold steps cycles faults = record {
   cell = None;
   items = None;
   is_on = true;
   steps = steps;
   writes = 0;
+  cycles = cycles;
   spare = 1;
   faults = faults;
   plan = None;

@@ -21,6 +21,7 @@ use std::rt::Files;
 pub struct FilePlatform<'a, R: Files> {
     folder: Folder<'a, R>,
     steps: u64,
+    cycles: u64,
     faults: u64,
 }
 
@@ -31,11 +32,13 @@ where
     /// The platform over these files. None is opened before the first call.
     pub fn new(files: &'a R) -> FilePlatform<'a, R>
         ensures steps { result.steps ≡ 0 }
+        ensures cycles { result.cycles ≡ 0 }
         ensures faults { result.faults ≡ 0 }
     {
         FilePlatform {
             folder: Folder::new(files),
             steps: 0,
+            cycles: 0,
             faults: 0,
         }
     }
@@ -56,7 +59,7 @@ impl<R: Files> Device for FilePlatform<'_, R>
 where
     R::File: Lock,
 {
-    ghost standing = { λ it. untold it.steps it.faults };
+    ghost standing = { λ it. untold it.steps it.cycles it.faults };
 }
 
 impl<R: Files> RawNv for FilePlatform<'_, R>
@@ -77,6 +80,7 @@ where
     }
 
     fn raw_cycle(&mut self) -> Result<(), StepFault> {
+        self.cycles = self.cycles.saturating_add(1);
         let outcome = self.folder.put_register(&zero());
         told(&mut self.faults, outcome)
     }
