@@ -1,0 +1,4 @@
+pub mod Stopping
+pub mod Steps
+pub mod Closing
+pub mod Beginning

@@ -1,0 +1,345 @@
+-- The next step of a call that asks for a batch, and a step that breaks it off.
+use Rattle.std.proofs.Common.{◌≡◌, ℕ, ◌+◌, ◌<◌, ◌≤◌, Bool, true, false, List, Option, None, Some, Result, Ok, Err, refl, sym, ap, ◌∙◌, subst, arith}
+use Rattle.std.specs.Prelude.{MatchResult, IsErr}
+use Rattle.std.specs.Option.{option_map}
+use Rattle.mm_base.specs.declared.fault.Memory.{Memory}
+use Rattle.mm_base.specs.Faults.{counted}
+use Rattle.mm_digest.specs.declared.variant.Variant.{Variant}
+use Rattle.mm_platform.specs.declared.fault.StepFault.{StepFault}
+use Rattle.mm_platform.specs.declared.fault.StepFault.TheVariants.{Failed}
+use Rattle.mm_platform.specs.declared.plan.Meddle.{Meddle}
+use Rattle.mm_platform.specs.declared.plan.Stop.{Stop}
+use Rattle.mm_platform.specs.declared.plan.Stop.TheVariants.{Quiet, Fail}
+use Rattle.mm_platform.specs.Standing.{Plan, Standing}
+use Rattle.mm_platform.specs.Memory.{stopping}
+use Rattle.mm_platform.specs.Told.{quiet_plan, step_made}
+use Rattle.mm_module.specs.Meaning.{Meaning}
+use Rattle.mm_module.specs.Batch.{Batch, size_of}
+use Rattle.mm_model.specs.Long.{is_long}
+use Rattle.mm_model.specs.Instance.{Instance}
+use Rattle.mm_model.specs.Moves.{Digests}
+use Rattle.mm_model.specs.declared.answer.BatchAnswer.{BatchAnswer}
+use Rattle.mm_model.specs.declared.refusal.Refusal.{Refusal}
+use Rattle.mm_model.specs.declared.refusal.Refusal.TheVariants as refusal
+use Rattle.mm_call.specs.declared.ended.Ended.{Ended}
+use Rattle.mm_call.specs.declared.ended.Ended.TheVariants.{Answered, Refused, Broken}
+use Rattle.mm_call.specs.Ended.{CallsTo, is_broken, ended_with, refused_as}
+use Rattle.mm_call.specs.Refusals.{fault_of}
+use Rattle.mm_call.specs.Levels.{by_digests}
+use Rattle.mm_call.specs.Standing.{instance_by}
+use Rattle.mm_schedule.specs.declared.event.Offer.{Offer}
+use Rattle.mm_schedule.specs.declared.reply.Cause.{Cause}
+use Rattle.mm_run.specs.Folds.{Outcome, asked, cause_of}
+use Rattle.mm_run.specs.Offered.{offered_bytes}
+use Rattle.mm_flight.specs.declared.ask.AskCall.{AskCall}
+use Rattle.mm_flight.specs.declared.ask.AskTurn.{AskTurn}
+use Rattle.mm_flight.specs.declared.ask.AskTurn.TheVariants as turn
+use Rattle.mm_flight.specs.Asks.{ask_number, AskTurns, TurnMayAsk, MayAsk, ask_fault, AskFinishes, AdvancedAsk}
+use Rattle.mm_flight.specs.InFlight.{plan_by, under, InFlight}
+use Rattle.mm_flight.proofs.Replanning.{Replans, AlwaysFails}
+use Rattle.mm_flight.proofs.Asking.{ask_act, ask_replanned, ask_moves, ask_then, ask_answers, ask_refuses, ask_fails, ask_faultless, ask_breaks, few_steps}
+use Rattle.mm_flight.proofs.Flying.{replans, goes_on}
+use Rattle.mm_world.specs.declared.call.Called.{Called}
+use Rattle.mm_world.specs.Stands.{Stands, IsQuiet}
+use Rattle.mm_world.specs.Calls.{refused_call, answered_call, broken_as, takes_effect, stopped_step, RefusedAs, CalledAs, SettlesPlan}
+use Rattle.mm_world.specs.Asks.{Came, Lacks}
+use Rattle.mm_world.proofs.Calling.{asks_planned}
+use Rattle.mm_steps.specs.declared.asks.Stepped.{Stepped}
+use Rattle.mm_steps.specs.declared.asks.Stepped.TheVariants.{Going, Over}
+use Rattle.mm_steps.specs.Stopping.{BreaksNext, is_nothing, stop_behind}
+use Rattle.mm_steps.specs.Asking.{asks_whole, asks_rest, AsksInFlight, asked_so, SteppedTo, MayStepOn, over_in, EndsAs}
+use Rattle.mm_steps.proofs.Stopping.{goes_as, same_next, fails_next, always_fails}
+
+-- what a call came to that was made whole by what ended it
+
+abbrev Comes : Instance → Digests → List (List ℕ) → List Meddle → Stop → List ℕ → Batch → Standing → Standing → Result Called Memory
+    → Type 0
+Comes i d issued meddles stop bytes b from new result =
+    MatchResult result (Came i (asked i (by_digests i) d issued meddles stop (Some bytes) b) d.count issued from new)
+    (λ _. Lacks i d meddles stop from new)
+
+comes : (variant : Variant) (meaning : Meaning) (key barrier : List ℕ) (d : Digests) (from : Standing) (call : AskCall) (now : Standing)
+    (meddles : List Meddle) (next : ℕ) (bytes : List ℕ) (b : Batch)
+    → (f : AsksInFlight variant meaning key barrier d from call now meddles next bytes b) → is_long b ≡ false
+    → (stop : Stop) (mid new : Standing) (ended : Ended) (size : ℕ) (result : Result Called Memory)
+    → f.made < stopped_step stop → AskFinishes meaning call (under (plan_by stop meddles) f.made now) mid bytes b ended → size ≡ size_of b
+    → SettlesPlan stop (is_broken ended) mid new → CalledAs stop size ended result → (issued : List (List ℕ))
+    → Comes (instance_by variant meaning key barrier) d issued meddles stop bytes b from new result
+comes variant meaning key barrier d from call now meddles next bytes b f short stop mid new ended size result later finishes n settles
+    told issued =
+    let calls : CallsTo variant meaning (under (plan_by stop meddles) 0 from) mid bytes b ended =
+    f.flies.joins (plan_by stop meddles) (goes_as stop meddles f.made later) mid ended finishes in
+    asks_planned variant meaning from mid new meddles stop bytes b size ended result short n calls settles told issued key barrier d
+    f.stands f.quiet
+
+-- so the event of the call comes to it, whose offer is these bytes
+comes_so : (i : Instance) (d : Digests) (issued : List (List ℕ)) (meddles : List Meddle) (stop : Stop) (offer : Offer) (bytes : List ℕ)
+    (b : Batch) (from new : Standing) (it : Called) → offered_bytes issued offer ≡ Some bytes
+    → Came i (asked i (by_digests i) d issued meddles stop (Some bytes) b) d.count issued from new it
+    → Came i (asked_so i d issued meddles stop offer b) d.count issued from new it
+comes_so i d issued meddles stop offer bytes b from new it offered c =
+    subst (λ (x : Option (List ℕ)). Came i (asked i (by_digests i) d issued meddles stop x b) d.count issued from new it) (sym offered) c
+
+-- a call that wasn't broken off comes to something
+
+record IsRefusedFor (it : Called) : Type 0 where
+  pub cause : Cause
+  pub is : it ≡ refused_call cause
+
+for_cause : (cause : Cause) (it : Called) (result : Result Called Memory) → result ≡ Ok it → result ≡ Ok (refused_call cause)
+    → IsRefusedFor it
+for_cause cause it result e is = record { cause = cause; is = cc }
+
+ok_never : (it : Called) (result : Result Called Memory) → result ≡ Ok it → IsErr result → ⊥
+ok_never it (Ok other) e r = cc
+ok_never it (Err memory) e r = cc
+
+refused_for : (why : Refusal) (it : Called) (result : Result Called Memory) → result ≡ Ok it → RefusedAs why result → IsRefusedFor it
+refused_for refusal.Memory it result e r = absurd (ok_never it result e r)
+refused_for refusal.Lost it result e r = for_cause (cause_of refusal.Lost) it result e r
+refused_for refusal.Form it result e r = for_cause (cause_of refusal.Form) it result e r
+refused_for refusal.Kind it result e r = for_cause (cause_of refusal.Kind) it result e r
+refused_for refusal.State it result e r = for_cause (cause_of refusal.State) it result e r
+refused_for refusal.Tag it result e r = for_cause (cause_of refusal.Tag) it result e r
+refused_for refusal.Stale it result e r = for_cause (cause_of refusal.Stale) it result e r
+refused_for refusal.Full it result e r = for_cause (cause_of refusal.Full) it result e r
+refused_for refusal.Long it result e r = for_cause (cause_of refusal.Long) it result e r
+refused_for refusal.Blank it result e r = for_cause (cause_of refusal.Blank) it result e r
+refused_for refusal.Cell it result e r = for_cause (cause_of refusal.Cell) it result e r
+refused_for (refusal.Device fault) it result e r = for_cause (cause_of (refusal.Device fault)) it result e r
+
+something : (stop : Stop) (size : ℕ) (ended : Ended) (it : Called) (result : Result Called Memory) → is_broken ended ≡ false
+    → result ≡ Ok it → CalledAs stop size ended result → is_nothing it.reply ≡ false
+something stop size (Answered answer) it result whole e told =
+    let same : it ≡ answered_call answer = cc in ap (λ (x : Called). is_nothing x.reply) same
+something stop size (Refused why) it result whole e told = ap (λ (x : Called). is_nothing x.reply) (refused_for why it result e told).is
+something stop size (Broken fault commits) it result whole e told = absurd (cc)
+
+-- a turn that is the call's last
+
+unbroken_as : (fault : Option StepFault) (why : Refusal) → fault ≡ None → is_broken (ended_with fault why) ≡ false
+unbroken_as None why e = refl
+unbroken_as (Some fault) why e = cc
+
+abbrev behind : List Meddle → ℕ → Plan
+behind meddles made = plan_by (stop_behind (made + 1)) meddles
+
+replans_behind : (now : Standing) (meddles : List Meddle) (made : ℕ) → now.is_on ≡ true
+    → now.plan ≡ Some (record (plan_by Quiet meddles) { at = made }) → made < 255
+    → Replans (behind meddles made) (plan_by Quiet meddles) made now
+replans_behind now meddles made on planned few = replans (behind meddles made) now meddles made on planned few (same_next meddles made)
+
+settled_under : (stop : Stop) (broken : Bool) (plan : Plan) (at : ℕ) (mid new : Standing) → SettlesPlan stop broken mid new
+    → SettlesPlan stop broken (under plan at mid) new
+settled_under stop broken plan at mid new s = record {
+  cell = s.cell;
+  items = s.items;
+  is_on = s.is_on;
+  plan = s.plan;
+  steps = s.steps;
+  writes = s.writes;
+}
+
+-- what the step of a call that is over gives, by what it came to
+over_gives : (variant : Variant) (meaning : Meaning) (key barrier : List ℕ) (d : Digests) (from : Standing) (issued : List (List ℕ))
+    (meddles : List Meddle) (next : ℕ) (offer : Offer) (bytes : List ℕ) (b : Batch) (new : Standing)
+    (size : ℕ) (ended : Ended) (called result : Result Called Memory) → called ≡ result → is_broken ended ≡ false
+    → CalledAs (stop_behind next) size ended result → offered_bytes issued offer ≡ Some bytes
+    → Comes (instance_by variant meaning key barrier) d issued meddles (stop_behind next) bytes b from new called
+    → SteppedTo variant meaning key barrier d from issued meddles next offer bytes b new (over_in called)
+over_gives variant meaning key barrier d from issued meddles next offer bytes b new size ended (Ok it) result e whole told offered c =
+    let i = instance_by variant meaning key barrier in
+    let came = comes_so i d issued meddles (stop_behind next) offer bytes b from new it offered c in
+    (came, ap (λ x. is_nothing x) (sym came.reply) ∙ something (stop_behind next) size ended it result whole (sym e) told)
+over_gives variant meaning key barrier d from issued meddles next offer bytes b new size ended (Err memory) result e whole told offered c
+    = c
+
+pub over_to : (variant : Variant) (meaning : Meaning) (key barrier : List ℕ) (d : Digests) (from : Standing) (issued : List (List ℕ))
+    (call : AskCall) (now mid : Standing) (meddles : List Meddle) (next : ℕ) (offer : Offer)
+    (bytes : List ℕ) (b : Batch) (new : Standing) (size : ℕ) (ended : Ended) (result : Result Stepped Memory)
+    → (f : AsksInFlight variant meaning key barrier d from call now meddles next bytes b) → is_long b ≡ false → size ≡ size_of b
+    → offered_bytes issued offer ≡ Some bytes
+    → is_broken ended ≡ false → AskFinishes meaning call (under (behind meddles f.made) f.made now)
+    (under (behind meddles f.made) (counted f.made) mid) bytes b ended
+    → EndsAs (stop_behind next) size ended mid new result → SteppedTo variant meaning key barrier d from issued meddles next offer bytes
+    b new result
+over_to variant meaning key barrier d from issued call now mid meddles next offer bytes b new size ended result f short n offered whole
+    finishes e =
+    let i = instance_by variant meaning key barrier in
+    let made = f.made in
+    let stop = stop_behind (made + 1) in
+    let settles = settled_under stop (is_broken ended) (behind meddles made) (counted made) mid new
+    (subst (λ (k : ℕ). SettlesPlan (stop_behind k) (is_broken ended) mid new) f.is_next e.settles) in
+    let told : CalledAs stop size ended e.called = subst (λ (k : ℕ). CalledAs (stop_behind k) size ended e.called) f.is_next e.told in
+    let came = comes variant meaning key barrier d from call now meddles next bytes b f short stop
+    (under (behind meddles made) (counted made) mid) new ended size e.called (omega arith) finishes n settles told issued in
+    let back : Comes i d issued meddles (stop_behind next) bytes b from new e.called = subst
+    (λ (k : ℕ). Comes i d issued meddles (stop_behind k) bytes b from new e.called) (sym f.is_next) came in
+    subst (λ (r : Result Stepped Memory). SteppedTo variant meaning key barrier d from issued meddles next offer bytes b new r)
+    (sym e.gives)
+    (over_gives variant meaning key barrier d from issued meddles next offer bytes b new size ended e.called e.called refl whole e.told
+    offered back)
+
+-- a turn that goes on
+
+fewer : (on call made : ℕ) → on ≤ 5 → on ≡ call + 1 → call ≡ made + 1 → made + 1 < 255
+fewer on call made few counts number = omega arith
+
+-- the call has come to nothing so far: its next step may still fail without effect
+nothing_yet : (variant : Variant) (meaning : Meaning) (key barrier : List ℕ) (d : Digests) (from : Standing) (issued : List (List ℕ))
+    (call : AskCall) (now : Standing) (meddles : List Meddle) (next : ℕ) (offer : Offer)
+    (bytes : List ℕ) (b : Batch) → AsksInFlight variant meaning key barrier d from call now meddles next bytes b → is_long b ≡ false
+    → offered_bytes issued offer ≡ Some bytes
+    → is_nothing (asked_so (instance_by variant meaning key barrier) d issued meddles (Fail next false) offer b).reply ≡ true
+nothing_yet variant meaning key barrier d from issued call now meddles next offer bytes b f short offered =
+    let i = instance_by variant meaning key barrier in
+    let made = f.made in
+    let stop = stop_behind made in
+    let at : Standing = under (plan_by stop meddles) made now in
+    let last : Standing = step_made (ask_act call) at in
+    let fails = ask_fails call meaning at last bytes b Failed (fails_next (ask_act call) now meddles made f.flies.is_on f.flies.few) in
+    let settled : Standing = record last { plan = Some quiet_plan } in
+    let it : Called = broken_as stop None (size_of b) in
+    let settles : SettlesPlan stop true last settled = record {
+      cell = refl;
+      items = refl;
+      is_on = refl;
+      plan = refl;
+      steps = refl;
+      writes = refl;
+    } in
+    let came = comes variant meaning key barrier d from call now meddles next bytes b f short stop last settled (Broken Failed fails.0)
+    (size_of b) (Ok it) (omega arith) fails.1 refl settles refl issued in
+    let so = comes_so i d issued meddles stop offer bytes b from settled it offered came in
+    let said : is_nothing (asked_so i d issued meddles stop offer b).reply ≡ true = sym (ap (λ x. is_nothing x) so.reply) in
+    subst (λ (k : ℕ). is_nothing (asked_so i d issued meddles (Fail k false) offer b).reply ≡ true) (sym f.is_next) said
+
+pub going_to : (variant : Variant) (meaning : Meaning) (key barrier : List ℕ) (d : Digests) (from : Standing) (issued : List (List ℕ))
+    (call : AskCall) (now new : Standing) (meddles : List Meddle) (next : ℕ) (offer : Offer)
+    (bytes : List ℕ) (b : Batch) (on : AskCall) (turned : AskTurn)
+    → AsksInFlight variant meaning key barrier d from call now meddles next bytes b → is_long b ≡ false
+    → offered_bytes issued offer ≡ Some bytes
+    → AdvancedAsk meaning call now new bytes b turned → turned ≡ turn.Going on
+    → SteppedTo variant meaning key barrier d from issued meddles next offer bytes b new (Ok (Going on))
+going_to variant meaning key barrier d from issued call now new meddles next offer bytes b on turned f short offered a e =
+    let made = f.made in
+    let t : AskTurns meaning call now new bytes b (turn.Going on) = subst (λ (x : AskTurn). AskTurns meaning call now new bytes b x) e
+    a.turns in
+    let m = ask_moves call meaning now new bytes b on t in
+    let few : made + 1 < 255 = fewer (ask_number on) (ask_number call) made (few_steps on) m.counts f.number in
+    let flies = goes_on (asks_whole variant meaning bytes b) (asks_rest meaning call bytes b) (asks_rest meaning on bytes b) from now new
+    meddles made (ask_number call) (ask_number on) f.flies m few
+    (λ plan r end ended rest. ask_then call meaning (under plan made now) (under plan (counted made) new) end bytes b on ended
+    (ask_replanned call meaning now new bytes b (turn.Going on) plan (plan_by Quiet meddles) made r t) rest) in
+    let flight : AsksInFlight variant meaning key barrier d from on new meddles (next + 1) bytes b = record {
+      stands = f.stands;
+      quiet = f.quiet;
+      made = made + 1;
+      flies = flies;
+      room = subst (λ (x : AskTurn). TurnMayAsk x new) e a.room;
+      number = m.counts ∙ ap (λ (n : ℕ). n + 1) f.number;
+      is_next = ap (λ (n : ℕ). n + 1) f.is_next;
+    } in
+    (flight, nothing_yet variant meaning key barrier d from issued on new meddles (next + 1) offer bytes b flight short offered)
+
+-- its end
+
+finishes_under : (call : AskCall) (meaning : Meaning) (now mid : Standing) (meddles : List Meddle) (made : ℕ) (bytes : List ℕ)
+    (b : Batch) (turned : AskTurn) → now.is_on ≡ true → now.plan ≡ Some (record (plan_by Quiet meddles) { at = made })
+    → made < 255 → AskTurns meaning call now mid bytes b turned → AskTurns meaning call (under (behind meddles made) made now)
+    (under (behind meddles made) (counted made) mid) bytes b turned
+finishes_under call meaning now mid meddles made bytes b turned on planned few t =
+    ask_replanned call meaning now mid bytes b turned (behind meddles made) (plan_by Quiet meddles) made
+    (replans_behind now meddles made on planned few) t
+
+pub answers_to : (variant : Variant) (meaning : Meaning) (key barrier : List ℕ) (d : Digests) (from : Standing) (issued : List (List ℕ))
+    (call : AskCall) (now mid : Standing) (meddles : List Meddle) (next : ℕ) (offer : Offer)
+    (bytes : List ℕ) (b : Batch) (new : Standing) (size number : ℕ) (answer : BatchAnswer) (turned : AskTurn)
+    (result : Result Stepped Memory) → AsksInFlight variant meaning key barrier d from call now meddles next bytes b → is_long b ≡ false
+    → size ≡ size_of b → number ≡ ask_number call → offered_bytes issued offer ≡ Some bytes
+    → AdvancedAsk meaning call now mid bytes b turned → turned ≡ turn.Done answer
+    → EndsAs (stop_behind number) size (Answered answer) mid new result
+    → SteppedTo variant meaning key barrier d from issued meddles next offer bytes b new result
+answers_to variant meaning key barrier d from issued call now mid meddles next offer bytes b new size number answer turned result f short
+    n at offered a e ends =
+    let t = finishes_under call meaning now mid meddles f.made bytes b (turn.Done answer) f.flies.is_on f.flies.planned f.flies.few
+    (subst (λ (x : AskTurn). AskTurns meaning call now mid bytes b x) e a.turns) in
+    over_to variant meaning key barrier d from issued call now mid meddles next offer bytes b new size (Answered answer) result f short n
+    offered refl
+    (ask_answers call meaning (under (behind meddles f.made) f.made now) (under (behind meddles f.made) (counted f.made) mid) bytes b
+    answer t)
+    (subst (λ (k : ℕ). EndsAs (stop_behind k) size (Answered answer) mid new result) (at ∙ f.number ∙ sym f.is_next) ends)
+
+pub refuses_to : (variant : Variant) (meaning : Meaning) (key barrier : List ℕ) (d : Digests) (from : Standing) (issued : List (List ℕ))
+    (call : AskCall) (now mid : Standing) (meddles : List Meddle) (next : ℕ) (offer : Offer)
+    (bytes : List ℕ) (b : Batch) (new : Standing) (size number : ℕ) (why : Refusal) (turned : AskTurn) (ended : Ended)
+    (result : Result Stepped Memory) → AsksInFlight variant meaning key barrier d from call now meddles next bytes b → is_long b ≡ false
+    → size ≡ size_of b → number ≡ ask_number call → offered_bytes issued offer ≡ Some bytes
+    → AdvancedAsk meaning call now mid bytes b turned → turned ≡ turn.Refused why → ended ≡ refused_as why
+    → EndsAs (stop_behind number) size ended mid new result
+    → SteppedTo variant meaning key barrier d from issued meddles next offer bytes b new result
+refuses_to variant meaning key barrier d from issued call now mid meddles next offer bytes b new size number why turned ended result f
+    short n at offered a e is ends =
+    let refused = subst (λ (x : AskTurn). AskTurns meaning call now mid bytes b x) e a.turns in
+    let none : fault_of why ≡ None = ask_faultless call meaning now mid bytes b (turn.Refused why) meddles f.made f.flies.is_on
+    f.flies.planned refused in
+    let t = finishes_under call meaning now mid meddles f.made bytes b (turn.Refused why) f.flies.is_on f.flies.planned f.flies.few
+    refused in
+    over_to variant meaning key barrier d from issued call now mid meddles next offer bytes b new size (refused_as why) result f short n
+    offered (unbroken_as (fault_of why) why none)
+    (ask_refuses call meaning (under (behind meddles f.made) f.made now) (under (behind meddles f.made) (counted f.made) mid) bytes b why
+    t none)
+    (subst (λ (k : ℕ). EndsAs (stop_behind k) size (refused_as why) mid new result) (at ∙ f.number ∙ sym f.is_next)
+    (subst (λ (x : Ended). EndsAs (stop_behind number) size x mid new result) is ends))
+
+-- the room that it takes, if it goes on
+
+pub going_may : (call : AskCall) (turned : AskTurn) (new : Standing) → TurnMayAsk turned new → turned ≡ turn.Going call → MayStepOn (Ok (Going call)) new
+going_may call turned new m e = subst (λ (x : AskTurn). TurnMayAsk x new) e m
+
+over_room : (called : Result Called Memory) (new : Standing) → MayStepOn (over_in called) new
+over_room (Ok it) new = tt
+over_room (Err memory) new = tt
+
+pub over_may : (result : Result Stepped Memory) (new : Standing) (called : Result Called Memory) → result ≡ over_in called → MayStepOn result new
+over_may result new called e = subst (λ (r : Result Stepped Memory). MayStepOn r new) (sym e) (over_room called new)
+
+-- a step that breaks it off
+
+later_than : (made stop next : ℕ) → stop ≡ next → next ≡ made + 1 → made < stop
+later_than made stop next at is = omega arith
+
+-- a call that was broken off wants no memory
+pub wants_none : (stop : Stop) (size : ℕ) (ended : Ended) (memory : Memory) (result : Result Called Memory) → is_broken ended ≡ true
+    → result ≡ Err memory → CalledAs stop size ended result → ⊥
+wants_none stop size (Answered answer) memory result broken e told = cc
+wants_none stop size (Refused why) memory result broken e told = cc
+wants_none stop size (Broken fault commits) memory result broken e told = cc
+
+pub broken_off : (stop : Stop) (old stopped : Standing) (call : AskCall) (meaning : Meaning) (mid : Standing) (bytes : List ℕ)
+    (b : Batch) (ended : Ended) → BreaksNext stop old → stopped ≡ record old { plan = option_map (stopping stop) old.plan }
+    → AskFinishes meaning call stopped mid bytes b ended → is_broken ended ≡ true
+broken_off stop old stopped call meaning mid bytes b ended breaks is finishes =
+    ask_breaks call meaning stopped mid bytes b ended (subst (λ (s : Standing). AlwaysFails s) (sym is) (always_fails stop old breaks))
+    finishes
+
+pub breaks_to : (variant : Variant) (meaning : Meaning) (key barrier : List ℕ) (d : Digests) (from : Standing) (issued : List (List ℕ))
+    (call : AskCall) (now stopped mid : Standing) (meddles : List Meddle) (next : ℕ) (offer : Offer)
+    (bytes : List ℕ) (b : Batch) (stop : Stop) (new : Standing) (size : ℕ) (broken : Bool) (ended : Ended) (it : Called)
+    (result : Result Called Memory) → AsksInFlight variant meaning key barrier d from call now meddles next bytes b → is_long b ≡ false
+    → size ≡ size_of b → offered_bytes issued offer ≡ Some bytes → stopped_step stop ≡ next
+    → stopped ≡ record now { plan = option_map (stopping stop) now.plan } → AskFinishes meaning call stopped mid bytes b ended
+    → broken ≡ is_broken ended → SettlesPlan stop broken mid new → CalledAs stop size ended result → result ≡ Ok it
+    → Came (instance_by variant meaning key barrier) (asked_so (instance_by variant meaning key barrier) d issued meddles stop offer b)
+    d.count issued from new it
+breaks_to variant meaning key barrier d from issued call now stopped mid meddles next offer bytes b stop new size broken ended it result
+    f short n offered at is finishes known settles told e =
+    let i = instance_by variant meaning key barrier in
+    let under_it : stopped ≡ under (plan_by stop meddles) f.made now = is ∙ ap
+    (λ (p : Option Plan). record now { plan = option_map (stopping stop) p }) f.flies.planned in
+    let later : f.made < stopped_step stop = later_than f.made (stopped_step stop) next at f.is_next in
+    let came = comes variant meaning key barrier d from call now meddles next bytes b f short stop mid new ended size result later
+    (subst (λ (s : Standing). AskFinishes meaning call s mid bytes b ended) under_it finishes) n
+    (subst (λ (x : Bool). SettlesPlan stop x mid new) known settles) told issued in
+    comes_so i d issued meddles stop offer bytes b from new it offered
+    (subst (λ (r : Result Called Memory). Comes i d issued meddles stop bytes b from new r) e came)

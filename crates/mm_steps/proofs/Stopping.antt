@@ -1,0 +1,133 @@
+-- A stop says nothing of the steps before it; and what its step comes to.
+use Rattle.std.proofs.Common.{◌≡◌, ℕ, ◌+◌, ◌<◌, ◌≤◌, Bool, true, false, not, List, Option, None, Some, refl, sym, ap, ◌∙◌, arith}
+use Rattle.std.specs.Prelude.{◌==◌, is_some, if◌then◌else◌}
+use Rattle.std.specs.Option.{option_map}
+use Rattle.std.proofs.lemmas.Bool.{ne_eqb}
+use Rattle.std.proofs.lemmas.Bool.Decides.{nat_tests}
+use Rattle.mm_base.specs.Faults.{counted}
+use Rattle.mm_platform.specs.declared.fault.StepFault.{StepFault}
+use Rattle.mm_platform.specs.declared.fault.StepFault.TheVariants.{Failed, Off}
+use Rattle.mm_platform.specs.declared.plan.Meddle.{Meddle}
+use Rattle.mm_platform.specs.declared.plan.Stop.{Stop}
+use Rattle.mm_platform.specs.declared.plan.Stop.TheVariants.{Quiet, Cut, Drop, Fail}
+use Rattle.mm_platform.specs.Standing.{Plan, Standing, next_step}
+use Rattle.mm_platform.specs.Memory.{stopping}
+use Rattle.mm_platform.specs.Steps.{Act, Goes, fault_at, is_made_at, is_on_at, will_answer}
+use Rattle.mm_platform.specs.Told.{step_made, next_answer}
+use Rattle.mm_platform.proofs.Stepping.{goes}
+use Rattle.mm_flight.specs.InFlight.{plan_by, under, SaySame, GoesOnAs}
+use Rattle.mm_flight.proofs.Replanning.{AlwaysFails, counted_few}
+use Rattle.mm_world.specs.Calls.{stopped_step}
+use Rattle.mm_steps.specs.Stopping.{BreaksNext, stop_behind}
+
+off_here : (here : Bool) → here ≡ false → (if here then Some Off else None) ≡ None
+off_here true e = cc
+off_here false e = refl
+
+failed_here : (here : Bool) → here ≡ false → (if here then Some Failed else None) ≡ None
+failed_here true e = cc
+failed_here false e = refl
+
+made_here : (here done : Bool) → here ≡ false → (if here then done else true) ≡ true
+made_here true done e = cc
+made_here false done e = refl
+
+on_here : (here : Bool) → here ≡ false → not here ≡ true
+on_here true e = cc
+on_here false e = refl
+
+same_at : (stop : Stop) (meddles : List Meddle) (n : ℕ) → (stopped_step stop ≡ n → ⊥)
+    → SaySame (plan_by stop meddles) (plan_by Quiet meddles) n
+same_at Quiet meddles n other = record { brings = refl; answers = refl; makes = refl; stays = refl }
+same_at (Cut at) meddles n other = let e = ne_eqb at n other in record
+    { brings = refl; answers = off_here (at == n) e; makes = refl; stays = on_here (at == n) e }
+same_at (Drop at) meddles n other = let e = ne_eqb at n other in record
+    { brings = refl; answers = off_here (at == n) e; makes = refl; stays = refl }
+same_at (Fail at done) meddles n other = let e = ne_eqb at n other in record
+    { brings = refl; answers = failed_here (at == n) e; makes = made_here (at == n) done e; stays = refl }
+
+earlier : (stop n made : ℕ) → made < stop → n ≤ made → stop ≡ n → ⊥
+earlier stop n made later few e = omega arith
+
+-- such a stop leaves the steps that were made as they were
+pub goes_as : (stop : Stop) (meddles : List Meddle) (made : ℕ) → made < stopped_step stop → GoesOnAs (plan_by stop meddles) meddles made
+goes_as stop meddles made later = λ n few. same_at stop meddles n (earlier (stopped_step stop) n made later few)
+
+-- and the next one too, where it comes behind that
+pub same_next : (meddles : List Meddle) (made : ℕ) → SaySame (plan_by (stop_behind (made + 1)) meddles) (plan_by Quiet meddles) (made + 1)
+same_next meddles made = same_at (stop_behind (made + 1)) meddles (made + 1)
+    (earlier (made + 1 + 1) (made + 1) (made + 1) (omega arith) (omega arith))
+
+-- the next step fails, and has no effect
+
+same_numbers : (n k : ℕ) → n ≡ k → (n == k) ≡ true
+same_numbers n k e = grind (arith, nat_tests)
+
+fails_if : (here : Bool) → here ≡ true → Some Failed ≡ (if here then Some Failed else None)
+fails_if true e = refl
+fails_if false e = cc
+
+answers_if : (on : Bool) (plan : Plan) (fault : Option StepFault) → on ≡ true → fault ≡ fault_at plan.stop (next_step plan)
+    → fault ≡ will_answer on plan
+answers_if true plan fault e known = known
+answers_if false plan fault e known = cc
+
+pub fails_next : (act : Act) (now : Standing) (meddles : List Meddle) (made : ℕ) → now.is_on ≡ true → made < 255
+    → (let at = under (plan_by (stop_behind made) meddles) made now in Goes act at (step_made act at) (Some Failed))
+fails_next act now meddles made on few =
+    let plan : Plan = record (plan_by (stop_behind made) meddles) { at = made } in
+    let at = under (plan_by (stop_behind made) meddles) made now in
+    let here = same_numbers (made + 1) (counted made) (sym (counted_few made few)) in
+    goes act at (step_made act at) (Some Failed) refl (answers_if now.is_on plan (Some Failed) on
+    (fails_if (made + 1 == counted made) here))
+
+-- a platform whose next step fails by this stop
+
+none_fails : (stop : Stop) (n : ℕ) → fault_at stop n ≡ None → is_some (fault_at stop n) ≡ true → ⊥
+none_fails stop n none some = let clash : false ≡ true = sym (ap (λ (f : Option StepFault). is_some f) none) ∙ some in cc
+
+answered_on : (on : Bool) (plan : Plan) (fault : Option StepFault) → on ≡ true → fault ≡ will_answer on plan
+    → fault ≡ fault_at plan.stop (next_step plan)
+answered_on true plan fault e known = known
+answered_on false plan fault e known = cc
+
+pub always_fails : (stop : Stop) (old : Standing) → BreaksNext stop old
+    → AlwaysFails (record old { plan = option_map (stopping stop) old.plan })
+always_fails stop old b = λ act new fault g none.
+    let plan : Plan = stopping stop b.plan in
+    let planned : option_map (stopping stop) old.plan ≡ Some plan = ap (λ (p : Option Plan). option_map (stopping stop) p) b.planned in
+    let known = answered_on old.is_on plan fault b.is_on (g.told plan planned).answers in
+    none_fails stop (next_step b.plan) (sym known ∙ none) b.fails
+
+-- a stop at the next step breaks it off
+
+off_some : (here : Bool) → here ≡ true → is_some (if here then Some Off else None) ≡ true
+off_some true e = refl
+off_some false e = cc
+
+failed_some : (here : Bool) → here ≡ true → is_some (if here then Some Failed else None) ≡ true
+failed_some true e = refl
+failed_some false e = cc
+
+quiet_never : (n : ℕ) → 0 ≡ n → 0 < n → ⊥
+quiet_never n e positive = omega arith
+
+fails_at : (stop : Stop) (n : ℕ) → stopped_step stop ≡ n → 0 < n → is_some (fault_at stop n) ≡ true
+fails_at Quiet n e positive = absurd (quiet_never n e positive)
+fails_at (Cut at) n e positive = off_some (at == n) (same_numbers at n e)
+fails_at (Drop at) n e positive = off_some (at == n) (same_numbers at n e)
+fails_at (Fail at done) n e positive = failed_some (at == n) (same_numbers at n e)
+
+next_number : (stop next made count : ℕ) → stop ≡ next → next ≡ made + 1 → count ≡ made + 1 → stop ≡ count
+next_number stop next made count at is counts = omega arith
+
+pub breaks_at : (stop : Stop) (now : Standing) (meddles : List Meddle) (made next : ℕ) → now.is_on ≡ true
+    → now.plan ≡ Some (record (plan_by Quiet meddles) { at = made }) → made < 255 → stopped_step stop ≡ next → next ≡ made + 1
+    → BreaksNext stop now
+breaks_at stop now meddles made next on planned few at is =
+    let counts : counted made ≡ made + 1 = counted_few made few in record {
+      plan = record (plan_by Quiet meddles) { at = made };
+      is_on = on;
+      planned = planned;
+      fails = fails_at stop (counted made) (next_number (stopped_step stop) next made (counted made) at is counts) (omega arith);
+    }

@@ -1,0 +1,81 @@
+-- A checkpoint in flight over a platform in memory: its next step, and a step that breaks it off.
+use Rattle.std.specs.Prelude.{◌≡◌, ℕ, ◌+◌, true, false, List, Result}
+use Rattle.mm_digest.specs.declared.variant.Variant.{Variant}
+use Rattle.mm_platform.specs.declared.plan.Meddle.{Meddle}
+use Rattle.mm_platform.specs.declared.plan.Stop.{Stop}
+use Rattle.mm_platform.specs.Standing.{Standing}
+use Rattle.mm_module.specs.Meaning.{Meaning}
+use Rattle.mm_model.specs.Instance.{Instance}
+use Rattle.mm_model.specs.Moves.{Digests}
+use Rattle.mm_call.specs.Levels.{by_digests}
+use Rattle.mm_call.specs.Standing.{instance_by}
+use Rattle.mm_opt.specs.declared.segment.Checkpointed.{Checkpointed}
+use Rattle.mm_opt.specs.declared.segment.CheckpointRefusal.{CheckpointRefusal}
+use Rattle.mm_opt.specs.declared.stage.CheckpointStage.{CheckpointStage}
+use Rattle.mm_opt.specs.Checkpoints.{closing_number_of, FinishesClosing}
+use Rattle.mm_opt.specs.ChecksOn.{ChecksOn}
+use Rattle.mm_schedule.specs.declared.reply.Reply.{Reply}
+use Rattle.mm_schedule.specs.Events.{Checkpoint}
+use Rattle.mm_run.specs.Folds.{Outcome, event_outcome}
+use Rattle.mm_flight.specs.InFlight.{InFlight}
+use Rattle.mm_world.specs.Stands.{Stands, IsQuiet}
+use Rattle.mm_world.specs.Calls.{stopped_step, SettlesPlan, told_closing, stops_in}
+use Rattle.mm_world.specs.Asks.{Came, quiet_as}
+use Rattle.mm_steps.specs.declared.closings.SteppedClosing.{SteppedClosing}
+use Rattle.mm_steps.specs.declared.closings.SteppedClosing.TheVariants.{Going, Over}
+use Rattle.mm_steps.specs.Stopping.{is_nothing, stop_behind}
+
+-- the whole checkpoint, and what is left of it
+abbrev pub checks_whole : Standing → Standing → Result Checkpointed CheckpointRefusal → Type 0
+checks_whole old new ended = ChecksOn old new ended
+
+abbrev pub checks_rest : CheckpointStage → Standing → Standing → Result Checkpointed CheckpointRefusal → Type 0
+checks_rest call old new ended = FinishesClosing call old new ended
+
+-- A checkpoint is in flight. It was begun over a platform that stood so, quiet, at these digests; others have extended the
+-- register by these meddles since; and its next step has this number.
+pub record ClosesInFlight (variant : Variant) (meaning : Meaning) (key barrier : List ℕ) (d : Digests) (from : Standing)
+    (call : CheckpointStage) (now : Standing) (meddles : List Meddle) (next : ℕ) : Type 0 where
+  pub stands : Stands (instance_by variant meaning key barrier) from d
+  pub quiet : IsQuiet from
+  pub made : ℕ
+  pub flies : InFlight checks_whole (checks_rest call) from now meddles made
+  pub number : closing_number_of call ≡ made + 1
+  pub is_next : next ≡ made + 1
+
+-- the event of a checkpoint that is stopped so
+abbrev pub closed_so : Instance → Digests → List (List ℕ) → List Meddle → Stop → Outcome Digests
+closed_so i d issued meddles stop = event_outcome i (by_digests i) d issued (Checkpoint meddles stop)
+
+-- What the next step of a checkpoint in flight came to: it goes on, where it has come to nothing so far; or it is over, and
+-- came to what its event says.
+abbrev pub SteppedClosingTo : Variant → Meaning → (key barrier : List ℕ) → Digests → Standing → List (List ℕ) → List Meddle → ℕ
+    → Standing → SteppedClosing → Type 0
+SteppedClosingTo variant meaning key barrier d from issued meddles next new (Going call) =
+    ClosesInFlight variant meaning key barrier d from call new meddles (next + 1)
+    × (is_nothing (closed_so (instance_by variant meaning key barrier) d issued meddles (stop_behind next)).reply ≡ true)
+SteppedClosingTo variant meaning key barrier d from issued meddles next new (Over said) =
+    Came (instance_by variant meaning key barrier)
+    (closed_so (instance_by variant meaning key barrier) d issued meddles (stop_behind next)) d.count issued from new (quiet_as said)
+    × (is_nothing (closed_so (instance_by variant meaning key barrier) d issued meddles (stop_behind next)).reply ≡ false)
+
+-- the next step of a checkpoint in flight, from wherever it was begun and whatever was issued there
+abbrev pub StepsClosingAs : CheckpointStage → Standing → Standing → SteppedClosing → Type 0
+StepsClosingAs call old new stepped =
+    (variant : Variant) (meaning : Meaning) (key barrier : List ℕ) (d : Digests) (from : Standing) (issued : List (List ℕ))
+    (meddles : List Meddle) (next : ℕ) → ClosesInFlight variant meaning key barrier d from call old meddles next
+    → SteppedClosingTo variant meaning key barrier d from issued meddles next new stepped
+
+-- the next step with this stop at it: the checkpoint came to what its event says that is stopped so
+abbrev pub BreaksClosingAs : CheckpointStage → Standing → Standing → Stop → Reply → Type 0
+BreaksClosingAs call old new stop said =
+    (variant : Variant) (meaning : Meaning) (key barrier : List ℕ) (d : Digests) (from : Standing) (issued : List (List ℕ))
+    (meddles : List Meddle) (next : ℕ) → ClosesInFlight variant meaning key barrier d from call old meddles next
+    → stopped_step stop ≡ next
+    → Came (instance_by variant meaning key barrier)
+    (closed_so (instance_by variant meaning key barrier) d issued meddles stop) d.count issued from new (quiet_as said)
+
+-- The plan of a checkpoint that ended so is over, and this is what it is told as.
+pub record ClosesAs (stop : Stop) (ended : Result Checkpointed CheckpointRefusal) (old new : Standing) (said : Reply) : Type 0 where
+  pub settles : SettlesPlan stop (stops_in ended) old new
+  pub told : said ≡ told_closing stop ended

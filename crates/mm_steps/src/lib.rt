@@ -1,0 +1,8 @@
+//! The steps of a call in flight over a platform in memory: its next one, and one at which it is broken off.
+#![tactic(auto)]
+
+mod asks;
+mod closings;
+
+pub use asks::{Stepped, break_off, step};
+pub use closings::{SteppedClosing, break_closing, step_closing};
