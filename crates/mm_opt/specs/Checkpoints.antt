@@ -138,6 +138,12 @@ pub record ClosesSegment (old new : Standing) (result : Result Checkpointed Chec
   pub looks : Looks old middle found
   pub ends : EndsLooking found middle new result
 
+-- What is left of a checkpoint, by where it stands.
+abbrev pub FinishesClosing : CheckpointStage → Standing → Standing → Result Checkpointed CheckpointRefusal → Type 0
+FinishesClosing stage.Begun old new result = ClosesSegment old new result
+FinishesClosing (stage.Seen cell) old new result = WeighsAndCloses cell old new result
+FinishesClosing (stage.Closing next) old new result = ClosesBy next old new result
+
 -- what a refused checkpoint leaves, unless it hands on a device's fault; and one that found no segment
 abbrev pub LeavesStill : Result Checkpointed CheckpointRefusal → Standing → Standing → Type 0
 LeavesStill (Ok Done) old new = Unit {0}

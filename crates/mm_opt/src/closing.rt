@@ -50,7 +50,7 @@ pub fn begin_checkpoint() -> CheckpointCall
 
 impl CheckpointCall {
     ghost use Rattle.std.specs.Prelude.{◌≡◌};
-    ghost use Rattle.mm_opt.specs.Checkpoints.{closing_number_of};
+    ghost use Rattle.mm_opt.specs.Checkpoints.{closing_number_of, FinishesClosing};
     ghost use Rattle.mm_opt.specs.CheckpointTurns.{ClosingTurns, ClosingActsAt};
     ghost use Rattle.mm_opt.specs.CheckpointTurnsOn.{ClosingTurnsOn};
 
@@ -76,6 +76,17 @@ impl CheckpointCall {
             result }
     {
         self.make_step(platform)
+    }
+
+    /// Moves the checkpoint to its end: what `advance` does, over and over. Takes no memory.
+    pub fn finish<P: Platform>(self, platform: &mut P) -> Result<Checkpointed, CheckpointRefusal>
+        ensures { FinishesClosing self (P.standing platform.old) (P.standing platform.new) result }
+    {
+        match self.stage {
+            CheckpointStage::Begun => look_and_close(platform),
+            CheckpointStage::Seen(cell) => weigh_and_close(&cell, platform),
+            CheckpointStage::Closing(next) => close_by(&next, platform),
+        }
     }
 
     // Makes the next device step.

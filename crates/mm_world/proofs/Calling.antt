@@ -1,7 +1,7 @@
 -- A planned call, however it ended, comes to what it does by digests.
 use Rattle.std.proofs.Common.{◌≡◌, ℕ, ◌+◌, Bool, true, false, List, length, Option, None, Some, Result, Ok, Err, inl, inr, refl, sym, ap, ◌∙◌, subst, arith}
 use Rattle.std.proofs.lemmas.List.{append-nil}
-use Rattle.std.specs.Prelude.{if◌then◌else◌, ◌==◌, IsSome, IsErr, MatchResult}
+use Rattle.std.specs.Prelude.{if◌then◌else◌, ◌==◌, IsErr, MatchResult}
 use Rattle.mm_base.specs.declared.fault.Memory.{Memory}
 use Rattle.mm_digest.specs.declared.variant.Variant.{Variant}
 use Rattle.mm_module.specs.Meaning.{Meaning}
@@ -228,7 +228,7 @@ ends_all i d stop meddles bytes b old mid new size (Broken fault commits) issued
 -- a call that isn't too long, over a planned platform
 pub asks_planned : (variant : Variant) (meaning : Meaning) (old mid new : Standing) (meddles : List Meddle) (stop : Stop) (bytes : List ℕ) (b : Batch) (size : ℕ) (ended : Ended) (result : Result code.Called Memory)
     → is_long b ≡ false → size ≡ size_of b → CallsTo variant meaning (record old { plan = Some (plan_of stop meddles) }) mid bytes b ended
-    → (IsSome mid.plan → SettlesPlan stop (is_broken ended) mid new) → CalledAs stop size ended result
+    → SettlesPlan stop (is_broken ended) mid new → CalledAs stop size ended result
     → (issued : List (List ℕ)) → AsksAs variant meaning old new issued meddles stop (Some bytes) b result
 asks_planned variant meaning old mid new meddles stop bytes b size ended result short n calls settles told issued = λ key barrier d s q.
     let i = instance_by variant meaning key barrier in
@@ -241,7 +241,7 @@ asks_planned variant meaning old mid new meddles stop bytes b size ended result 
       goes = calls.calls.goes key barrier d planned_stands;
       keeps = calls.keeps key barrier d planned_stands;
       register = s.register;
-      settles = settles stays.1;
+      settles = settles;
       stays = stays.0;
     } in
     subst (λ x. MatchResult result (Came i (if x then uncalled d issued (reply.No cause.Long)
@@ -251,11 +251,11 @@ asks_planned variant meaning old mid new meddles stop bytes b size ended result 
 -- the same, in the words of the code
 pub asks_over : (variant : Variant) (meaning : Meaning) (old planned_at mid new : Standing) (meddles : List Meddle) (stop : Stop) (bytes : List ℕ) (b : Batch) (size : ℕ) (broken : Bool) (ended : Ended) (result : Result code.Called Memory)
     → is_long b ≡ false → size ≡ size_of b → planned_at ≡ record old { plan = Some (plan_of stop meddles) } → CallsTo variant meaning planned_at mid bytes b ended
-    → broken ≡ is_broken ended → (IsSome mid.plan → SettlesPlan stop broken mid new) → CalledAs stop size ended result
+    → broken ≡ is_broken ended → SettlesPlan stop broken mid new → CalledAs stop size ended result
     → (issued : List (List ℕ)) → AsksAs variant meaning old new issued meddles stop (Some bytes) b result
 asks_over variant meaning old planned_at mid new meddles stop bytes b size broken ended result short n planned calls is settles told issued =
     asks_planned variant meaning old mid new meddles stop bytes b size ended result short n
-    (subst (λ (s : Standing). CallsTo variant meaning s mid bytes b ended) planned calls) (λ some. subst (λ x. SettlesPlan stop x mid new) is (settles some)) told issued
+    (subst (λ (s : Standing). CallsTo variant meaning s mid bytes b ended) planned calls) (subst (λ x. SettlesPlan stop x mid new) is settles) told issued
 
 -- nothing was called
 

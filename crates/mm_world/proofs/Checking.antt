@@ -2,7 +2,7 @@
 use Rattle.std.proofs.Common.{◌≡◌, ℕ, ◌+◌, Bool, true, false, ◌&&◌, List, [], ◌∷◌, ◌++◌, map, Option, None, Some, Result, Ok, Err, refl, sym, ap, ◌∙◌, subst, arith}
 use Rattle.std.proofs.lemmas.Bool.{eqb-true}
 use Rattle.std.proofs.lemmas.List.{append-nil}
-use Rattle.std.specs.Prelude.{if◌then◌else◌, ◌==◌, IsSome}
+use Rattle.std.specs.Prelude.{if◌then◌else◌, ◌==◌}
 use Rattle.std.specs.Option.{option_map}
 use Rattle.mm_base.specs.declared.fault.Memory.{Memory}
 use Rattle.mm_digest.specs.declared.variant.Variant.{Variant}
@@ -153,7 +153,7 @@ closed_came i d stop meddles old mid new result issued goes register settles sta
 
 -- a checkpoint over a planned platform
 pub checks_planned : (old mid new : Standing) (meddles : List Meddle) (stop : Stop) (result : Result Said CheckpointRefusal)
-    → ChecksOn (record old { plan = Some (plan_of stop meddles) }) mid result → (IsSome mid.plan → SettlesPlan stop (stops_in result) mid new)
+    → ChecksOn (record old { plan = Some (plan_of stop meddles) }) mid result → SettlesPlan stop (stops_in result) mid new
     → (variant : Variant) (meaning : Meaning) (issued : List (List ℕ)) → ChecksAs variant meaning old new issued meddles stop (Ok (told_closing stop result))
 checks_planned old mid new meddles stop result checks settles variant meaning issued = λ key barrier d s q.
     let i = instance_by variant meaning key barrier in
@@ -164,7 +164,7 @@ checks_planned old mid new meddles stop result checks settles variant meaning is
     let goes : ChecksBy i d (checkpointed i (by_digests i) d (course_of stop meddles)) at mid result =
     subst (λ (f : ℕ → Fate). ChecksBy i d (checkpointed i (by_digests i) d (record { fates = f; lacks = false })) at mid result) (λ j. λ n. told n j)
     (checks.goes variant meaning key barrier d stands) in
-    closed_came i d stop meddles old mid new result issued goes s.register (settles stays.1) stays.0
+    closed_came i d stop meddles old mid new result issued goes s.register settles stays.0
 
 pub checks_wanting : (old new : Standing) (meddles : List Meddle) (stop : Stop) (memory : Memory) → new ≡ old
     → (variant : Variant) (meaning : Meaning) (issued : List (List ℕ)) → ChecksAs variant meaning old new issued meddles stop (Err memory)
@@ -173,9 +173,9 @@ checks_wanting old new meddles stop memory e variant meaning issued = λ key bar
 -- the same, in the words of the code
 pub checks_over : (old planned_at mid new : Standing) (meddles : List Meddle) (stop : Stop) (broken : Bool) (said : Reply) (result : Result Said CheckpointRefusal)
     → planned_at ≡ record old { plan = Some (plan_of stop meddles) } → ChecksOn planned_at mid result → broken ≡ stops_in result
-    → (IsSome mid.plan → SettlesPlan stop broken mid new) → said ≡ told_closing stop result
+    → SettlesPlan stop broken mid new → said ≡ told_closing stop result
     → (variant : Variant) (meaning : Meaning) (issued : List (List ℕ)) → ChecksAs variant meaning old new issued meddles stop (Ok said)
 checks_over old planned_at mid new meddles stop broken said result planned checks is settles told variant meaning issued =
     subst (λ r. ChecksAs variant meaning old new issued meddles stop (Ok r)) (sym told)
     (checks_planned old mid new meddles stop result (subst (λ (s : Standing). ChecksOn s mid result) planned checks)
-    (λ some. subst (λ x. SettlesPlan stop x mid new) is (settles some)) variant meaning issued)
+    (subst (λ x. SettlesPlan stop x mid new) is settles) variant meaning issued)

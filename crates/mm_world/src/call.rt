@@ -1,13 +1,10 @@
 //! The calls of a world over its platform in memory.
 
-ghost use Rattle.std.specs.Prelude.{◌≡◌, ℕ, List, Some, false, IsSome, OnErr};
-ghost use Rattle.mm_module.specs.Batch.{size_of};
+ghost use Rattle.std.specs.Prelude.{◌≡◌, ℕ, List, Some};
 ghost use Rattle.mm_module.specs.Batches.{batch_of};
 ghost use Rattle.mm_module.specs.Meaning.{Meaning};
 ghost use Rattle.mm_digest.specs.declared.variant.Variant.{Variant};
-ghost use Rattle.mm_digest.specs.declared.variant.Variant.TheVariants.{Basic, Opt};
-ghost use Rattle.mm_model.specs.Long.{is_long};
-ghost use Rattle.mm_call.specs.Ended.{CallsTo, is_broken};
+ghost use Rattle.mm_call.specs.Ended.{is_broken};
 ghost use Rattle.mm_run.specs.Folds.{way_of, cause_of};
 ghost use Rattle.mm_run.specs.Offered.{offered_bytes};
 ghost use Rattle.mm_world.specs.Asks.{AsksAs, ChecksAs};
@@ -16,10 +13,11 @@ ghost use Rattle.mm_world.specs.Calls.{refused_call, answered_call, broken_as, t
 use mm_base::{Bytes, Memory};
 use mm_call::{Ended, KeptKey};
 use mm_digest::Variant;
-use mm_model::{BatchAnswer, Refusal, is_long};
+use mm_flight::AskCall;
+use mm_model::{BatchAnswer, Refusal};
 use mm_module::{Batch, Module};
 use mm_opt::{CheckpointRefusal, Checkpointed};
-use mm_platform::{Meddle, MemPlatform, Platform, Stop};
+use mm_platform::{Meddle, MemPlatform, Stop};
 use mm_run::offered;
 use mm_schedule::{Cause, Offer, Reply, Way};
 use std::alloc::Global;
@@ -127,9 +125,9 @@ fn cause(refusal: Refusal) -> Cause
     }
 }
 
-// The plan of a call is over, and power is back where the call was broken off by a cut.
-fn settle(platform: &mut MemPlatform, stop: Stop, is_broken: bool)
-    ensures { IsSome platform.old.plan → SettlesPlan stop is_broken platform.old platform.new }
+/// Ends the plan of a call. Power is back where the call was broken off by a cut.
+pub fn settle(platform: &mut MemPlatform, stop: Stop, is_broken: bool)
+    ensures { SettlesPlan stop is_broken platform.old platform.new }
 {
     if is_broken {
         restore(platform, stop);
@@ -137,8 +135,8 @@ fn settle(platform: &mut MemPlatform, stop: Stop, is_broken: bool)
     platform.end_plan();
 }
 
-// What a call of a batch of this size came to, that was stopped so.
-fn came_to(stop: Stop, ended: Ended, size: u64) -> Result<Called, Memory>
+/// What a call of a batch of this size came to, that was stopped so. Memory exactly where it was refused for that.
+pub fn came_to(stop: Stop, ended: Ended, size: u64) -> Result<Called, Memory>
     ensures { CalledAs stop size ended result }
 {
     match ended {
@@ -152,66 +150,8 @@ fn came_to(stop: Stop, ended: Ended, size: u64) -> Result<Called, Memory>
     }
 }
 
-// Makes the call of Basic.
-fn call_basic<M: Module>(
-    alloc: Global,
-    module: &M,
-    platform: &mut MemPlatform,
-    offer: &[u8],
-    batch: Batch<'_>,
-    keys: &mut KeptKey,
-) -> Ended
-    requires short { is_long (batch_of batch) ≡ false }
-    ensures { CallsTo Basic (M.meaning «module».now) platform.old platform.new offer.now
-        (batch_of batch.entry) result }
-{
-    match mm_basic::begin(batch) {
-        Ok(call) => call.finish_keeping(alloc, module, platform, offer, batch, keys),
-        Err(_) => unreachable!(),
-    }
-}
-
-// Makes the call of Opt.
-fn call_opt<M: Module>(
-    alloc: Global,
-    module: &M,
-    platform: &mut MemPlatform,
-    offer: &[u8],
-    batch: Batch<'_>,
-    keys: &mut KeptKey,
-) -> Ended
-    requires short { is_long (batch_of batch) ≡ false }
-    ensures { CallsTo Opt (M.meaning «module».now) platform.old platform.new offer.now
-        (batch_of batch.entry) result }
-{
-    match mm_opt::begin(batch) {
-        Ok(call) => call.finish_keeping(alloc, module, platform, offer, batch, keys),
-        Err(_) => unreachable!(),
-    }
-}
-
-// Makes the call of either variant.
-fn call_core<M: Module>(
-    alloc: Global,
-    variant: Variant,
-    module: &M,
-    platform: &mut MemPlatform,
-    offer: &[u8],
-    batch: Batch<'_>,
-    keys: &mut KeptKey,
-) -> Ended
-    requires short { is_long (batch_of batch) ≡ false }
-    ensures { CallsTo variant (M.meaning «module».now) platform.old platform.new offer.now
-        (batch_of batch.entry) result }
-{
-    match variant {
-        Variant::Basic => call_basic(alloc, module, platform, offer, batch, keys),
-        Variant::Opt => call_opt(alloc, module, platform, offer, batch, keys),
-    }
-}
-
-// Whether a call was broken off.
-fn is_broken(ended: &Ended) -> bool
+/// Whether a device's fault broke a call off.
+pub fn is_broken(ended: &Ended) -> bool
     ensures { result ≡ is_broken ended.now }
 {
     match ended {
@@ -222,10 +162,10 @@ fn is_broken(ended: &Ended) -> bool
 
 // Power comes back after a call that was cut.
 fn restore(platform: &mut MemPlatform, stop: Stop)
-    ensures { IsSome platform.old.plan → Restores stop platform.old platform.new }
+    ensures { Restores stop platform.old platform.new }
 {
     if let Stop::Cut(_) = stop {
-        let _ = platform.cycle();
+        platform.lose_power();
     }
 }
 
@@ -246,15 +186,17 @@ fn planned_call<M: Module>(
         → AsksAs variant (M.meaning «module».now) platform.old platform.new issued meddles.now stop
         (Some offer.now) (batch_of batch.entry) result }
 {
-    if is_long(&batch) {
-        return Ok(Called::refused(Cause::Long));
+    match AskCall::begin(variant, batch) {
+        Err(_) => Ok(Called::refused(Cause::Long)),
+        Ok(call) => match platform.plan(stop, meddles) {
+            Err(memory) => Err(memory),
+            Ok(()) => {
+                let ended = call.finish(alloc, module, platform, offer, batch, keys);
+                settle(platform, stop, is_broken(&ended));
+                came_to(stop, ended, batch.len() as u64)
+            }
+        },
     }
-    if let Err(memory) = platform.plan(stop, meddles) {
-        return Err(memory);
-    }
-    let ended = call_core(alloc, variant, module, platform, offer, batch, keys);
-    settle(platform, stop, is_broken(&ended));
-    came_to(stop, ended, batch.len() as u64)
 }
 
 /// Makes the call that asks for a batch, with the bytes that the offer names.
@@ -301,8 +243,8 @@ fn closes(stop: Stop) -> bool
     }
 }
 
-// What a checkpoint that was stopped so is told as.
-fn closing(stop: Stop, ended: Result<Checkpointed, CheckpointRefusal>) -> Reply
+/// What a checkpoint that ended so and was stopped so is told as.
+pub fn closing(stop: Stop, ended: Result<Checkpointed, CheckpointRefusal>) -> Reply
     ensures { result ≡ told_closing stop ended }
 {
     match ended {
@@ -316,8 +258,8 @@ fn closing(stop: Stop, ended: Result<Checkpointed, CheckpointRefusal>) -> Reply
     }
 }
 
-// Whether a checkpoint was broken off.
-fn is_stopped(ended: &Result<Checkpointed, CheckpointRefusal>) -> bool
+/// Whether a device's fault broke a checkpoint off.
+pub fn is_stopped(ended: &Result<Checkpointed, CheckpointRefusal>) -> bool
     ensures { result ≡ stops_in ended.now }
 {
     matches!(ended, Err(CheckpointRefusal::Device(_)))

@@ -5,6 +5,7 @@ mod call;
 mod parts;
 mod world;
 
+pub use call::{Called, came_to, closing, is_broken, is_stopped, settle};
 pub use world::World;
 
 #[cfg(test)]

@@ -12,7 +12,7 @@ use mm_base::{Bytes, Memory};
 use mm_call::{KeptKey, Provisioned};
 use mm_digest::{Digest, Variant};
 use mm_module::Batch;
-use mm_platform::{Meddle, MemPlatform, Platform, Stop};
+use mm_platform::{Meddle, MemPlatform, Stop};
 use mm_run::{world_barrier, world_key};
 use mm_schedule::{Event, Header, Offer, Reply};
 use std::alloc::Global;
@@ -236,7 +236,7 @@ impl World {
     fn follow_power(&mut self) -> Reply
         ensures { Follows (outcome_in self.old Power) self.old self.new result }
     {
-        let _ = self.platform.cycle();
+        self.platform.lose_power();
         Reply::Power
     }
 

@@ -1,0 +1,107 @@
+-- How a call in flight begins, takes in others' values and goes on, and how it ends.
+use Rattle.std.proofs.Common.{◌≡◌, ℕ, ◌+◌, ◌<◌, ◌≤◌, Bool, true, false, List, [], ◌∷◌, ◌++◌, map, Option, None, Some, refl, sym, ap, ◌∙◌, subst, arith}
+use Rattle.std.specs.Prelude.{◌==◌, filter}
+use Rattle.std.proofs.lemmas.Bool.{ne_eqb}
+use Rattle.std.proofs.lemmas.List.{append-nil}
+use Rattle.std.proofs.lemmas.List.Elements.{filter-append}
+use Rattle.std.specs.Option.{option_map}
+use Rattle.mm_base.specs.Faults.{counted}
+use Rattle.mm_digest.specs.declared.digest.Digest.{Digest}
+use Rattle.mm_platform.specs.declared.plan.Meddle.{Meddle}
+use Rattle.mm_platform.specs.declared.plan.Stop.TheVariants.{Quiet}
+use Rattle.mm_platform.specs.Standing.{Plan, Standing, due}
+use Rattle.mm_platform.specs.Memory.{meddling}
+use Rattle.mm_call.proofs.Telling.{IsAt, then_at, room_at}
+use Rattle.mm_flight.specs.InFlight.{plan_by, under, SaySame, GoesOnAs, InFlight}
+use Rattle.mm_flight.proofs.Replanning.{Replans, Moves, counted_few}
+
+-- a call before its first step
+pub begins : {E : Type 0} (calls rest : Standing → Standing → E → Type 0) (old : Standing) → old.is_on ≡ true
+    → old.plan ≡ Some (plan_by Quiet [])
+    → ((from new : Standing) (ended : E) → rest from new ended → calls from new ended) → InFlight calls rest old old [] 0
+begins calls rest old on planned whole = record {
+  is_on = on;
+  planned = planned;
+  cell = refl;
+  few = omega arith;
+  joins = λ plan goes new ended r. whole (under plan 0 old) new ended r;
+}
+
+-- others extend the register just before the next step
+
+-- the meddles with one more, at this step
+abbrev pub meddled : List Meddle → ℕ → Digest → List Meddle
+meddled meddles step value = meddles ++ record { step = step; value = value } ∷ []
+
+filter_none : (p : Meddle → Bool) (m : Meddle) → p m ≡ false → filter p (m ∷ []) ≡ []
+filter_none p m e = rw e refl
+
+due_more : (n step : ℕ) (meddles : List Meddle) (value : Digest) → (step == n) ≡ false → due n (meddled meddles step value) ≡ due n meddles
+due_more n step meddles value other =
+    let p : Meddle → Bool = λ m. m.step == n in
+    let m : Meddle = record { step = step; value = value } in
+    ap (λ (ms : List Meddle). map (λ x. x.value.bytes) ms)
+    (filter-append p meddles (m ∷ []) ∙ ap (λ (ms : List Meddle). filter p meddles ++ ms) (filter_none p m other) ∙ append-nil
+    (filter p meddles))
+
+other_step : (n made : ℕ) → n ≤ made → made + 1 ≡ n → ⊥
+other_step n made few e = omega arith
+
+goes_before : (plan : Plan) (meddles : List Meddle) (made : ℕ) (value : Digest) → GoesOnAs plan (meddled meddles (made + 1) value) made
+    → GoesOnAs plan meddles made
+goes_before plan meddles made value goes = λ n few.
+    let same : SaySame plan (plan_by Quiet (meddled meddles (made + 1) value)) n = goes n few in record {
+      brings = same.brings ∙ due_more n (made + 1) meddles value (ne_eqb (made + 1) n (other_step n made few));
+      answers = same.answers;
+      makes = same.makes;
+      stays = same.stays;
+    }
+
+pub takes_in : {E : Type 0} (calls rest : Standing → Standing → E
+    → Type 0) (old now new : Standing) (meddles : List Meddle) (made : ℕ) (value : Digest) → InFlight calls rest old now meddles made
+    → new ≡ record now { plan = option_map (meddling value) now.plan } → InFlight calls rest old new (meddled meddles (made + 1) value) made
+takes_in calls rest old now new meddles made value f e = record {
+  is_on = ap (λ (s : Standing). s.is_on) e ∙ f.is_on;
+  planned = ap (λ (s : Standing). s.plan) e ∙ ap (λ (p : Option Plan). option_map (meddling value) p) f.planned
+      ∙ ap (λ (k : ℕ). Some (record (plan_by Quiet (meddled meddles k value)) { at = made })) (counted_few made f.few);
+  cell = ap (λ (s : Standing). s.cell) e ∙ f.cell;
+  few = f.few;
+  joins = λ plan goes end ended r.
+      f.joins plan (goes_before plan meddles made value goes) end ended
+      (subst (λ (s : Standing). rest s end ended) (ap (under plan made) e) r);
+}
+
+-- it goes on with its next step
+
+goes_less : (plan : Plan) (meddles : List Meddle) (made : ℕ) → GoesOnAs plan meddles (made + 1) → GoesOnAs plan meddles made
+goes_less plan meddles made goes = λ n few. goes n (omega arith)
+
+pub replans : (plan : Plan) (now : Standing) (meddles : List Meddle) (made : ℕ) → now.is_on ≡ true
+    → now.plan ≡ Some (record (plan_by Quiet meddles) { at = made }) → made < 255
+    → SaySame plan (plan_by Quiet meddles) (made + 1) → Replans plan (plan_by Quiet meddles) made now
+replans plan now meddles made on planned few same = record {
+  is_on = on;
+  planned = planned;
+  same = subst (λ (n : ℕ). SaySame plan (plan_by Quiet meddles) n) (sym (counted_few made few)) same;
+}
+
+pub goes_on : {E : Type 0} (calls rest later : Standing → Standing → E
+    → Type 0) (old now new : Standing) (meddles : List Meddle) (made number next : ℕ) → InFlight calls rest old now meddles made
+    → Moves now new number next → made + 1 < 255
+    → ((plan : Plan) → Replans plan (plan_by Quiet meddles) made now → (end : Standing) (ended : E)
+    → later (under plan (counted made) new) end ended → rest (under plan made now) end ended)
+    → InFlight calls later old new meddles (made + 1)
+goes_on calls rest later old now new meddles made number next f m few leads =
+    let q : Plan = plan_by Quiet meddles in
+    let is : IsAt now q made = record { is_on = f.is_on; planned = f.planned } in
+    let on = room_at m.middle new q (counted made) m.room (then_at m.act now m.middle q made is m.goes) in
+    let more : counted made ≡ made + 1 = counted_few made f.few in record {
+      is_on = on.is_on;
+      planned = on.planned ∙ ap (λ (k : ℕ). Some (record q { at = k })) more;
+      cell = ap (λ (s : Standing). s.cell) m.room ∙ m.keeps ∙ f.cell;
+      few = few;
+      joins = λ plan goes end ended r.
+          f.joins plan (goes_less plan meddles made goes) end ended
+          (leads plan (replans plan now meddles made f.is_on f.planned f.few (goes (made + 1) (omega arith))) end ended
+          (subst (λ (k : ℕ). later (under plan k new) end ended) (sym more) r));
+    }

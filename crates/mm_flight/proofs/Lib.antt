@@ -1,0 +1,7 @@
+pub mod Replanning
+pub mod BasicTurning
+pub mod OptTurning
+pub mod OptEnding
+pub mod ClosingTurning
+pub mod Asking
+pub mod Flying

@@ -1,0 +1,94 @@
+-- A device step that goes as its plan says goes so under each plan that says the same of it.
+use Rattle.std.proofs.Common.{◌≡◌, ℕ, ◌+◌, ◌<◌, true, Bool, List, Option, None, Some, refl, sym, ap, ◌∙◌, subst, arith}
+use Rattle.mm_base.specs.Faults.{counted}
+use Rattle.mm_platform.specs.declared.fault.StepFault.{StepFault}
+use Rattle.mm_platform.specs.declared.fault.StepFault.TheVariants.{Failed, Off}
+use Rattle.mm_platform.specs.declared.plan.Meddle.{Meddle}
+use Rattle.mm_platform.specs.declared.plan.Stop.TheVariants.{Quiet}
+use Rattle.mm_platform.specs.Standing.{Plan, Standing}
+use Rattle.mm_platform.specs.Steps.{Act, Goes, EndsBy, GoesByPlan, fault_at, is_made_at, is_on_at, will_answer, will_be_made, will_be_on, will_bring}
+use Rattle.mm_call.specs.declared.ended.Ended.{Ended}
+use Rattle.mm_call.specs.Ended.{ended_with, is_broken}
+use Rattle.mm_model.specs.declared.refusal.Refusal.{Refusal}
+use Rattle.mm_flight.specs.InFlight.{plan_by, under, SaySame}
+
+pub counted_few : (made : ℕ) → made < 255 → counted made ≡ made + 1
+counted_few made few = omega arith
+
+-- A platform under a plan of which so many steps are over, and another plan that says the same of its next step.
+pub record Replans (p q : Plan) (made : ℕ) (now : Standing) : Type 0 where
+  pub is_on : now.is_on ≡ true
+  pub planned : now.plan ≡ Some (record q { at = made })
+  pub same : SaySame p q (counted made)
+
+ends_under : (fault : Option StepFault) (p : Plan) (made : ℕ) (now new : Standing) (is_made : Bool) → EndsBy fault now new is_made
+    → EndsBy fault (under p made now) (under p (counted made) new) is_made
+ends_under None p made now new is_made e = record { made = e.made; was_on = e.was_on; is_on = e.is_on; faults = e.faults }
+ends_under (Some Failed) p made now new is_made e = record { was_on = e.was_on; is_on = e.is_on; faults = e.faults }
+ends_under (Some Off) p made now new is_made e = record { faults = e.faults; still = e.still }
+
+told_under : (p q : Plan) (made : ℕ) (now new : Standing) (is_made : Bool) (others : List (List ℕ)) (fault : Option StepFault)
+    → Replans p q made now
+    → GoesByPlan (record q { at = made }) now new is_made others fault
+    → GoesByPlan (record p { at = made }) (under p made now) (under p (counted made) new) is_made others fault
+told_under p q made now new is_made others fault r told =
+    let at_p : Plan = record p { at = made } in
+    let at_q : Plan = record q { at = made } in
+    record {
+      answers = told.answers ∙ ap (λ (on : Bool). will_answer on at_q) r.is_on ∙ sym r.same.answers ∙ sym
+          (ap (λ (on : Bool). will_answer on at_p) r.is_on);
+      makes = told.makes ∙ ap (λ (on : Bool). will_be_made on at_q) r.is_on ∙ sym r.same.makes ∙ sym
+          (ap (λ (on : Bool). will_be_made on at_p) r.is_on);
+      power = told.power ∙ ap (λ (on : Bool). will_be_on on at_q) r.is_on ∙ sym r.same.stays ∙ sym
+          (ap (λ (on : Bool). will_be_on on at_p) r.is_on);
+      brings = told.brings ∙ ap (λ (on : Bool). will_bring on at_q) r.is_on ∙ sym r.same.brings ∙ sym
+          (ap (λ (on : Bool). will_bring on at_p) r.is_on);
+      counts = told.counts;
+    }
+
+pub replanned : (act : Act) (p q : Plan) (made : ℕ) (now new : Standing) (fault : Option StepFault) → Replans p q made now
+    → Goes act now new fault
+    → Goes act (under p made now) (under p (counted made) new) fault
+replanned act p q made now new fault r g =
+    let told = told_under p q made now new g.is_made g.others fault r (g.told (record q { at = made }) r.planned) in record {
+      is_made = g.is_made;
+      others = g.others;
+      cell = g.cell;
+      items = g.items;
+      steps = g.steps;
+      writes = g.writes;
+      room = g.room;
+      plan = refl;
+      ends = ends_under fault p made now new g.is_made g.ends;
+      told = λ (plan : Plan) (known : Some (record p { at = made }) ≡ Some plan).
+          let same : record p { at = made } ≡ plan = cc in
+          subst (λ (x : Plan). GoesByPlan x (under p made now) (under p (counted made) new) g.is_made g.others fault) same told;
+    }
+
+-- A device step that didn't fail and wrote no cell, and room that may have been made behind it. The next one is that of the
+-- next number.
+pub record Moves (old new : Standing) (number next : ℕ) : Type 0 where
+  pub act : Act
+  pub middle : Standing
+  pub goes : Goes act old middle None
+  pub room : new ≡ record middle { spare = new.spare }
+  pub keeps : middle.cell ≡ old.cell
+  pub counts : next ≡ number + 1
+
+-- with nothing planned to go wrong a step answers no fault
+pub quiet_step : (act : Act) (now new : Standing) (fault : Option StepFault) (meddles : List Meddle) (made : ℕ) → now.is_on ≡ true
+    → now.plan ≡ Some (record (plan_by Quiet meddles) { at = made }) → Goes act now new fault
+    → fault ≡ None
+quiet_step act now new fault meddles made on planned g =
+    let plan : Plan = record (plan_by Quiet meddles) { at = made } in
+    (g.told plan planned).answers ∙ ap (λ (x : Bool). will_answer x plan) on
+
+-- every device step fails on this platform
+abbrev pub AlwaysFails : Standing → Type 0
+AlwaysFails now = (act : Act) (new : Standing) (fault : Option StepFault) → Goes act now new fault → fault ≡ None → ⊥
+
+-- a refusal that hands a fault on is a call that was broken off
+pub broken_by : (fault : Option StepFault) (why : Refusal) (ended : Ended) → (fault ≡ None → ⊥) → ended ≡ ended_with fault why
+    → is_broken ended ≡ true
+broken_by None why ended never e = absurd (never refl)
+broken_by (Some fault) why ended never e = ap is_broken e

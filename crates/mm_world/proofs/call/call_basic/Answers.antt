@@ -1,4 +1,0 @@
-use Rattle.mm_world.proofs.call.call_basic.Goals as goal
-
-pub returns : goal.returns
-returns g c = c.finish_keeping.ensures.ends c.in-Ok.ensures.ok.0
