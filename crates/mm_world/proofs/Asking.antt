@@ -266,7 +266,7 @@ moves_power stop (Answers answer) = refl
 moves_power stop (Refuses why) = refl
 moves_power stop (Breaks fault kept) = stop_power stop
 
-reads_none : (items : Option (List Item)) (r : List ℕ) → option_map (λ xs. register_after (item_values xs)) items ≡ Some r
+pub reads_none : (items : Option (List Item)) (r : List ℕ) → option_map (λ xs. register_after (item_values xs)) items ≡ Some r
     → option_map (λ xs. register_after (item_values xs)) (items_cycled true items) ≡ Some zero_bytes
 reads_none None r e = cc
 reads_none (Some xs) r e = refl

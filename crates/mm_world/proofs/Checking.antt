@@ -39,7 +39,7 @@ use Rattle.mm_world.proofs.Committing.{reads_shown, count_none}
 use Rattle.mm_world.proofs.Asking.{stands_settled, on_settled, power_if, stop_power, power_count}
 
 -- the step at which a planned call is broken off
-record StoppedAt (stop : Stop) (n : ℕ) (made : Bool) : Type 0 where
+pub record StoppedAt (stop : Stop) (n : ℕ) (made : Bool) : Type 0 where
   pub number : stopped_step stop ≡ n
   pub effect : made ≡ takes_effect stop
 
@@ -53,7 +53,7 @@ stopped_failed : (stop : Stop) (at n : ℕ) (here done : Bool) (fault : StepFaul
 stopped_failed stop at n true done fault made here number effect e = record { number = number ∙ eqb-true at n here; effect = (let x : done ≡ made = cc in sym x ∙ sym effect) }
 stopped_failed stop at n false done fault made here number effect e = cc
 
-stopped_at : (stop : Stop) (n : ℕ) (fault : StepFault) (made : Bool) → end_of (fault_at stop n) (is_made_at stop n) ≡ Fails fault made → StoppedAt stop n made
+pub stopped_at : (stop : Stop) (n : ℕ) (fault : StepFault) (made : Bool) → end_of (fault_at stop n) (is_made_at stop n) ≡ Fails fault made → StoppedAt stop n made
 stopped_at Quiet n fault made e = cc
 stopped_at (Cut at) n fault made e = stopped_off (Cut at) at n (at == n) fault made refl refl refl e
 stopped_at (Drop at) n fault made e = stopped_off (Drop at) at n (at == n) fault made refl refl refl e

@@ -4,3 +4,5 @@ pub mod Calling
 pub mod Checking
 pub mod Worlds
 pub mod Printing
+pub mod StoppingReading
+pub mod InVain

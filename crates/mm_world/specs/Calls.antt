@@ -108,8 +108,8 @@ told_closing stop (Ok NoSegment) = reply.No cause.Segment
 told_closing stop (Err closing.Lost) = reply.No cause.Lost
 told_closing stop (Err (closing.Device fault)) = stopped_reply (way_of stop) (closes_at stop)
 told_closing stop (Err closing.Kind) = reply.No cause.Kind
-told_closing stop (Err closing.Blank) = reply.No cause.Kind
-told_closing stop (Err closing.Cell) = reply.No cause.Kind
+told_closing stop (Err closing.Blank) = reply.No cause.Blank
+told_closing stop (Err closing.Cell) = reply.No cause.Cell
 
 -- whether a checkpoint was broken off by a fault
 abbrev pub stops_in : Result Checkpointed CheckpointRefusal → Bool

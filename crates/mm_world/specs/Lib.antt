@@ -2,3 +2,4 @@ pub mod Stands
 pub mod Calls
 pub mod Held
 pub mod Asks
+pub mod InVain

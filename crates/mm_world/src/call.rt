@@ -7,7 +7,7 @@ ghost use Rattle.mm_digest.specs.declared.variant.Variant.{Variant};
 ghost use Rattle.mm_call.specs.Ended.{is_broken};
 ghost use Rattle.mm_run.specs.Folds.{way_of, cause_of};
 ghost use Rattle.mm_run.specs.Offered.{offered_bytes};
-ghost use Rattle.mm_world.specs.Asks.{AsksAs, ChecksAs};
+ghost use Rattle.mm_world.specs.InVain.{AsksPlanned, ChecksPlanned};
 ghost use Rattle.mm_world.specs.Calls.{refused_call, answered_call, broken_as, takes_effect, CalledAs, Restores, SettlesPlan, closes_at, told_closing, stops_in};
 
 use mm_base::{Bytes, Memory};
@@ -87,8 +87,8 @@ impl Called {
     }
 }
 
-// How a call is broken off.
-fn way(stop: Stop) -> Way
+/// How a call is broken off.
+pub fn way(stop: Stop) -> Way
     ensures { result ≡ way_of stop }
 {
     match stop {
@@ -98,8 +98,8 @@ fn way(stop: Stop) -> Way
     }
 }
 
-// Whether the step at which a call is stopped has its effect.
-fn takes_effect(stop: Stop) -> bool
+/// Whether the step at which a call is stopped has its effect.
+pub fn takes_effect(stop: Stop) -> bool
     ensures { result ≡ takes_effect stop }
 {
     match stop {
@@ -120,8 +120,9 @@ fn cause(refusal: Refusal) -> Cause
         Refusal::Tag => Cause::Tag,
         Refusal::Stale => Cause::Stale,
         Refusal::Full => Cause::Full,
-        Refusal::Memory | Refusal::Long | Refusal::Device(_) | Refusal::Blank | Refusal::Cell =>
-            Cause::Long,
+        Refusal::Blank => Cause::Blank,
+        Refusal::Cell => Cause::Cell,
+        Refusal::Memory | Refusal::Long | Refusal::Device(_) => Cause::Long,
     }
 }
 
@@ -183,8 +184,8 @@ fn planned_call<M: Module>(
     keys: &mut KeptKey,
 ) -> Result<Called, Memory>
     ensures { (issued : List (List ℕ))
-        → AsksAs variant (M.meaning «module».now) platform.old platform.new issued meddles.now stop
-        (Some offer.now) (batch_of batch.entry) result }
+        → AsksPlanned variant (M.meaning «module».now) platform.old platform.new issued meddles.now
+        stop (Some offer.now) (batch_of batch.entry) result }
 {
     match AskCall::begin(variant, batch) {
         Err(_) => Ok(Called::refused(Cause::Long)),
@@ -199,7 +200,8 @@ fn planned_call<M: Module>(
     }
 }
 
-/// Makes the call that asks for a batch, with the bytes that the offer names.
+/// Makes the call that asks for a batch, with the bytes that the offer names, over a platform that is on and has no plan.
+/// A cell that is blank, or none of this variant and module, is read in vain: the call makes no further step.
 pub fn call_by_offer<M: Module>(
     alloc: Global,
     variant: Variant,
@@ -212,7 +214,7 @@ pub fn call_by_offer<M: Module>(
     stop: Stop,
     keys: &mut KeptKey,
 ) -> Result<Called, Memory>
-    ensures { AsksAs variant (M.meaning «module».now) platform.old platform.new issued.now
+    ensures { AsksPlanned variant (M.meaning «module».now) platform.old platform.new issued.now
         meddles.now stop (offered_bytes issued.now offer.now) (batch_of batch.entry) result }
 {
     match offered(alloc, issued, offer) {
@@ -250,11 +252,12 @@ pub fn closing(stop: Stop, ended: Result<Checkpointed, CheckpointRefusal>) -> Re
     match ended {
         Ok(Checkpointed::Done) => Reply::Checkpointed,
         Ok(Checkpointed::NoSegment) => Reply::No(Cause::Segment),
+        Err(CheckpointRefusal::Blank) => Reply::No(Cause::Blank),
+        Err(CheckpointRefusal::Cell) => Reply::No(Cause::Cell),
         Err(CheckpointRefusal::Lost) => Reply::No(Cause::Lost),
         Err(CheckpointRefusal::Device(_)) if closes(stop) => Reply::Closed { way: way(stop) },
         Err(CheckpointRefusal::Device(_)) => Reply::Nothing { way: way(stop) },
-        Err(CheckpointRefusal::Kind | CheckpointRefusal::Blank | CheckpointRefusal::Cell) =>
-            Reply::No(Cause::Kind),
+        Err(CheckpointRefusal::Kind) => Reply::No(Cause::Kind),
     }
 }
 
@@ -271,8 +274,8 @@ pub fn planned_checkpoint(
     meddles: &[Meddle],
     stop: Stop,
 ) -> Result<Reply, Memory>
-    ensures { (variant : Variant) (meaning : Meaning) (issued : List (List ℕ)) →
-        ChecksAs variant meaning platform.old platform.new issued meddles.now stop result }
+    ensures { (issued : List (List ℕ)) → ChecksPlanned platform.old platform.new issued meddles.now
+        stop result }
 {
     platform.plan(stop, meddles)?;
     let ended = mm_opt::checkpoint(platform);

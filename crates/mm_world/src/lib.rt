@@ -5,7 +5,11 @@ mod call;
 mod parts;
 mod world;
 
-pub use call::{Called, came_to, closing, is_broken, is_stopped, settle};
+pub use call::{
+    Called, call_by_offer, came_to, closing, is_broken, is_stopped, planned_checkpoint, settle,
+    takes_effect, way,
+};
+pub use parts::{keep, listed};
 pub use world::World;
 
 #[cfg(test)]
