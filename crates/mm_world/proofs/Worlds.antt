@@ -58,7 +58,7 @@ flag_spelled : (c : Cell) → (slice_index (cell_spelling c) 6 == 1) ≡ c.flag
 unfolding cell_spelling
 flag_spelled c = flag_told c.flag
 
-digests_are : (i : Instance) (d : Digests) (s : Standing) (committed : ℕ) → Stands i s d → digests_in s committed ≡ record d { count = committed }
+pub digests_are : (i : Instance) (d : Digests) (s : Standing) (committed : ℕ) → Stands i s d → digests_in s committed ≡ record d { count = committed }
 digests_are i d s committed a =
     let cell = cell_at i d in
     let digest : digest_in s.cell ≡ d.digest = ap digest_in a.at.cell ∙ digest_spelled cell a.at.spells.summary in
@@ -66,7 +66,7 @@ digests_are i d s committed a =
     let register : value_in (register_reads s) ≡ d.register = ap value_in a.register in
     λ j. record { digest = digest j; flag = flag j; register = register j; count = committed }
 
-counting : (i : Instance) (d : Digests) (s : Standing) (count : ℕ) → Stands i s d → Stands i s (record d { count = count })
+pub counting : (i : Instance) (d : Digests) (s : Standing) (count : ℕ) → Stands i s d → Stands i s (record d { count = count })
 counting i d s count a = record { at = record { spells = a.at.spells; cell = a.at.cell; reads = a.at.reads }; register = a.register }
 
 pub settles : (h : Header) (s : Standing) (d : Digests) (issued : List (List ℕ)) (committed : ℕ) → Stands (world_of h) s d → IsQuiet s
@@ -195,7 +195,7 @@ cycled_all : (fault : Option StepFault) (old new : Standing) (emptied : Bool) �
 cycled_all None old new emptied e c = (c.0, c.1)
 cycled_all (Some f) old new emptied e c = absurd (cc)
 
-stands_cycled : (i : Instance) (d : Digests) (old new : Standing) (fault : Option StepFault) → Stands i old d → IsQuiet old
+pub stands_cycled : (i : Instance) (d : Digests) (old new : Standing) (fault : Option StepFault) → Stands i old d → IsQuiet old
     → Cycles old new fault → Stands i new (made i d PowerMove) × IsQuiet new
 stands_cycled i d old new fault s q c =
     let none : fault ≡ None = c.told (ap (λ p. is_some p) q.plan) in
@@ -228,14 +228,14 @@ follows_power h old new issued committed fault world is s c =
     })
 
 -- others extend the register
-abbrev extended_by : Standing → List ℕ → Standing
+abbrev pub extended_by : Standing → List ℕ → Standing
 extended_by old value = record old { items = beside (value ∷ []) old.items }
 
 beside_shown : (i : Instance) (d : Digests) (value : List ℕ) (items : Option (List Item)) → beside (value ∷ []) items ≡ option_map (shown i d (Foreign value ∷ [])) items
 beside_shown i d value None = refl
 beside_shown i d value (Some items) = refl
 
-stands_extended : (i : Instance) (d : Digests) (value : List ℕ) (old : Standing) → Stands i old d → Stands i (extended_by old value) (made i d (Foreign value))
+pub stands_extended : (i : Instance) (d : Digests) (value : List ℕ) (old : Standing) → Stands i old d → Stands i (extended_by old value) (made i d (Foreign value))
 stands_extended i d value old s =
     let r : register_reads (extended_by old value) ≡ Some (made i d (Foreign value)).register =
     ap (λ x. option_map (λ xs. register_after (item_values xs)) x) (beside_shown i d value old.items) ∙ reads_shown i (Foreign value ∷ []) d old.items s.register in
@@ -285,23 +285,24 @@ length-world_barrier : length world_barrier ≡ 32
 unfolding world_barrier rising_from
 length-world_barrier = refl
 
-stands_new : (variant : Variant) (meaning : Meaning) (cell : List ℕ) → cell ≡ cell_spelling (cell_of (instance_by variant meaning world_key world_barrier) first_history)
-    → Stands (instance_by variant meaning world_key world_barrier) (new_platform cell) (first_digests (instance_by variant meaning world_key world_barrier))
-stands_new Basic meaning cell e =
-    let i = instance_by Basic meaning world_key world_barrier in
+pub stands_new : (variant : Variant) (meaning : Meaning) (key barrier cell : List ℕ) → length key ≡ 32 → length barrier ≡ 32
+    → cell ≡ cell_spelling (cell_of (instance_by variant meaning key barrier) first_history)
+    → Stands (instance_by variant meaning key barrier) (new_platform cell) (first_digests (instance_by variant meaning key barrier))
+stands_new Basic meaning key barrier cell length-key length-barrier e =
+    let i = instance_by Basic meaning key barrier in
     record {
       at = record {
-        spells = record { summary = length-start_of Basic meaning.id; key = length-world_key; barrier = length-zero_bytes; variant = (refl, refl) };
+        spells = record { summary = length-start_of Basic meaning.id; key = length-key; barrier = length-zero_bytes; variant = (refl, refl) };
         cell = ap Some (e ∙ ap (λ (s : List ℕ). cell_spelling (cell_at i (record { digest = s; flag = false; register = zero_bytes; count = 0 }))) (sym (summary-nil meaning.id)));
         reads = tt;
       };
       register = refl;
     }
-stands_new Opt meaning cell e =
-    let i = instance_by Opt meaning world_key world_barrier in
+stands_new Opt meaning key barrier cell length-key length-barrier e =
+    let i = instance_by Opt meaning key barrier in
     record {
       at = record {
-        spells = record { summary = length-start_of Opt meaning.id; key = length-world_key; barrier = length-world_barrier; variant = tt };
+        spells = record { summary = length-start_of Opt meaning.id; key = length-key; barrier = length-barrier; variant = tt };
         cell = ap Some (e ∙ ap (λ (s : List ℕ). cell_spelling (cell_at i (record { digest = s; flag = false; register = zero_bytes; count = 0 }))) (sym (anchor-nil meaning.id)));
         reads = refl;
       };
@@ -309,7 +310,7 @@ stands_new Opt meaning cell e =
     }
 
 pub stands_first : (h : Header) (cell : List ℕ) → cell ≡ cell_spelling (cell_of (world_of h) first_history) → Stands (world_of h) (new_platform cell) (first_digests (world_of h))
-stands_first h cell e = stands_new h.variant (meaning_of h.«module») cell e
+stands_first h cell e = stands_new h.variant (meaning_of h.«module») world_key world_barrier cell length-world_key length-world_barrier e
 
 settled_first : (h : Header) (cell : List ℕ) (standing : Standing) (issued : List (List ℕ)) → cell ≡ cell_spelling (cell_of (world_of h) first_history)
     → standing ≡ new_platform cell → length issued ≤ 2 ^ 32 - 1 → KeepsWorld h standing issued 0
