@@ -1,5 +1,5 @@
 -- The same of a call of either core; and what its code says.
-use Rattle.std.proofs.Common.{◌≡◌, ℕ, ◌+◌, ◌≤◌, true, List, Option, None, Some, refl, sym, ap, ◌∙◌, subst, arith}
+use Rattle.std.proofs.Common.{◌≡◌, ℕ, ◌≤◌, true, List, Option, None, Some, refl, sym, ap, ◌∙◌, subst, arith}
 use Rattle.std.specs.Option.{option_map}
 use Rattle.mm_base.specs.Faults.{counted}
 use Rattle.mm_digest.specs.declared.variant.Variant.{Variant}
@@ -39,7 +39,7 @@ use Rattle.mm_flight.specs.declared.ask.AskCall.{AskCall}
 use Rattle.mm_flight.specs.declared.ask.AskCall.TheVariants.{Basic, Opt}
 use Rattle.mm_flight.specs.declared.ask.AskTurn.{AskTurn}
 use Rattle.mm_flight.specs.declared.ask.AskTurn.TheVariants.{Going, Done, Refused}
-use Rattle.mm_flight.specs.Asks.{begun, ask_number, of_basic, of_opt, TurnsFrom, AskTurns, MayAsk, TurnMayAsk, ask_fault, AdvancedAsk, AskFinishes, FinishedAsk}
+use Rattle.mm_flight.specs.Asks.{begun, ask_number, of_basic, of_opt, AskTurns, MayAsk, ask_fault, AdvancedAsk, AskFinishes, FinishedAsk}
 use Rattle.mm_flight.specs.InFlight.{plan_by, under}
 use Rattle.mm_flight.proofs.Replanning.{Replans, Moves, AlwaysFails}
 use Rattle.mm_flight.proofs.BasicTurning.{basic_replanned, basic_moves, basic_then, basic_answers, basic_refuses, basic_fails, basic_faultless, basic_breaks}

@@ -1,5 +1,5 @@
 -- Turns of a call of Basic: under another plan; with what is left behind them; as its end; and a step that fails.
-use Rattle.std.proofs.Common.{◌≡◌, ℕ, ◌+◌, true, List, Option, None, Some, Result, Ok, Err, refl, sym, ap, ◌∙◌, subst}
+use Rattle.std.proofs.Common.{◌≡◌, ℕ, true, List, Option, None, Some, Result, Ok, Err, refl, sym, ap, ◌∙◌, subst}
 use Rattle.std.specs.Result.{result_err}
 use Rattle.mm_base.specs.Faults.{counted}
 use Rattle.mm_platform.specs.declared.fault.StepFault.{StepFault}
@@ -22,7 +22,7 @@ use Rattle.mm_basic.specs.declared.found.Ready.{Ready}
 use Rattle.mm_basic.specs.declared.call.Turn.{Turn}
 use Rattle.mm_basic.specs.declared.call.Turn.TheVariants.{Going, Done, Refused}
 use Rattle.mm_basic.specs.Steps.{Finds, Reads, Writes, act_of, step_number}
-use Rattle.mm_basic.specs.Turns.{turn_of, last_turn, turn_fault, TurnsFirst, TurnsLast, Turns}
+use Rattle.mm_basic.specs.Turns.{turn_of, last_turn, turn_fault, Turns}
 use Rattle.mm_basic.specs.Asks.{EndsTo, WritesTo, AsksTo, Finishes}
 use Rattle.mm_flight.specs.InFlight.{plan_by, under}
 use Rattle.mm_flight.proofs.Replanning.{Replans, replanned, Moves, quiet_step, AlwaysFails, broken_by}

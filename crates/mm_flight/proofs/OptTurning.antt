@@ -1,39 +1,32 @@
 -- Turns of a call of Opt: under another plan, and with what is left behind them.
-use Rattle.std.proofs.Common.{◌≡◌, ℕ, ◌+◌, Bool, true, List, Option, None, Some, Result, Ok, Err, refl, sym, ap, ◌∙◌, subst}
+use Rattle.std.proofs.Common.{◌≡◌, ℕ, ◌+◌, Bool, List, Option, Result, Ok, Err, refl, sym, ap, ◌∙◌, subst}
 use Rattle.std.specs.Result.{result_err}
 use Rattle.mm_base.specs.Faults.{counted}
 use Rattle.mm_platform.specs.declared.fault.StepFault.{StepFault}
-use Rattle.mm_platform.specs.declared.plan.Meddle.{Meddle}
-use Rattle.mm_platform.specs.declared.plan.Stop.TheVariants.{Quiet}
 use Rattle.mm_platform.specs.Standing.{Plan, Standing}
-use Rattle.mm_platform.specs.Steps.{Act, ReadCell, WriteCell, ReadRegister, ResetRegister, ExtendRegister, cell_after, Goes}
+use Rattle.mm_platform.specs.Steps.{Act, ReadCell, WriteCell, ReadRegister, ResetRegister, ExtendRegister, cell_after}
 use Rattle.mm_module.specs.Meaning.{Meaning}
 use Rattle.mm_module.specs.Batch.{Batch}
 use Rattle.mm_seal.specs.declared.cell.Cell.{Cell}
 use Rattle.mm_model.specs.declared.answer.BatchAnswer.{BatchAnswer}
 use Rattle.mm_model.specs.declared.refusal.Refusal.{Refusal}
-use Rattle.mm_model.specs.declared.refusal.Refusal.TheVariants.{Device}
 use Rattle.mm_call.specs.declared.ended.Ended.{Ended}
-use Rattle.mm_call.specs.declared.ended.Ended.TheVariants.{Answered, Broken}
-use Rattle.mm_call.specs.Ended.{refused_as, committed_as, is_broken}
-use Rattle.mm_call.specs.Refusals.{fault_of, fault_in}
+use Rattle.mm_call.specs.Refusals.{fault_in}
 use Rattle.mm_opt.specs.declared.found.Ready.{Ready}
 use Rattle.mm_opt.specs.declared.found.Opening.{Opening}
 use Rattle.mm_opt.specs.declared.found.Found.{Found}
 use Rattle.mm_opt.specs.declared.found.Found.TheVariants.{Repeat, Inside, Opens}
 use Rattle.mm_opt.specs.declared.stage.Stage.{Stage}
 use Rattle.mm_opt.specs.declared.stage.Stage.TheVariants as stage
-use Rattle.mm_opt.specs.declared.stage.Change.{Change}
 use Rattle.mm_opt.specs.declared.stage.Change.TheVariants as change
 use Rattle.mm_opt.specs.declared.call.Turn.{Turn}
-use Rattle.mm_opt.specs.declared.call.Turn.TheVariants.{Going, Done, Refused}
-use Rattle.mm_opt.specs.Steps.{act_of, step_number, FindsCell, ReadsOwnCell, Finds, MakesRoom, ReadsRegister, Makes, Empties, Places}
-use Rattle.mm_opt.specs.Turns.{seen_turn, found_turn, emptied_turn, placed_turn, last_turn, Turns, fault_turned}
-use Rattle.mm_opt.specs.Asks.{ReadsOn}
-use Rattle.mm_opt.specs.Finishes.{PlacedTo, EmptiedTo, PlacesTo, OpensTo, EndsTo, AsksTo, SeesTo, Finishes}
+use Rattle.mm_opt.specs.declared.call.Turn.TheVariants.{Going}
+use Rattle.mm_opt.specs.Steps.{act_of, step_number, FindsCell, ReadsOwnCell, Finds, MakesRoom, Makes, Empties, Places}
+use Rattle.mm_opt.specs.Turns.{seen_turn, found_turn, emptied_turn, placed_turn, last_turn, Turns}
+use Rattle.mm_opt.specs.Finishes.{PlacesTo, OpensTo, EndsTo, AsksTo, SeesTo, Finishes}
 use Rattle.mm_opt.proofs.Acting.{acts_at}
-use Rattle.mm_flight.specs.InFlight.{plan_by, under}
-use Rattle.mm_flight.proofs.Replanning.{Replans, replanned, Moves, quiet_step, AlwaysFails, broken_by}
+use Rattle.mm_flight.specs.InFlight.{under}
+use Rattle.mm_flight.proofs.Replanning.{Replans, replanned, Moves}
 
 -- under another plan that says the same of the step
 

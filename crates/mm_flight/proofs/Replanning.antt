@@ -6,7 +6,7 @@ use Rattle.mm_platform.specs.declared.fault.StepFault.TheVariants.{Failed, Off}
 use Rattle.mm_platform.specs.declared.plan.Meddle.{Meddle}
 use Rattle.mm_platform.specs.declared.plan.Stop.TheVariants.{Quiet}
 use Rattle.mm_platform.specs.Standing.{Plan, Standing}
-use Rattle.mm_platform.specs.Steps.{Act, Goes, EndsBy, GoesByPlan, fault_at, is_made_at, is_on_at, will_answer, will_be_made, will_be_on, will_bring}
+use Rattle.mm_platform.specs.Steps.{Act, Goes, EndsBy, GoesByPlan, will_answer, will_be_made, will_be_on, will_bring}
 use Rattle.mm_call.specs.declared.ended.Ended.{Ended}
 use Rattle.mm_call.specs.Ended.{ended_with, is_broken}
 use Rattle.mm_model.specs.declared.refusal.Refusal.{Refusal}

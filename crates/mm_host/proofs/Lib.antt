@@ -23,4 +23,5 @@ mod SessionRuns
 mod SparingLines
 mod Keeping
 mod CellWriting
+mod OneCall
 mod SessionWriting

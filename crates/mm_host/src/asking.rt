@@ -1,18 +1,19 @@
 //! One call of either variant.
 
-ghost use Rattle.std.specs.Prelude.{◌≡◌, false};
+ghost use Rattle.std.specs.Prelude.{◌≡◌, false, IfOk, length};
 ghost use Rattle.mm_module.specs.Batch.{One};
 ghost use Rattle.mm_model.specs.Long.{is_long};
-ghost use Rattle.mm_host.specs.Asking.{IsCall};
+ghost use Rattle.mm_host.specs.Asking.{AskedIn, IsCall};
 
+use mm_call::KeptKey;
 use mm_digest::Variant;
-use mm_model::{Answer, Refusal};
-use mm_module::Module;
+use mm_flight::AskCall;
+use mm_model::{Answer, BatchAnswer, Refusal};
+use mm_module::{Batch, Module};
 use mm_platform::Platform;
 use std::alloc::Global;
 
 /// Asks for one request, which isn't too long, offering a snapshot.
-#[tactic(auto, using(crate::proofs::CellWriting::basic_writes, crate::proofs::CellWriting::opt_writes))]
 pub fn ask<M: Module, P: Platform>(
     alloc: Global,
     variant: Variant,
@@ -25,8 +26,32 @@ pub fn ask<M: Module, P: Platform>(
     ensures { IsCall variant (M.meaning «module».now) (P.standing platform.old)
         (P.standing platform.new) offer.now request.now result }
 {
-    match variant {
-        Variant::Basic => mm_basic::ask(alloc, module, platform, offer, request),
-        Variant::Opt => mm_opt::ask(alloc, module, platform, offer, request),
+    match call_one(alloc, variant, module, platform, offer, request) {
+        Err(refusal) => Err(refusal),
+        Ok(answer) => Ok(answer.into_one()),
+    }
+}
+
+// The call, whose answer has one output.
+fn call_one<M: Module, P: Platform>(
+    alloc: Global,
+    variant: Variant,
+    module: &M,
+    platform: &mut P,
+    offer: &[u8],
+    request: &[u8],
+) -> Result<BatchAnswer, Refusal>
+    requires { is_long (One request.now) ≡ false }
+    ensures asked { AskedIn variant (M.meaning «module».now) (P.standing platform.old)
+        (P.standing platform.new) offer.now (One request.now) result }
+    ensures one { IfOk result (λ answer. length answer.outputs ≡ 1) }
+{
+    let batch = Batch::One(request);
+    match AskCall::begin(variant, batch) {
+        Ok(call) => {
+            call.finish(alloc, module, platform, offer, batch, &mut KeptKey::new())
+                .result()
+        }
+        Err(_) => unreachable!(),
     }
 }
