@@ -162,3 +162,22 @@ cells_are_read bytes cell size = (
   moved_spells bytes cell size,
   λ (spells : SpellsMoved bytes cell). ap moved_of spells.1 ∙ moved_back cell spells.0,
 )
+
+-- how a reading goes on, test by test
+pub blank_read : (bytes : List ℕ) → bytes_eq bytes blank_cell ≡ true → Err Blank ≡ moved_of bytes
+unfolding moved_of
+blank_read bytes e = sym (ap (λ (b : Bool). if b then Err Blank else moved_by bytes (moved_in bytes)) e)
+
+pub cell_read : (bytes : List ℕ) (cell : MovedCell) → bytes_eq bytes blank_cell ≡ false → cell ≡ moved_in bytes
+    → is_spelled_by bytes cell ≡ true → Ok cell ≡ moved_of bytes
+unfolding moved_of
+cell_read bytes cell blank e spelled =
+    sym (ap (λ (b : Bool). if b then Err Blank else moved_by bytes (moved_in bytes)) blank ∙ ap (moved_by bytes) (sym e)
+    ∙ ap (λ (b : Bool). if b then Ok cell else Err Unspelled) spelled)
+
+pub none_read : (bytes : List ℕ) (cell : MovedCell) → bytes_eq bytes blank_cell ≡ false → cell ≡ moved_in bytes
+    → is_spelled_by bytes cell ≡ false → Err Unspelled ≡ moved_of bytes
+unfolding moved_of
+none_read bytes cell blank e spelled =
+    sym (ap (λ (b : Bool). if b then Err Blank else moved_by bytes (moved_in bytes)) blank ∙ ap (moved_by bytes) (sym e)
+    ∙ ap (λ (b : Bool). if b then Ok cell else Err Unspelled) spelled)

@@ -1,7 +1,9 @@
 //! The non-volatile cell of a platform that a module lives on, is awaited on, or has left.
 
-ghost use Rattle.std.specs.Prelude.{◌≡◌};
-ghost use Rattle.mm_move.specs.Cells.{FitsMoved, fits, fits_variant, waiting_spelling, retired_spelling, moved_spelling, waiting_in, retired_in, live_in, moved_in, is_spelled_by, moved_of, CellsAreRead};
+ghost use Rattle.std.specs.Prelude.{◌≡◌, IfOk};
+ghost use Rattle.std.specs.Str.{bytes_eq};
+ghost use Rattle.mm_seal.specs.Cell.{blank_cell};
+ghost use Rattle.mm_move.specs.Cells.{FitsMoved, fits, fits_variant, waiting_spelling, retired_spelling, moved_spelling, waiting_in, retired_in, live_in, moved_in, is_spelled_by, moved_of};
 
 use crate::fields::{part, variant_in};
 use mm_base::CELL_LENGTH;
@@ -54,13 +56,22 @@ pub fn moved_bytes(cell: &MovedCell) -> [u8; CELL_LENGTH]
     }
 }
 
-// The bytes of a waiting cell.
+/// The bytes of a waiting cell.
 #[tactic(auto, unfolding(crate::specs::Cells::waiting_spelling))]
 pub fn waiting_bytes(cell: &Waiting) -> [u8; CELL_LENGTH]
     ensures { result ≡ waiting_spelling cell.now }
 {
     let mut bytes = [0; CELL_LENGTH];
-    let head = [b'M', b'M', b'W', b'1', cell.variant.byte(), cell.module, 0, 0];
+    let head = [
+        b'M',
+        b'M',
+        b'W',
+        b'1',
+        cell.variant.byte(),
+        cell.module,
+        0,
+        0,
+    ];
     let (front, rest) = bytes.split_at_mut(8);
     front.copy_from_slice(&head);
     let (nonce, rest) = rest.split_at_mut(32);
@@ -71,13 +82,22 @@ pub fn waiting_bytes(cell: &Waiting) -> [u8; CELL_LENGTH]
     bytes
 }
 
-// The bytes of a retired cell.
+/// The bytes of a retired cell.
 #[tactic(auto, unfolding(crate::specs::Cells::retired_spelling))]
 pub fn retired_bytes(cell: &Retired) -> [u8; CELL_LENGTH]
     ensures { result ≡ retired_spelling cell.now }
 {
     let mut bytes = [0; CELL_LENGTH];
-    let head = [b'M', b'M', b'X', b'1', cell.variant.byte(), cell.module, 0, 0];
+    let head = [
+        b'M',
+        b'M',
+        b'X',
+        b'1',
+        cell.variant.byte(),
+        cell.module,
+        0,
+        0,
+    ];
     let (front, rest) = bytes.split_at_mut(8);
     front.copy_from_slice(&head);
     let (summary, rest) = rest.split_at_mut(32);
@@ -90,19 +110,27 @@ pub fn retired_bytes(cell: &Retired) -> [u8; CELL_LENGTH]
 
 /// The cell that these bytes are. Blank exactly on 104 zero bytes, Cell exactly on bytes that are neither blank nor a
 /// live, a waiting or a retired cell's.
-#[tactic(auto, unfolding(crate::specs::Cells::moved_of))]
 pub fn read_moved(bytes: &[u8; CELL_LENGTH]) -> Result<MovedCell, CellFault>
     ensures cell { result ≡ moved_of bytes.now }
-    ensures law { CellsAreRead }
+    ensures fits { IfOk result FitsMoved }
 {
-    if *bytes == [0; CELL_LENGTH] {
+    if is_blank(bytes) {
         return Err(CellFault::Blank);
     }
     let cell = moved_in(bytes);
     if is_spelled_by(bytes, &cell) {
-        return Ok(cell);
+        Ok(cell)
+    } else {
+        Err(CellFault::Cell)
     }
-    Err(CellFault::Cell)
+}
+
+// Whether all bytes are zero.
+#[tactic(auto, unfolding(mm_seal::specs::Cell::blank_cell))]
+fn is_blank(bytes: &[u8; CELL_LENGTH]) -> bool
+    ensures { result ≡ bytes_eq bytes.now blank_cell }
+{
+    *bytes == [0; CELL_LENGTH]
 }
 
 // The only cell that the bytes may spell.

@@ -4,7 +4,7 @@ ghost use Rattle.std.specs.Prelude.{◌≡◌, ◌≤◌, IfOk, MatchOption, tru
 ghost use Rattle.mm_base.specs.Limits.{last_position, limit_of};
 ghost use Rattle.mm_seal.specs.Body.{content_of};
 ghost use Rattle.mm_seal.specs.Parts.{is_bounded};
-ghost use Rattle.mm_move.specs.Tickets.{IsAtAnchor, summary_in, place_at, ticket_content, ticket_front, sealed_ticket, tagged_in, is_for, is_spelled_by, ticket_of, TicketsAreRead};
+ghost use Rattle.mm_move.specs.Tickets.{IsAtAnchor, summary_in, place_at, ticket_content, ticket_front, sealed_ticket, tagged_in, is_for, is_spelled_by, ticket_of};
 
 use crate::fields::{number_at, part, variant_in};
 use mm_base::{Bytes, LAST_POSITION, Memory, bytes_of_u32, bytes_of_u64};
@@ -68,7 +68,8 @@ impl<'a> OfferedTicket<'a> {
 
 /// The place at this summary, or at this anchor, where the register's value is zero.
 pub fn place_at(variant: Variant, summary: Digest) -> Place
-    ensures { result ≡ place_at variant summary }
+    ensures place { result ≡ place_at variant summary }
+    ensures anchor { IsAtAnchor result }
 {
     match variant {
         Variant::Basic => Place::Basic(summary),
@@ -119,8 +120,8 @@ fn front_of(ticket: &Ticket<'_>) -> [u8; FRONT_LENGTH]
     bytes
 }
 
-// The summary, or the anchor.
-fn summary_of(place: &Place) -> Digest
+/// The summary, or the anchor.
+pub fn summary_of(place: &Place) -> Digest
     ensures { result ≡ summary_in place.now }
 {
     match place {
@@ -132,13 +133,8 @@ fn summary_of(place: &Place) -> Digest
 /// Takes a ticket apart, and borrows its state. Form exactly where the bytes are no ticket's, Kind exactly where they are
 /// one of another variant or module. Takes no memory.
 #[tactic(auto, unfolding(crate::specs::Tickets::ticket_of))]
-pub fn read_ticket(
-    bytes: &[u8],
-    variant: Variant,
-    id: u8,
-) -> Result<OfferedTicket<'_>, PartsFault>
-    ensures ticket { result ≡ ticket_of variant id bytes.now }
-    ensures law { TicketsAreRead }
+pub fn read_ticket(bytes: &[u8], variant: Variant, id: u8) -> Result<OfferedTicket<'_>, PartsFault>
+    ensures { result ≡ ticket_of variant id bytes.now }
 {
     match offered_in(bytes) {
         None => Err(PartsFault::Form),
@@ -207,7 +203,11 @@ fn is_spelled_by(bytes: &[u8], ticket: &Ticket<'_>) -> bool
     requires ticket { ticket_content ticket.now ≡ (tagged_in bytes.now).ticket }
     ensures { result ≡ is_spelled_by bytes.now (tagged_in bytes.now) }
 {
-    is_bounded(ticket) && &bytes[..FRONT_LENGTH] == front_of(ticket).as_slice()
+    if !is_bounded(ticket) {
+        return false;
+    }
+    let (front, _) = bytes.split_at(FRONT_LENGTH);
+    front == front_of(ticket).as_slice()
 }
 
 // Whether the position and the state are within their bounds.
