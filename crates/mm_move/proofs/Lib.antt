@@ -1,0 +1,5 @@
+pub mod Parts
+pub mod CellLaws
+pub mod TicketLaws
+pub mod Moving
+pub mod Orders

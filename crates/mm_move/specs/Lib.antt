@@ -1,0 +1,7 @@
+pub mod Fields
+pub mod Cells
+pub mod Tickets
+pub mod Refusals
+pub mod Moves
+pub mod Orders
+pub mod Read
