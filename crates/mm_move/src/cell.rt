@@ -1,0 +1,185 @@
+//! The non-volatile cell of a platform that a module lives on, is awaited on, or has left.
+
+ghost use Rattle.std.specs.Prelude.{◌≡◌};
+ghost use Rattle.mm_move.specs.Cells.{FitsMoved, fits, fits_variant, waiting_spelling, retired_spelling, moved_spelling, waiting_in, retired_in, live_in, moved_in, is_spelled_by, moved_of, CellsAreRead};
+
+use crate::fields::{part, variant_in};
+use mm_base::CELL_LENGTH;
+use mm_digest::{Digest, Variant, zero};
+use mm_seal::{Cell, CellFault, cell_bytes};
+
+/// A platform that was invited: it waits for the ticket with its nonce.
+#[derive(Clone, Copy, Debug, PartialEq, Eq)]
+pub struct Waiting {
+    pub variant: Variant,
+    /// The module's id.
+    pub module: u8,
+    pub nonce: [u8; 32],
+    /// The key that snapshots will be sealed under.
+    pub key: [u8; 32],
+    /// What will guard the register's values in Opt. Zero in Basic.
+    pub barrier: [u8; 32],
+}
+
+/// A platform that was retired: its module has left it, for the one that waits for this nonce.
+#[derive(Clone, Copy, Debug, PartialEq, Eq)]
+pub struct Retired {
+    pub variant: Variant,
+    /// The module's id.
+    pub module: u8,
+    /// The summary in Basic, the anchor in Opt, where the module left.
+    pub summary: Digest,
+    /// The key that its snapshots were sealed under.
+    pub key: [u8; 32],
+    pub nonce: [u8; 32],
+}
+
+/// What the cell holds: the module lives there, is awaited there, or has left.
+#[derive(Clone, Copy, Debug, PartialEq, Eq)]
+pub enum MovedCell {
+    Live(Cell),
+    Waiting(Waiting),
+    Retired(Retired),
+}
+
+/// The cell's 104 bytes. In Basic a live cell has a clear flag, and a live or waiting one a zero barrier.
+pub fn moved_bytes(cell: &MovedCell) -> [u8; CELL_LENGTH]
+    requires { FitsMoved cell.now }
+    ensures { result ≡ moved_spelling cell.now }
+{
+    match cell {
+        MovedCell::Live(cell) => cell_bytes(cell),
+        MovedCell::Waiting(cell) => waiting_bytes(cell),
+        MovedCell::Retired(cell) => retired_bytes(cell),
+    }
+}
+
+// The bytes of a waiting cell.
+#[tactic(auto, unfolding(crate::specs::Cells::waiting_spelling))]
+pub fn waiting_bytes(cell: &Waiting) -> [u8; CELL_LENGTH]
+    ensures { result ≡ waiting_spelling cell.now }
+{
+    let mut bytes = [0; CELL_LENGTH];
+    let head = [b'M', b'M', b'W', b'1', cell.variant.byte(), cell.module, 0, 0];
+    let (front, rest) = bytes.split_at_mut(8);
+    front.copy_from_slice(&head);
+    let (nonce, rest) = rest.split_at_mut(32);
+    nonce.copy_from_slice(&cell.nonce);
+    let (key, barrier) = rest.split_at_mut(32);
+    key.copy_from_slice(&cell.key);
+    barrier.copy_from_slice(&cell.barrier);
+    bytes
+}
+
+// The bytes of a retired cell.
+#[tactic(auto, unfolding(crate::specs::Cells::retired_spelling))]
+pub fn retired_bytes(cell: &Retired) -> [u8; CELL_LENGTH]
+    ensures { result ≡ retired_spelling cell.now }
+{
+    let mut bytes = [0; CELL_LENGTH];
+    let head = [b'M', b'M', b'X', b'1', cell.variant.byte(), cell.module, 0, 0];
+    let (front, rest) = bytes.split_at_mut(8);
+    front.copy_from_slice(&head);
+    let (summary, rest) = rest.split_at_mut(32);
+    summary.copy_from_slice(&cell.summary.bytes);
+    let (key, nonce) = rest.split_at_mut(32);
+    key.copy_from_slice(&cell.key);
+    nonce.copy_from_slice(&cell.nonce);
+    bytes
+}
+
+/// The cell that these bytes are. Blank exactly on 104 zero bytes, Cell exactly on bytes that are neither blank nor a
+/// live, a waiting or a retired cell's.
+#[tactic(auto, unfolding(crate::specs::Cells::moved_of))]
+pub fn read_moved(bytes: &[u8; CELL_LENGTH]) -> Result<MovedCell, CellFault>
+    ensures cell { result ≡ moved_of bytes.now }
+    ensures law { CellsAreRead }
+{
+    if *bytes == [0; CELL_LENGTH] {
+        return Err(CellFault::Blank);
+    }
+    let cell = moved_in(bytes);
+    if is_spelled_by(bytes, &cell) {
+        return Ok(cell);
+    }
+    Err(CellFault::Cell)
+}
+
+// The only cell that the bytes may spell.
+fn moved_in(bytes: &[u8; CELL_LENGTH]) -> MovedCell
+    ensures { result ≡ moved_in bytes.now }
+{
+    match bytes[2] {
+        b'W' => MovedCell::Waiting(waiting_in(bytes)),
+        b'X' => MovedCell::Retired(retired_in(bytes)),
+        _ => MovedCell::Live(live_in(bytes)),
+    }
+}
+
+fn waiting_in(bytes: &[u8; CELL_LENGTH]) -> Waiting
+    ensures { result ≡ waiting_in bytes.now }
+{
+    Waiting {
+        variant: variant_in(bytes),
+        module: bytes[5],
+        nonce: part(bytes, 8),
+        key: part(bytes, 40),
+        barrier: part(bytes, 72),
+    }
+}
+
+fn retired_in(bytes: &[u8; CELL_LENGTH]) -> Retired
+    ensures { result ≡ retired_in bytes.now }
+{
+    Retired {
+        variant: variant_in(bytes),
+        module: bytes[5],
+        summary: Digest {
+            bytes: part(bytes, 8),
+        },
+        key: part(bytes, 40),
+        nonce: part(bytes, 72),
+    }
+}
+
+fn live_in(bytes: &[u8; CELL_LENGTH]) -> Cell
+    ensures { result ≡ live_in bytes.now }
+{
+    Cell {
+        variant: variant_in(bytes),
+        module: bytes[5],
+        flag: bytes[6] == 1,
+        summary: Digest {
+            bytes: part(bytes, 8),
+        },
+        key: part(bytes, 40),
+        barrier: part(bytes, 72),
+    }
+}
+
+// Whether the cell fits its variant, and these are its bytes.
+fn is_spelled_by(bytes: &[u8; CELL_LENGTH], cell: &MovedCell) -> bool
+    ensures { result ≡ is_spelled_by bytes.now cell.now }
+{
+    fits(cell) && moved_bytes(cell) == *bytes
+}
+
+// Whether the cell fits its variant.
+fn fits(cell: &MovedCell) -> bool
+    ensures { result ≡ fits cell.now }
+{
+    match cell {
+        MovedCell::Live(cell) => fits_variant(cell.variant, cell.flag, &cell.barrier),
+        MovedCell::Waiting(cell) => fits_variant(cell.variant, false, &cell.barrier),
+        MovedCell::Retired(_) => true,
+    }
+}
+
+fn fits_variant(variant: Variant, flag: bool, barrier: &[u8; 32]) -> bool
+    ensures { result ≡ fits_variant variant flag barrier.now }
+{
+    match variant {
+        Variant::Basic => !flag && *barrier == zero().bytes,
+        Variant::Opt => true,
+    }
+}
