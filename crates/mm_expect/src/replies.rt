@@ -37,8 +37,9 @@ fn cause(refusal: Refusal) -> Cause
         Refusal::Tag => Cause::Tag,
         Refusal::Stale => Cause::Stale,
         Refusal::Full => Cause::Full,
-        Refusal::Memory | Refusal::Long | Refusal::Device(_) | Refusal::Blank | Refusal::Cell =>
-            Cause::Long,
+        Refusal::Blank => Cause::Blank,
+        Refusal::Cell => Cause::Cell,
+        Refusal::Memory | Refusal::Long | Refusal::Device(_) => Cause::Long,
     }
 }
 

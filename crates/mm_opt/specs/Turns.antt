@@ -33,6 +33,19 @@ stage_position stage.Begun = None
 stage_position (stage.Seen cell) = None
 stage_position (stage.Changing it) = Some (position_in it)
 
+-- the position up to which the next step commits the batch: that of an extension in an open segment, and the write of
+-- an opening
+abbrev pub commits_in : Change → Option ℕ
+commits_in (change.Inside ready) = Some ready.answer.position
+commits_in (change.Emptying opening) = None
+commits_in (change.Placing opening) = None
+commits_in (change.Writing opening) = Some opening.answer.position
+
+abbrev pub stage_commits : Stage → Option ℕ
+stage_commits stage.Begun = None
+stage_commits (stage.Seen cell) = None
+stage_commits (stage.Changing it) = commits_in it
+
 -- what the first turn gives, by the cell that it finds
 abbrev pub seen_turn : Result Cell Refusal → Turn
 seen_turn (Err why) = Refused why

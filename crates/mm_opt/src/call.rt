@@ -63,7 +63,7 @@ impl Call {
     ghost use Rattle.mm_module.specs.Batches.{batch_of};
     ghost use Rattle.mm_model.specs.Long.{is_long};
     ghost use Rattle.mm_opt.specs.Steps.{step_number, MayGoOn};
-    ghost use Rattle.mm_opt.specs.Turns.{Turns, stage_position};
+    ghost use Rattle.mm_opt.specs.Turns.{Turns, stage_position, stage_commits};
     ghost use Rattle.mm_opt.specs.Finishes.{Finishes};
     ghost use Rattle.mm_opt.specs.Moved.{AdvancedInOpt, FinishedInOpt};
 
@@ -86,6 +86,17 @@ impl Call {
             Stage::Begun => None,
             Stage::Seen(_) => None,
             Stage::Changing(change) => Some(change.position()),
+        }
+    }
+
+    /// The position up to which the next device step commits the batch, where it is the step that commits.
+    pub fn commits(&self) -> Option<u64>
+        ensures { result ≡ stage_commits self.now }
+    {
+        match &self.stage {
+            Stage::Begun => None,
+            Stage::Seen(_) => None,
+            Stage::Changing(change) => change.commits(),
         }
     }
 
@@ -214,7 +225,7 @@ impl Call {
 impl Change {
     ghost use Rattle.std.specs.Prelude.{◌≡◌};
     ghost use Rattle.mm_opt.specs.Steps.{number_in, MayChange};
-    ghost use Rattle.mm_opt.specs.Turns.{position_in, Changes};
+    ghost use Rattle.mm_opt.specs.Turns.{position_in, commits_in, Changes};
     ghost use Rattle.mm_opt.specs.Finishes.{ChangesTo};
 
     // The number of the device step.
@@ -238,6 +249,18 @@ impl Change {
             Change::Emptying(opening) => opening.answer.position,
             Change::Placing(opening) => opening.answer.position,
             Change::Writing(opening) => opening.answer.position,
+        }
+    }
+
+    // The position up to which the device step commits the batch.
+    fn commits(&self) -> Option<u64>
+        ensures { result ≡ commits_in self.now }
+    {
+        match self {
+            Change::Inside(ready) => Some(ready.answer.position),
+            Change::Emptying(_) => None,
+            Change::Placing(_) => None,
+            Change::Writing(opening) => Some(opening.answer.position),
         }
     }
 

@@ -1,13 +1,13 @@
 //! A platform in memory, which fails as its plan says and not otherwise.
 
-ghost use Rattle.std.specs.Prelude.{◌≡◌, ◌+◌, ◌≤◌, Some, None, [], ◌∷◌, ◌++◌, map, OnOk, OnErr, IfOk, Ok, count_by, vec_len, vec_capacity};
+ghost use Rattle.std.specs.Prelude.{◌≡◌, ◌+◌, ◌<◌, ◌≤◌, Some, None, [], ◌∷◌, ◌++◌, map, OnOk, OnErr, IfOk, Ok, count_by, vec_len, vec_capacity};
 ghost use Rattle.std.specs.Option.{option_map};
 ghost use Rattle.mm_base.specs.Faults.{counted};
 ghost use Rattle.mm_platform.specs.Steps.{beside, will_bring};
-ghost use Rattle.mm_platform.specs.Standing.{Standing, Plan, foreign_item, due, next_step, plan_after};
+ghost use Rattle.mm_platform.specs.Standing.{Standing, Plan, foreign_item, due, next_step, plan_after, item_values, register_after};
 ghost use Rattle.mm_platform.specs.Entries.{items_of, is_own};
 ghost use Rattle.mm_platform.specs.Told.{quiet_plan, next_plan, step_begun, makes, next_answer};
-ghost use Rattle.mm_platform.specs.Memory.{new_platform, ahead};
+ghost use Rattle.mm_platform.specs.Memory.{new_platform, ahead, stopping, meddling, failing_plan, cycled};
 
 use crate::device::{Device, Nv, Platform, Register};
 use crate::extensions::{Entry, Extensions};
@@ -96,6 +96,49 @@ impl MemPlatform {
         self.at = 0;
     }
 
+    /// Puts this stop in place of the one that is planned. Its steps are counted from where the plan was made,
+    /// and what others bring stays planned.
+    pub fn stop_with(&mut self, stop: Stop)
+        ensures { self.new ≡ record self.old { plan = option_map (stopping stop) self.old.plan } }
+    {
+        self.stop = stop;
+    }
+
+    /// Plans besides that others extend the register by this value just before the plan's next step. After want
+    /// of memory nothing has changed.
+    pub fn meddle_next(&mut self, value: &Digest) -> Result<(), Memory>
+        requires { (next_plan self.old).at < 255 }
+        ensures ok { OnOk result (self.new ≡ record self.old {
+          plan = option_map (meddling value.now) self.old.plan;
+        }) }
+        ensures err { OnErr result (self.new ≡ self.old) }
+    {
+        let step = self.at.saturating_add(1) as u8;
+        self.register.reserve(self.spare + self.meddles.len() + 1)?;
+        self.meddles.push(Meddle {
+            step,
+            value: *value,
+        })?;
+        Ok(())
+    }
+
+    /// Plans that the next step fails, with its effect where `done`, and nothing else.
+    pub fn fail_next(&mut self, done: bool)
+        ensures { self.new ≡ record self.old { plan = Some (failing_plan done) } }
+    {
+        self.stop = Stop::Fail { step: 1, done };
+        self.meddles.clear();
+        self.at = 0;
+    }
+
+    /// Loses power and gets it back: the register is zero, the platform on, and all else as it was.
+    pub fn lose_power(&mut self)
+        ensures { self.new ≡ cycled self.old }
+    {
+        self.register.clear();
+        self.is_on = true;
+    }
+
     /// Others extend the register by this value, now. After want of memory nothing has changed.
     pub fn foreign(&mut self, value: &Digest) -> Result<(), Memory>
         ensures ok { OnOk result
@@ -115,6 +158,14 @@ impl MemPlatform {
         ensures { self.now.cell ≡ Some result.now }
     {
         &self.cell
+    }
+
+    /// The register's value, which this reads without a step.
+    pub fn register(&self) -> &Digest
+        ensures { option_map (λ items. register_after (item_values items)) self.now.items
+            ≡ Some result.now.bytes }
+    {
+        &self.register.value
     }
 
     /// The number of own items in the register.
@@ -258,8 +309,7 @@ impl Register for MemPlatform {
 
 impl Platform for MemPlatform {
     fn cycle(&mut self) -> Result<(), StepFault> {
-        self.register.clear();
-        self.is_on = true;
+        self.lose_power();
         Ok(())
     }
 }

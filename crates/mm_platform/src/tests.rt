@@ -173,6 +173,31 @@ fn meddles(rt: HostRuntime) -> Result<(), Fail> {
     Ok(())
 }
 
+// A plan that changes between two steps: a value before the next step, another stop, power, and a step that fails.
+#[test]
+fn plans_change(rt: HostRuntime) -> Result<(), Fail> {
+    let mut platform = MemPlatform::new(rt.alloc(), &[0; CELL_LENGTH]);
+    platform.reg_ready()?;
+    platform.plan(Stop::Quiet, &[])?;
+    assert_eq!(rt; platform.nv_write(&[1; CELL_LENGTH]), Ok(()));
+    platform.meddle_next(&digest_of(1))?;
+    platform.stop_with(Stop::Cut(2));
+    assert_eq!(rt; platform.reg_extend(&digest_of(2)), Err(StepFault::Off));
+    let both = extended(&extended(&zero(), &digest_of(1)), &digest_of(2));
+    assert_eq!(rt; *platform.register(), both);
+    platform.lose_power();
+    assert_eq!(rt; *platform.register(), zero());
+    platform.fail_next(false);
+    assert_eq!(rt;
+        platform.nv_write(&[2; CELL_LENGTH]),
+        Err(StepFault::Failed)
+    );
+    assert_eq!(rt; platform.cell()[0], 1);
+    assert_eq!(rt; platform.nv_write(&[2; CELL_LENGTH]), Ok(()));
+    assert_eq!(rt; platform.cell()[0], 2);
+    Ok(())
+}
+
 #[test]
 fn faults_say_what_happened(rt: HostRuntime) -> Result<(), Fail> {
     let table = [

@@ -18,7 +18,8 @@ use Rattle.mm_model.proofs.Lists.{each_self}
 use Rattle.mm_run.specs.Folds.{course_of, first_issued, first_digests}
 use Rattle.mm_run.specs.Premises.{foreign_values, asked_batches, run_messages}
 use Rattle.mm_run.specs.Laws.{BasicIsExpected}
-use Rattle.mm_run.proofs.Following.{Keeps, Variants, follow_same}
+use Rattle.mm_run.specs.OneEvent.{Keeps, EventsAgree}
+use Rattle.mm_run.proofs.Following.{Variants, event_same, follow_same}
 
 -- what a loss of power, or a value of others, leaves
 power_keeps : (meaning : Meaning) (key : List ℕ) (all others : List (List ℕ)) (asked_for : List Batch) (y : History) (d : Digests)
@@ -50,7 +51,7 @@ foreign_keeps meaning key all others asked_for y d v k =
       };
     }
 
-basic_gives : (meaning : Meaning) (key : List ℕ) (all others : List (List ℕ)) (asked_for : List Batch) → IsClear all
+pub basic_gives : (meaning : Meaning) (key : List ℕ) (all others : List (List ℕ)) (asked_for : List Batch) → IsClear all
     → Variants all others asked_for (basic meaning key)
 basic_gives meaning key all others asked_for clear = record {
   calls = λ y d stop meddles bytes b k outside is_asked listed genuine messages.
@@ -62,7 +63,7 @@ basic_gives meaning key all others asked_for clear = record {
   foreign = λ y d v k c messages. foreign_keeps meaning key all others asked_for y d v k;
 }
 
-starts : (meaning : Meaning) (key : List ℕ) (all others : List (List ℕ)) (asked_for : List Batch) → Contains all (start_message Basic meaning.id)
+pub starts : (meaning : Meaning) (key : List ℕ) (all others : List (List ℕ)) (asked_for : List Batch) → Contains all (start_message Basic meaning.id)
     → Keeps all others asked_for (basic meaning key) first_history (first_digests (basic meaning key))
 starts meaning key all others asked_for first = record {
   agrees = record { digest = summary-nil meaning.id; flag = refl; register = sym reads_zero; count = refl };
@@ -77,3 +78,8 @@ basic_expected meaning key events clear genuine =
     follow_same all (foreign_values events) (asked_batches events) i
     (basic_gives meaning key all (foreign_values events) (asked_batches events) clear.clear) events first_history (first_digests i) (first_issued i)
     (starts meaning key all (foreign_values events) (asked_batches events) self.0) (each_self [] (foreign_values events)) (each_self [] (asked_batches events)) self.1 genuine
+
+pub basic_events_agree : (meaning : Meaning) (key : List ℕ) → EventsAgree (basic meaning key)
+basic_events_agree meaning key all others asked_for clear apart y d issued event k w =
+    event_same all others asked_for (basic meaning key) (basic_gives meaning key all others asked_for clear) y d issued event k
+    w.outside w.batches w.listed w.genuine w.messages

@@ -27,19 +27,7 @@ use Rattle.mm_run.specs.Offered.{offered_bytes}
 use Rattle.mm_run.specs.Folds.{Outcome, way_of, after_stop, course_of, reply_of, snapshots_of, moves_then, outcome_by, uncalled, asked, closing_reply, closing_then, closed_outcome, event_outcome, followed}
 use Rattle.mm_run.specs.Premises.{ask_moves, moves_of, asking_messages, event_messages, messages_from, foreign_of, foreign_values, batches_of, asked_batches, IsGenuineOffer, IsGenuineEvent, AreGenuine}
 use Rattle.mm_run.specs.Laws.{AgreesThroughout}
-
--- the digests are those of the history, which is within the list
-pub record Keeps (all others : List (List ℕ)) (asked_for : List Batch) (i : Instance) (y : History) (d : Digests) : Type 0 where
-  pub agrees : Agrees i y d
-  pub within : IsWithin all others asked_for i y
-
--- two outcomes are the same, and what holds before holds after
-pub record Same (all others : List (List ℕ)) (asked_for : List Batch) (i : Instance) (lists : Outcome History) (digests : Outcome Digests) : Type 0 where
-  pub reply : digests.reply ≡ lists.reply
-  pub issued : digests.issued ≡ lists.issued
-  pub steps : digests.steps ≡ lists.steps
-  pub writes : digests.writes ≡ lists.writes
-  pub keeps : Keeps all others asked_for i lists.state digests.state
+use Rattle.mm_run.specs.OneEvent.{Keeps, IsSameOutcome}
 
 -- What one variant gives: the laws of calls and of checkpoints on a planned course, by the moves by lists; and that a
 -- loss of power and a value of others keep what holds.
@@ -94,7 +82,7 @@ module _ (all others : List (List ℕ)) (asked_for : List Batch) (i : Instance) 
   closing_keeps stop (Stops fault closed) y d k = stop_keeps stop y d k
 
   outcome_same : (stop : Stop) (issued : List (List ℕ)) (o : Called History) (p : Called Digests) → IsSameCall all others asked_for i o p
-      → Same all others asked_for i (outcome_by (by_lists i) stop issued o) (outcome_by (by_digests i) stop issued p)
+      → IsSameOutcome all others asked_for i (outcome_by (by_lists i) stop issued o) (outcome_by (by_digests i) stop issued p)
   outcome_same stop issued o p s = record {
     reply = ap (reply_of (way_of stop)) s.ending;
     issued = ap (λ e. issued ++ snapshots_of e) s.ending;
@@ -105,7 +93,7 @@ module _ (all others : List (List ℕ)) (asked_for : List Batch) (i : Instance) 
   }
 
   closed_same : (stop : Stop) (issued : List (List ℕ)) (o : Checkpointed History) (p : Checkpointed Digests) → IsSameCheckpoint all others asked_for i o p
-      → Same all others asked_for i (closed_outcome (by_lists i) stop issued o) (closed_outcome (by_digests i) stop issued p)
+      → IsSameOutcome all others asked_for i (closed_outcome (by_lists i) stop issued o) (closed_outcome (by_digests i) stop issued p)
   closed_same stop issued o p s = record {
     reply = ap (closing_reply (way_of stop)) s.ending;
     issued = refl;
@@ -116,11 +104,11 @@ module _ (all others : List (List ℕ)) (asked_for : List Batch) (i : Instance) 
   }
 
   uncalled_same : (y : History) (d : Digests) (issued : List (List ℕ)) (said : Reply) → Keeps all others asked_for i y d
-      → Same all others asked_for i (uncalled y issued said) (uncalled d issued said)
+      → IsSameOutcome all others asked_for i (uncalled y issued said) (uncalled d issued said)
   uncalled_same y d issued said k = record { reply = refl; issued = refl; steps = refl; writes = refl; keeps = k }
 
   if_same : (long : Bool) (x y : Outcome History) (z w : Outcome Digests)
-      → Same all others asked_for i x z → (long ≡ false → Same all others asked_for i y w) → Same all others asked_for i (if long then x else y) (if long then z else w)
+      → IsSameOutcome all others asked_for i x z → (long ≡ false → IsSameOutcome all others asked_for i y w) → IsSameOutcome all others asked_for i (if long then x else y) (if long then z else w)
   if_same true x y z w a b = a
   if_same false x y z w a b = b refl
 
@@ -128,7 +116,7 @@ module _ (all others : List (List ℕ)) (asked_for : List Batch) (i : Instance) 
       → Keeps all others asked_for i y d → AllByRecursion (Contains others) (map (λ m. m.value.bytes) meddles)
       → AllByRecursion (Contains asked_for) (if is_long b then [] else normal b ∷ []) → Within (asking_messages i bytes b) all
       → IsGenuineOffer i y bytes → Within (moves_messages i y (ask_moves i y meddles stop bytes b)) all
-      → Same all others asked_for i (asked i (by_lists i) y issued meddles stop bytes b) (asked i (by_digests i) d issued meddles stop bytes b)
+      → IsSameOutcome all others asked_for i (asked i (by_lists i) y issued meddles stop bytes b) (asked i (by_digests i) d issued meddles stop bytes b)
   asked_same y d issued meddles stop None b k outside batches listed genuine messages = uncalled_same y d issued (reply.No cause.Snapshot) k
   asked_same y d issued meddles stop (Some bytes) b k outside batches listed genuine messages =
       if_same (is_long b) _ _ _ _ (uncalled_same y d issued (reply.No cause.Long) k)
@@ -137,11 +125,11 @@ module _ (all others : List (List ℕ)) (asked_for : List Batch) (i : Instance) 
       (unless_long (is_long b) all (right_messages i (normal b) (right_content i bytes)) listed short) genuine
       (unless_long_moves i y (is_long b) all (called i (by_lists i) y (course_of stop meddles) bytes (normal b)).moves messages short)))
 
-  event_same : (y : History) (d : Digests) (issued : List (List ℕ)) (event : Event) → Keeps all others asked_for i y d
+  pub event_same : (y : History) (d : Digests) (issued : List (List ℕ)) (event : Event) → Keeps all others asked_for i y d
       → AllByRecursion (Contains others) (foreign_of event) → AllByRecursion (Contains asked_for) (batches_of event)
       → Within (event_messages i issued event) all → IsGenuineEvent i y issued event
       → Within (moves_messages i y (moves_of i y issued event)) all
-      → Same all others asked_for i (event_outcome i (by_lists i) y issued event) (event_outcome i (by_digests i) d issued event)
+      → IsSameOutcome all others asked_for i (event_outcome i (by_lists i) y issued event) (event_outcome i (by_digests i) d issued event)
   event_same y d issued (Ask meddles stop offer b) k outside batches listed genuine messages =
       asked_same y d issued meddles stop (offered_bytes issued offer) b k outside batches listed genuine messages
   event_same y d issued (Checkpoint meddles stop) k outside batches listed genuine messages =

@@ -7,3 +7,4 @@ pub mod Running
 pub mod Counting
 pub mod Naming
 pub mod MetPremises
+pub mod KeepingNames

@@ -58,7 +58,7 @@ issued_moved meaning key barrier y m (x ∷ xs) sound may h = (
   issued_moved meaning key barrier y m xs sound may h.1,
 )
 
-named_made : (meaning : Meaning) (key barrier : List ℕ) (moves : List Move) (y : History) (xs : List (List ℕ))
+pub named_made : (meaning : Meaning) (key barrier : List ℕ) (moves : List Move) (y : History) (xs : List (List ℕ))
     → AllMay (opt meaning key barrier) y moves → Named (opt meaning key barrier) y xs
     → Named (opt meaning key barrier) (all_made (by_lists (opt meaning key barrier)) y moves) xs
 named_made meaning key barrier [] y xs may h = h
@@ -81,12 +81,12 @@ module _ (meaning : Meaning) (key barrier : List ℕ) where
   stop_may (Drop n) y = tt
   stop_may (Fail n done) y = tt
 
-  then_may : (stop : Stop) (ending : Ending) (y : History) → AllMay (opt meaning key barrier) y (moves_then stop ending)
+  pub then_may : (stop : Stop) (ending : Ending) (y : History) → AllMay (opt meaning key barrier) y (moves_then stop ending)
   then_may stop (Answers answer) y = tt
   then_may stop (Refuses why) y = tt
   then_may stop (Breaks fault kept) y = stop_may stop y
 
-  closing_may : (stop : Stop) (closing : Closing) (y : History) → AllMay (opt meaning key barrier) y (closing_then stop closing)
+  pub closing_may : (stop : Stop) (closing : Closing) (y : History) → AllMay (opt meaning key barrier) y (closing_then stop closing)
   closing_may stop Closes y = tt
   closing_may stop HasNone y = tt
   closing_may stop NoSegment y = tt
@@ -169,7 +169,7 @@ last_is true = refl
 last_is false = refl
 
 -- the moves of a checkpoint may be made
-checkpoint_may : (meaning : Meaning) (key barrier : List ℕ) (y : History) (c : Course) (flag lost : Bool) → y.is_open ≡ flag
+pub checkpoint_may : (meaning : Meaning) (key barrier : List ℕ) (y : History) (c : Course) (flag lost : Bool) → y.is_open ≡ flag
     → is_lost (life_of Opt (sight y c)) ≡ lost
     → AllMay (opt meaning key barrier) y (walk c.fates 1 (checkpoint_steps Opt flag lost)).moves
 checkpoint_may meaning key barrier y c false lost e is =
@@ -196,7 +196,7 @@ checkpoint_named meaning key barrier y issued stop c lost is h =
     named_made meaning key barrier (closing_then stop o.ending) o.state issued (closing_may meaning key barrier stop o.ending o.state)
     (named_made meaning key barrier o.moves y issued (checkpoint_may meaning key barrier y c y.is_open lost refl is) h)
 
-event_named : (meaning : Meaning) (key barrier : List ℕ) (y : History) (issued : List (List ℕ)) (event : Event) → Named (opt meaning key barrier) y issued
+pub event_named : (meaning : Meaning) (key barrier : List ℕ) (y : History) (issued : List (List ℕ)) (event : Event) → Named (opt meaning key barrier) y issued
     → (let i = opt meaning key barrier in
     let o : Outcome History = event_outcome i (by_lists i) y issued event in Named i o.state o.issued)
 event_named meaning key barrier y issued (Ask meddles stop offer b) h =
@@ -242,7 +242,7 @@ kept_moved meaning key y m (x ∷ xs) h = (
   kept_moved meaning key y m xs h.1,
 )
 
-kept_made : (meaning : Meaning) (key : List ℕ) (moves : List Move) (y : History) (xs : List (List ℕ))
+pub kept_made : (meaning : Meaning) (key : List ℕ) (moves : List Move) (y : History) (xs : List (List ℕ))
     → AllByRecursion (IsIssued (basic meaning key) y) xs
     → AllByRecursion (IsIssued (basic meaning key) (all_made (by_lists (basic meaning key)) y moves)) xs
 kept_made meaning key [] y xs h = h
@@ -301,7 +301,7 @@ basic_checked meaning key y issued stop c lost h =
     let o : Checkpointed History = checkpointed_with i (by_lists i) y c lost in
     kept_made meaning key (closing_then stop o.ending) o.state issued (kept_made meaning key o.moves y issued h)
 
-basic_event : (meaning : Meaning) (key : List ℕ) (y : History) (issued : List (List ℕ)) (event : Event) → AllByRecursion (IsIssued (basic meaning key) y) issued
+pub basic_event : (meaning : Meaning) (key : List ℕ) (y : History) (issued : List (List ℕ)) (event : Event) → AllByRecursion (IsIssued (basic meaning key) y) issued
     → (let i = basic meaning key in
     let o : Outcome History = event_outcome i (by_lists i) y issued event in AllByRecursion (IsIssued i o.state) o.issued)
 basic_event meaning key y issued (Ask meddles stop offer b) h = basic_asked meaning key y issued meddles stop (offered_bytes issued offer) b h

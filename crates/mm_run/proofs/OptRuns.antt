@@ -39,7 +39,8 @@ use Rattle.mm_call.proofs.Checkpoints.{read_moves, opt_checkpoints_agree_by_list
 use Rattle.mm_run.specs.Folds.{course_of, first_issued, first_digests}
 use Rattle.mm_run.specs.Premises.{foreign_values, asked_batches, run_messages}
 use Rattle.mm_run.specs.Laws.{OptIsExpected}
-use Rattle.mm_run.proofs.Following.{Keeps, Variants, follow_same}
+use Rattle.mm_run.specs.OneEvent.{Keeps, EventsAgree}
+use Rattle.mm_run.proofs.Following.{Variants, event_same, follow_same}
 
 -- the values that are due before a step are among those of the meddles
 
@@ -249,7 +250,7 @@ module _ (meaning : Meaning) (key barrier : List ℕ) (all others : List (List �
       opt_checkpoints_agree_by_lists meaning key barrier all others asked_for y d c k.agrees
       (record { clear = clear; within = k.within; messages = counts.messages; values = counts.values })
 
-  opt_gives : IsClear all → AreNoGuards barrier others asked_for → Variants all others asked_for (opt meaning key barrier)
+  pub opt_gives : IsClear all → AreNoGuards barrier others asked_for → Variants all others asked_for (opt meaning key barrier)
   opt_gives clear apart = record {
     calls = λ y d stop meddles bytes b k outside is_asked listed genuine messages. calls clear apart y d stop meddles bytes b k outside is_asked listed genuine messages;
     checkpoints = λ y d stop meddles k outside messages. checkpoints clear y d stop meddles k outside messages;
@@ -257,7 +258,7 @@ module _ (meaning : Meaning) (key barrier : List ℕ) (all others : List (List �
     foreign = λ y d v k c messages. foreign_keeps y d v k c messages;
   }
 
-starts : (meaning : Meaning) (key barrier : List ℕ) (all others : List (List ℕ)) (asked_for : List Batch) → Contains all (start_message Opt meaning.id)
+pub starts : (meaning : Meaning) (key barrier : List ℕ) (all others : List (List ℕ)) (asked_for : List Batch) → Contains all (start_message Opt meaning.id)
     → Keeps all others asked_for (opt meaning key barrier) first_history (first_digests (opt meaning key barrier))
 starts meaning key barrier all others asked_for first = record {
   agrees = record { digest = anchor-nil meaning.id; flag = refl; register = sym reads_zero; count = refl };
@@ -273,3 +274,8 @@ opt_expected meaning key barrier events clear genuine =
     let self = each_self [] all in
     follow_same all others asked_for i (opt_gives meaning key barrier all others asked_for clear.clear clear.apart) events first_history (first_digests i) (first_issued i)
     (starts meaning key barrier all others asked_for self.0) (each_self [] others) (each_self [] asked_for) self.1 genuine
+
+pub opt_events_agree : (meaning : Meaning) (key barrier : List ℕ) → EventsAgree (opt meaning key barrier)
+opt_events_agree meaning key barrier all others asked_for clear apart y d issued event k w =
+    event_same all others asked_for (opt meaning key barrier) (opt_gives meaning key barrier all others asked_for clear apart) y d issued event k
+    w.outside w.batches w.listed w.genuine w.messages

@@ -239,7 +239,7 @@ checkpointed_steps i y issued meddles stop is_lost =
     closing_stays (way_of stop) o.ending _ _
     (ap requests_of (closing_none i stop o.ending o.state ∙ same_batches i o.moves y (checkpoint_none i.variant y.is_open is_lost c.fates)))
 
-event_steps : (i : Instance) (y : History) (issued : List (List ℕ)) (event : Event)
+pub event_steps : (i : Instance) (y : History) (issued : List (List ℕ)) (event : Event)
     → (let o : Outcome History = event_outcome i (by_lists i) y issued event in
     Steps i.meaning (requests_of y.batches) event o.reply (requests_of o.state.batches))
 event_steps i y issued (Ask meddles stop offer b) = asked_steps i y issued meddles stop (offered_bytes issued offer) b

@@ -1,7 +1,7 @@
 -- A schedule followed by a level: each event's reply, and what stands after it.
-use Rattle.std.specs.Prelude.{ℕ, ◌+◌, ◌-◌, Bool, true, false, List, [], ◌∷◌, ◌++◌, length, Option, None, Some, if◌then◌else◌}
+use Rattle.std.specs.Prelude.{ℕ, ◌+◌, ◌-◌, Bool, true, false, List, [], ◌∷◌, ◌++◌, length, Option, None, Some, Err, if◌then◌else◌}
 use Rattle.mm_digest.specs.Messages.{zero_bytes, start_of}
-use Rattle.mm_module.specs.Batch.{Batch, normal}
+use Rattle.mm_module.specs.Batch.{Batch, One, normal}
 use Rattle.mm_platform.specs.declared.plan.Meddle.{Meddle}
 use Rattle.mm_platform.specs.declared.plan.Stop.{Stop}
 use Rattle.mm_platform.specs.declared.plan.Stop.TheVariants.{Quiet, Cut, Drop, Fail}
@@ -11,12 +11,13 @@ use Rattle.mm_model.specs.History.{History, Move, Foreign, Power as PowerMove, f
 use Rattle.mm_model.specs.Long.{is_long}
 use Rattle.mm_model.specs.Moves.{Digests}
 use Rattle.mm_model.specs.Standing.{issued_bytes}
+use Rattle.mm_model.specs.Steps.{Reads}
 use Rattle.mm_model.specs.declared.answer.BatchAnswer.{BatchAnswer}
 use Rattle.mm_model.specs.declared.refusal.Refusal.{Refusal}
 use Rattle.mm_model.specs.declared.refusal.Refusal.TheVariants as refusal
 use Rattle.mm_call.specs.Levels.{Level, all_made, by_lists, by_digests}
-use Rattle.mm_call.specs.Courses.{Course, planned}
-use Rattle.mm_call.specs.Called.{Ending, Answers, Refuses, Breaks, Called, called}
+use Rattle.mm_call.specs.Courses.{Course, planned, walk}
+use Rattle.mm_call.specs.Called.{Ending, Answers, Refuses, Breaks, Called, called, called_by}
 use Rattle.mm_call.specs.Checkpoints.{Closing, Closes, HasNone, NoSegment, LostPower, Stops, Checkpointed, checkpointed}
 use Rattle.mm_schedule.specs.Events.{Event, Ask, Checkpoint, Power, Extend}
 use Rattle.mm_schedule.specs.declared.reply.Way.{Way}
@@ -69,8 +70,8 @@ cause_of refusal.Full = cause.Full
 cause_of refusal.Memory = cause.Long
 cause_of refusal.Long = cause.Long
 cause_of (refusal.Device fault) = cause.Long
-cause_of refusal.Blank = cause.Long
-cause_of refusal.Cell = cause.Long
+cause_of refusal.Blank = cause.Blank
+cause_of refusal.Cell = cause.Cell
 
 -- a call that was broken off: with the position after its batch, if that was committed
 abbrev pub broken_reply : Way → Option ℕ → Reply
@@ -119,6 +120,17 @@ asked i level s issued meddles stop (Some bytes) b =
     if is_long b then uncalled s issued (reply.No cause.Long)
     else outcome_by level stop issued (called i level s (course_of stop meddles) bytes (normal b))
 
+-- The cell is none that a call goes on with: the call reads it, makes no further step, and is refused.
+abbrev pub reads_only : {S : Type 0} → Level S → S → List (List ℕ) → List Meddle → Stop → Refusal → Outcome S
+reads_only level s issued meddles stop why =
+    outcome_by level stop issued (called_by level s s (One []) (Err why) (walk (course_of stop meddles).fates 1 (Reads ∷ [])))
+
+-- the same behind the tests for a number that isn't issued and for a batch that is too long
+abbrev pub asked_in_vain : {S : Type 0} → Level S → S → List (List ℕ) → List Meddle → Stop → Refusal → Option (List ℕ) → Batch → Outcome S
+asked_in_vain level s issued meddles stop why None b = uncalled s issued (reply.No cause.Snapshot)
+asked_in_vain level s issued meddles stop why (Some bytes) b =
+    if is_long b then uncalled s issued (reply.No cause.Long) else reads_only level s issued meddles stop why
+
 -- a checkpoint that was broken off: whether its segment was closed
 abbrev pub stopped_reply : Way → Bool → Reply
 stopped_reply how true = reply.Closed how
@@ -155,6 +167,13 @@ event_outcome i level s issued (Checkpoint meddles stop) =
     closed_outcome level stop issued (checkpointed i level s (course_of stop meddles))
 event_outcome i level s issued Power = uncalled (level.made s PowerMove) issued reply.Power
 event_outcome i level s issued (Extend value) = uncalled (level.made s (Foreign value)) issued reply.Extended
+
+-- one event where the cell is none that a call goes on with
+abbrev pub event_in_vain : {S : Type 0} → Level S → S → List (List ℕ) → Refusal → Event → Outcome S
+event_in_vain level s issued why (Ask meddles stop offer b) = asked_in_vain level s issued meddles stop why (offered_bytes issued offer) b
+event_in_vain level s issued why (Checkpoint meddles stop) = reads_only level s issued meddles stop why
+event_in_vain level s issued why Power = uncalled (level.made s PowerMove) issued reply.Power
+event_in_vain level s issued why (Extend value) = uncalled (level.made s (Foreign value)) issued reply.Extended
 
 -- What stands after some events, with the replies so far and the counts of steps and of writes of the cell.
 pub record Followed (S : Type 0) : Type 0 where

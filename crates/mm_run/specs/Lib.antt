@@ -4,3 +4,4 @@ pub mod Folds
 pub mod Premises
 pub mod Held
 pub mod Laws
+pub mod OneEvent

@@ -75,10 +75,14 @@ abbrev pub asked_batches : List Event → List Batch
 asked_batches [] = []
 asked_batches (event ∷ events) = batches_of event ++ asked_batches events
 
+-- in Opt, none of the values is the guard of one of the batches
+abbrev pub AreApartIn : Variant → Instance → List (List ℕ) → List Batch → Type 0
+AreApartIn Basic i others batches = Unit {0}
+AreApartIn Opt i others batches = AreNoGuards i.barrier others batches
+
 -- in Opt, no value that others extend the register by is the guard of a batch that is asked
 abbrev pub AreApart : Variant → Instance → List Event → Type 0
-AreApart Basic i events = Unit {0}
-AreApart Opt i events = AreNoGuards i.barrier (foreign_values events) (asked_batches events)
+AreApart variant i events = AreApartIn variant i (foreign_values events) (asked_batches events)
 
 -- What is asked of the digests: no two messages of the run share one, none is zero, and no value of others is the
 -- guard of a batch.

@@ -1,7 +1,7 @@
 //! The key and the barrier of each world in memory.
 
-ghost use Rattle.std.specs.Prelude.{◌≡◌};
-ghost use Rattle.mm_run.specs.Held.{world_key, world_barrier};
+ghost use Rattle.std.specs.Prelude.{◌≡◌, ◌≤◌};
+ghost use Rattle.mm_run.specs.Held.{world_key, world_barrier, rising_from};
 
 /// The key: the bytes 00 to 1f.
 #[tactic(auto, unfolding(crate::specs::Held::world_key, crate::specs::Held::rising_from))]
@@ -23,4 +23,16 @@ pub fn world_barrier() -> [u8; 32]
         32, 33, 34, 35, 36, 37, 38, 39, 40, 41, 42, 43, 44, 45, 46, 47, 48, 49, 50, 51, 52, 53, 54,
         55, 56, 57, 58, 59, 60, 61, 62, 63,
     ]
+}
+
+/// 32 bytes in rising order, from this one on.
+pub fn rising(first: u8) -> [u8; 32]
+    requires { first ≤ 224 }
+    ensures { result ≡ rising_from first }
+{
+    let mut bytes = [first; 32];
+    for place in 0..32 {
+        bytes[place] = first + place as u8;
+    }
+    bytes
 }

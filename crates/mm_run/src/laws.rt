@@ -7,6 +7,7 @@ ghost use Rattle.mm_model.specs.Instance.{basic, opt};
 ghost use Rattle.mm_run.specs.Held.{world_barrier};
 ghost use Rattle.mm_run.specs.Premises.{IsClearRun, IsGenuineRun};
 ghost use Rattle.mm_run.specs.Laws.{BasicIsExpected, OptIsExpected, ExpectedRuns, SchedulesGoOn, IssuedNamePositions, one_ask};
+ghost use Rattle.mm_run.specs.OneEvent.{EventsAgree, EventsStep, EventsKeepNames};
 
 /// A schedule of Basic is told as expected, where no two messages of the run share a digest and each right offer
 /// names a position.
@@ -27,6 +28,26 @@ pub fn expected_runs()
 /// A schedule goes on from what stands after its first events.
 pub fn schedules_go_on()
     ensures { SchedulesGoOn }
+{}
+
+/// One event comes by digests to what it comes to by lists, where its messages and those of the history are among some of
+/// which no two share a digest, and each right offer names a position.
+pub fn events_agree()
+    ensures basic { (meaning : Meaning) (key : List ℕ) → EventsAgree (basic meaning key) }
+    ensures opt { (meaning : Meaning) (key barrier : List ℕ)
+        → EventsAgree (opt meaning key barrier) }
+{}
+
+/// One event is one step of the machine.
+pub fn events_step()
+    ensures { EventsStep }
+{}
+
+/// What named a position of the history before an event names one after it, and so do the snapshots issued by then.
+pub fn events_keep_names()
+    ensures basic { (meaning : Meaning) (key : List ℕ) → EventsKeepNames (basic meaning key) }
+    ensures opt { (meaning : Meaning) (key barrier : List ℕ)
+        → EventsKeepNames (opt meaning key barrier) }
 {}
 
 /// Every snapshot that was issued names a position of the history, after each schedule.

@@ -8,7 +8,7 @@ use Rattle.mm_modules.specs.declared.any.AnyModule.{AnyModule}
 use Rattle.mm_modules.specs.declared.any.AnyModule.TheVariants.{Counter, Limiter, Quota, Ledger, Dispenser, ReceiptCounter, ReceiptLimiter, ReceiptQuota}
 use Rattle.mm_modules.specs.Modules.{module_named, name_of}
 use Rattle.mm_schedule.specs.declared.header.Header.{Header}
-use Rattle.mm_schedule.specs.Headers.{header_at, header_text, variant_at, variant_text}
+use Rattle.mm_schedule.specs.Headers.{head_at, head_text, header_at, header_text, variant_at, variant_text}
 use Rattle.mm_schedule.specs.Words.{after_prefix, word_at}
 use Rattle.mm_schedule.proofs.ReadIsSpelled.{after-front, bind-some, chosen, some-same, text_is, word-front}
 
@@ -50,22 +50,27 @@ name-spelled word it is =
       ]
     ]
 
+pub head-spelled : (words : List ℕ) (head : Header) → head_at words ≡ Some head → words ≡ head_text head
+unfolding head_at
+head-spelled words head is =
+    let b = bind-some (word_at words) _ head is in
+    let c = bind-some (variant_at b.0.0) _ head b.2 in
+    let d = bind-some (module_named b.0.1) _ head c.2 in
+    word-front words b.0.0 b.0.1 b.1
+    ∙ ap (λ (word : List ℕ). word ++ 32 ∷ b.0.1) (variant-spelled b.0.0 c.0 c.1)
+    ∙ ap (λ (name : List ℕ). variant_text c.0 ++ 32 ∷ name) (name-spelled b.0.1 d.0 d.1)
+    ∙ ap head_text (some-same _ head d.2)
+
 pub header-spelled : (line : List ℕ) (header : Header) → header_at line ≡ Some header → line ≡ header_text header
 unfolding header_at
 header-spelled line header is =
     let a = bind-some (after_prefix (codes "memoir 1 ") line) _ header is in
-    let b = bind-some (word_at a.0) _ header a.2 in
-    let c = bind-some (variant_at b.0.0) _ header b.2 in
-    let d = bind-some (module_named b.0.1) _ header c.2 in
     after-front (codes "memoir 1 ") line a.0 a.1
-    ∙ ap (λ (back : List ℕ). codes "memoir 1 " ++ back) (word-front a.0 b.0.0 b.0.1 b.1
-    ∙ ap (λ (word : List ℕ). word ++ 32 ∷ b.0.1) (variant-spelled b.0.0 c.0 c.1)
-    ∙ ap (λ (name : List ℕ). variant_text c.0 ++ 32 ∷ name) (name-spelled b.0.1 d.0 d.1))
-    ∙ (simp append_assoc) ∙ ap header_text (some-same _ header d.2)
+    ∙ ap (λ (back : List ℕ). codes "memoir 1 " ++ back) (head-spelled a.0 header a.2)
 
--- each of the sixteen lines is read as its header
-sixteen : (variant : Variant) (it : AnyModule) → header_at (header_text (record { variant = variant; «module» = it })) ≡ Some (record { variant = variant; «module» = it })
-unfolding header_at after_prefix word_at
+-- each of the sixteen spellings is read as its header
+sixteen : (variant : Variant) (it : AnyModule) → head_at (head_text (record { variant = variant; «module» = it })) ≡ Some (record { variant = variant; «module» = it })
+unfolding head_at word_at
 sixteen Basic Counter = refl
 sixteen Basic Limiter = refl
 sixteen Basic Quota = refl
@@ -83,8 +88,19 @@ sixteen Opt ReceiptCounter = refl
 sixteen Opt ReceiptLimiter = refl
 sixteen Opt ReceiptQuota = refl
 
+pub head-read : (words : List ℕ) (head : Header) → words ≡ head_text head → head_at words ≡ Some head
+head-read words head is = ap head_at is ∙ sixteen head.variant head.module
+
+behind_prefix : (words : List ℕ) → header_at (codes "memoir 1 " ++ words) ≡ head_at words
+unfolding header_at after_prefix
+behind_prefix words = refl
+
 pub header-read : (line : List ℕ) (header : Header) → line ≡ header_text header → header_at line ≡ Some header
-header-read line header is = ap header_at is ∙ sixteen header.variant header.module
+header-read line header is = ap header_at is ∙ behind_prefix (head_text header) ∙ sixteen header.variant header.module
+
+pub if-head-spelled : (words : List ℕ) (read : Option Header) → read ≡ head_at words → IfSome read (λ head. words ≡ head_text head)
+if-head-spelled words None is = tt
+if-head-spelled words (Some head) is = head-spelled words head (sym is)
 
 pub if-spelled : (line : List ℕ) (read : Option Header) → read ≡ header_at line → IfSome read (λ header. line ≡ header_text header)
 if-spelled line None is = tt

@@ -11,20 +11,27 @@ abbrev pub variant_text : Variant → List ℕ
 variant_text Basic = codes "basic"
 variant_text Opt = codes "opt"
 
+-- the two words of a header
+abbrev pub head_text : Header → List ℕ
+head_text head = variant_text head.variant ++ 32 ∷ name_of head.module
+
 -- the one line of a header
 abbrev pub header_text : Header → List ℕ
-header_text header = codes "memoir 1 " ++ variant_text header.variant ++ 32 ∷ name_of header.module
+header_text header = codes "memoir 1 " ++ head_text header
 
 abbrev pub variant_at : List ℕ → Option Variant
 variant_at word =
     if bytes_eq word (codes "basic") then Some Basic
     else (if bytes_eq word (codes "opt") then Some Opt else None)
 
--- the header that a line is read as
-unfoldable pub header_at : List ℕ → Option Header
-header_at line =
-    after_prefix (codes "memoir 1 ") line >>= λ words.
+-- the header that two words are read as
+unfoldable pub head_at : List ℕ → Option Header
+head_at words =
     word_at words >>= λ variant_word.
     variant_at variant_word.0 >>= λ variant.
     module_named variant_word.1 >>= λ module_read.
     Some (record { variant = variant; «module» = module_read })
+
+-- the header that a line is read as
+unfoldable pub header_at : List ℕ → Option Header
+header_at line = after_prefix (codes "memoir 1 ") line >>= head_at

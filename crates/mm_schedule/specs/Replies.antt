@@ -3,7 +3,7 @@ use Rattle.std.specs.Prelude.{ℕ, ◌+◌, Bool, true, false, List, [], ◌∷�
 use Rattle.std.specs.Fmt.{decimal}
 use Rattle.mm_base.specs.Limits.{last_position, longest_request}
 use Rattle.mm_schedule.specs.declared.reply.Cause.{Cause}
-use Rattle.mm_schedule.specs.declared.reply.Cause.TheVariants.{Long, Lost, Form, Kind, State, Tag, Stale, Full, Segment, Snapshot}
+use Rattle.mm_schedule.specs.declared.reply.Cause.TheVariants.{Long, Lost, Form, Kind, State, Tag, Stale, Full, Segment, Snapshot, Blank, Cell}
 use Rattle.mm_schedule.specs.declared.reply.Reply.{Reply}
 use Rattle.mm_schedule.specs.declared.reply.Reply.TheVariants.{Told, No, Kept, Nothing, Closed, Checkpointed, Power, Extended}
 use Rattle.mm_schedule.specs.declared.reply.Way.{Way}
@@ -21,6 +21,8 @@ cause_text Stale = codes "stale"
 cause_text Full = codes "full"
 cause_text Segment = codes "segment"
 cause_text Snapshot = codes "snapshot"
+cause_text Blank = codes "blank"
+cause_text Cell = codes "cell"
 
 -- how a call was disturbed
 abbrev pub way_text : Way → List ℕ

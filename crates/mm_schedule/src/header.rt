@@ -1,7 +1,7 @@
 //! The first line of a schedule.
 
 ghost use Rattle.std.specs.Prelude.{◌≡◌, ◌++◌, Some, IfSome, OnOk};
-ghost use Rattle.mm_schedule.specs.Headers.{header_at, header_text, variant_at, variant_text};
+ghost use Rattle.mm_schedule.specs.Headers.{head_at, head_text, header_at, header_text, variant_at, variant_text};
 
 use crate::words::{after, is_text, word_in};
 use mm_base::{Bytes, Memory};
@@ -29,8 +29,24 @@ pub fn read_header(line: &[u8]) -> Option<Header>
 fn header_in(line: &[u8]) -> Option<Header>
     ensures { result ≡ header_at line.now }
 {
-    let line = after(b"memoir 1 ", line)?;
-    let (variant, name) = word_in(line)?;
+    let words = after(b"memoir 1 ", line)?;
+    head_in(words)
+}
+
+/// The variant and the module of two words, as `basic counter`, behind which nothing follows. None where they name none.
+pub fn read_head(words: &[u8]) -> Option<Header>
+    ensures read { result ≡ head_at words.now }
+    ensures spelled { IfSome result (λ head. words.now ≡ head_text head) }
+    ensures only { (head : Header) → words.now ≡ head_text head → result ≡ Some head }
+{
+    head_in(words)
+}
+
+#[tactic(auto, unfolding(crate::specs::Headers::head_at))]
+fn head_in(words: &[u8]) -> Option<Header>
+    ensures { result ≡ head_at words.now }
+{
+    let (variant, name) = word_in(words)?;
     let variant = read_variant(variant)?;
     let module = by_name(name)?;
     Some(Header { variant, module })

@@ -39,6 +39,10 @@ pub enum Cause {
     Segment,
     /// No snapshot with this number was issued.
     Snapshot,
+    /// The cell is blank.
+    Blank,
+    /// The cell spells no live cell of this variant and module.
+    Cell,
 }
 
 /// The answer to an event.
@@ -75,7 +79,7 @@ pub enum Reply {
 
 impl Way {
     /// The word that a reply begins with.
-    pub(crate) fn text(self) -> &'static [u8]
+    pub fn text(self) -> &'static [u8]
         ensures { result.now ≡ way_text self }
     {
         match self {
@@ -88,7 +92,7 @@ impl Way {
 
 impl Cause {
     /// The word that a refusal ends with.
-    pub(crate) fn text(self) -> &'static [u8]
+    pub fn text(self) -> &'static [u8]
         ensures { result.now ≡ cause_text self }
     {
         match self {
@@ -102,6 +106,8 @@ impl Cause {
             Cause::Full => b"full",
             Cause::Segment => b"segment",
             Cause::Snapshot => b"snapshot",
+            Cause::Blank => b"blank",
+            Cause::Cell => b"cell",
         }
     }
 }

@@ -98,9 +98,9 @@ fn call_in(meddles: Meddles, stop: Stop, line: &[u8]) -> Option<EventText<'_>>
     })
 }
 
-/// An offer and its space, and what follows them.
+/// The offer that a line begins with, and what follows the space behind it. None where it begins with none.
 #[tactic(auto, unfolding(crate::specs::Grammar::offer_at))]
-fn offer_in(line: &[u8]) -> Option<(OfferText<'_>, &[u8])>
+pub fn offer_in(line: &[u8]) -> Option<(OfferText<'_>, &[u8])>
     ensures { option_map (λ (x : _). (texts.offer_of x.0, x.1.now)) result ≡ offer_at line.now }
 {
     let (first, line) = word_in(line)?;
@@ -141,9 +141,10 @@ fn raw_in(line: &[u8]) -> Option<(OfferText<'_>, &[u8])>
     Some((OfferText::Raw(word), line))
 }
 
-/// At most one stop, and what follows it.
+/// At most one stop, and what follows it; quiet where the line begins with none of their words. None where such a
+/// word has no right step behind it.
 #[tactic(auto, unfolding(crate::specs::Grammar::stop_at))]
-fn stop_in(line: &[u8]) -> Option<(Stop, &[u8])>
+pub fn stop_in(line: &[u8]) -> Option<(Stop, &[u8])>
     ensures { option_map (λ (x : _). (x.0, x.1.now)) result ≡ stop_at line.now }
 {
     if let Some(line) = after(b"cut ", line) {
@@ -186,8 +187,8 @@ fn failing_in(line: &[u8]) -> Option<(Stop, &[u8])>
     None
 }
 
-/// The meddles of a line, and what follows them.
-fn meddles_in(line: &[u8]) -> Option<(Meddles, &[u8])>
+/// The meddles that a line begins with, at most eight, and what follows them. None where one of them is wrong.
+pub fn meddles_in(line: &[u8]) -> Option<(Meddles, &[u8])>
     ensures { option_map texts.read_of result ≡ meddles_at 8 0 line.now }
 {
     let none = Meddle {
@@ -277,7 +278,7 @@ pub fn owned(alloc: Global, event: EventText<'_>) -> Result<Event, Memory>
 }
 
 /// The offer with bytes of its own.
-fn owned_offer(alloc: Global, offer: OfferText<'_>) -> Result<Offer, Memory>
+pub fn owned_offer(alloc: Global, offer: OfferText<'_>) -> Result<Offer, Memory>
     ensures { IfOk result (λ own. own ≡ texts.offer_of offer.entry) }
 {
     match offer {
