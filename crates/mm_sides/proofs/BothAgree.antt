@@ -1,0 +1,135 @@
+-- Whole schedules of both sides agree, by digests and by lists; and they go on from what stands after their first events.
+use Rattle.std.proofs.Common.{ℕ, ◌≡◌, List, [], ◌∷◌, ◌++◌, refl, sym, ap, subst}
+use Rattle.std.specs.List.{AllByRecursion, Contains}
+use Rattle.mm_digest.specs.Messages.{start_message}
+use Rattle.mm_digest.specs.declared.variant.Variant.{Variant}
+use Rattle.mm_digest.specs.declared.variant.Variant.TheVariants.{Basic, Opt}
+use Rattle.mm_module.specs.Batch.{Batch}
+use Rattle.mm_module.specs.Meaning.{Meaning}
+use Rattle.mm_model.specs.Instance.{Instance}
+use Rattle.mm_model.specs.History.{History, first_history}
+use Rattle.mm_model.specs.Messages.{Within, IsClear}
+use Rattle.mm_model.specs.Moves.{Digests}
+use Rattle.mm_model.proofs.Lists.{each_left, each_right, each_self}
+use Rattle.mm_call.specs.Standing.{instance_by}
+use Rattle.mm_run.specs.Folds.{first_digests}
+use Rattle.mm_run.specs.OneEvent.{Keeps}
+use Rattle.mm_run.specs.Premises.{AreApartIn}
+use Rattle.mm_run.proofs.BasicRuns as basic_runs
+use Rattle.mm_run.proofs.OptRuns as opt_runs
+use Rattle.mm_sides.specs.Roles.{Notes, no_notes}
+use Rattle.mm_sides.specs.Both.{Which, First, Second, Pair, instance_on, Both, turned, Mover, lists_move, digests_move, first_lists, first_both}
+use Rattle.mm_sides.specs.Folds.{Act, BothEvent, BothReply, BothOutcome, outcome_here, both_outcome, BothFollowed, both_followed, noted_if}
+use Rattle.mm_sides.specs.Premises.{both_event_messages, both_messages_from, both_messages, others_in, both_others, batches_in, both_batches, IsGenuineIn, AreGenuineFrom, IsNew, IsOursIn, AreFreshFrom}
+use Rattle.mm_sides.specs.Laws.{PairsAgree, PairsAgreeThroughout, both_continued, PairsGoOn}
+use Rattle.mm_sides.proofs.InOrder.{roles_begin}
+use Rattle.mm_sides.proofs.OneLive.{here_ordered}
+use Rattle.mm_sides.proofs.Twins.{Twin, twin, turned_twin, Kept, Goes, turned_kept}
+use Rattle.mm_sides.proofs.Agreeing.{here_goes}
+
+apart_cross : (variant : Variant) (meaning : Meaning) (key key' barrier : List ℕ) (others : List (List ℕ)) (asked : List Batch)
+    → AreApartIn (instance_by variant meaning key barrier).variant (instance_by variant meaning key barrier) others asked
+    → AreApartIn (instance_by variant meaning key' barrier).variant (instance_by variant meaning key' barrier) others asked
+apart_cross Basic meaning key key' barrier others asked h = h
+apart_cross Opt meaning key key' barrier others asked h = h
+
+starts_by : (variant : Variant) (meaning : Meaning) (key key' barrier : List ℕ) (all others : List (List ℕ)) (asked : List Batch)
+    → Contains all (start_message (instance_by variant meaning key barrier).variant (instance_by variant meaning key barrier).meaning.id)
+    → Keeps all others asked (instance_by variant meaning key' barrier) first_history (first_digests (instance_by variant meaning key' barrier))
+starts_by Basic meaning key key' barrier all others asked h = basic_runs.starts meaning key' all others asked h
+starts_by Opt meaning key key' barrier all others asked h = opt_runs.starts meaning key' barrier all others asked h
+
+module _ (pair : Pair) (all others : List (List ℕ)) (asked : List Batch) (clear : IsClear all)
+    (apart : AreApartIn (instance_on pair First).variant (instance_on pair First) others asked) where
+  event_goes : (l : Both History History) (x : Twin) (notes : Notes) (which : Which) (act : Act)
+      → Kept all others asked (instance_on pair First) (instance_on pair Second) l x notes
+      → (let event : BothEvent = record { which = which; act = act } in
+      IsNew notes (both_outcome lists_move pair l event).effect → IsOursIn pair l.tickets notes act
+      → AllByRecursion (Contains others) (others_in act) → AllByRecursion (Contains asked) (batches_in act)
+      → Within (both_event_messages pair l event) all → IsGenuineIn pair l event
+      → Goes all others asked (instance_on pair First) (instance_on pair Second) notes (both_outcome lists_move pair l event)
+      (both_outcome digests_move pair (twin l x) event))
+  event_goes l x notes First act k new ours outside batches listed genuine =
+      here_goes pair.variant pair.meaning pair.first_key pair.second_key pair.barrier all others asked clear apart pair l x notes act k
+      (here_ordered pair (instance_on pair First) l notes act k.order new ours) outside batches listed genuine ours
+  event_goes l x notes Second act k new ours outside batches listed genuine =
+      let i : Instance = instance_on pair Second in
+      let back = turned_kept pair.variant pair.meaning pair.first_key pair.second_key pair.barrier all others asked l x notes k in
+      let o : BothOutcome History History = outcome_here lists_move pair i (turned l) act in
+      let g = here_goes pair.variant pair.meaning pair.second_key pair.first_key pair.barrier all others asked clear
+      (apart_cross pair.variant pair.meaning pair.first_key pair.second_key pair.barrier others asked apart) pair (turned l) (turned_twin x) notes act back
+      (here_ordered pair i (turned l) notes act back.order new ours) outside batches listed genuine ours in
+      record {
+        at = turned_twin g.at;
+        same = ap (λ (w : BothOutcome Digests ℕ). record w { both = turned w.both }) g.same;
+        kept = turned_kept pair.variant pair.meaning pair.second_key pair.first_key pair.barrier all others asked o.both g.at (noted_if o.effect notes) g.kept;
+      }
+
+  agree_from : (events : List BothEvent) (l : Both History History) (x : Twin) (notes : Notes)
+      → Kept all others asked (instance_on pair First) (instance_on pair Second) l x notes
+      → AllByRecursion (Contains others) (both_others events) → AllByRecursion (Contains asked) (both_batches events)
+      → Within (both_messages_from pair l events) all → AreGenuineFrom pair l events → AreFreshFrom pair l notes events
+      → PairsAgree pair (both_followed lists_move pair l events) (both_followed digests_move pair (twin l x) events)
+  agree_from [] l x notes k outside batches listed genuine fresh = record {
+    replies = refl;
+    first = record { role = refl; at = k.this.agrees; issued = refl };
+    second = record { role = refl; at = k.other.agrees; issued = refl };
+    tickets = refl;
+    committed = refl;
+  }
+  agree_from (event ∷ events) l x notes k outside batches listed genuine fresh =
+      let o : BothOutcome History History = both_outcome lists_move pair l event in
+      let g = event_goes l x notes event.which event.act k fresh.0 fresh.1
+      (each_left (Contains others) (others_in event.act) (both_others events) outside)
+      (each_left (Contains asked) (batches_in event.act) (both_batches events) batches)
+      (each_left (Contains all) (both_event_messages pair l event) (both_messages_from pair o.both events) listed) genuine.0 in
+      let rest = agree_from events o.both g.at (noted_if o.effect notes) g.kept
+      (each_right (Contains others) (others_in event.act) (both_others events) outside)
+      (each_right (Contains asked) (batches_in event.act) (both_batches events) batches)
+      (each_right (Contains all) (both_event_messages pair l event) (both_messages_from pair o.both events) listed) genuine.1 fresh.2 in
+      let f : BothFollowed History History = both_followed lists_move pair o.both events in
+      let Q : BothOutcome Digests ℕ → Type 0 = λ w.
+      PairsAgree pair (record { both = f.both; replies = o.reply ∷ f.replies })
+      (record { both = (both_followed digests_move pair w.both events).both; replies = w.reply ∷ (both_followed digests_move pair w.both events).replies }) in
+      subst Q (sym g.same) (record {
+        replies = ap (λ (r : List BothReply). o.reply ∷ r) rest.replies;
+        first = rest.first;
+        second = rest.second;
+        tickets = rest.tickets;
+        committed = rest.committed;
+      })
+
+pub pairs_agree : PairsAgreeThroughout
+pairs_agree pair events clear genuine fresh =
+    let all : List (List ℕ) = both_messages pair events in
+    let others : List (List ℕ) = both_others events in
+    let asked : List Batch = both_batches events in
+    let i : Instance = instance_on pair First in
+    let j : Instance = instance_on pair Second in
+    let self = each_self [] all in
+    let here = starts_by pair.variant pair.meaning pair.first_key pair.first_key pair.barrier all others asked self.0 in
+    let there = starts_by pair.variant pair.meaning pair.first_key pair.second_key pair.barrier all others asked self.0 in
+    let x : Twin = record { first = first_digests i; second = first_digests j; away = 0 } in
+    agree_from pair all others asked clear.clear clear.apart events (first_lists pair) x no_notes
+    (record {
+      this = here;
+      other = there;
+      this_shut = tt;
+      other_shut = tt;
+      count = refl;
+      away_shut = refl;
+      away_within = here.within;
+      order = roles_begin;
+      named = tt;
+      last = λ gone left ticket is. absurd (cc);
+    }) (each_self [] others) (each_self [] asked) self.1 genuine fresh
+
+follow_on : {S A : Type 0} (mover : Mover S A) (pair : Pair) (es fs : List BothEvent) (both : Both S A)
+    → both_followed mover pair both (es ++ fs) ≡ both_continued (both_followed mover pair both es) (both_followed mover pair (both_followed mover pair both es).both fs)
+follow_on mover pair [] fs both = refl
+follow_on {S} {A} mover pair (event ∷ es) fs both =
+    let o : BothOutcome S A = both_outcome mover pair both event in
+    ap (λ (rest : BothFollowed S A). record { both = rest.both; replies = o.reply ∷ rest.replies }) (follow_on mover pair es fs o.both)
+
+pub pairs_go_on : PairsGoOn
+pairs_go_on pair es fs = (follow_on lists_move pair es fs (first_lists pair), follow_on digests_move pair es fs (first_both pair))

@@ -1,0 +1,14 @@
+pub mod InOrder
+pub mod Found
+pub mod Outer
+pub mod Told
+pub mod OneLive
+pub mod OneRun
+pub mod Rests
+pub mod Keeping
+pub mod Twins
+pub mod SameFound
+pub mod Ends
+pub mod PlainAgree
+pub mod Agreeing
+pub mod BothAgree

@@ -1,0 +1,338 @@
+-- The replies to the calls of both sides are those of one run.
+use Rattle.std.proofs.Common.{ℕ, ◌≡◌, ◌≤◌, ◌+◌, Bool, true, false, List, [], ◌∷◌, ◌++◌, length, map, Option, None, Some, Result, Err, refl, sym, ap, ◌∙◌, subst, arith, length-append}
+use Rattle.std.specs.Prelude.{if◌then◌else◌}
+use Rattle.mm_module.specs.Batch.{Batch, One, members_of}
+use Rattle.mm_module.specs.Meaning.{Meaning}
+use Rattle.mm_platform.specs.declared.plan.Meddle.{Meddle}
+use Rattle.mm_platform.specs.declared.plan.Stop.{Stop}
+use Rattle.mm_digest.specs.declared.variant.Variant.{Variant}
+use Rattle.mm_digest.specs.declared.variant.Variant.TheVariants.{Basic, Opt}
+use Rattle.mm_model.specs.Instance.{Instance}
+use Rattle.mm_model.specs.History.{History, Foreign, requests_of}
+use Rattle.mm_model.specs.Long.{is_long}
+use Rattle.mm_model.specs.Steps.{Reads}
+use Rattle.mm_model.specs.declared.refusal.Refusal.{Refusal}
+use Rattle.mm_model.specs.declared.refusal.Refusal.TheVariants as refusal
+use Rattle.mm_call.specs.Courses.{End, Done, Fails, Fate, walk, after_step, commits}
+use Rattle.mm_call.specs.Called.{called_by, kept_at}
+use Rattle.mm_call.specs.Levels.{by_lists}
+use Rattle.mm_call.specs.Standing.{instance_by}
+use Rattle.mm_schedule.specs.Events as events
+use Rattle.mm_schedule.specs.Machine.{StepsOn, AsksNone, Steps, Runs}
+use Rattle.mm_schedule.specs.declared.reply.Reply.{Reply}
+use Rattle.mm_schedule.specs.declared.reply.Reply.TheVariants.{Told as ToldReply, No, Kept, Nothing, Closed, Checkpointed, Power, Extended}
+use Rattle.mm_schedule.specs.declared.reply.Way.{Way}
+use Rattle.mm_run.specs.Offered.{offered_bytes}
+use Rattle.mm_run.specs.Folds.{Outcome, way_of, course_of, broken_reply, outcome_by, reads_only, asked_in_vain, event_outcome, event_in_vain}
+use Rattle.mm_run.proofs.Running.{event_steps}
+use Rattle.mm_sides.specs.Roles.{Role, Blank, Live, Waiting, Retired, Effect, Invites, Leaves, Enters, is_live, Notes, no_notes}
+use Rattle.mm_move.specs.Tickets.{TicketContent}
+use Rattle.mm_sides.specs.Order.{AreInOrder, MayTake}
+use Rattle.mm_sides.specs.Both.{Which, First, Second, Pair, key_of, instance_on, Side, Both, turned, lists_move, first_lists}
+use Rattle.mm_sides.specs.Moves.{Command, Invite, Retire, Accept, MoveCause, FoundMove}
+use Rattle.mm_sides.specs.Folds.{Act, Plain, Moves, BothEvent, BothOutcome, plain_outcome, affected_if, brought_to, effect_of, move_steps, finding, moved_by, moved_if, unissued, outcome_here, both_outcome, BothFollowed, both_followed, noted_if}
+use Rattle.mm_sides.specs.Premises.{IsNew, IsOursIn, AreFreshFrom}
+use Rattle.mm_sides.specs.Laws.{plain_in, plain_events, plain_reply, plain_replies, history_at, history_now, SidesRunAsOne}
+use Rattle.mm_sides.proofs.InOrder.{roles_begin, roles_swap, roles_are_one}
+use Rattle.mm_sides.proofs.Found.{IsFine}
+use Rattle.mm_sides.proofs.Outer.{commits-foreign, same_batches, brought_alike}
+use Rattle.mm_sides.proofs.Told.{IsTold, IsEnded, ended_told, EntersSo}
+use Rattle.mm_sides.proofs.OneLive.{IsOrdered, here_ordered, event_ordered}
+
+-- a call in vain runs nothing
+
+vain_reply : (meaning : Meaning) (requests : List (List ℕ)) (b : Batch) (how : Way) (committed : Bool) → committed ≡ false
+    → StepsOn meaning requests b (broken_reply how (kept_at committed 0)) requests × AsksNone requests (broken_reply how (kept_at committed 0)) requests
+vain_reply meaning requests b how true e = cc
+vain_reply meaning requests b how false e = (refl, refl)
+
+module _ (i : Instance) (y : History) (r : List (List ℕ)) (issued : List (List ℕ)) (stop : Stop) (why : Refusal) where
+  vain_by : (b : Batch) (values : List (List ℕ)) (ends : End)
+      → (let o : Outcome History = outcome_by (by_lists i) stop issued
+      (called_by (by_lists i) y y (One []) (Err why) (after_step Reads values ends (record { moves = []; steps = 0; writes = 0; broken = None }))) in
+      StepsOn i.meaning r b o.reply r × AsksNone r o.reply r)
+  vain_by b values Done = (refl, refl)
+  vain_by b values (Fails fault made) =
+      vain_reply i.meaning r b (way_of stop) (commits (map Foreign values)) (commits-foreign values)
+
+  reads_vain : (b : Batch) (meddles : List Meddle)
+      → (let o : Outcome History = reads_only (by_lists i) y issued meddles stop why in
+      StepsOn i.meaning r b o.reply r × AsksNone r o.reply r)
+  reads_vain b meddles = vain_by b ((course_of stop meddles).fates 1).brings ((course_of stop meddles).fates 1).ends
+
+  if_vain : (b : Batch) (long : Bool) (x z : Outcome History) → StepsOn i.meaning r b x.reply r
+      → StepsOn i.meaning r b z.reply r
+      → (let o : Outcome History = if long then x else z in StepsOn i.meaning r b o.reply r)
+  if_vain b true x z p q = p
+  if_vain b false x z p q = q
+
+  asked_vain : (meddles : List Meddle) (bytes : Option (List ℕ)) (b : Batch)
+      → StepsOn i.meaning r b (asked_in_vain (by_lists i) y issued meddles stop why bytes b).reply r
+  asked_vain meddles None b = refl
+  asked_vain meddles (Some bytes) b = if_vain b (is_long b) _ _ refl (reads_vain b meddles).0
+
+event_vain : (i : Instance) (y : History) (r : List (List ℕ)) (issued : List (List ℕ)) (why : Refusal) (event : events.Event)
+    → Steps i.meaning r event (event_in_vain (by_lists i) y issued why event).reply r
+event_vain i y r issued why (events.Ask meddles stop offer b) = asked_vain i y r issued stop why meddles (offered_bytes issued offer) b
+event_vain i y r issued why (events.Checkpoint meddles stop) = (reads_vain i y r issued stop why (One []) meddles).1
+event_vain i y r issued why events.Power = refl
+event_vain i y r issued why (events.Extend value) = refl
+
+-- a step runs no request backwards
+
+on_longer : (meaning : Meaning) (r s : List (List ℕ)) (b : Batch) (reply : Reply) → StepsOn meaning r b reply s → length r ≤ length s
+on_longer meaning r s b (ToldReply true before outputs) h = omega (arith, ap length h.same)
+on_longer meaning r s b (ToldReply false before outputs) h = omega (arith, ap length h.grown, length-append r (members_of b))
+on_longer meaning r s b (Kept way position) h = omega (arith, ap length h.grown, length-append r (members_of b))
+on_longer meaning r s b (No why) h = omega (arith, ap length h)
+on_longer meaning r s b (Nothing way) h = omega (arith, ap length h)
+on_longer meaning r s b (Closed way) h = omega (arith, ap length h)
+on_longer meaning r s b Checkpointed h = omega (arith, ap length h)
+on_longer meaning r s b Power h = omega (arith, ap length h)
+on_longer meaning r s b Extended h = omega (arith, ap length h)
+
+none_longer : (r s : List (List ℕ)) (reply : Reply) → AsksNone r reply s → length r ≤ length s
+none_longer r s (ToldReply again before outputs) h = absurd h
+none_longer r s (Kept way position) h = absurd h
+none_longer r s (No why) h = omega (arith, ap length h)
+none_longer r s (Nothing way) h = omega (arith, ap length h)
+none_longer r s (Closed way) h = omega (arith, ap length h)
+none_longer r s Checkpointed h = omega (arith, ap length h)
+none_longer r s Power h = omega (arith, ap length h)
+none_longer r s Extended h = omega (arith, ap length h)
+
+longer : (meaning : Meaning) (event : events.Event) (reply : Reply) (r s : List (List ℕ)) → Steps meaning r event reply s
+    → length r ≤ length s
+longer meaning (events.Ask meddles stop offer b) reply r s h = on_longer meaning r s b reply h
+longer meaning (events.Checkpoint meddles stop) reply r s h = none_longer r s reply h
+longer meaning events.Power reply r s h = none_longer r s reply h
+longer meaning (events.Extend value) reply r s h = none_longer r s reply h
+
+two_live : true ≡ false → ⊥
+two_live e = cc
+
+-- runs one after another
+
+runs_on : (meaning : Meaning) (es fs : List events.Event) (rs ss : List Reply) (a b c : List (List ℕ)) → Runs meaning a es rs b
+    → Runs meaning b fs ss c
+    → Runs meaning a (es ++ fs) (rs ++ ss) c
+runs_on meaning [] fs [] ss a b c h k = subst (λ v. Runs meaning v fs ss c) h k
+runs_on meaning [] fs (r ∷ rs) ss a b c h k = absurd h
+runs_on meaning (e ∷ es) fs [] ss a b c h k = absurd h
+runs_on meaning (e ∷ es) fs (r ∷ rs) ss a b c h k = (h.0, h.1, runs_on meaning es fs rs ss h.0 b c h.2 k)
+
+-- one event
+
+abbrev requests_now : Both History History → List (List ℕ)
+requests_now both = requests_of (history_now both).batches
+
+-- The event and its reply are a run, of one event of a schedule or of none; and the count of requests goes along.
+record IsRunHere (meaning : Meaning) (both : Both History History) (act : Act) (o : BothOutcome History History) : Type 0 where
+  runs : Runs meaning (requests_now both) (plain_in act) (plain_reply o.reply) (requests_now o.both)
+  count : both.committed ≡ length (requests_now both) → o.both.committed ≡ length (requests_now o.both)
+
+-- where the first side isn't live, where it stands doesn't count
+pub first_unused : (b : Bool) (x y second away : History) → history_at false b x second away ≡ history_at false b y second away
+first_unused true x y second away = refl
+first_unused false x y second away = refl
+
+still : (n m : ℕ) → n ≡ m → n + 0 ≡ m
+still n m e = omega (arith, e)
+
+-- an event of a schedule
+module _ (i : Instance) (at : History) (issued : List (List ℕ)) (second : Side History) (away : History) (tickets : List (List ℕ)) (committed : ℕ) where
+  abbrev standing : Role → Both History History
+  standing role = record {
+    first = record { role = role; at = at; issued = issued };
+    second = second;
+    away = away;
+    tickets = tickets;
+    committed = committed;
+  }
+
+  vain_run : (role : Role) (why : Refusal) (event : events.Event) → is_live role ≡ false
+      → (let o : Outcome History = event_in_vain (by_lists i) at issued why event in
+      let now : List (List ℕ) = requests_of (history_at (is_live role) (is_live second.role) at second.at away).batches in
+      let then_now : List (List ℕ) = requests_of (history_at (is_live role) (is_live second.role) o.state second.at away).batches in
+      Runs i.meaning now (event ∷ []) (o.reply ∷ []) then_now × (then_now ≡ now))
+  vain_run role why event e =
+      let o : Outcome History = event_in_vain (by_lists i) at issued why event in
+      let b : Bool = is_live second.role in
+      let N : Bool → History → List (List ℕ) = λ f x. requests_of (history_at f b x second.at away).batches in
+      let same : N (is_live role) o.state ≡ N (is_live role) at =
+      ap (λ f. N f o.state) e ∙ ap (λ (y : History). requests_of y.batches) (first_unused b o.state at second.at away) ∙ ap (λ f. N f at) (sym e) in
+      ((N (is_live role) at, event_vain i at (N (is_live role) at) issued why event, same), same)
+
+  plain_run : (role : Role) (event : events.Event)
+      → IsRunHere i.meaning (standing role) (Plain event) (plain_outcome lists_move i (standing role) event)
+  plain_run Live event =
+      let o : Outcome History = event_outcome i (by_lists i) at issued event in
+      let steps = event_steps i at issued event in
+      let more = longer i.meaning event o.reply (requests_of at.batches) (requests_of o.state.batches) steps in
+      record { runs = (requests_of o.state.batches, steps, refl); count = λ e. omega (arith, e, more) }
+  plain_run Blank event =
+      let r = vain_run Blank refusal.Blank event refl in record { runs = r.0; count = λ e. still committed _ (e ∙ ap length (sym r.1)) }
+  plain_run (Waiting nonce) event =
+      let r = vain_run (Waiting nonce) refusal.Cell event refl in record { runs = r.0; count = λ e. still committed _ (e ∙ ap length (sym r.1)) }
+  plain_run (Retired nonce) event =
+      let r = vain_run (Retired nonce) refusal.Cell event refl in record { runs = r.0; count = λ e. still committed _ (e ∙ ap length (sym r.1)) }
+
+-- a move changes nothing of the history
+
+pub invites_none : (role : Role) (nonce : List ℕ) → MayTake role (Invites nonce) → is_live role ≡ false
+invites_none Blank nonce may = refl
+invites_none Live nonce may = absurd may
+invites_none (Waiting m) nonce may = refl
+invites_none (Retired m) nonce may = refl
+
+pub leaves_live : (role : Role) (ticket : TicketContent) → MayTake role (Leaves ticket) → is_live role ≡ true
+leaves_live Blank ticket may = absurd may
+leaves_live Live ticket may = refl
+leaves_live (Waiting m) ticket may = absurd may
+leaves_live (Retired m) ticket may = absurd may
+
+alike_now : (a b : Bool) (x y second away : History) → x.batches ≡ y.batches
+    → requests_of (history_at a b x second away).batches ≡ requests_of (history_at a b y second away).batches
+alike_now true b x y second away e = ap requests_of e
+alike_now false true x y second away e = refl
+alike_now false false x y second away e = refl
+
+-- by the effect, from where the register was brought to
+affected_now : (both : Both History History) (at : History) (notes : Notes) (effect : Option Effect) → at.batches ≡ both.first.at.batches
+    → AreInOrder both.first.role both.second.role notes → IsFine both.first.role notes effect
+    → EntersSo both.first.role both.second.role notes effect
+    → requests_now (affected_if lists_move (record both { first = record both.first { at = at } }) effect) ≡ requests_now both
+affected_now both at notes None e h fine alone =
+    alike_now (is_live both.first.role) (is_live both.second.role) at both.first.at both.second.at both.away e
+affected_now both at notes (Some (Invites nonce)) e h fine alone =
+    let b : Bool = is_live both.second.role in
+    ap (λ (y : History). requests_of y.batches) (first_unused b at both.first.at both.second.at both.away)
+    ∙ ap (λ f. requests_of (history_at f b both.first.at both.second.at both.away).batches) (sym (invites_none both.first.role nonce fine.0))
+affected_now both at notes (Some (Leaves ticket)) e h fine alone =
+    let live : is_live both.first.role ≡ true = leaves_live both.first.role ticket fine.0 in
+    let none : is_live both.second.role ≡ false = roles_are_one both.first.role both.second.role notes h live in
+    ap (λ f. requests_of (history_at false f at both.second.at at).batches) none
+    ∙ ap requests_of e
+    ∙ ap (λ f. requests_of (history_at f (is_live both.second.role) both.first.at both.second.at both.away).batches) (sym live)
+affected_now both at notes (Some (Enters ticket)) e h fine alone =
+    ap (λ f. requests_of (history_at false f both.first.at both.second.at both.away).batches) (sym alone.not_there)
+    ∙ ap (λ f. requests_of (history_at f (is_live both.second.role) both.first.at both.second.at both.away).batches) (sym alone.not_here)
+
+told_now : (both after : Both History History) → IsTold both after → requests_now after ≡ requests_now both
+told_now both after t = λ j.
+    requests_of (history_at (is_live (t.role j)) (is_live (t.second j).role) (t.at j) (t.second j).at (t.away j)).batches
+
+affected_count : (both : Both History History) (effect : Option Effect) → (affected_if lists_move both effect).committed ≡ both.committed
+affected_count both None = refl
+affected_count both (Some (Invites nonce)) = refl
+affected_count both (Some (Leaves ticket)) = refl
+affected_count both (Some (Enters ticket)) = refl
+
+unissued_none : (command : Command) → plain_reply (unissued command) ≡ []
+unissued_none (Invite nonce) = refl
+unissued_none (Retire nonce offer) = refl
+unissued_none (Accept offer) = refl
+
+-- nothing is told, and the requests are the same
+silent : (meaning : Meaning) (replies : List Reply) (r s : List (List ℕ)) → replies ≡ [] → s ≡ r → Runs meaning r [] replies s
+silent meaning [] r s n e = e
+silent meaning (reply ∷ replies) r s n e = cc
+
+moved_run : (pair : Pair) (i : Instance) (both : Both History History) (notes : Notes) (meddles : List Meddle) (stop : Stop) (command : Command)
+    (found : Option (Result FoundMove MoveCause)) → AreInOrder both.first.role both.second.role notes
+    → IsOrdered both.first.role both.second.role notes (moved_if lists_move pair i both meddles stop command found)
+    → IsRunHere i.meaning both (Moves meddles stop command) (moved_if lists_move pair i both meddles stop command found)
+moved_run pair i both notes meddles stop command None h s =
+    record { runs = silent i.meaning (plain_reply (unissued command)) (requests_now both) (requests_now both) (unissued_none command) refl; count = λ e. e }
+moved_run pair i both notes meddles stop command (Some found) h s =
+    let fates : ℕ → Fate = (course_of stop meddles).fates in
+    let effect : Option Effect = effect_of fates found in
+    let at : History = brought_to lists_move i both.first.at meddles stop (move_steps found) in
+    let here : Both History History = record both { first = record both.first { at = at } } in
+    let o : BothOutcome History History = moved_by lists_move pair i both meddles stop found in
+    let ended : IsEnded lists_move pair i (affected_if lists_move here effect) effect o =
+    ended_told lists_move pair i (affected_if lists_move here effect) stop (walk fates 1 (move_steps found)).broken found effect in
+    let same : requests_now o.both ≡ requests_now both =
+    told_now (affected_if lists_move here effect) o.both ended.tells
+    ∙ affected_now both at notes effect (same_batches both.first.at at (brought_alike i both.first.at meddles stop found)) h
+    (subst (IsFine both.first.role notes) ended.effect_is s.fine)
+    (subst (EntersSo both.first.role both.second.role notes) ended.effect_is s.alone) in
+    record {
+      runs = silent i.meaning (plain_reply o.reply) (requests_now both) (requests_now o.both) ended.none same;
+      count = λ e. ended.tells.committed ∙ affected_count here effect ∙ e ∙ ap length (sym same);
+    }
+
+here_run : (pair : Pair) (i : Instance) (both : Both History History) (notes : Notes) (act : Act)
+    → AreInOrder both.first.role both.second.role notes
+    → IsOrdered both.first.role both.second.role notes (outcome_here lists_move pair i both act)
+    → IsRunHere i.meaning both act (outcome_here lists_move pair i both act)
+here_run pair i both notes (Plain event) h s =
+    plain_run i both.first.at both.first.issued both.second both.away both.tickets both.committed both.first.role event
+here_run pair i both notes (Moves meddles stop command) h s =
+    moved_run pair i both notes meddles stop command (finding lists_move pair i both command) h s
+
+-- turned
+
+pub turned_at : (a b : Bool) (first second away : History) → (a ≡ true → b ≡ false)
+    → history_at b a second first away ≡ history_at a b first second away
+turned_at true true first second away one = absurd (two_live (one refl))
+turned_at true false first second away one = refl
+turned_at false true first second away one = refl
+turned_at false false first second away one = refl
+
+turned_now : (both : Both History History) (notes : Notes) → AreInOrder both.first.role both.second.role notes
+    → requests_now (turned both) ≡ requests_now both
+turned_now both notes h =
+    ap (λ (y : History). requests_of y.batches)
+    (turned_at (is_live both.first.role) (is_live both.second.role) both.first.at both.second.at both.away
+    (roles_are_one both.first.role both.second.role notes h))
+
+same_meaning : (variant : Variant) (meaning : Meaning) (key barrier : List ℕ) → (instance_by variant meaning key barrier).meaning ≡ meaning
+same_meaning Basic meaning key barrier = refl
+same_meaning Opt meaning key barrier = refl
+
+meaning_on : (pair : Pair) (which : Which) → (instance_on pair which).meaning ≡ pair.meaning
+meaning_on pair which = same_meaning pair.variant pair.meaning (key_of pair which) pair.barrier
+
+event_run : (pair : Pair) (both : Both History History) (notes : Notes) (which : Which) (act : Act)
+    → AreInOrder both.first.role both.second.role notes
+    → (let o : BothOutcome History History = both_outcome lists_move pair both (record { which = which; act = act }) in
+    IsNew notes o.effect → IsOursIn pair both.tickets notes act → IsRunHere pair.meaning both act o)
+event_run pair both notes First act h new ours =
+    let i : Instance = instance_on pair First in
+    let s = here_ordered pair i both notes act h new ours in
+    subst (λ m. IsRunHere m both act (outcome_here lists_move pair i both act)) (meaning_on pair First) (here_run pair i both notes act h s)
+event_run pair both notes Second act h new ours =
+    let i : Instance = instance_on pair Second in
+    let k = roles_swap both.first.role both.second.role notes h in
+    let s = here_ordered pair i (turned both) notes act k new ours in
+    let o : BothOutcome History History = outcome_here lists_move pair i (turned both) act in
+    let r : IsRunHere pair.meaning (turned both) act o =
+    subst (λ m. IsRunHere m (turned both) act o) (meaning_on pair Second) (here_run pair i (turned both) notes act k s) in
+    let before : requests_now (turned both) ≡ requests_now both = turned_now both notes h in
+    let after : requests_now (turned o.both) ≡ requests_now o.both = turned_now o.both _ s.order in
+    record {
+      runs = subst (λ v. Runs pair.meaning v (plain_in act) (plain_reply o.reply) (requests_now (turned o.both))) before
+          (subst (λ v. Runs pair.meaning (requests_now (turned both)) (plain_in act) (plain_reply o.reply) v) (sym after) r.runs);
+      count = λ e. r.count (e ∙ ap length (sym before)) ∙ ap length (sym after);
+    }
+
+run_from : (pair : Pair) (events : List BothEvent) (both : Both History History) (notes : Notes)
+    → AreInOrder both.first.role both.second.role notes
+    → AreFreshFrom pair both notes events → both.committed ≡ length (requests_now both)
+    → (let f : BothFollowed History History = both_followed lists_move pair both events in
+    Runs pair.meaning (requests_now both) (plain_events events) (plain_replies f.replies) (requests_now f.both)
+    × (f.both.committed ≡ length (requests_now f.both)))
+run_from pair [] both notes h fresh e = (refl, e)
+run_from pair (event ∷ events) both notes h fresh e =
+    let o : BothOutcome History History = both_outcome lists_move pair both event in
+    let next = event_ordered pair both notes event.which event.act h fresh.0 fresh.1 in
+    let r = event_run pair both notes event.which event.act h fresh.0 fresh.1 in
+    let rest = run_from pair events o.both (noted_if o.effect notes) next.order fresh.2 (r.count e) in (
+      runs_on pair.meaning (plain_in event.act) (plain_events events) (plain_reply o.reply) _ (requests_now both) (requests_now o.both) _ r.runs rest.0,
+      rest.1,
+    )
+
+pub sides_run : SidesRunAsOne
+sides_run pair events fresh =
+    let r = run_from pair events (first_lists pair) no_notes roles_begin fresh refl in record { runs = r.0; count = r.1 }

@@ -1,0 +1,109 @@
+-- Two sides that share a link, what stands on each, and two ways to follow them: by lists and by digests.
+use Rattle.std.specs.Prelude.{ℕ, false, List, []}
+use Rattle.mm_digest.specs.declared.variant.Variant.{Variant}
+use Rattle.mm_module.specs.Meaning.{Meaning}
+use Rattle.mm_seal.specs.Snapshot.{Content}
+use Rattle.mm_model.specs.Instance.{Instance}
+use Rattle.mm_model.specs.History.{History, first_history}
+use Rattle.mm_model.specs.Moves.{Digests}
+use Rattle.mm_model.specs.Places.{digest_of, issued}
+use Rattle.mm_call.specs.Levels.{Level, by_lists, by_digests}
+use Rattle.mm_call.specs.Standing.{instance_by}
+use Rattle.mm_run.specs.Folds.{first_issued, first_digests}
+use Rattle.mm_move.specs.Tickets.{summary_in, place_at}
+use Rattle.mm_sides.specs.Roles.{Role, Blank, Live}
+
+-- the first side or the second
+pub data Which : Type 0 where
+  First : Which
+  Second : Which
+
+-- What two sides are set up with: the variant and the module; a key for each side; and the key and the barrier of the link
+-- that they share.
+pub record Pair : Type 0 where
+  pub variant : Variant
+  pub meaning : Meaning
+  pub first_key : List ℕ
+  pub second_key : List ℕ
+  pub barrier : List ℕ
+  pub link : List ℕ
+
+abbrev pub key_of : Pair → Which → List ℕ
+key_of pair First = pair.first_key
+key_of pair Second = pair.second_key
+
+-- the instance that the module is on a side
+abbrev pub instance_on : Pair → Which → Instance
+instance_on pair which = instance_by pair.variant pair.meaning (key_of pair which) pair.barrier
+
+-- One side: its role; where it stands, for the sake of its register from the start; and the snapshots that it issued.
+pub record Side (S : Type 0) : Type 0 where
+  pub role : Role
+  pub at : S
+  pub issued : List (List ℕ)
+
+-- Both sides; what is kept of where the module stood when it left last; the tickets handed out; and how many requests
+-- were committed, on either side.
+pub record Both (S A : Type 0) : Type 0 where
+  pub first : Side S
+  pub second : Side S
+  pub away : A
+  pub tickets : List (List ℕ)
+  pub committed : ℕ
+
+-- the same with the sides exchanged
+abbrev pub turned : {S A : Type 0} → Both S A → Both S A
+turned both = record both { first = both.second; second = both.first }
+
+-- with this side as the first
+abbrev pub facing : {S A : Type 0} → Which → Both S A → Both S A
+facing First both = both
+facing Second both = turned both
+
+-- A way to follow both sides: one way to follow each; what a ticket or a snapshot says where no segment is open, of an
+-- offer that stands there; what is kept of where the module leaves; and where it stands once it has entered, by where
+-- its side stood, what was kept, and what the ticket says.
+pub record Mover (S A : Type 0) : Type 0 where
+  pub level : Instance → Level S
+  pub says : Instance → S → Content → Content
+  pub leaves : S → A
+  pub enters : S → A → Content → S
+
+-- By lists: the module has its one history, and the register has what it had.
+abbrev pub lists_move : Mover History History
+lists_move = record {
+  level = by_lists;
+  says = λ i y offered. issued i y;
+  leaves = λ y. y;
+  enters = λ own away content. record away { items = own.items };
+}
+
+-- By digests: of where the module left only the number of its requests is kept; all else comes by the ticket.
+abbrev pub digests_move : Mover Digests ℕ
+digests_move = record {
+  level = by_digests;
+  says = λ i d offered. record {
+    id = i.meaning.id;
+    place = place_at i.variant (digest_of d.digest);
+    position = offered.position;
+    state = offered.state;
+  };
+  leaves = λ d. d.count;
+  enters = λ own away content. record own { digest = (summary_in content.place).bytes; flag = false; count = away };
+}
+
+-- At first the module is on the first side, and the second is blank.
+abbrev pub begun : {S A : Type 0} → Pair → S → S → A → Both S A
+begun pair here there away = record {
+  first = record { role = Live; at = here; issued = first_issued (instance_on pair First) };
+  second = record { role = Blank; at = there; issued = [] };
+  away = away;
+  tickets = [];
+  committed = 0;
+}
+
+abbrev pub first_lists : Pair → Both History History
+first_lists pair = begun pair first_history first_history first_history
+
+abbrev pub first_both : Pair → Both Digests ℕ
+first_both pair = begun pair (first_digests (instance_on pair First)) (first_digests (instance_on pair Second)) 0

@@ -1,0 +1,105 @@
+-- The laws of two sides.
+use Rattle.std.specs.Prelude.{◌≡◌, ℕ, Bool, true, false, List, [], ◌∷◌, ◌++◌, length, Option, None, Some}
+use Rattle.mm_model.specs.History.{History, requests_of}
+use Rattle.mm_model.specs.Moves.{Digests}
+use Rattle.mm_call.specs.Levels.{Agrees}
+use Rattle.mm_schedule.specs.Events.{Event}
+use Rattle.mm_schedule.specs.Machine.{Runs}
+use Rattle.mm_schedule.specs.declared.reply.Reply.{Reply}
+use Rattle.mm_sides.specs.Roles.{Effect, Invites, Leaves, Enters, is_live, Notes, no_notes}
+use Rattle.mm_sides.specs.Order.{EntersLast, AtMostOne}
+use Rattle.mm_sides.specs.Both.{Which, First, Second, Pair, instance_on, Side, Both, lists_move, digests_move, first_lists}
+use Rattle.mm_sides.specs.Folds.{Act, Plain, Moves, BothEvent, BothReply, Said, Invited, Left, Entered, Denied, NoSnapshot, NoTicket, Broken, both_outcome, BothFollowed, both_followed, both_expected, both_by_digests, noted_if}
+use Rattle.mm_sides.specs.Premises.{IsClearPair, IsGenuinePair, IsFreshPair}
+
+-- Two ways to follow a side agree: its role, its snapshots, and the digests are those of the history.
+pub record SidesAgree (pair : Pair) (which : Which) (lists : Side History) (digests : Side Digests) : Type 0 where
+  pub role : digests.role ≡ lists.role
+  pub at : Agrees (instance_on pair which) lists.at digests.at
+  pub issued : digests.issued ≡ lists.issued
+
+-- Both followings give the same replies, the same tickets and the same count of requests, and agree on either side.
+pub record PairsAgree (pair : Pair) (lists : BothFollowed History History) (digests : BothFollowed Digests ℕ) : Type 0 where
+  pub replies : digests.replies ≡ lists.replies
+  pub first : SidesAgree pair First lists.both.first digests.both.first
+  pub second : SidesAgree pair Second lists.both.second digests.both.second
+  pub tickets : digests.both.tickets ≡ lists.both.tickets
+  pub committed : digests.both.committed ≡ lists.both.committed
+
+-- Where the digests are clear, the offers genuine, and nonces and tickets fresh, a schedule of both sides gives the same by
+-- digests as by lists.
+abbrev pub PairsAgreeThroughout : Type 0
+PairsAgreeThroughout = (pair : Pair) (events : List BothEvent) →
+    IsClearPair pair events → IsGenuinePair pair events → IsFreshPair pair events
+    → PairsAgree pair (both_expected pair events) (both_by_digests pair events)
+
+-- where the effect of an event is that the module enters a side
+abbrev pub EntersAlone : Notes → Both History History → Option Effect → Type 0
+EntersAlone notes both None = Unit {0}
+EntersAlone notes both (Some (Invites nonce)) = Unit {0}
+EntersAlone notes both (Some (Leaves ticket)) = Unit {0}
+EntersAlone notes both (Some (Enters ticket)) = EntersLast both.first.role both.second.role notes ticket
+
+-- At each moment at most one side is live; and the module enters a side only where none is, by the ticket that it left by
+-- last.
+abbrev pub IsOneFrom : Pair → Both History History → Notes → List BothEvent → Type 0
+IsOneFrom pair both notes [] = AtMostOne both.first.role both.second.role
+IsOneFrom pair both notes (event ∷ events) =
+    let o = both_outcome lists_move pair both event in
+    AtMostOne both.first.role both.second.role × EntersAlone notes both o.effect × IsOneFrom pair o.both (noted_if o.effect notes) events
+
+-- It takes no premise but that nonces and tickets are fresh.
+abbrev pub OneIsLive : Type 0
+OneIsLive = (pair : Pair) (events : List BothEvent) → IsFreshPair pair events → IsOneFrom pair (first_lists pair) no_notes events
+
+-- the events of a schedule alone, and the replies to them
+abbrev pub plain_in : Act → List Event
+plain_in (Plain event) = event ∷ []
+plain_in (Moves meddles stop command) = []
+
+abbrev pub plain_events : List BothEvent → List Event
+plain_events [] = []
+plain_events (event ∷ events) = plain_in event.act ++ plain_events events
+
+abbrev pub plain_reply : BothReply → List Reply
+plain_reply (Said reply) = reply ∷ []
+plain_reply Invited = []
+plain_reply (Left number) = []
+plain_reply (Entered position) = []
+plain_reply (Denied cause) = []
+plain_reply NoSnapshot = []
+plain_reply NoTicket = []
+plain_reply (Broken way moved) = []
+
+abbrev pub plain_replies : List BothReply → List Reply
+plain_replies [] = []
+plain_replies (reply ∷ replies) = plain_reply reply ++ plain_replies replies
+
+-- the one history: that of the live side, or where the module left
+abbrev pub history_at : (first_lives second_lives : Bool) → (first second away : History) → History
+history_at true second_lives first second away = first
+history_at false true first second away = second
+history_at false false first second away = away
+
+abbrev pub history_now : Both History History → History
+history_now both = history_at (is_live both.first.role) (is_live both.second.role) both.first.at both.second.at both.away
+
+-- The replies to both sides' calls are those of one run of the machine, and as many requests were committed.
+pub record IsOneRun (pair : Pair) (events : List BothEvent) (lists : BothFollowed History History) : Type 0 where
+  pub runs : Runs pair.meaning [] (plain_events events) (plain_replies lists.replies) (requests_of (history_now lists.both).batches)
+  pub count : lists.both.committed ≡ length (requests_of (history_now lists.both).batches)
+
+abbrev pub SidesRunAsOne : Type 0
+SidesRunAsOne = (pair : Pair) (events : List BothEvent) → IsFreshPair pair events → IsOneRun pair events (both_expected pair events)
+
+-- what stands after some events and then more
+abbrev pub both_continued : {S A : Type 0} → BothFollowed S A → BothFollowed S A → BothFollowed S A
+both_continued first second = record { both = second.both; replies = first.replies ++ second.replies }
+
+-- A front of a schedule: what stands after it and its replies are those of the schedule so far.
+abbrev pub PairsGoOn : Type 0
+PairsGoOn = (pair : Pair) (es fs : List BothEvent) →
+    let lists : BothFollowed History History = both_expected pair es in
+    let digests : BothFollowed Digests ℕ = both_by_digests pair es in
+    (both_expected pair (es ++ fs) ≡ both_continued lists (both_followed lists_move pair lists.both fs))
+    × (both_by_digests pair (es ++ fs) ≡ both_continued digests (both_followed digests_move pair digests.both fs))

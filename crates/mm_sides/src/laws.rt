@@ -1,0 +1,38 @@
+//! The laws of two sides, each the contract of a function that does nothing.
+
+ghost use Rattle.mm_sides.specs.Order.{RolesBegin, RolesSwap, RolesGoOn, RolesEnterLast, RolesAreOne};
+ghost use Rattle.mm_sides.specs.Laws.{PairsAgreeThroughout, OneIsLive, SidesRunAsOne, PairsGoOn};
+
+/// The roles of two sides alone, where each nonce is invited once and each accepted ticket is one that the module left
+/// by: at most one side is live, and the module enters one only where none is, by the ticket that it left by last.
+pub fn roles_stay_in_order()
+    ensures begin { RolesBegin }
+    ensures swap { RolesSwap }
+    ensures next { RolesGoOn }
+    ensures enter { RolesEnterLast }
+    ensures one { RolesAreOne }
+{}
+
+/// At each moment of a schedule at most one side is live; and the module enters a side only where none is, by the ticket
+/// that it left by last.
+pub fn one_side_is_live()
+    ensures { OneIsLive }
+{}
+
+/// The replies to the calls of both sides are those of one run of the machine, on one list of requests.
+pub fn sides_run_as_one()
+    ensures { SidesRunAsOne }
+{}
+
+/// A schedule of both sides is told by digests as by lists, where no two messages of the run share a digest, no value of
+/// others is the guard of a batch, each right offer names a position of its side's history, and nonces and tickets are
+/// fresh.
+pub fn both_sides_agree()
+    ensures { PairsAgreeThroughout }
+{}
+
+/// What stands after the first events of a schedule, and the replies to them, are those of the schedule so far: so what
+/// is promised of a schedule holds of every front that meets the premises.
+pub fn both_go_on()
+    ensures { PairsGoOn }
+{}
