@@ -61,7 +61,7 @@ alike : (one other : Status) → one ≡ other → BlameAlike one other
 alike one other e = record { platform = ap tells_platform_fault e; store = ap tells_store_fault e; source = ap tells_read_fault e }
 
 -- what was to be told, as a status
-abbrev end_of : Result (List ℕ) Status → Status
+abbrev pub end_of : Result (List ℕ) Status → Status
 end_of (Ok text) = Done
 end_of (Err end) = end
 

@@ -1,4 +1,5 @@
 pub mod Blame
+pub mod Completing
 pub mod Ending
 pub mod OneRun
 pub mod Sending

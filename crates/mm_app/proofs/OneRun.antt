@@ -154,7 +154,7 @@ at_end left taken sent stop unsent (Ok report) tells parts =
 at_end left taken sent stop unsent (Err fault.WriteFault) tells parts =
     subst (λ s. WhatIsOut taken s WriteFault) (sym (unsent_after sent stop unsent parts)) (at_write taken sent (for_taken left taken (WritesFront sent) tells))
 at_end left taken sent stop unsent (Err fault.ReadFault) tells parts =
-    stopped_behind (lines_of taken) [] (lines_of taken) sent stop unsent _ (sym (append-nil (lines_of taken))) tells parts (λ h. cc)
+    stopped_behind (lines_of taken) [] (lines_of taken) sent stop unsent _ (sym (append-nil (lines_of taken))) tells.1 parts (λ h. cc)
 at_end left taken sent stop unsent (Err fault.Memory) tells parts =
     let front = tells.1 in
     let more = front_lines tells.0 front.0 in

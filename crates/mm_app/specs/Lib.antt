@@ -3,6 +3,7 @@ pub mod Bulk
 pub mod Checking
 pub mod Checkpoint
 pub mod Commands
+pub mod Completeness
 pub mod Headline
 pub mod Outside
 pub mod Power

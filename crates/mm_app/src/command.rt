@@ -12,6 +12,7 @@ ghost use Rattle.mm_words.specs.declared.command.Command.{Command as Told};
 ghost use Rattle.mm_words.specs.declared.command.Command.TheVariants.{Check, Receipts, Replay};
 ghost use Rattle.mm_app.specs.Blame.{BlamesOutput, BlamesSource, tells_platform_fault, tells_store_fault};
 ghost use Rattle.mm_app.specs.Commands.{DoesOrLacks, ReadsInput, SpellNo, SpellNone, TakesEntropy, UsesPlatform, UsesStore};
+ghost use Rattle.mm_app.specs.Completeness.{CanBeDone, IsDoneOrFailed};
 ghost use Rattle.mm_app.specs.Headline.{ReplaysOneRun};
 ghost use Rattle.mm_app.specs.Outside.{outside};
 ghost use Rattle.mm_app.specs.Status.{EndsUnrefused};
@@ -131,6 +132,16 @@ pub fn memoir<P: Platform, T: Store, S: Source, E: Source, K: Sink>(
         → (run_of (checked.check_answer header_at) checked.check_closing checked.AtHeader
         bytes).outcome ≡ Ok next
         → EndsUnrefused result }
+
+    // Nor is a command of the host, where what the objects tell allows it.
+    ensures host { let old = outside (P.standing platform.old) (T.kept store.old) (S.left input.old)
+        (S.faults input.old) (E.left entropy.old) (E.faults entropy.old) (K.received out.old)
+        (K.faults out.old) in
+        let new = outside (P.standing platform.new) (T.kept store.new) (S.left input.new)
+        (S.faults input.new) (E.left entropy.new) (E.faults entropy.new) (K.received out.new)
+        (K.faults out.new) in
+        (command : Told) → SpellsCommand command (map (λ s. s.now) words.now)
+        → CanBeDone command old new → IsDoneOrFailed result }
 
     // The headline: what is written for a schedule is one run of the module on one list of requests.
     ensures headline { SpellsCommand Replay (map (λ s. s.now) words.now)

@@ -215,11 +215,12 @@ pub judged_ok : (first : CheckStage) → first ≡ AtHeader → (left left' rece
 judged_ok first is_first left left' received received' next it result done played is c =
     let p = subst (λ (s : CheckStage). Plays (check_answer header_at) check_closing s next left left' received received' result) is_first played in
     let s = subst (λ (r : Result (Unit {0}) ReplayFault). Settles check_lines check_run next left' p.taken p.sent r) is p.settled in
-    let ran = input_ran p.taken next (outcome_is (check_run p.taken) (told p.sent (Ok next)) s.1) in
+    let answered = outcome_is (check_run p.taken) (told p.sent (Ok next)) s.1 in
+    let ran = input_ran p.taken next answered in
     record {
       taken = p.taken;
       consumed = p.consumed;
-      settled = (s.0, lines_checked (lines_of p.taken) next it ran.0 c);
+      settled = record { ended = s.0; after = next; answered = answered; checked = lines_checked (lines_of p.taken) next it ran.0 c };
     }
 
 pub is_behind : (first : CheckStage) → first ≡ AtHeader → (left left' received received' : Option (List ℕ)) (next : CheckStage) (result : Result (Unit {0}) ReplayFault) (done : Unit {0})
@@ -239,7 +240,7 @@ stops_so left taken sent fault h =
 judges_by : (next : CheckStage) (left : Option (List ℕ)) (taken sent : List ℕ) (fault : ReplayFault) → (fault ≡ WriteFault → ⊥)
     → (let r : Result (Unit {0}) ReplayFault = Err fault in Settles check_lines check_run next left taken sent r) → JudgesBy left taken (Err fault)
 judges_by next left taken sent Memory wrote s = tt
-judges_by next left taken sent ReadFault wrote s = (s.0, outcome_is (check_lines (lines_of taken)) (told sent (Ok s.0)) s.1)
+judges_by next left taken sent ReadFault wrote s = (s.0, (s.1.0, outcome_is (check_lines (lines_of taken)) (told sent (Ok s.1.0)) s.1.1))
 judges_by next left taken sent WriteFault wrote s = absurd (wrote refl)
 judges_by next left taken sent (BadLine n) wrote s = stops_so left taken sent (BadLine n) s
 judges_by next left taken sent (LineLong n) wrote s = stops_so left taken sent (LineLong n) s
@@ -271,7 +272,7 @@ appends_nothing (Some bytes) = sym (append-nil bytes)
 
 checks_by : (left : Option (List ℕ)) (taken : List ℕ) (fault : ReplayFault) → JudgesBy left taken (Err fault) → ChecksRunBy left taken [] (Err fault)
 checks_by left taken Memory s = refl
-checks_by left taken ReadFault s = (refl, s)
+checks_by left taken ReadFault s = (refl, s.0, s.1)
 checks_by left taken WriteFault s = absurd s
 checks_by left taken (BadLine n) s = (refl, s)
 checks_by left taken (LineLong n) s = (refl, s)

@@ -10,7 +10,7 @@ use Rattle.mm_schedule.specs.Grammar.{event_at}
 use Rattle.mm_schedule.specs.Headers.{header_at}
 use Rattle.mm_run.specs.Held.{world_of}
 use Rattle.mm_play.specs.Play.{Told, run, run_of}
-use Rattle.mm_play.specs.Plays.{ForWhole}
+use Rattle.mm_play.specs.Plays.{ForWhole, IsTailShort}
 use Rattle.mm_play.specs.Takes.{IsFrontOf}
 use Rattle.mm_check.specs.Checking.{CheckStage, AtHeader, check_answer, check_closing, section_line}
 use Rattle.mm_check.specs.Verdicts.{AreVerdicts, run_lines, verdicts_text}
@@ -43,12 +43,19 @@ check_lines lines = run (check_answer header_at) 1 AtHeader lines
 abbrev pub check_run : List ℕ → Told CheckStage
 check_run input = run_of (check_answer header_at) check_closing AtHeader input
 
+-- The input was taken to its end, its lines are all answered, the last one has its LF, and these are the verdicts on them.
+pub record IsJudged (left : Option (List ℕ)) (taken : List ℕ) (it : Verdicts) : Type 0 where
+  pub ended : IsAtEnd left
+  pub after : CheckStage
+  pub answered : (check_run taken).outcome ≡ Ok after
+  pub checked : IsChecked (lines_of taken) it
+
 -- How the answer fits the bytes that were taken.
 abbrev pub JudgesBy : Option (List ℕ) → List ℕ → Result Verdicts ReplayFault → Type 0
--- the input was taken to its end, and these are the verdicts on its lines
-JudgesBy left taken (Ok verdicts) = IsAtEnd left × IsChecked (lines_of taken) verdicts
--- the source failed: no whole line that was taken is refused
-JudgesBy left taken (Err ReadFault) = (after : CheckStage) × ((check_lines (lines_of taken)).outcome ≡ Ok after)
+-- the whole input was taken and answered, and these are the verdicts on it
+JudgesBy left taken (Ok verdicts) = IsJudged left taken verdicts
+-- the source failed: no whole line that was taken is refused, and the bytes behind them may be a line's
+JudgesBy left taken (Err ReadFault) = IsTailShort taken × ((after : CheckStage) × ((check_lines (lines_of taken)).outcome ≡ Ok after))
 JudgesBy left taken (Err WriteFault) = ⊥
 JudgesBy left taken (Err Memory) = Unit {0}
 -- else the run over the lines stops so
@@ -64,10 +71,11 @@ pub record Judges (left left' : Option (List ℕ)) (result : Result Verdicts Rep
 -- How the answer fits the bytes that were taken and those that were written: only after Ok, and where the output failed,
 -- is anything written.
 abbrev pub ChecksRunBy : Option (List ℕ) → List ℕ → List ℕ → Result Verdicts ReplayFault → Type 0
-ChecksRunBy left taken sent (Ok verdicts) = IsAtEnd left × IsChecked (lines_of taken) verdicts × (sent ≡ verdicts_text verdicts)
+ChecksRunBy left taken sent (Ok verdicts) = IsJudged left taken verdicts × (sent ≡ verdicts_text verdicts)
 ChecksRunBy left taken sent (Err WriteFault) =
-    (verdicts : Verdicts) × IsAtEnd left × IsChecked (lines_of taken) verdicts × IsFrontOf sent (verdicts_text verdicts)
-ChecksRunBy left taken sent (Err ReadFault) = (sent ≡ []) × ((after : CheckStage) × ((check_lines (lines_of taken)).outcome ≡ Ok after))
+    (verdicts : Verdicts) × IsJudged left taken verdicts × IsFrontOf sent (verdicts_text verdicts)
+ChecksRunBy left taken sent (Err ReadFault) = (sent ≡ []) × IsTailShort taken
+    × ((after : CheckStage) × ((check_lines (lines_of taken)).outcome ≡ Ok after))
 ChecksRunBy left taken sent (Err Memory) = sent ≡ []
 ChecksRunBy left taken sent (Err (BadLine number)) = (sent ≡ [])
     × ForWhole left taken (λ input. (check_run input).outcome ≡ Err (BadLine number))

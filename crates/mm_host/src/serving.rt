@@ -1,4 +1,4 @@
-//! A session: the lines of an input, each asked and told before the next is read.
+//! A session: the lines of an input, each asked and told, one after another.
 
 ghost use Rattle.std.specs.Prelude.{◌≡◌, ◌+◌, ◌≤◌, ◌%◌, [], IfOk, IfSome, Ok, length};
 ghost use Rattle.mm_base.specs.Lines.{MayGrow};

@@ -1,11 +1,12 @@
 -- Where a run stands between two lines, and how it goes on from there. Of its replies some were sent, and the others are
 -- pending.
-use Rattle.std.proofs.Common.{◌≡◌, ◌∙◌, ◌+◌, ℕ, Bool, true, false, List, [], ◌∷◌, ◌++◌, length, Result, Ok, Err, Option, refl, sym, ap, subst, append_assoc, append-nil, arith, inl, inr, length-append}
+use Rattle.std.proofs.Common.{◌≡◌, ◌∙◌, ◌+◌, ◌≤◌, ℕ, Bool, true, false, List, [], ◌∷◌, ◌++◌, length, Result, Ok, Err, Option, refl, sym, ap, subst, append_assoc, append-nil, arith, inl, inr, length-append}
 use Rattle.std.specs.Io.KnownBytes.{Appends, Consumes}
 use Rattle.std.specs.List.{AllByRecursion}
 use Rattle.std.proofs.KnownBytes.{Appends-nil, Appends-trans, Consumes-nil, Consumes-trans}
-use Rattle.mm_base.specs.Input.{IsUnbroken, lines_of, lines_joined}
-use Rattle.mm_base.proofs.Input.{lines_of-joined, lines_of-unbroken, joined-append}
+use Rattle.mm_base.specs.Input.{IsUnbroken, lines_of, tail_of, lines_joined}
+use Rattle.mm_base.specs.Limits.{longest_line}
+use Rattle.mm_base.proofs.Input.{lines_of-joined, lines_of-unbroken, tail_of-joined, tail_of-unbroken, joined-append}
 use Rattle.mm_base.specs.declared.replay_fault.ReplayFault.{ReplayFault}
 use Rattle.mm_base.specs.declared.replay_fault.ReplayFault.TheVariants.{Memory, ReadFault, WriteFault, BadLine, LineLong, TooMuch}
 use Rattle.mm_play.specs.declared.player.Refused.{Refused}
@@ -118,10 +119,15 @@ settled_by : {P : Type 0} (answer : P → List ℕ → Result (List ℕ × P) Re
     → PlayedOn answer (run_from answer closing number player) number player next left (held ++ taken) held' pending said (Err fault)
     → Settles {T = Unit {0}} (run answer 1 first) (run_of answer closing first) next left (before ++ taken) (sent ++ said) (Err fault)
 settled_by {P} answer closing first player next number lines left before held taken held' sent pending said ReadFault cut unbroken counted ran w = (
-  player,
-  ap (run answer 1 first) (ap lines_of (taken_on lines before held taken cut) ∙ lines_of-joined lines (held ++ taken) unbroken
-      ∙ ap (λ ls. lines ++ ls) (lines_of-unbroken (held ++ taken) w.1) ∙ append-nil lines)
-      ∙ ran ∙ ap (λ b. told b (Ok player)) (sym (ap (λ b. sent ++ b) w.0)),
+  subst (λ (t : List ℕ). length t ≤ longest_line)
+      (sym (ap tail_of (taken_on lines before held taken cut) ∙ tail_of-joined lines (held ++ taken) unbroken ∙ tail_of-unbroken (held ++ taken) w.1.unbroken))
+      w.1.short,
+  (
+    player,
+    ap (run answer 1 first) (ap lines_of (taken_on lines before held taken cut) ∙ lines_of-joined lines (held ++ taken) unbroken
+        ∙ ap (λ ls. lines ++ ls) (lines_of-unbroken (held ++ taken) w.1.unbroken) ∙ append-nil lines)
+        ∙ ran ∙ ap (λ b. told b (Ok player)) (sym (ap (λ b. sent ++ b) w.0)),
+  ),
 )
 settled_by {P} answer closing first player next number lines left before held taken held' sent pending said WriteFault cut unbroken counted ran w =
     for_whole answer closing first player number lines left before held taken (sent ++ pending) (λ t. IsFrontOf said (pending ++ t.written)) (λ t. IsFrontOf (sent ++ said) t.written)

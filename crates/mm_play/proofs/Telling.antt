@@ -261,7 +261,7 @@ pub tells_more : {T : Type 0} (some some' all all' : List (List ℕ) → List �
     → ((done rest : List (List ℕ)) → much done rest → much' done rest)
     → TellsBy some all much left taken sent result → TellsBy some' all' much' left taken sent result
 tells_more some some' all all' much much' left taken sent (Ok _) lift whole turn t = whole (lines_of taken) sent t
-tells_more some some' all all' much much' left taken sent (Err ReadFault) lift whole turn t = lift (lines_of taken) sent t
+tells_more some some' all all' much much' left taken sent (Err ReadFault) lift whole turn t = (t.0, lift (lines_of taken) sent t.1)
 tells_more some some' all all' much much' left taken sent (Err WriteFault) lift whole turn t =
     for_whole left taken (Fronted some all sent) (Fronted some' all' sent)
     (λ input w. (w.0, w.1, either_more some some' all all' (lines_of input) w.0 lift whole w.2)) t

@@ -173,7 +173,7 @@ turn_unread answer closing number player next left left' held here held' receive
       consumed = b.consumed;
       appended = w.1;
       went = subst (λ (p : List ℕ). PlayedOn answer rest number player next left' (held ++ b.taken) held' p (w.0 ++ pending') (Err ReadFault)) (sym w.2) went;
-      is_sent = failed.0 ∙ none (unbroken_front held b.taken failed.1);
+      is_sent = failed.0 ∙ none (unbroken_front held b.taken failed.1.unbroken);
     }
 
 none_is_sent : (pending : List ℕ) (result : Result Bool ReplayFault) → pending ≡ [] → IsSent pending result

@@ -1,8 +1,9 @@
 -- What a call that answers the lines of an input took, wrote and answers.
-use Rattle.std.specs.Prelude.{◌≡◌, ℕ, List, ◌++◌, Option, Result, Ok, Err, Bool, true, false, ◌⊎◌}
+use Rattle.std.specs.Prelude.{◌≡◌, ℕ, ◌≤◌, List, ◌++◌, length, Option, Result, Ok, Err, Bool, true, false, ◌⊎◌}
 use Rattle.std.specs.Io.KnownBytes.{Appends, Consumes, IsAtEnd}
 use Rattle.mm_base.specs.Faults.{Rose}
-use Rattle.mm_base.specs.Input.{lines_of}
+use Rattle.mm_base.specs.Input.{lines_of, tail_of}
+use Rattle.mm_base.specs.Limits.{longest_line}
 use Rattle.mm_base.specs.declared.replay_fault.ReplayFault.{ReplayFault}
 use Rattle.mm_base.specs.declared.replay_fault.ReplayFault.TheVariants.{Memory, ReadFault, WriteFault, BadLine, LineLong, TooMuch}
 use Rattle.mm_play.specs.declared.player.Refused.{Refused}
@@ -14,14 +15,19 @@ use Rattle.mm_play.specs.Takes.{IsFrontOf}
 abbrev pub ForWhole : Option (List ℕ) → List ℕ → (List ℕ → Type 0) → Type 0
 ForWhole left taken holds = ((rest : List ℕ) → holds (taken ++ rest)) ⊎ (IsAtEnd left × holds taken)
 
+-- What stands behind the last LF may still grow into a line: a longer one is told as such, and no more of it is read.
+abbrev pub IsTailShort : List ℕ → Type 0
+IsTailShort taken = length (tail_of taken) ≤ longest_line
+
 -- How the answer fits what was taken of the input and written. `lines` is the run over whole lines, `whole` that
 -- over a whole input.
 abbrev pub Settles : {P T : Type 0} → (List (List ℕ) → Told P) → (List ℕ → Told P) → P → Option (List ℕ) → List ℕ → List ℕ
     → Result T ReplayFault → Type 0
 -- Ok: the input was taken to its end, and the run over it was written whole.
 Settles lines whole next left taken sent (Ok _) = IsAtEnd left × (whole taken ≡ told sent (Ok next))
--- The source failed: each whole line that was taken is answered, and nothing else.
-Settles {P} lines whole next left taken sent (Err ReadFault) = (after : P) × (lines (lines_of taken) ≡ told sent (Ok after))
+-- The source failed: each whole line that was taken is answered, and nothing else; and the bytes behind them may be a line's.
+Settles {P} lines whole next left taken sent (Err ReadFault) =
+    IsTailShort taken × ((after : P) × (lines (lines_of taken) ≡ told sent (Ok after)))
 -- The sink failed: what went out is a front of what the run writes.
 Settles lines whole next left taken sent (Err WriteFault) = ForWhole left taken (λ input. IsFrontOf sent (whole input).written)
 -- Want of memory: some first lines are answered.

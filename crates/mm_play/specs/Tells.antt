@@ -6,7 +6,7 @@ use Rattle.mm_base.specs.declared.replay_fault.ReplayFault.TheVariants.{Memory, 
 use Rattle.mm_play.specs.declared.player.Refused.{Refused}
 use Rattle.mm_play.specs.declared.player.Refused.TheVariants.{Much}
 use Rattle.mm_play.specs.Play.{told, run}
-use Rattle.mm_play.specs.Plays.{ForWhole}
+use Rattle.mm_play.specs.Plays.{ForWhole, IsTailShort}
 use Rattle.mm_play.specs.Takes.{IsFrontOf}
 
 -- Some first lines were answered, and there it stopped.
@@ -32,8 +32,8 @@ abbrev pub TellsBy : {T : Type 0} → (some all : List (List ℕ) → List ℕ �
     → Option (List ℕ) → List ℕ → List ℕ → Result T ReplayFault → Type 0
 -- the replies to all lines, and the last lines
 TellsBy some all much left taken sent (Ok _) = all (lines_of taken) sent
--- the replies to all whole lines
-TellsBy some all much left taken sent (Err ReadFault) = some (lines_of taken) sent
+-- the replies to all whole lines, and the bytes behind them may be a line's
+TellsBy some all much left taken sent (Err ReadFault) = IsTailShort taken × some (lines_of taken) sent
 -- a front of the replies to some first lines, or of all and the last lines
 TellsBy some all much left taken sent (Err WriteFault) = ForWhole left taken (λ input.
     (written : List ℕ) × IsFrontOf sent written × (AnswersFirst some anywhere (lines_of input) written ⊎ all (lines_of input) written))

@@ -3,6 +3,7 @@
 use Rattle.std.specs.Prelude.{◌≡◌, ℕ, ◌≤◌, List, [], ◌∷◌, ◌++◌, length, Option, Some, None, Result, Ok, Err, OnOk, OnErr, Bool, true, false, ◌⊎◌}
 use Rattle.std.specs.Io.KnownBytes.{Appends, Consumes, IsAtEnd}
 use Rattle.mm_base.specs.Input.{IsUnbroken}
+use Rattle.mm_base.specs.Lines.{MayGrow}
 use Rattle.mm_base.specs.declared.fault.WriteFault as write
 use Rattle.mm_base.specs.declared.replay_fault.ReplayFault.{ReplayFault}
 use Rattle.mm_base.specs.declared.replay_fault.ReplayFault.TheVariants.{Memory, ReadFault, WriteFault, BadLine, LineLong, TooMuch}
@@ -53,7 +54,7 @@ PlayedOn answer rest number player next left bytes held pending said (Ok true) =
     AnswersLine answer number player next bytes held pending said
 PlayedOn answer rest number player next left bytes held pending said (Ok false) =
     IsAtEnd left × (last : List ℕ) × (rest bytes ≡ told last (Ok next)) × (said ≡ pending ++ last)
-PlayedOn answer rest number player next left bytes held pending said (Err ReadFault) = (said ≡ pending) × IsUnbroken bytes
+PlayedOn answer rest number player next left bytes held pending said (Err ReadFault) = (said ≡ pending) × MayGrow longest_line bytes
 PlayedOn answer rest number player next left bytes held pending said (Err WriteFault) =
     ForWhole left bytes (λ input. IsFrontOf said (pending ++ (rest input).written))
 PlayedOn answer rest number player next left bytes held pending said (Err Memory) = said ≡ pending

@@ -1,11 +1,16 @@
 //! Replays that stop early.
 
+ghost use Rattle.std.specs.Prelude.{None};
+
 use crate::run::{
-    Told, check_all, replay_over, replies_of, run_over, schedule_of, sound, writes, writes_over,
+    ROOM, Told, check_all, command, replay_over, replies_of, schedule_of, sound, writes,
+    writes_over,
 };
 use crate::schedules::{LIMITER, QUOTA};
 use crate::segments::KEPT;
-use mm_base::Memory;
+use mm_base::{Failed as Refused, MemSink, Memory, Source};
+use mm_platform::MemPlatform;
+use mm_store::MemStore;
 use std::alloc::Global;
 use std::process::Abort;
 use std::test::Fail;
@@ -61,8 +66,6 @@ const CUT_OFF: &str = "memoir 1 basic counter\nask 0 add 5\nask 1 add 5\nask 2";
 
 const CUT_OFF_REPLIES: &str = "ok 1 5\nok 2 10\nstop line 4\n";
 
-const HEADER: &str = "memoir 1 basic counter\n";
-
 #[test]
 fn a_line_outside_the_grammar_stops_a_replay(rt: HostRuntime) -> Result<(), Fail> {
     check_all(&rt, rt.alloc(), BAD_LINES, 13)?;
@@ -71,13 +74,44 @@ fn a_line_outside_the_grammar_stops_a_replay(rt: HostRuntime) -> Result<(), Fail
     Ok(())
 }
 
-// Whether these words are refused.
-fn are_refused(alloc: Global, words: &[&str]) -> Result<bool, Memory> {
-    let told = run_over(alloc, words, HEADER.as_bytes(), &sound())?;
-    Ok(told.comes_to(b"stop usage\n", 2))
+/// A source of no byte that notes whether it was asked.
+#[derive(Drop)]
+struct Noting {
+    is_asked: bool,
 }
 
-/// Words that are no command.
+impl Source for Noting {
+    ghost left = { λ _. None };
+
+    ghost faults = { λ _. 0 };
+
+    fn take(&mut self, _buf: &mut [u8]) -> Result<usize, Refused> {
+        self.is_asked = true;
+        Ok(0)
+    }
+}
+
+// Whether these words are refused, and neither the input nor the entropy is asked.
+fn are_refused(alloc: Global, words: &[&str]) -> Result<bool, Memory> {
+    let mut platform = MemPlatform::new(alloc, &[0; 104]);
+    let mut store = MemStore::new(alloc);
+    let mut input = Noting { is_asked: false };
+    let mut entropy = Noting { is_asked: false };
+    let mut out = MemSink::new(alloc, ROOM, &[])?;
+    let code = command(
+        alloc,
+        words,
+        &mut platform,
+        &mut store,
+        &mut input,
+        &mut entropy,
+        &mut out,
+    );
+    let is_unasked = !input.is_asked && !entropy.is_asked;
+    Ok(code == 2 && out.content() == b"stop usage\n".as_slice() && is_unasked)
+}
+
+/// Words that are no command: nothing is read for them.
 #[test]
 fn other_words_are_refused(rt: HostRuntime) -> Result<(), Fail> {
     assert!(&rt; are_refused(rt.alloc(), &[])?);

@@ -2,7 +2,7 @@
 
 ghost use Rattle.std.specs.Prelude.{None};
 
-use crate::run::{ROOM, replay, replay_over, sound, writes};
+use crate::run::{ROOM, alone, replay, replay_over, sound, writes};
 use mm_base::{Bytes, Failed, MemSink, Memory, Source};
 use std::alloc::Global;
 use std::test::Fail;
@@ -222,5 +222,42 @@ fn long_lines_come_to_an_end(alloc: Global, schedule: &[u8]) -> Result<bool, Mem
 fn lines_and_snapshots_have_268435456_bytes(rt: HostRuntime) -> Result<(), Fail> {
     let schedule = with_accounts(rt.alloc(), "memoir 1 basic quota\n", 256)?;
     assert!(rt; long_lines_come_to_an_end(rt.alloc(), schedule.as_bytes())?);
+    Ok(())
+}
+
+// Checks a recorded run, and tells whether these bytes are written, with this exit status.
+fn check_comes_to(
+    alloc: Global,
+    next: &[u8],
+    again: &[u8],
+    times: u64,
+    written: &[u8],
+    code: u8,
+) -> Result<bool, Memory> {
+    let mut out = MemSink::new(alloc, ROOM, &[])?;
+    let mut input = Repeated { next, again, times };
+    Ok(alone(alloc, "check", &mut input, &mut out) == code && out.content() == written)
+}
+
+/// The last line has its LF, and 8,400 bytes at most.
+#[test]
+fn a_recorded_run_ends_with_a_line(rt: HostRuntime) -> Result<(), Fail> {
+    let last = b"memoir 1 basic counter\nask last add 5";
+    assert!(&rt; check_comes_to(rt.alloc(), last, b"", 0, b"stop line 2\n", 13)?);
+    assert!(&rt; check_comes_to(rt.alloc(), last, b"\n", 1, b"held\nagree\n", 0)?);
+    assert!(&rt; check_comes_to(rt.alloc(), HEADER, &[b'a'; 8400], 1, b"stop line 2\n", 13)?);
+    assert!(&rt; check_comes_to(rt.alloc(), HEADER, &[b'a'; 8401], 1, b"stop long 2\n", 14)?);
+    Ok(())
+}
+
+/// 20,000 events, and 1,280,001 recorded lines.
+#[test]
+fn a_recorded_run_has_so_many_lines(rt: HostRuntime) -> Result<(), Fail> {
+    let many = &[b'\n'; 64];
+    let recorded = b"memoir 1 basic counter\nreplies\n\n";
+    let one_more = b"memoir 1 basic counter\nreplies\n\n\n";
+    assert!(&rt; check_comes_to(rt.alloc(), HEADER, b"power\n", 20_001, b"stop much\n", 15)?);
+    assert!(&rt; check_comes_to(rt.alloc(), recorded, many, 20_000, b"held\ndiffer 1\n", 0)?);
+    assert!(&rt; check_comes_to(rt.alloc(), one_more, many, 20_000, b"stop much\n", 15)?);
     Ok(())
 }

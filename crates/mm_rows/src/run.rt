@@ -43,11 +43,16 @@ pub fn command<P: Platform, T: Store, S: Source, E: Source, K: Sink>(
 /// Replays an input over a blank platform, an empty store and no entropy, and answers the exit
 /// status.
 pub fn replay<S: Source, K: Sink>(alloc: Global, input: &mut S, out: &mut K) -> u8 {
+    alone(alloc, "replay", input, out)
+}
+
+/// Does what a word says over the same.
+pub fn alone<S: Source, K: Sink>(alloc: Global, word: &str, input: &mut S, out: &mut K) -> u8 {
     let mut platform = MemPlatform::new(alloc, &[0; 104]);
     let mut store = MemStore::new(alloc);
     command(
         alloc,
-        &["replay"],
+        &[word],
         &mut platform,
         &mut store,
         input,

@@ -3,9 +3,11 @@
 
 ghost use Rattle.std.specs.Prelude.{None};
 
-use crate::run::{ROOM, replay};
+use crate::run::{NoBytes, ROOM, command, command_over, replay, sound};
 use mm_app::{StdSink, StdSource};
 use mm_base::{Failed, MemSink, MemSource, Memory, Sink, Source};
+use mm_platform::MemPlatform;
+use mm_store::MemStore;
 use std::alloc::Global;
 use std::cell::Cell;
 use std::io;
@@ -126,10 +128,13 @@ fn an_error_of_the_writer_is_no_write(rt: HostRuntime) -> Result<(), Fail> {
     Ok(())
 }
 
-/// A source that gives one line a call, a header and three events, and fails where an event that it gave was not
-/// answered yet.
+/// A source that gives one line a call, one and three others, and fails where a line that it gave was not answered yet,
+/// but for so many of the first.
 #[derive(Drop)]
 struct Waiting<'a> {
+    first: &'a [u8],
+    others: &'a [u8],
+    unanswered: u64,
     given: u64,
     replies: &'a Cell<u64>,
     faults: u64,
@@ -141,13 +146,13 @@ impl Source for Waiting<'_> {
     ghost faults = { λ source. source.faults };
 
     fn take(&mut self, buf: &mut [u8]) -> Result<usize, Failed> {
-        if self.replies.get() < self.given.saturating_sub(1) {
+        if self.replies.get() < self.given.saturating_sub(self.unanswered) {
             self.faults = self.faults.saturating_add(1);
             return Err(Failed);
         }
-        let line: &[u8] = match self.given {
-            0 => b"memoir 1 basic counter\n",
-            1..=3 => b"ask last add 5\n",
+        let line = match self.given {
+            0 => self.first,
+            1..=3 => self.others,
             _ => return Ok(0),
         };
         self.given += 1;
@@ -177,17 +182,59 @@ impl Sink for Counting<'_> {
     }
 }
 
+// Serves an input by a counter, and answers the exit status.
+fn serve<S: Source, K: Sink>(alloc: Global, input: &mut S, out: &mut K) -> Result<u8, Memory> {
+    let mut platform = MemPlatform::new(alloc, &[0; 104]);
+    let mut store = MemStore::new(alloc);
+    let mut streams = sound();
+    streams.secrets = &[7; 64];
+    let words = ["init", "basic", "counter"];
+    command_over(alloc, &words, &mut platform, &mut store, b"", &streams)?;
+    let words = ["run"];
+    let entropy = &mut NoBytes;
+    Ok(command(
+        alloc,
+        &words,
+        &mut platform,
+        &mut store,
+        input,
+        entropy,
+        out,
+    ))
+}
+
 /// Source and sink are two values, so that no contract on both tells which was called first.
 #[test]
 fn each_reply_is_out_before_the_source_is_asked_again(rt: HostRuntime) -> Result<(), Fail> {
     let replies = Cell::new(0);
     let mut input = Waiting {
+        first: b"memoir 1 basic counter\n",
+        others: b"ask last add 5\n",
+        unanswered: 1,
         given: 0,
         replies: &replies,
         faults: 0,
     };
     let mut out = Counting { replies: &replies };
     assert!(&rt; replay(rt.alloc(), &mut input, &mut out) == 0);
+    assert!(&rt; replies.get() == 4);
+    Ok(())
+}
+
+/// The same of a session.
+#[test]
+fn each_reply_of_a_session_is_out_before_the_next_line(rt: HostRuntime) -> Result<(), Fail> {
+    let replies = Cell::new(0);
+    let mut input = Waiting {
+        first: b"add 5\n",
+        others: b"add 7\n",
+        unanswered: 0,
+        given: 0,
+        replies: &replies,
+        faults: 0,
+    };
+    let mut out = Counting { replies: &replies };
+    assert!(&rt; serve(rt.alloc(), &mut input, &mut out)? == 0);
     assert!(&rt; replies.get() == 4);
     Ok(())
 }

@@ -6,10 +6,12 @@ use Rattle.mm_words.specs.declared.command.Command.TheVariants.{Check, Receipts,
 use Rattle.mm_words.proofs.OneCommand.{one_command}
 use Rattle.mm_app.specs.Blame.{BlamesSource, tells_platform_fault, tells_store_fault}
 use Rattle.mm_app.specs.Commands.{DoesOrLacks}
+use Rattle.mm_app.specs.Completeness.{IsDoneOrFailed}
 use Rattle.mm_app.specs.Outside.{outside}
 use Rattle.mm_app.specs.Status.{EndsUnrefused, stop_line}
 use Rattle.mm_app.specs.declared.status.Status.{Status}
 use Rattle.mm_app.proofs.Blame.{Frames, blamed, memory_alike, no_memory, no_usage, output_blamed, output_stopped, stopped_blamed}
+use Rattle.mm_app.proofs.Completing.{may_be_done}
 use Rattle.mm_app.proofs.OneRun.{headline_of, lacks_one_run}
 use Rattle.mm_app.proofs.command.memoir.Goals as goal
 
@@ -154,3 +156,19 @@ returns-in-Err-Usage-clause-check g c spells bytes next left run = absurd (c.in-
 
 pub returns-in-Err-Memory-clause-check : goal.returns-in-Err-Memory-clause-check
 returns-in-Err-Memory-clause-check g c spells bytes next left run = subst EndsUnrefused (sym c.stopped-in-Err-Memory.ensures.status) tt
+
+pub returns-in-Ok-clause-host : goal.returns-in-Ok-clause-host
+returns-in-Ok-clause-host g c command spells can =
+    let old = outside (g.P.Device.standing c.args.platform.now) (g.T.Store.kept c.args.store.now) (g.S.Source.left c.args.input.now) (g.S.Source.faults c.args.input.now)
+    (g.E.Source.left c.args.entropy.now) (g.E.Source.faults c.args.entropy.now) (g.K.Sink.received c.args.out.now) (g.K.Sink.faults c.args.out.now) in
+    let new = outside (g.P.Device.standing c.done.new.platform) (g.T.Store.kept c.done.new.store) (g.S.Source.left c.done.new.input) (g.S.Source.faults c.done.new.input)
+    (g.E.Source.left c.done.new.entropy) (g.E.Source.faults c.done.new.entropy) (g.K.Sink.received c.done.new.out) (g.K.Sink.faults c.done.new.out) in
+    may_be_done command old new c.done.result can
+    (subst (λ (it : Command). DoesOrLacks it old new c.done.result)
+    (one_command _ c.in-Ok.command command c.in-Ok.ensures.ok spells) c.done.ensures.does)
+
+pub returns-in-Err-Usage-clause-host : goal.returns-in-Err-Usage-clause-host
+returns-in-Err-Usage-clause-host g c command spells can = absurd (c.in-Err-Usage.ensures.usage (rw c.in-Err-Usage.field-0-is refl) command spells)
+
+pub returns-in-Err-Memory-clause-host : goal.returns-in-Err-Memory-clause-host
+returns-in-Err-Memory-clause-host g c command spells can = subst IsDoneOrFailed (sym c.stopped-in-Err-Memory.ensures.status) tt

@@ -1,0 +1,78 @@
+-- When a command isn't refused, by what the objects that it is handed tell.
+use Rattle.std.specs.Prelude.{◌≡◌, ◌≢◌, ◌≤◌, ℕ, true, List, length, Option, Some}
+use Rattle.mm_base.specs.Input.{lines_of}
+use Rattle.mm_digest.specs.Messages.{zero_bytes}
+use Rattle.mm_digest.specs.declared.variant.Variant.TheVariants.{Opt}
+use Rattle.mm_host.specs.Continuing.{CanServe}
+use Rattle.mm_host.specs.SessionLines.{AreWithin}
+use Rattle.mm_module.specs.Batch.{Batch}
+use Rattle.mm_model.specs.History.{History}
+use Rattle.mm_model.specs.Instance.{basic}
+use Rattle.mm_modules.specs.Modules.{meaning_of}
+use Rattle.mm_modules.specs.declared.any.AnyModule.{AnyModule}
+use Rattle.mm_platform.specs.Standing.{Item, Standing, item_values, register_after}
+use Rattle.mm_seal.specs.Cell.{IsCell, blank_cell, cell_spelling}
+use Rattle.mm_seal.specs.declared.cell.Cell.{Cell}
+use Rattle.mm_store.specs.Slots.{Slots}
+use Rattle.mm_words.specs.declared.command.Command.{Command}
+use Rattle.mm_words.specs.declared.command.Command.TheVariants.{Init, Run, Checkpoint, Power, Gen, Help}
+use Rattle.mm_app.specs.Outside.{Outside}
+use Rattle.mm_app.specs.declared.status.Status.{Status}
+use Rattle.mm_app.specs.declared.status.Status.TheVariants.{Done, ReadFault, WriteFault, Memory, PlatformFault, StoreFault}
+
+-- All was done, or memory was wanting, or an object that was handed in failed.
+abbrev pub IsDoneOrFailed : Status → Type 0
+IsDoneOrFailed Done = Unit {0}
+IsDoneOrFailed Memory = Unit {0}
+IsDoneOrFailed ReadFault = Unit {0}
+IsDoneOrFailed WriteFault = Unit {0}
+IsDoneOrFailed PlatformFault = Unit {0}
+IsDoneOrFailed StoreFault = Unit {0}
+IsDoneOrFailed _ = ⊥
+
+-- for a first start: the cell is blank, and the entropy has 64 bytes
+pub record CanStart (old : Outside) : Type 0 where
+  pub cell : old.standing.cell ≡ Some blank_cell
+  pub secrets : List ℕ
+  pub left : old.entropy ≡ Some secrets
+  pub many : 64 ≤ length secrets
+
+-- the register, by the items that it shows, isn't zero
+pub record ShowsPower (standing : Standing) : Type 0 where
+  pub items : List Item
+  pub shown : standing.items ≡ Some items
+  pub powered : register_after (item_values items) ≢ zero_bytes
+
+-- For a checkpoint: the cell is one of Opt; and where its segment is open, the register isn't zero afterwards, so that power
+-- wasn't lost inside it.
+pub record CanClose (old new : Outside) : Type 0 where
+  pub held : Cell
+  pub formed : IsCell held
+  pub cell : old.standing.cell ≡ Some (cell_spelling held)
+  pub variant : held.variant ≡ Opt
+  pub powered : held.flag ≡ true → ShowsPower new.standing
+
+-- For a session of Basic: the platform stands for a history of a module, the slots fit it, and the lines of the input may follow it
+-- and are within their limits.
+pub record CanRun (old : Outside) : Type 0 where
+  pub it : AnyModule
+  pub key : List ℕ
+  pub y : History
+  pub slots : Slots
+  pub all : List (List ℕ)
+  pub others : List (List ℕ)
+  pub asked : List Batch
+  pub input : List ℕ
+  pub left : old.left ≡ Some input
+  pub lines : AreWithin input
+  pub serves : CanServe all others asked (basic (meaning_of it) key) y slots old.standing old.kept (lines_of input)
+
+-- What is asked, by the command. Those that play lines, and `bulk`, have clauses of their own.
+abbrev pub CanBeDone : Command → (old new : Outside) → Type 0
+CanBeDone (Init header) old new = CanStart old
+CanBeDone Run old new = CanRun old
+CanBeDone Checkpoint old new = CanClose old new
+CanBeDone Power old new = Unit {0}
+CanBeDone (Gen it) old new = Unit {0}
+CanBeDone Help old new = Unit {0}
+CanBeDone _ old new = ⊥
