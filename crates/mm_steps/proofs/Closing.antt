@@ -4,7 +4,6 @@ use Rattle.std.specs.Prelude.{◌==◌}
 use Rattle.std.specs.Option.{option_map}
 use Rattle.mm_base.specs.Faults.{counted}
 use Rattle.mm_digest.specs.declared.variant.Variant.{Variant}
-use Rattle.mm_platform.specs.declared.fault.StepFault.{StepFault}
 use Rattle.mm_platform.specs.declared.fault.StepFault.TheVariants.{Failed}
 use Rattle.mm_platform.specs.declared.plan.Meddle.{Meddle}
 use Rattle.mm_platform.specs.declared.plan.Stop.{Stop}
@@ -24,20 +23,17 @@ use Rattle.mm_opt.specs.declared.stage.CheckpointStage.TheVariants as stage
 use Rattle.mm_opt.specs.declared.closing.CheckpointTurn.{CheckpointTurn}
 use Rattle.mm_opt.specs.declared.closing.CheckpointTurn.TheVariants as turn
 use Rattle.mm_opt.specs.Checkpoints.{closing_act_of, closing_number_of, closing_fault_of, closing_fault_in, FinishesClosing}
-use Rattle.mm_opt.specs.CheckpointTurns.{ClosingTurns, closing_fault_turned}
+use Rattle.mm_opt.specs.CheckpointTurns.{ClosingTurns}
 use Rattle.mm_opt.specs.ChecksOn.{ChecksOn}
 use Rattle.mm_schedule.specs.declared.reply.Reply.{Reply}
 use Rattle.mm_schedule.specs.declared.reply.Way.TheVariants as way
 use Rattle.mm_run.specs.Folds.{stopped_reply}
-use Rattle.mm_flight.specs.InFlight.{plan_by, under, InFlight}
-use Rattle.mm_flight.proofs.Replanning.{Replans}
+use Rattle.mm_flight.specs.InFlight.{plan_by, under}
 use Rattle.mm_flight.proofs.ClosingTurning.{closing_replanned, closing_moves, closing_then, closing_done, closing_refused, closing_fails, closing_faultless}
 use Rattle.mm_flight.proofs.Flying.{replans, goes_on}
-use Rattle.mm_world.specs.Stands.{Stands, IsQuiet}
 use Rattle.mm_world.specs.Calls.{stopped_step, closes_at, SettlesPlan, told_closing, stops_in}
 use Rattle.mm_world.specs.Asks.{Came, quiet_as}
 use Rattle.mm_world.proofs.Checking.{checks_planned}
-use Rattle.mm_steps.specs.declared.closings.SteppedClosing.{SteppedClosing}
 use Rattle.mm_steps.specs.declared.closings.SteppedClosing.TheVariants.{Going, Over}
 use Rattle.mm_steps.specs.Stopping.{is_nothing, stop_behind}
 use Rattle.mm_steps.specs.Closing.{checks_whole, checks_rest, ClosesInFlight, closed_so, SteppedClosingTo, ClosesAs}

@@ -29,23 +29,22 @@ use Rattle.mm_call.specs.Levels.{by_digests}
 use Rattle.mm_call.specs.Standing.{instance_by}
 use Rattle.mm_schedule.specs.declared.event.Offer.{Offer}
 use Rattle.mm_schedule.specs.declared.reply.Cause.{Cause}
-use Rattle.mm_run.specs.Folds.{Outcome, asked, cause_of}
+use Rattle.mm_run.specs.Folds.{asked, cause_of}
 use Rattle.mm_run.specs.Offered.{offered_bytes}
 use Rattle.mm_flight.specs.declared.ask.AskCall.{AskCall}
 use Rattle.mm_flight.specs.declared.ask.AskTurn.{AskTurn}
 use Rattle.mm_flight.specs.declared.ask.AskTurn.TheVariants as turn
-use Rattle.mm_flight.specs.Asks.{ask_number, AskTurns, TurnMayAsk, MayAsk, ask_fault, AskFinishes, AdvancedAsk}
-use Rattle.mm_flight.specs.InFlight.{plan_by, under, InFlight}
+use Rattle.mm_flight.specs.Asks.{ask_number, AskTurns, TurnMayAsk, AskFinishes, AdvancedAsk}
+use Rattle.mm_flight.specs.InFlight.{plan_by, under}
 use Rattle.mm_flight.proofs.Replanning.{Replans, AlwaysFails}
 use Rattle.mm_flight.proofs.Asking.{ask_act, ask_replanned, ask_moves, ask_then, ask_answers, ask_refuses, ask_fails, ask_faultless, ask_breaks, few_steps}
 use Rattle.mm_flight.proofs.Flying.{replans, goes_on}
 use Rattle.mm_world.specs.declared.call.Called.{Called}
-use Rattle.mm_world.specs.Stands.{Stands, IsQuiet}
-use Rattle.mm_world.specs.Calls.{refused_call, answered_call, broken_as, takes_effect, stopped_step, RefusedAs, CalledAs, SettlesPlan}
+use Rattle.mm_world.specs.Calls.{refused_call, answered_call, broken_as, stopped_step, RefusedAs, CalledAs, SettlesPlan}
 use Rattle.mm_world.specs.Asks.{Came, Lacks}
 use Rattle.mm_world.proofs.Calling.{asks_planned}
 use Rattle.mm_steps.specs.declared.asks.Stepped.{Stepped}
-use Rattle.mm_steps.specs.declared.asks.Stepped.TheVariants.{Going, Over}
+use Rattle.mm_steps.specs.declared.asks.Stepped.TheVariants.{Going}
 use Rattle.mm_steps.specs.Stopping.{BreaksNext, is_nothing, stop_behind}
 use Rattle.mm_steps.specs.Asking.{asks_whole, asks_rest, AsksInFlight, asked_so, SteppedTo, MayStepOn, over_in, EndsAs}
 use Rattle.mm_steps.proofs.Stopping.{goes_as, same_next, fails_next, always_fails}

@@ -12,8 +12,8 @@ use Rattle.mm_platform.specs.declared.plan.Stop.{Stop}
 use Rattle.mm_platform.specs.declared.plan.Stop.TheVariants.{Quiet, Cut, Drop, Fail}
 use Rattle.mm_platform.specs.Standing.{Plan, Standing, next_step}
 use Rattle.mm_platform.specs.Memory.{stopping}
-use Rattle.mm_platform.specs.Steps.{Act, Goes, fault_at, is_made_at, is_on_at, will_answer}
-use Rattle.mm_platform.specs.Told.{step_made, next_answer}
+use Rattle.mm_platform.specs.Steps.{Act, Goes, fault_at, will_answer}
+use Rattle.mm_platform.specs.Told.{step_made}
 use Rattle.mm_platform.proofs.Stepping.{goes}
 use Rattle.mm_flight.specs.InFlight.{plan_by, under, SaySame, GoesOnAs}
 use Rattle.mm_flight.proofs.Replanning.{AlwaysFails, counted_few}
