@@ -1,6 +1,6 @@
 -- Whom the status of each command blames.
 use Rattle.std.proofs.Common.{◌≡◌, ◌∙◌, ℕ, Bool, false, List, Option, None, Some, Result, Ok, Err, refl, sym, ap, subst, inl, inr, is_some, ◌⊎◌}
-use Rattle.mm_base.specs.Faults.{CountsFaults, Rose}
+use Rattle.mm_base.specs.Faults.{counted, CountsFaults, Rose}
 use Rattle.mm_base.specs.declared.fault.WriteFault as write
 use Rattle.mm_base.specs.declared.replay_fault.ReplayFault.{ReplayFault}
 use Rattle.mm_base.specs.declared.replay_fault.ReplayFault.TheVariants as fault
@@ -280,16 +280,23 @@ run_blames (Some fault) (Err end) before middle after made old new left left' re
 
 -- the output
 
+-- the output's count, where one writing came last
+told_once : {T : Type 0} (r : Result T write.WriteFault) (writes count writes' : ℕ) → count ≡ writes → CountsFaults count writes' r
+    → (writes' ≡ writes) ⊎ Rose writes writes'
+told_once (Ok done) writes count writes' same c = inl (c.kept ∙ same)
+told_once (Err fault) writes count writes' same c = inr (c.failed ∙ ap counted same)
+
 output_by : (r : Result (Unit {0}) write.WriteFault) (status : Status) (writes writes' : ℕ) → CountsFaults writes writes' r → status ≡ status_by r
     → BlamesOutput status writes writes'
-output_by (Ok done) status writes writes' c e = record { failed = λ h. absurd (cc); done = λ h. c.kept }
-output_by (Err fault) status writes writes' c e = record { failed = λ h. c.failed; done = λ h. absurd (cc) }
+output_by (Ok done) status writes writes' c e = record { failed = λ h. absurd (cc); done = λ h. c.kept; once = inl c.kept }
+output_by (Err fault) status writes writes' c e = record { failed = λ h. c.failed; done = λ h. absurd (cc); once = inr c.failed }
 
 pub output_stopped : (end status : Status) (received received' : Option (List ℕ)) (writes writes' : ℕ) → (end ≡ WriteFault → ⊥)
     → StopsAs end received received' writes writes' status → BlamesOutput status writes writes'
 output_stopped end status received received' writes writes' other s = record {
   failed = λ h. absurd (other (sym s.ends ∙ h));
   done = λ h. s.stops.done (sym s.ends ∙ h);
+  once = told_once s.stops.result writes writes writes' refl s.stops.counts;
 }
 
 output_played : {T : Type 0} (answer : Result T ReplayFault) (status : Status) (middle received' : Option (List ℕ)) (writes count writes' : ℕ)
@@ -298,16 +305,23 @@ output_played : {T : Type 0} (answer : Result T ReplayFault) (status : Status) (
 output_played (Ok it) status middle received' writes count writes' b e s = record {
   failed = λ h. absurd (cc);
   done = λ h. s.done h ∙ b;
+  once = told_once s.result writes count writes' b s.counts;
 }
 output_played (Err fault.WriteFault) status middle received' writes count writes' b e s = record {
   failed = λ h. subst (λ (n : ℕ). Rose writes n) (sym (s.failed h)) b;
   done = λ h. absurd (cc);
+  once = inr (s.failed e ∙ b);
 }
-output_played (Err fault.Memory) status middle received' writes count writes' b e s = record { failed = λ h. absurd (cc); done = λ h. absurd (cc) }
-output_played (Err fault.ReadFault) status middle received' writes count writes' b e s = record { failed = λ h. absurd (cc); done = λ h. absurd (cc) }
-output_played (Err (fault.BadLine line)) status middle received' writes count writes' b e s = record { failed = λ h. absurd (cc); done = λ h. absurd (cc) }
-output_played (Err (fault.LineLong line)) status middle received' writes count writes' b e s = record { failed = λ h. absurd (cc); done = λ h. absurd (cc) }
-output_played (Err fault.TooMuch) status middle received' writes count writes' b e s = record { failed = λ h. absurd (cc); done = λ h. absurd (cc) }
+output_played (Err fault.Memory) status middle received' writes count writes' b e s =
+    record { failed = λ h. absurd (cc); done = λ h. absurd (cc); once = told_once s.result writes count writes' b s.counts }
+output_played (Err fault.ReadFault) status middle received' writes count writes' b e s =
+    record { failed = λ h. absurd (cc); done = λ h. absurd (cc); once = told_once s.result writes count writes' b s.counts }
+output_played (Err (fault.BadLine line)) status middle received' writes count writes' b e s =
+    record { failed = λ h. absurd (cc); done = λ h. absurd (cc); once = told_once s.result writes count writes' b s.counts }
+output_played (Err (fault.LineLong line)) status middle received' writes count writes' b e s =
+    record { failed = λ h. absurd (cc); done = λ h. absurd (cc); once = told_once s.result writes count writes' b s.counts }
+output_played (Err fault.TooMuch) status middle received' writes count writes' b e s =
+    record { failed = λ h. absurd (cc); done = λ h. absurd (cc); once = told_once s.result writes count writes' b s.counts }
 
 output_told : (told : Result (List ℕ) Status) (received received' : Option (List ℕ)) (writes writes' : ℕ) (status : Status)
     → (end_of told ≡ WriteFault → ⊥) → Tells told received received' writes writes' status → BlamesOutput status writes writes'
@@ -317,20 +331,32 @@ output_told (Err end) received received' writes writes' status other t = output_
 output_served : (answer : Result (Unit {0}) SessionFault) (status : Status) (middle received' : Option (List ℕ)) (writes count writes' : ℕ)
     → plays.IsBlamed (session_blame.is_write_fault answer) writes count → status ≡ session_status answer → TellsStop middle received' count writes' status
     → BlamesOutput status writes writes'
-output_served (Ok it) status middle received' writes count writes' b e s = record { failed = λ h. absurd (cc); done = λ h. s.done h ∙ b }
+output_served (Ok it) status middle received' writes count writes' b e s =
+    record { failed = λ h. absurd (cc); done = λ h. s.done h ∙ b; once = told_once s.result writes count writes' b s.counts }
 output_served (Err session.WriteFault) status middle received' writes count writes' b e s = record {
   failed = λ h. subst (λ (n : ℕ). Rose writes n) (sym (s.failed h)) b;
   done = λ h. absurd (cc);
+  once = inr (s.failed e ∙ b);
 }
 output_served (Err (session.Refused why)) status middle received' writes count writes' b e s =
     let as_told = refused_as why in
-    record { failed = λ h. absurd (as_told.other (sym e ∙ h)); done = λ h. absurd (as_told.undone (sym e ∙ h)) }
-output_served (Err session.Memory) status middle received' writes count writes' b e s = record { failed = λ h. absurd (cc); done = λ h. absurd (cc) }
-output_served (Err session.Store) status middle received' writes count writes' b e s = record { failed = λ h. absurd (cc); done = λ h. absurd (cc) }
-output_served (Err session.ReadFault) status middle received' writes count writes' b e s = record { failed = λ h. absurd (cc); done = λ h. absurd (cc) }
-output_served (Err (session.LineLong line)) status middle received' writes count writes' b e s = record { failed = λ h. absurd (cc); done = λ h. absurd (cc) }
-output_served (Err (session.BadLine line)) status middle received' writes count writes' b e s = record { failed = λ h. absurd (cc); done = λ h. absurd (cc) }
-output_served (Err session.TooMuch) status middle received' writes count writes' b e s = record { failed = λ h. absurd (cc); done = λ h. absurd (cc) }
+    record {
+      failed = λ h. absurd (as_told.other (sym e ∙ h));
+      done = λ h. absurd (as_told.undone (sym e ∙ h));
+      once = told_once s.result writes count writes' b s.counts;
+    }
+output_served (Err session.Memory) status middle received' writes count writes' b e s =
+    record { failed = λ h. absurd (cc); done = λ h. absurd (cc); once = told_once s.result writes count writes' b s.counts }
+output_served (Err session.Store) status middle received' writes count writes' b e s =
+    record { failed = λ h. absurd (cc); done = λ h. absurd (cc); once = told_once s.result writes count writes' b s.counts }
+output_served (Err session.ReadFault) status middle received' writes count writes' b e s =
+    record { failed = λ h. absurd (cc); done = λ h. absurd (cc); once = told_once s.result writes count writes' b s.counts }
+output_served (Err (session.LineLong line)) status middle received' writes count writes' b e s =
+    record { failed = λ h. absurd (cc); done = λ h. absurd (cc); once = told_once s.result writes count writes' b s.counts }
+output_served (Err (session.BadLine line)) status middle received' writes count writes' b e s =
+    record { failed = λ h. absurd (cc); done = λ h. absurd (cc); once = told_once s.result writes count writes' b s.counts }
+output_served (Err session.TooMuch) status middle received' writes count writes' b e s =
+    record { failed = λ h. absurd (cc); done = λ h. absurd (cc); once = told_once s.result writes count writes' b s.counts }
 
 -- what no session is served over is no fault of the output
 unserved : (fault : Option StepFault) (before : Standing) (end : Status) → FindsInstance fault before (Err end) → end ≡ WriteFault → ⊥

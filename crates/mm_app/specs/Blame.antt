@@ -1,5 +1,5 @@
 -- Whom a status blames, by the counts of faults.
-use Rattle.std.specs.Prelude.{◌≡◌, ℕ, Bool, true, false}
+use Rattle.std.specs.Prelude.{◌≡◌, ◌⊎◌, ℕ, Bool, true, false}
 use Rattle.mm_base.specs.Faults.{Rose}
 use Rattle.mm_play.specs.Plays.{IsBlamed}
 use Rattle.mm_words.specs.declared.command.Command.{Command}
@@ -27,7 +27,8 @@ BlamesSource (Init header) old new status = IsBlamed (tells_read_fault status) o
 BlamesSource _ old new status = IsBlamed (tells_read_fault status) old.reads new.reads
 
 -- The output's count rose where WriteFault is told, and is as before where all was done. Beside another status it may
--- have risen, where the output failed within the stop line.
+-- have risen, where the output failed within the stop line. It never rises more than once: no call follows one that failed.
 pub record BlamesOutput (status : Status) (writes writes' : ℕ) : Type 0 where
   pub failed : status ≡ WriteFault → Rose writes writes'
   pub done : status ≡ Done → writes' ≡ writes
+  pub once : (writes' ≡ writes) ⊎ Rose writes writes'
