@@ -20,6 +20,7 @@ two_cells it = record {
   is_on = it.raw.standing.is_on;
   steps = it.steps;
   writes = it.writes;
+  cycles = it.raw.standing.cycles;
   spare = it.raw.standing.spare;
   faults = it.raw.standing.faults;
   plan = None;

@@ -15,7 +15,7 @@ use Rattle.mm_call.specs.Tied.{standing_items}
 use Rattle.mm_host.specs.declared.fault.HostFault.{HostFault}
 use Rattle.mm_host.specs.declared.resuming.Resumed.{Resumed}
 use Rattle.mm_host.specs.Fitting.{FitsHistory}
-use Rattle.mm_host.specs.Recovery.{IsAskedFor, RecoversTo}
+use Rattle.mm_host.specs.Recovery.{AsksIdly, IsAskedFor, RecoversTo}
 use Rattle.mm_pages.specs.Cached.{Cached}
 use Rattle.mm_pages.specs.Sheets.{Sheets}
 use Rattle.mm_twocell.specs.Torn.{Torn}
@@ -34,7 +34,7 @@ pub record CanRecoverInMemory (all others : List (List ℕ)) (asked : List Batch
   pub is_asked : IsAskedFor all asked i store.device.slots fits.waiting
 
 -- From every history, under every key, and in Opt under every barrier, where what others did is known by the
--- register's items.
+-- register's items, unless it asks idly.
 abbrev pub RecoversInMemory : Variant → Meaning → TwoCell Torn → TwoCell Torn → Cached Sheets → Cached Sheets → Result Resumed HostFault
     → Type 0
 RecoversInMemory Basic meaning before after old new result =
@@ -45,5 +45,5 @@ RecoversInMemory Opt meaning before after old new result =
     (key barrier : List ℕ) (y : History) (all others : List (List ℕ)) (asked : List Batch) (items more : List Item)
     (can : CanRecoverInMemory all others asked (opt meaning key barrier) y before old) →
     (two_cells before).items ≡ Some items → (two_cells after).items ≡ Some (standing_items y.is_open items ++ more) →
-    AreShown all others (opt meaning key barrier) y more →
+    ((AsksIdly (opt meaning key barrier) y old.device.slots can.fits.waiting → ⊥) → AreShown all others (opt meaning key barrier) y more) →
     RecoversTo all others asked (opt meaning key barrier) y old.device.slots can.fits.waiting (two_cells after) (kept_in_pages new) result

@@ -27,6 +27,7 @@ pub struct FailingRaw {
     bytes: [u8; 209],
     register: Digest,
     steps: u64,
+    cycles: u64,
     faults: u64,
     calls: u64,
     failing: u64,
@@ -42,6 +43,7 @@ impl FailingRaw {
             bytes: [0; 209],
             register: zero(),
             steps: 0,
+            cycles: 0,
             faults: 0,
             calls: 0,
             failing,
@@ -66,6 +68,7 @@ impl FailingRaw {
         ensures counts { CountsFaults self.old.faults self.new.faults result }
         ensures failed { IfErr result (λ fault. fault ≡ StepFault.Failed) }
         ensures steps { self.new.steps ≡ self.old.steps }
+        ensures cycles { self.new.cycles ≡ self.old.cycles }
     {
         self.calls = self.calls.saturating_add(1);
         if self.calls == self.failing {
@@ -80,6 +83,7 @@ impl FailingRaw {
         ensures counts { CountsFaults self.old.faults self.new.faults result }
         ensures failed { IfErr result (λ fault. fault ≡ StepFault.Failed) }
         ensures steps { self.new.steps ≡ self.old.steps }
+        ensures cycles { self.new.cycles ≡ self.old.cycles }
     {
         match self.call() {
             Ok(()) => Ok(self.register),
@@ -130,7 +134,7 @@ fn count_cell(count: &mut u64, bytes: &[u8]) {
 }
 
 impl Device for FailingRaw {
-    ghost standing = { λ it. untold it.steps it.faults };
+    ghost standing = { λ it. untold it.steps it.cycles it.faults };
 }
 
 impl RawNv for FailingRaw {
@@ -151,6 +155,7 @@ impl RawNv for FailingRaw {
     }
 
     fn raw_cycle(&mut self) -> Result<(), StepFault> {
+        self.cycles = self.cycles.saturating_add(1);
         let outcome = self.call();
         settle(&mut self.register, outcome, self.leaves, zero());
         outcome
