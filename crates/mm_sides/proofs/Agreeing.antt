@@ -44,7 +44,8 @@ use Rattle.mm_sides.proofs.Ends.{pushed_last, unbroken, found_is}
 use Rattle.mm_sides.proofs.PlainAgree.{not_dead, brought_kept, plain_goes}
 
 module _ (variant : Variant) (meaning : Meaning) (key key' barrier : List ℕ) (all others : List (List ℕ)) (asked : List Batch)
-    (clear : IsClear all) (apart : AreApartIn (instance_by variant meaning key barrier).variant (instance_by variant meaning key barrier) others asked) where
+    (clear : IsClear all)
+    (apart : AreApartIn (instance_by variant meaning key barrier).variant (instance_by variant meaning key barrier) others asked) where
   abbrev me : Instance
   me = instance_by variant meaning key barrier
 
@@ -65,7 +66,8 @@ module _ (variant : Variant) (meaning : Meaning) (key key' barrier : List ℕ) (
   Entering l x at None = at ≡ x
   Entering l x at (Some (Invites nonce)) = Unit {0}
   Entering l x at (Some (Leaves ticket)) = Unit {0}
-  Entering l x at (Some (Enters ticket)) = digests_move.says me at.first ticket.content ≡ issued me (record l.away { items = l.first.at.items })
+  Entering l x at (Some (Enters ticket)) =
+      digests_move.says me at.first ticket.content ≡ issued me (record l.away { items = l.first.at.items })
 
   -- The effect makes the same of both, and what holds before holds after.
   record Affects (l : Both History History) (x : Twin) (notes : Notes) (effect : Option Effect) : Type 0 where
@@ -78,7 +80,8 @@ module _ (variant : Variant) (meaning : Meaning) (key key' barrier : List ℕ) (
       → IsFine l.first.role notes (Some (Invites nonce)) → Affects l x notes (Some (Invites nonce))
   invites_goes l x notes nonce k fine =
       let dead : is_live l.first.role ≡ false = invites_none l.first.role nonce fine.0 in
-      let N : Bool → Type 0 = λ f. AllByRecursion (IsNamed all me (history_at f (is_live l.second.role) l.first.at l.second.at l.away)) notes.retired in
+      let N : Bool → Type 0 = λ f. AllByRecursion
+      (IsNamed all me (history_at f (is_live l.second.role) l.first.at l.second.at l.away)) notes.retired in
       record {
         at = x;
         same = refl;
@@ -120,7 +123,8 @@ module _ (variant : Variant) (meaning : Meaning) (key key' barrier : List ℕ) (
           away_shut = made.0;
           away_within = k.this.within;
           order = affected_order lists_move l notes (Some (Leaves ticket)) k.order fine;
-          named = subst (λ f. AllByRecursion (IsNamed all me (history_at false f y l.second.at y)) (notes.retired ++ ticket ∷ [])) (sym none)
+          named = subst (λ f. AllByRecursion (IsNamed all me (history_at false f y l.second.at y)) (notes.retired ++ ticket ∷ []))
+              (sym none)
               (each_append (IsNamed all me y) notes.retired (ticket ∷ []) here (own, tt));
           last = λ gone left other is. ap (λ (t : TicketContent). t.content) (pushed_last notes.retired ticket other is) ∙ made.2;
         };
@@ -163,7 +167,8 @@ module _ (variant : Variant) (meaning : Meaning) (key key' barrier : List ℕ) (
               (λ t h. (names_cross variant meaning key key barrier l.away own.items t.content h.0, h.1)) notes.retired away_named;
           last = λ gone left other at. not_dead gone;
         };
-        entering = says_again variant meaning key barrier z (digests_move.enters x.first x.away ticket.content) ticket.content k.away_shut digest
+        entering = says_again variant meaning key barrier z
+            (digests_move.enters x.first x.away ticket.content) ticket.content k.away_shut digest
             (ap (λ (c : Content). c.position) is) (ap (λ (c : Content). c.state) is);
       }
 
@@ -227,10 +232,12 @@ module _ (variant : Variant) (meaning : Meaning) (key key' barrier : List ℕ) (
     kept = kept_issued l x (noted_if made notes) (l.first.issued ++ sealed_of me.key (issued me l.first.at) ∷ []) l.tickets k;
   }
 
-  ended_goes : (pair : Pair) (l : Both History History) (x : Twin) (notes : Notes) (stop : Stop) (broken : Option StepFault) (found : Result FoundMove MoveCause)
+  ended_goes : (pair : Pair) (l : Both History History) (x : Twin) (notes : Notes) (stop : Stop) (broken : Option StepFault)
+      (found : Result FoundMove MoveCause)
       (made : Option Effect) → Kept all others asked me them l x (noted_if made notes)
       → ((f : FoundMove) → found ≡ Ok f → broken ≡ None → Says l x f.effect)
-      → Goes all others asked me them notes (move_ended lists_move pair me l stop broken found made) (move_ended digests_move pair me (twin l x) stop broken found made)
+      → Goes all others asked me them notes (move_ended lists_move pair me l stop broken found made)
+      (move_ended digests_move pair me (twin l x) stop broken found made)
   ended_goes pair l x notes stop (Some fault) found made k says = record { at = x; same = refl; kept = k }
   ended_goes pair l x notes stop None (Err cause) made k says = record { at = x; same = refl; kept = k }
   ended_goes pair l x notes stop None (Ok found) made k says = told_goes pair l x notes found.effect made k (says found refl refl)
@@ -265,7 +272,8 @@ module _ (variant : Variant) (meaning : Meaning) (key key' barrier : List ℕ) (
       let a : Lasting me y middle = outer_lasting me keep C w.moves y first (sound_in variant meaning key barrier y k.within.sound) in
       let b = outer_lasting me keep C (stopped_moves stop w.broken) middle second a.sound in
       record {
-        keeps = outer_keeps all others asked me agree clear apart (stopped_moves stop w.broken) middle there second (stopped_listed middle stop w.broken)
+        keeps = outer_keeps all others asked me agree clear apart (stopped_moves stop w.broken) middle there second
+            (stopped_listed middle stop w.broken)
             (outer_keeps all others asked me agree clear apart w.moves y d first listed k);
         alike = brought_alike me y meddles stop found;
         names = λ c n. b.names c (a.names c n);
@@ -334,7 +342,8 @@ module _ (variant : Variant) (meaning : Meaning) (key key' barrier : List ℕ) (
       → TellsIn me l.first.at found
       → AllByRecursion (Contains others) (map (λ (m : Meddle). m.value.bytes) meddles)
       → Within (moves_messages me l.first.at (found_moves meddles stop found)) all
-      → Goes all others asked me them notes (moved_if lists_move pair me l meddles stop command found) (moved_if digests_move pair me (twin l x) meddles stop command found)
+      → Goes all others asked me them notes (moved_if lists_move pair me l meddles stop command found)
+      (moved_if digests_move pair me (twin l x) meddles stop command found)
   moved_goes pair l x notes meddles stop command None k s tells outside listed = record { at = x; same = refl; kept = k }
   moved_goes pair l x notes meddles stop command (Some found) k s tells outside listed =
       let fates : ℕ → Fate = (course_of stop meddles).fates in
@@ -365,8 +374,10 @@ module _ (variant : Variant) (meaning : Meaning) (key key' barrier : List ℕ) (
       plain_goes variant meaning key key' barrier all others asked clear apart l.first.at l.first.issued l.second l.away l.tickets l.committed x notes l.first.role event k outside batches listed genuine
   here_goes pair l x notes (Moves meddles stop command) k s outside batches listed genuine ours =
       let found : Option (Result FoundMove MoveCause) = finding lists_move pair me l command in
-      let front = each_left (Contains all) (command_messages me l.first command) (moves_messages me l.first.at (found_moves meddles stop found)) listed in
-      let back = each_right (Contains all) (command_messages me l.first command) (moves_messages me l.first.at (found_moves meddles stop found)) listed in
+      let front = each_left (Contains all) (command_messages me l.first command)
+      (moves_messages me l.first.at (found_moves meddles stop found)) listed in
+      let back = each_right (Contains all) (command_messages me l.first command)
+      (moves_messages me l.first.at (found_moves meddles stop found)) listed in
       subst (λ (f : Option (Result FoundMove MoveCause)). Goes all others asked me them notes (moved_if lists_move pair me l meddles stop command found)
       (moved_if digests_move pair me (twin l x) meddles stop command f))
       (sym (finding_same variant meaning key barrier all others asked clear apart pair them l x notes command k genuine ours front))

@@ -35,7 +35,8 @@ apart_cross Opt meaning key key' barrier others asked h = h
 
 starts_by : (variant : Variant) (meaning : Meaning) (key key' barrier : List ℕ) (all others : List (List ℕ)) (asked : List Batch)
     → Contains all (start_message (instance_by variant meaning key barrier).variant (instance_by variant meaning key barrier).meaning.id)
-    → Keeps all others asked (instance_by variant meaning key' barrier) first_history (first_digests (instance_by variant meaning key' barrier))
+    → Keeps all others asked (instance_by variant meaning key' barrier) first_history
+    (first_digests (instance_by variant meaning key' barrier))
 starts_by Basic meaning key key' barrier all others asked h = basic_runs.starts meaning key' all others asked h
 starts_by Opt meaning key key' barrier all others asked h = opt_runs.starts meaning key' barrier all others asked h
 
@@ -57,12 +58,14 @@ module _ (pair : Pair) (all others : List (List ℕ)) (asked : List Batch) (clea
       let back = turned_kept pair.variant pair.meaning pair.first_key pair.second_key pair.barrier all others asked l x notes k in
       let o : BothOutcome History History = outcome_here lists_move pair i (turned l) act in
       let g = here_goes pair.variant pair.meaning pair.second_key pair.first_key pair.barrier all others asked clear
-      (apart_cross pair.variant pair.meaning pair.first_key pair.second_key pair.barrier others asked apart) pair (turned l) (turned_twin x) notes act back
+      (apart_cross pair.variant pair.meaning pair.first_key pair.second_key pair.barrier others asked apart) pair (turned l)
+      (turned_twin x) notes act back
       (here_ordered pair i (turned l) notes act back.order new ours) outside batches listed genuine ours in
       record {
         at = turned_twin g.at;
         same = ap (λ (w : BothOutcome Digests ℕ). record w { both = turned w.both }) g.same;
-        kept = turned_kept pair.variant pair.meaning pair.second_key pair.first_key pair.barrier all others asked o.both g.at (noted_if o.effect notes) g.kept;
+        kept = turned_kept pair.variant pair.meaning pair.second_key pair.first_key pair.barrier all others asked o.both g.at
+            (noted_if o.effect notes) g.kept;
       }
 
   agree_from : (events : List BothEvent) (l : Both History History) (x : Twin) (notes : Notes)
@@ -125,7 +128,8 @@ pairs_agree pair events clear genuine fresh =
     }) (each_self [] others) (each_self [] asked) self.1 genuine fresh
 
 follow_on : {S A : Type 0} (mover : Mover S A) (pair : Pair) (es fs : List BothEvent) (both : Both S A)
-    → both_followed mover pair both (es ++ fs) ≡ both_continued (both_followed mover pair both es) (both_followed mover pair (both_followed mover pair both es).both fs)
+    → both_followed mover pair both (es ++ fs) ≡ both_continued (both_followed mover pair both es)
+    (both_followed mover pair (both_followed mover pair both es).both fs)
 follow_on mover pair [] fs both = refl
 follow_on {S} {A} mover pair (event ∷ es) fs both =
     let o : BothOutcome S A = both_outcome mover pair both event in

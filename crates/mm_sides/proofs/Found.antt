@@ -117,8 +117,10 @@ accepting_may mover pair i notes side (Some bytes) ours = accepted_may (mover.le
 pub finding_may : {S A : Type 0} (mover : Mover S A) (pair : Pair) (i : Instance) (notes : Notes) (both : Both S A) (command : Command)
     → IsOursFor pair both.tickets notes command → MayFindIn both.first.role notes (finding mover pair i both command)
 finding_may mover pair i notes both (Invite nonce) ours = invited_may both.first.role notes nonce
-finding_may mover pair i notes both (Retire nonce offer) ours = retiring_may mover i notes both.first nonce (offered_bytes both.first.issued offer)
-finding_may mover pair i notes both (Accept offer) ours = accepting_may mover pair i notes both.first (offered_bytes both.tickets offer) ours
+finding_may mover pair i notes both (Retire nonce offer) ours =
+    retiring_may mover i notes both.first nonce (offered_bytes both.first.issued offer)
+finding_may mover pair i notes both (Accept offer) ours =
+    accepting_may mover pair i notes both.first (offered_bytes both.tickets offer) ours
 
 -- the effect that it has may be taken, and is fresh
 

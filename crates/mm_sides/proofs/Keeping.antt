@@ -68,7 +68,8 @@ module _ (i : Instance) (keep : EventsKeepNames i) where
   outer_lasting P [] y h sound = record { sound = sound; names = λ c n. n }
   outer_lasting P (Foreign v ∷ moves) y h sound =
       let k = keep y [] (Extend v) sound in
-      let r = outer_lasting P moves (moved i y (Foreign v)) h.1 k.sound in record { sound = r.sound; names = λ c n. r.names c (k.names c n) }
+      let r = outer_lasting P moves
+      (moved i y (Foreign v)) h.1 k.sound in record { sound = r.sound; names = λ c n. r.names c (k.names c n) }
   outer_lasting P (PowerMove ∷ moves) y h sound =
       let k = keep y [] Power sound in
       let r = outer_lasting P moves (moved i y PowerMove) h.1 k.sound in record { sound = r.sound; names = λ c n. r.names c (k.names c n) }
@@ -127,7 +128,8 @@ module _ (all others : List (List ℕ)) (asked : List Batch) (i : Instance) (agr
       alike_on y z (all_made (by_lists i) z (after_stop stop)) (outer_alike (Contains others) i moves y h)
       (outer_alike (Contains others) i (after_stop stop) z (stop_outer (Contains others) stop))
 
-  vain_by : (y : History) (d : Digests) (issued : List (List ℕ)) (stop : Stop) (why : Refusal) (moves : List Move) (steps writes : ℕ) (broken : Option StepFault)
+  vain_by : (y : History) (d : Digests) (issued : List (List ℕ)) (stop : Stop) (why : Refusal) (moves : List Move) (steps writes : ℕ)
+      (broken : Option StepFault)
       → AreOuter (Contains others) moves → Within (moves_messages i y moves) all → Keeps all others asked i y d
       → (let w : Walked = record { moves = moves; steps = steps; writes = writes; broken = broken } in
       IsSameVain y (outcome_by (by_lists i) stop issued (called_by (by_lists i) y y (One []) (Err why) w))
@@ -164,11 +166,13 @@ module _ (all others : List (List ℕ)) (asked : List Batch) (i : Instance) (agr
       → IsSameVain y (uncalled y issued said) (uncalled d issued said)
   uncalled_same y d issued said k = record { reply = refl; issued = refl; keeps = k; alike = record { is = refl } }
 
-  asked_same : (y : History) (d : Digests) (issued : List (List ℕ)) (meddles : List Meddle) (stop : Stop) (why : Refusal) (bytes : Option (List ℕ)) (b : Batch)
+  asked_same : (y : History) (d : Digests) (issued : List (List ℕ)) (meddles : List Meddle) (stop : Stop) (why : Refusal)
+      (bytes : Option (List ℕ)) (b : Batch)
       → AllByRecursion (Contains others) (map (λ (m : Meddle). m.value.bytes) meddles)
       → Within (moves_messages i y (vain_asked meddles stop bytes b)) all
       → Keeps all others asked i y d
-      → IsSameVain y (asked_in_vain (by_lists i) y issued meddles stop why bytes b) (asked_in_vain (by_digests i) d issued meddles stop why bytes b)
+      → IsSameVain y (asked_in_vain (by_lists i) y issued meddles stop why bytes b)
+      (asked_in_vain (by_digests i) d issued meddles stop why bytes b)
   asked_same y d issued meddles stop why None b outside listed k = uncalled_same y d issued _ k
   asked_same y d issued meddles stop why (Some bytes) b outside listed k =
       if_same y (is_long b) _ _ _ _ (uncalled_same y d issued _ k)
@@ -178,7 +182,8 @@ module _ (all others : List (List ℕ)) (asked : List Batch) (i : Instance) (agr
       → AllByRecursion (Contains others) (foreign_of event)
       → Within (moves_messages i y (vain_moves issued event)) all → Keeps all others asked i y d
       → IsSameVain y (event_in_vain (by_lists i) y issued why event) (event_in_vain (by_digests i) d issued why event)
-  vain_same y d issued why (Ask meddles stop offer b) outside listed k = asked_same y d issued meddles stop why (offered_bytes issued offer) b outside listed k
+  vain_same y d issued why (Ask meddles stop offer b) outside listed k =
+      asked_same y d issued meddles stop why (offered_bytes issued offer) b outside listed k
   vain_same y d issued why (Checkpoint meddles stop) outside listed k = reads_same y d issued meddles stop why outside listed k
   vain_same y d issued why Power outside listed k = record {
     reply = refl;

@@ -12,3 +12,6 @@ pub mod Ends
 pub mod PlainAgree
 pub mod Agreeing
 pub mod BothAgree
+pub mod SideNames
+pub mod Lively
+pub mod SideIssues

@@ -88,7 +88,8 @@ event_ordered pair both notes First act h new ours =
     record { order = s.order; alone = alone_first notes both o.effect s.alone }
 event_ordered pair both notes Second act h new ours =
     let o = outcome_here lists_move pair (instance_on pair Second) (turned both) act in
-    let s = here_ordered pair (instance_on pair Second) (turned both) notes act (roles_swap both.first.role both.second.role notes h) new ours in
+    let s = here_ordered pair (instance_on pair Second) (turned both) notes act
+    (roles_swap both.first.role both.second.role notes h) new ours in
     record {
       order = roles_swap o.both.first.role o.both.second.role (noted_if o.effect notes) s.order;
       alone = alone_second notes both o.effect s.alone;

@@ -42,7 +42,8 @@ use Rattle.mm_sides.proofs.OneLive.{IsOrdered, here_ordered, event_ordered}
 -- a call in vain runs nothing
 
 vain_reply : (meaning : Meaning) (requests : List (List ℕ)) (b : Batch) (how : Way) (committed : Bool) → committed ≡ false
-    → StepsOn meaning requests b (broken_reply how (kept_at committed 0)) requests × AsksNone requests (broken_reply how (kept_at committed 0)) requests
+    → StepsOn meaning requests b (broken_reply how (kept_at committed 0)) requests × AsksNone requests
+    (broken_reply how (kept_at committed 0)) requests
 vain_reply meaning requests b how true e = cc
 vain_reply meaning requests b how false e = (refl, refl)
 
@@ -140,7 +141,8 @@ still : (n m : ℕ) → n ≡ m → n + 0 ≡ m
 still n m e = omega (arith, e)
 
 -- an event of a schedule
-module _ (i : Instance) (at : History) (issued : List (List ℕ)) (second : Side History) (away : History) (tickets : List (List ℕ)) (committed : ℕ) where
+module _ (i : Instance) (at : History) (issued : List (List ℕ)) (second : Side History) (away : History) (tickets : List (List ℕ))
+    (committed : ℕ) where
   abbrev standing : Role → Both History History
   standing role = record {
     first = record { role = role; at = at; issued = issued };
@@ -160,7 +162,8 @@ module _ (i : Instance) (at : History) (issued : List (List ℕ)) (second : Side
       let b : Bool = is_live second.role in
       let N : Bool → History → List (List ℕ) = λ f x. requests_of (history_at f b x second.at away).batches in
       let same : N (is_live role) o.state ≡ N (is_live role) at =
-      ap (λ f. N f o.state) e ∙ ap (λ (y : History). requests_of y.batches) (first_unused b o.state at second.at away) ∙ ap (λ f. N f at) (sym e) in
+      ap (λ f. N f o.state) e ∙ ap (λ (y : History). requests_of y.batches) (first_unused b o.state at second.at away) ∙ ap (λ f. N f at)
+      (sym e) in
       ((N (is_live role) at, event_vain i at (N (is_live role) at) issued why event, same), same)
 
   plain_run : (role : Role) (event : events.Event)
@@ -173,9 +176,11 @@ module _ (i : Instance) (at : History) (issued : List (List ℕ)) (second : Side
   plain_run Blank event =
       let r = vain_run Blank refusal.Blank event refl in record { runs = r.0; count = λ e. still committed _ (e ∙ ap length (sym r.1)) }
   plain_run (Waiting nonce) event =
-      let r = vain_run (Waiting nonce) refusal.Cell event refl in record { runs = r.0; count = λ e. still committed _ (e ∙ ap length (sym r.1)) }
+      let r = vain_run
+      (Waiting nonce) refusal.Cell event refl in record { runs = r.0; count = λ e. still committed _ (e ∙ ap length (sym r.1)) }
   plain_run (Retired nonce) event =
-      let r = vain_run (Retired nonce) refusal.Cell event refl in record { runs = r.0; count = λ e. still committed _ (e ∙ ap length (sym r.1)) }
+      let r = vain_run
+      (Retired nonce) refusal.Cell event refl in record { runs = r.0; count = λ e. still committed _ (e ∙ ap length (sym r.1)) }
 
 -- a move changes nothing of the history
 
@@ -207,7 +212,8 @@ affected_now both at notes None e h fine alone =
 affected_now both at notes (Some (Invites nonce)) e h fine alone =
     let b : Bool = is_live both.second.role in
     ap (λ (y : History). requests_of y.batches) (first_unused b at both.first.at both.second.at both.away)
-    ∙ ap (λ f. requests_of (history_at f b both.first.at both.second.at both.away).batches) (sym (invites_none both.first.role nonce fine.0))
+    ∙ ap (λ f. requests_of (history_at f b both.first.at both.second.at both.away).batches)
+    (sym (invites_none both.first.role nonce fine.0))
 affected_now both at notes (Some (Leaves ticket)) e h fine alone =
     let live : is_live both.first.role ≡ true = leaves_live both.first.role ticket fine.0 in
     let none : is_live both.second.role ≡ false = roles_are_one both.first.role both.second.role notes h live in
@@ -238,7 +244,8 @@ silent : (meaning : Meaning) (replies : List Reply) (r s : List (List ℕ)) → 
 silent meaning [] r s n e = e
 silent meaning (reply ∷ replies) r s n e = cc
 
-moved_run : (pair : Pair) (i : Instance) (both : Both History History) (notes : Notes) (meddles : List Meddle) (stop : Stop) (command : Command)
+moved_run : (pair : Pair) (i : Instance) (both : Both History History) (notes : Notes) (meddles : List Meddle) (stop : Stop)
+    (command : Command)
     (found : Option (Result FoundMove MoveCause)) → AreInOrder both.first.role both.second.role notes
     → IsOrdered both.first.role both.second.role notes (moved_if lists_move pair i both meddles stop command found)
     → IsRunHere i.meaning both (Moves meddles stop command) (moved_if lists_move pair i both meddles stop command found)
@@ -329,7 +336,8 @@ run_from pair (event ∷ events) both notes h fresh e =
     let next = event_ordered pair both notes event.which event.act h fresh.0 fresh.1 in
     let r = event_run pair both notes event.which event.act h fresh.0 fresh.1 in
     let rest = run_from pair events o.both (noted_if o.effect notes) next.order fresh.2 (r.count e) in (
-      runs_on pair.meaning (plain_in event.act) (plain_events events) (plain_reply o.reply) _ (requests_now both) (requests_now o.both) _ r.runs rest.0,
+      runs_on pair.meaning (plain_in event.act) (plain_events events) (plain_reply o.reply) _ (requests_now both)
+          (requests_now o.both) _ r.runs rest.0,
       rest.1,
     )
 

@@ -36,7 +36,8 @@ pub not_dead : {A : Type 0} → true ≡ false → A
 not_dead e = absurd (cc)
 
 module _ (variant : Variant) (meaning : Meaning) (key key' barrier : List ℕ) (all others : List (List ℕ)) (asked : List Batch)
-    (clear : IsClear all) (apart : AreApartIn (instance_by variant meaning key barrier).variant (instance_by variant meaning key barrier) others asked) where
+    (clear : IsClear all)
+    (apart : AreApartIn (instance_by variant meaning key barrier).variant (instance_by variant meaning key barrier) others asked) where
   abbrev me : Instance
   me = instance_by variant meaning key barrier
 
@@ -78,7 +79,8 @@ module _ (variant : Variant) (meaning : Meaning) (key key' barrier : List ℕ) (
 
   -- an event of a schedule, by the role of its side
 
-  module _ (at : History) (snapshots : List (List ℕ)) (second : Side History) (away : History) (tickets : List (List ℕ)) (committed : ℕ) (x : Twin) (notes : Notes) where
+  module _ (at : History) (snapshots : List (List ℕ)) (second : Side History) (away : History) (tickets : List (List ℕ)) (committed : ℕ)
+      (x : Twin) (notes : Notes) where
     abbrev standing : Role → Both History History
     standing role = record {
       first = record { role = role; at = at; issued = snapshots };
@@ -92,15 +94,19 @@ module _ (variant : Variant) (meaning : Meaning) (key key' barrier : List ℕ) (
         → AllByRecursion (Contains others) (foreign_of event)
         → AllByRecursion (Contains asked) (batches_of event) → Within (plain_messages me Live (standing Live).first event) all
         → IsGenuineHere me (standing Live).first (Plain event)
-        → Goes all others asked me them notes (plain_outcome lists_move me (standing Live) event) (plain_outcome digests_move me (twin (standing Live) x) event)
+        → Goes all others asked me them notes (plain_outcome lists_move me (standing Live) event)
+        (plain_outcome digests_move me (twin (standing Live) x) event)
     live_goes event k outside batches listed genuine =
         let ol : Outcome History = event_outcome me (by_lists me) at snapshots event in
         let od : Outcome Digests = event_outcome me (by_digests me) x.first snapshots event in
-        let first = each_left (Contains all) (event_messages me snapshots event) (moves_messages me at (moves_of me at snapshots event)) listed in
-        let then_moves = each_right (Contains all) (event_messages me snapshots event) (moves_messages me at (moves_of me at snapshots event)) listed in
+        let first = each_left (Contains all) (event_messages me snapshots event)
+        (moves_messages me at (moves_of me at snapshots event)) listed in
+        let then_moves = each_right (Contains all) (event_messages me snapshots event)
+        (moves_messages me at (moves_of me at snapshots event)) listed in
         let s = events_agree variant meaning key barrier all others asked clear apart at x.first snapshots event k.this
         (record { outside = outside; batches = batches; listed = first; genuine = genuine; messages = then_moves }) in
-        let n = events_keep_names variant meaning key barrier at snapshots event (sound_in variant meaning key barrier at k.this.within.sound) in
+        let n = events_keep_names variant meaning key barrier at snapshots event
+        (sound_in variant meaning key barrier at k.this.within.sound) in
         record {
           at = record x { first = od.state };
           same = λ j. record {
@@ -131,9 +137,12 @@ module _ (variant : Variant) (meaning : Meaning) (key key' barrier : List ℕ) (
     vain_kept : (role : Role) (z : History) (d : Digests) (issued' : List (List ℕ)) (committed' : ℕ) → is_live role ≡ false
         → Kept all others asked me them (standing role) x notes
         → Keeps all others asked me z d → IsAlike at z
-        → Kept all others asked me them (record (standing role) { first = record { role = role; at = z; issued = issued' }; committed = committed' }) (record x { first = d }) notes
+        → Kept all others asked me them
+        (record (standing role) { first = record { role = role; at = z; issued = issued' }; committed = committed' })
+        (record x { first = d }) notes
     vain_kept role z d issued' committed' dead k keeps alike =
-        let N : Bool → History → Type 0 = λ f y. AllByRecursion (IsNamed all me (history_at f (is_live second.role) y second.at away)) notes.retired in
+        let N : Bool → History → Type 0 = λ f y. AllByRecursion
+        (IsNamed all me (history_at f (is_live second.role) y second.at away)) notes.retired in
         record {
           this = keeps;
           other = k.other;
@@ -160,14 +169,16 @@ module _ (variant : Variant) (meaning : Meaning) (key key' barrier : List ℕ) (
           effect = None;
         })
         (record {
-          both = record (twin (standing role) x) { first = record { role = role; at = od.state; issued = od.issued }; committed = committed + 0 };
+          both = record
+              (twin (standing role) x) { first = record { role = role; at = od.state; issued = od.issued }; committed = committed + 0 };
           reply = Said od.reply;
           effect = None;
         }))
     vain_goes role why event dead k outside listed =
         let ol : Outcome History = event_in_vain (by_lists me) at snapshots why event in
         let od : Outcome Digests = event_in_vain (by_digests me) x.first snapshots why event in
-        let s = vain_same all others asked me (events_agree variant meaning key barrier) clear apart at x.first snapshots why event outside listed k.this in
+        let s = vain_same all others asked me
+        (events_agree variant meaning key barrier) clear apart at x.first snapshots why event outside listed k.this in
         record {
           at = record x { first = od.state };
           same = λ j. record {
@@ -188,7 +199,8 @@ module _ (variant : Variant) (meaning : Meaning) (key key' barrier : List ℕ) (
         → AllByRecursion (Contains others) (foreign_of event)
         → AllByRecursion (Contains asked) (batches_of event) → Within (plain_messages me role (standing role).first event) all
         → IsGenuineHere me (standing role).first (Plain event)
-        → Goes all others asked me them notes (plain_outcome lists_move me (standing role) event) (plain_outcome digests_move me (twin (standing role) x) event)
+        → Goes all others asked me them notes (plain_outcome lists_move me (standing role) event)
+        (plain_outcome digests_move me (twin (standing role) x) event)
     plain_goes Live event k outside batches listed genuine = live_goes event k outside batches listed genuine
     plain_goes Blank event k outside batches listed genuine = vain_goes Blank refusal.Blank event refl k outside listed
     plain_goes (Waiting nonce) event k outside batches listed genuine = vain_goes (Waiting nonce) refusal.Cell event refl k outside listed

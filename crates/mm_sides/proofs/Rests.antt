@@ -153,13 +153,15 @@ cell_cross Basic meaning key key' barrier y items = refl
 cell_cross Opt meaning key key' barrier y items = refl
 
 pub value_cross : (variant : Variant) (meaning : Meaning) (key barrier : List ℕ) (y z : History)
-    → register_value_of (instance_by variant meaning key barrier) y ≡ register_value_of (instance_by variant meaning key barrier) (holding z y.items)
+    → register_value_of (instance_by variant meaning key barrier) y ≡ register_value_of (instance_by variant meaning key barrier)
+    (holding z y.items)
 value_cross variant meaning key barrier y z = refl
 
 -- a snapshot of rest
 
 opt_rests : (meaning : Meaning) (key barrier : List ℕ) (y : History) → y.is_open ≡ false
-    → issued_place Opt y.is_open (opt meaning key barrier) y ≡ InOpt (digest_of (anchor_after (opt meaning key barrier) y.closed)) (digest_of zero_bytes)
+    → issued_place Opt y.is_open (opt meaning key barrier) y ≡ InOpt (digest_of (anchor_after (opt meaning key barrier) y.closed))
+    (digest_of zero_bytes)
 opt_rests meaning key barrier y shut = ap (λ f. issued_place Opt f (opt meaning key barrier) y) shut
 
 pub digest_rests : (variant : Variant) (meaning : Meaning) (key barrier : List ℕ) (y : History) → y.is_open ≡ false
@@ -280,7 +282,8 @@ bare_listed : (meaning : Meaning) (key barrier : List ℕ) (all : List (List ℕ
 bare_listed meaning key barrier all y true h = h
 bare_listed meaning key barrier all y false h = h
 
-opt_here : (meaning : Meaning) (key barrier : List ℕ) (all others : List (List ℕ)) (asked : List Batch) (y : History) (d : Digests) (c : Content)
+opt_here : (meaning : Meaning) (key barrier : List ℕ) (all others : List (List ℕ)) (asked : List Batch) (y : History) (d : Digests)
+    (c : Content)
     → IsClear all → AreNoGuards barrier others asked → IsWithin all others asked (opt meaning key barrier) y
     → Agrees (opt meaning key barrier) y d
     → y.is_open ≡ false → Within (place_messages c.place) all → Names (opt meaning key barrier) y c
@@ -295,7 +298,8 @@ opt_here meaning key barrier all others asked y d c clear apart w a shut listed 
     ∙ ap is_new (shut_verdict barrier (cell_digest_of i Opt z) d.register (register_value_of i z) c.place (One []))
     ∙ ap (λ f. V f (cell_digest_of i Opt z) (register_value_of i z)) (sym shut)
     ∙ opt_stands_here meaning key barrier z c (One []) all v.sound clear (bare_listed meaning key barrier all y y.is_open v.listed) listed
-    (no_guards barrier others asked (values_in (counting z)) z.batches apart v.outside v.batches) (names_cross Opt meaning key key barrier y [] c names)
+    (no_guards barrier others asked (values_in (counting z)) z.batches apart v.outside v.batches)
+    (names_cross Opt meaning key key barrier y [] c names)
     ∙ judge_shut y [] c.position (One []) shut
 
 basic_here : (meaning : Meaning) (key : List ℕ) (all others : List (List ℕ)) (asked : List Batch) (y : History) (d : Digests) (c : Content)
@@ -308,7 +312,8 @@ basic_here meaning key all others asked y d c clear w a names =
 
 pub here_same : (variant : Variant) (meaning : Meaning) (key barrier : List ℕ) (all others : List (List ℕ)) (asked : List Batch)
     → (let i = instance_by variant meaning key barrier in
-    IsClear all → AreApartIn i.variant i others asked → (y : History) (d : Digests) (c : Content) → IsWithin all others asked i y → Agrees i y d
+    IsClear all → AreApartIn i.variant i others asked → (y : History) (d : Digests) (c : Content) → IsWithin all others asked i y
+    → Agrees i y d
     → y.is_open ≡ false → Within (place_messages c.place) all → Names i y c
     → stands_here (by_digests i) d c ≡ stands_here (by_lists i) y c)
 here_same Basic meaning key barrier all others asked clear apart y d c w a shut listed names =

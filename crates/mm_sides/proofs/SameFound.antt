@@ -80,7 +80,8 @@ never_again e = cc
 
 named_of : (all : List (List ℕ)) (i : Instance) (y : History) (tickets : List TicketContent) (ticket : TicketContent)
     → AllByRecursion (IsNamed all i y) tickets → Contains tickets ticket → IsNamed all i y ticket
-named_of all i y tickets ticket named h = All-contains (IsNamed all i y) tickets ticket (All-from_recursion (IsNamed all i y) tickets named) h
+named_of all i y tickets ticket named h =
+    All-contains (IsNamed all i y) tickets ticket (All-from_recursion (IsNamed all i y) tickets named) h
 
 live_history : (l : Both History History) → is_live l.first.role ≡ true → history_now l ≡ l.first.at
 live_history l live = ap (λ f. history_at f (is_live l.second.role) l.first.at l.second.at l.away) live
@@ -92,7 +93,8 @@ invited_tells i y (Waiting awaited) nonce = if_tells i y (bytes_eq awaited nonce
 invited_tells i y (Retired left) nonce = tt
 
 module _ (variant : Variant) (meaning : Meaning) (key barrier : List ℕ) (all others : List (List ℕ)) (asked : List Batch)
-    (clear : IsClear all) (apart : AreApartIn (instance_by variant meaning key barrier).variant (instance_by variant meaning key barrier) others asked) where
+    (clear : IsClear all)
+    (apart : AreApartIn (instance_by variant meaning key barrier).variant (instance_by variant meaning key barrier) others asked) where
   abbrev me : Instance
   me = instance_by variant meaning key barrier
 
@@ -171,7 +173,8 @@ module _ (variant : Variant) (meaning : Meaning) (key barrier : List ℕ) (all o
       (λ e. offered_same y d false nonce bytes parts refl k e genuine listed)
   retired_same (Retired left) y d nonce bytes k shut genuine listed =
       let parts = parts_of me.variant me.meaning.id bytes in
-      if_first (bytes_eq left nonce) (offered_to digests_move me d true nonce parts) (offered_to lists_move me y true nonce parts) (Err Gone)
+      if_first (bytes_eq left nonce) (offered_to digests_move me d true nonce parts) (offered_to lists_move me y true nonce parts)
+      (Err Gone)
       (λ e. offered_same y d true nonce bytes parts refl k shut genuine listed)
 
   retired_tells : (role : Role) (y : History) (nonce bytes : List ℕ) → IsShut role y
@@ -181,14 +184,17 @@ module _ (variant : Variant) (meaning : Meaning) (key barrier : List ℕ) (all o
   retired_tells Live y nonce bytes shut =
       if_tells me y y.is_open (Err Open) _ (λ e. tt) (λ e. offered_tells y false nonce (parts_of me.variant me.meaning.id bytes) e)
   retired_tells (Retired left) y nonce bytes shut =
-      if_tells me y (bytes_eq left nonce) _ (Err Gone) (λ e. offered_tells y true nonce (parts_of me.variant me.meaning.id bytes) shut) (λ e. tt)
+      if_tells me y (bytes_eq left nonce) _ (Err Gone) (λ e. offered_tells y true nonce (parts_of me.variant me.meaning.id bytes) shut)
+      (λ e. tt)
 
   retiring_same : (side : Side History) (d : Digests) (nonce : List ℕ) (bytes : Option (List ℕ)) → Keeps all others asked me side.at d
       → IsShut side.role side.at
       → IsGenuineTo side.role me side.at bytes → Within (offer_closing me bytes) all
-      → retiring digests_move me (record { role = side.role; at = d; issued = side.issued }) nonce bytes ≡ retiring lists_move me side nonce bytes
+      → retiring digests_move me
+      (record { role = side.role; at = d; issued = side.issued }) nonce bytes ≡ retiring lists_move me side nonce bytes
   retiring_same side d nonce None k shut genuine listed = refl
-  retiring_same side d nonce (Some bytes) k shut genuine listed = ap Some (retired_same side.role side.at d nonce bytes k shut genuine listed)
+  retiring_same side d nonce (Some bytes) k shut genuine listed =
+      ap Some (retired_same side.role side.at d nonce bytes k shut genuine listed)
 
   retiring_tells : (side : Side History) (nonce : List ℕ) (bytes : Option (List ℕ)) → IsShut side.role side.at
       → TellsIn me side.at (retiring lists_move me side nonce bytes)

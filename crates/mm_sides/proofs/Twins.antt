@@ -52,7 +52,8 @@ IsShut (Retired nonce) y = y.is_open ≡ false
 abbrev pub IsNamed : List (List ℕ) → Instance → History → TicketContent → Type 0
 IsNamed all i y ticket = Names i y ticket.content × Within (place_messages ticket.content.place) all
 
-pub record Kept (all others : List (List ℕ)) (asked : List Batch) (i j : Instance) (l : Both History History) (x : Twin) (notes : Notes) : Type 0 where
+pub record Kept (all others : List (List ℕ)) (asked : List Batch) (i j : Instance) (l : Both History History) (x : Twin)
+    (notes : Notes) : Type 0 where
   pub this : Keeps all others asked i l.first.at x.first
   pub other : Keeps all others asked j l.second.at x.second
   pub this_shut : IsShut l.first.role l.first.at
@@ -79,13 +80,15 @@ each_goes P Q f (x ∷ xs) h = (f x h.0, each_goes P Q f xs h.1)
 turned_history : (l : Both History History) (notes : Notes) → AreInOrder l.first.role l.second.role notes
     → history_now (turned l) ≡ history_now l
 turned_history l notes h =
-    turned_at (is_live l.first.role) (is_live l.second.role) l.first.at l.second.at l.away (roles_are_one l.first.role l.second.role notes h)
+    turned_at (is_live l.first.role) (is_live l.second.role) l.first.at l.second.at l.away
+    (roles_are_one l.first.role l.second.role notes h)
 
 -- the same with the sides exchanged
 pub turned_kept : (variant : Variant) (meaning : Meaning) (key key' barrier : List ℕ) (all others : List (List ℕ)) (asked : List Batch)
     (l : Both History History) (x : Twin) (notes : Notes)
     → Kept all others asked (instance_by variant meaning key barrier) (instance_by variant meaning key' barrier) l x notes
-    → Kept all others asked (instance_by variant meaning key' barrier) (instance_by variant meaning key barrier) (turned l) (turned_twin x) notes
+    → Kept all others asked (instance_by variant meaning key' barrier) (instance_by variant meaning key barrier) (turned l)
+    (turned_twin x) notes
 turned_kept variant meaning key key' barrier all others asked l x notes k =
     let i = instance_by variant meaning key barrier in
     let j = instance_by variant meaning key' barrier in

@@ -1,11 +1,13 @@
 -- The laws of two sides.
 use Rattle.std.specs.Prelude.{◌≡◌, ℕ, Bool, true, false, List, [], ◌∷◌, ◌++◌, length, Option, None, Some}
+use Rattle.std.specs.List.{AllByRecursion}
 use Rattle.mm_model.specs.History.{History, requests_of}
 use Rattle.mm_model.specs.Moves.{Digests}
 use Rattle.mm_call.specs.Levels.{Agrees}
 use Rattle.mm_schedule.specs.Events.{Event}
 use Rattle.mm_schedule.specs.Machine.{Runs}
 use Rattle.mm_schedule.specs.declared.reply.Reply.{Reply}
+use Rattle.mm_run.specs.Laws.{IsIssued}
 use Rattle.mm_sides.specs.Roles.{Effect, Invites, Leaves, Enters, is_live, Notes, no_notes}
 use Rattle.mm_sides.specs.Order.{EntersLast, AtMostOne}
 use Rattle.mm_sides.specs.Both.{Which, First, Second, Pair, instance_on, Side, Both, lists_move, digests_move, first_lists}
@@ -103,3 +105,15 @@ PairsGoOn = (pair : Pair) (es fs : List BothEvent) →
     let digests : BothFollowed Digests ℕ = both_by_digests pair es in
     (both_expected pair (es ++ fs) ≡ both_continued lists (both_followed lists_move pair lists.both fs))
     × (both_by_digests pair (es ++ fs) ≡ both_continued digests (both_followed digests_move pair digests.both fs))
+
+-- Each snapshot that a side issued names a position of where it stands, and of the one history.
+pub record SnapshotsName (pair : Pair) (which : Which) (side : Side History) (history : History) : Type 0 where
+  pub here : AllByRecursion (IsIssued (instance_on pair which) side.at) side.issued
+  pub now : AllByRecursion (IsIssued (instance_on pair which) history) side.issued
+
+-- So it is after each schedule with fresh nonces and tickets.
+abbrev pub SidesIssueNames : Type 0
+SidesIssueNames = (pair : Pair) (events : List BothEvent) → IsFreshPair pair events →
+    let lists : BothFollowed History History = both_expected pair events in
+    SnapshotsName pair First lists.both.first (history_now lists.both)
+    × SnapshotsName pair Second lists.both.second (history_now lists.both)

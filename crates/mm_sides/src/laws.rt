@@ -1,7 +1,7 @@
 //! The laws of two sides, each the contract of a function that does nothing.
 
 ghost use Rattle.mm_sides.specs.Order.{RolesBegin, RolesSwap, RolesGoOn, RolesEnterLast, RolesAreOne};
-ghost use Rattle.mm_sides.specs.Laws.{PairsAgreeThroughout, OneIsLive, SidesRunAsOne, PairsGoOn};
+ghost use Rattle.mm_sides.specs.Laws.{PairsAgreeThroughout, OneIsLive, SidesRunAsOne, PairsGoOn, SidesIssueNames};
 
 /// The roles of two sides alone, where each nonce is invited once and each accepted ticket is one that the module left
 /// by: at most one side is live, and the module enters one only where none is, by the ticket that it left by last.
@@ -35,4 +35,10 @@ pub fn both_sides_agree()
 /// is promised of a schedule holds of every front that meets the premises.
 pub fn both_go_on()
     ensures { PairsGoOn }
+{}
+
+/// Each snapshot that a side issued names a position of the history that the side has, and of the one history, after each
+/// schedule with fresh nonces and tickets.
+pub fn sides_issue_names()
+    ensures { SidesIssueNames }
 {}

@@ -1,0 +1,349 @@
+-- Moves keep what both sides issued; and so does every schedule.
+use Rattle.std.proofs.Common.{ℕ, ◌≡◌, ◌+◌, Bool, true, false, List, [], ◌∷◌, ◌++◌, Option, None, Some, Result, Ok, Err, refl, sym, ap, ◌∙◌, subst}
+use Rattle.std.specs.Prelude.{if◌then◌else◌}
+use Rattle.std.specs.Str.{bytes_eq}
+use Rattle.std.specs.List.{AllByRecursion}
+use Rattle.mm_digest.specs.declared.variant.Variant.{Variant}
+use Rattle.mm_module.specs.Meaning.{Meaning}
+use Rattle.mm_platform.specs.declared.fault.StepFault.{StepFault}
+use Rattle.mm_platform.specs.declared.plan.Meddle.{Meddle}
+use Rattle.mm_platform.specs.declared.plan.Stop.{Stop}
+use Rattle.mm_seal.specs.declared.snapshot.PartsFault.{PartsFault}
+use Rattle.mm_seal.specs.declared.snapshot.PartsFault.TheVariants.{Form, Kind}
+use Rattle.mm_seal.specs.Parts.{parts_of}
+use Rattle.mm_seal.specs.Snapshot.{Content, Snapshot, tag_of, sealed_of}
+use Rattle.mm_model.specs.Instance.{Instance}
+use Rattle.mm_model.specs.History.{History, first_history}
+use Rattle.mm_model.specs.Life.{Live as LiveHistory, life_of}
+use Rattle.mm_model.specs.Places.{Names, issued}
+use Rattle.mm_model.specs.declared.refusal.Refusal.{Refusal}
+use Rattle.mm_model.proofs.Lists.{each_append}
+use Rattle.mm_call.specs.Courses.{Fate, Walked, walk}
+use Rattle.mm_call.specs.Levels.{by_lists, all_made}
+use Rattle.mm_call.specs.Order.{weighed}
+use Rattle.mm_call.specs.Standing.{instance_by}
+use Rattle.mm_call.proofs.Weighing.{weighed_only, accepting as accepting_verdict}
+use Rattle.mm_move.specs.Tickets.{TicketContent}
+use Rattle.mm_run.specs.Offered.{offered_bytes}
+use Rattle.mm_run.specs.Folds.{course_of}
+use Rattle.mm_run.specs.Laws.{IsIssued}
+use Rattle.mm_run.specs.OneEvent.{IsSoundIn}
+use Rattle.mm_sides.specs.Roles.{Role, Blank, Live, Waiting, Retired, Effect, Invites, Leaves, Enters, Notes, no_notes, is_live}
+use Rattle.mm_sides.specs.Order.{AreInOrder}
+use Rattle.mm_sides.specs.Both.{Which, First, Second, Pair, instance_on, Side, Both, turned, lists_move, first_lists}
+use Rattle.mm_sides.specs.Moves.{Command, Invite, Retire, Accept, MoveCause, Open, Gone, Already, FoundMove, stands_here, verdict_here, invited_on, left_by, offered_to, retired_on, ticket_in, entered_as, entered_again, accepted_on}
+use Rattle.mm_sides.specs.Folds.{Act, Plain, Moves, BothEvent, BothOutcome, is_moved, effect_if, effect_of, affected_if, brought_to, stopped_moves, move_steps, handed, move_ended, moved_by, moved_if, retiring, accepting, finding, outcome_here, both_outcome, BothFollowed, both_followed, noted_if}
+use Rattle.mm_sides.specs.Premises.{IsNew, IsOursIn, AreFreshFrom}
+use Rattle.mm_sides.specs.Laws.{history_at, history_now, SnapshotsName, SidesIssueNames}
+use Rattle.mm_sides.proofs.InOrder.{roles_begin, roles_swap, roles_are_one}
+use Rattle.mm_sides.proofs.Found.{IsFine}
+use Rattle.mm_sides.proofs.Outer.{any_value, found_outer, stopped_outer, IsAlike, same_open, brought_alike}
+use Rattle.mm_sides.proofs.Told.{IsEnded, ended_told, affected_order, EntersSo, enters_so}
+use Rattle.mm_sides.proofs.OneRun.{invites_none, leaves_live}
+use Rattle.mm_sides.proofs.OneLive.{IsOrdered, here_ordered, event_ordered}
+use Rattle.mm_sides.proofs.Rests.{holding, names_cross, here_tells}
+use Rattle.mm_sides.proofs.Keeping.{events_keep_names, Lasting, outer_lasting}
+use Rattle.mm_sides.proofs.Ends.{unbroken, found_is}
+use Rattle.mm_sides.proofs.SideNames.{sound_holding, life_holding, issued_here, first_sound_in, first_lives, Issues, not_dead, turned_issues, Leads, mine, theirs, brought_issues, plain_issues}
+use Rattle.mm_sides.proofs.Lively.{RestsOn, Lively, IsLively, IsLivelyIn, finding_lively}
+
+module _ (variant : Variant) (meaning : Meaning) (key key' barrier : List ℕ) where
+  abbrev me : Instance
+  me = instance_by variant meaning key barrier
+
+  abbrev them : Instance
+  them = instance_by variant meaning key' barrier
+
+  -- where the module stands its snapshot names a position
+  abbrev Answers : Both History History → Type 0
+  Answers l = (is_live l.first.role ≡ true) × Names me l.first.at (issued me l.first.at)
+
+  abbrev Entered : Both History History → Option Effect → Type 0
+  Entered l None = Unit {0}
+  Entered l (Some (Invites nonce)) = Unit {0}
+  Entered l (Some (Leaves ticket)) = Unit {0}
+  Entered l (Some (Enters ticket)) =
+      Names me (record l.away { items = l.first.at.items }) (issued me (record l.away { items = l.first.at.items }))
+
+  abbrev Left : History → Option Effect → Type 0
+  Left y None = Unit {0}
+  Left y (Some (Invites nonce)) = Unit {0}
+  Left y (Some (Leaves ticket)) = RestsOn me y
+  Left y (Some (Enters ticket)) = Unit {0}
+
+  record Affected (l : Both History History) (notes : Notes) (effect : Option Effect) : Type 0 where
+    keeps : Issues me them (affected_if lists_move l effect) (noted_if effect notes)
+    entered : Entered l effect
+
+  invites_issues : (l : Both History History) (notes : Notes) (nonce : List ℕ) → Issues me them l notes
+      → IsFine l.first.role notes (Some (Invites nonce))
+      → Affected l notes (Some (Invites nonce))
+  invites_issues l notes nonce k fine =
+      let dead : is_live l.first.role ≡ false = invites_none l.first.role nonce fine.0 in
+      let now : Bool → History = λ f. history_at f (is_live l.second.role) l.first.at l.second.at l.away in
+      record {
+        keeps = record {
+          order = affected_order lists_move l notes (Some (Invites nonce)) k.order fine;
+          sound = subst (λ f. IsSoundIn me.variant (now f)) dead k.sound;
+          this_here = k.this_here;
+          this_now = subst (λ f. AllByRecursion (IsIssued me (now f)) l.first.issued) dead k.this_now;
+          other_here = k.other_here;
+          other_now = subst (λ f. AllByRecursion (IsIssued them (now f)) l.second.issued) dead k.other_now;
+          rests = λ gone left. k.rests dead left;
+        };
+        entered = tt;
+      }
+
+  leaves_issues : (l : Both History History) (notes : Notes) (ticket : TicketContent) → Issues me them l notes
+      → IsFine l.first.role notes (Some (Leaves ticket))
+      → RestsOn me l.first.at → Affected l notes (Some (Leaves ticket))
+  leaves_issues l notes ticket k fine rests =
+      let y : History = l.first.at in
+      let live : is_live l.first.role ≡ true = leaves_live l.first.role ticket fine.0 in
+      let none : is_live l.second.role ≡ false = roles_are_one l.first.role l.second.role notes k.order live in
+      let now : Bool → History = λ f. history_at f (is_live l.second.role) y l.second.at l.away in
+      let then_now : Bool → History = λ f. history_at false f y l.second.at y in
+      record {
+        keeps = record {
+          order = affected_order lists_move l notes (Some (Leaves ticket)) k.order fine;
+          sound = subst (λ f. IsSoundIn me.variant (then_now f)) (sym none) (subst (λ f. IsSoundIn me.variant (now f)) live k.sound);
+          this_here = k.this_here;
+          this_now = subst (λ f. AllByRecursion (IsIssued me (then_now f)) l.first.issued) (sym none) k.this_here;
+          other_here = k.other_here;
+          other_now = subst (λ f. AllByRecursion (IsIssued them (then_now f)) l.second.issued) (sym none)
+              (subst (λ f. AllByRecursion (IsIssued them (now f)) l.second.issued) live k.other_now);
+          rests = λ gone left. rests;
+        };
+        entered = tt;
+      }
+
+  enters_issues : (l : Both History History) (notes : Notes) (ticket : TicketContent) → Issues me them l notes
+      → IsFine l.first.role notes (Some (Enters ticket))
+      → EntersSo l.first.role l.second.role notes (Some (Enters ticket)) → Affected l notes (Some (Enters ticket))
+  enters_issues l notes ticket k fine alone =
+      let own : History = l.first.at in
+      let z : History = record l.away { items = own.items } in
+      let r = k.rests alone.not_here alone.not_there in
+      let now : Bool → Bool → History = λ f g. history_at f g own l.second.at l.away in
+      let sound : IsSoundIn me.variant l.away =
+      subst (λ g. IsSoundIn me.variant (now false g)) alone.not_there
+      (subst (λ f. IsSoundIn me.variant (now f (is_live l.second.role))) alone.not_here k.sound) in
+      let this : AllByRecursion (IsIssued me l.away) l.first.issued =
+      subst (λ g. AllByRecursion (IsIssued me (now false g)) l.first.issued) alone.not_there
+      (subst (λ f. AllByRecursion (IsIssued me (now f (is_live l.second.role))) l.first.issued) alone.not_here k.this_now) in
+      let other : AllByRecursion (IsIssued them l.away) l.second.issued =
+      subst (λ g. AllByRecursion (IsIssued them (now false g)) l.second.issued) alone.not_there
+      (subst (λ f. AllByRecursion (IsIssued them (now f (is_live l.second.role))) l.second.issued) alone.not_here k.other_now) in
+      let sound' : IsSoundIn me.variant z = sound_holding variant meaning key barrier l.away own.items r.0 sound in
+      let go : Leads variant meaning key key' barrier l.away z =
+      record { sound = λ s. sound'; names = λ c n. names_cross variant meaning key key barrier l.away own.items c n } in
+      let here = mine variant meaning key key' barrier l.away z l.first.issued go this in
+      record {
+        keeps = record {
+          order = affected_order lists_move l notes (Some (Enters ticket)) k.order fine;
+          sound = sound';
+          this_here = here;
+          this_now = here;
+          other_here = k.other_here;
+          other_now = theirs variant meaning key key' barrier l.away z l.second.issued go other;
+          rests = λ gone left. not_dead gone;
+        };
+        entered = issued_here variant meaning key barrier z sound' (life_holding variant meaning key barrier l.away own.items r.0 r.1);
+      }
+
+  affected : (l : Both History History) (notes : Notes) (effect : Option Effect) → Issues me them l notes → IsFine l.first.role notes effect
+      → Left l.first.at effect → Affected l notes effect
+  affected l notes None k fine left = record { keeps = k; entered = tt }
+  affected l notes (Some (Invites nonce)) k fine left = invites_issues l notes nonce k fine
+  affected l notes (Some (Leaves ticket)) k fine left = leaves_issues l notes ticket k fine left
+  affected l notes (Some (Enters ticket)) k fine left =
+      enters_issues l notes ticket k fine (enters_so l.first.role l.second.role notes (Some (Enters ticket)) k.order fine)
+
+  abbrev Tellable : Both History History → Effect → Type 0
+  Tellable l (Invites nonce) = Unit {0}
+  Tellable l (Leaves ticket) = Unit {0}
+  Tellable l (Enters ticket) = Answers l
+
+  told_issues : (pair : Pair) (l : Both History History) (notes : Notes) (effect : Effect) → Issues me them l notes → Tellable l effect
+      → Issues me them (handed lists_move pair me l effect) notes
+  told_issues pair l notes (Invites nonce) k told = k
+  told_issues pair l notes (Leaves ticket) k told = record {
+    order = k.order;
+    sound = k.sound;
+    this_here = k.this_here;
+    this_now = k.this_now;
+    other_here = k.other_here;
+    other_now = k.other_now;
+    rests = k.rests;
+  }
+  told_issues pair l notes (Enters ticket) k told =
+      let y : History = l.first.at in
+      let bytes : List ℕ = sealed_of me.key (issued me y) in
+      let own : IsIssued me y bytes = record { content = issued me y; sealed = refl; names = told.1 } in
+      let now : History = history_now l in
+      let is : now ≡ y = ap (λ f. history_at f (is_live l.second.role) y l.second.at l.away) told.0 in
+      record {
+        order = k.order;
+        sound = k.sound;
+        this_here = each_append (IsIssued me y) l.first.issued (bytes ∷ []) k.this_here (own, tt);
+        this_now = each_append (IsIssued me now) l.first.issued (bytes ∷ []) k.this_now (subst (λ w. IsIssued me w bytes) (sym is) own, tt);
+        other_here = k.other_here;
+        other_now = k.other_now;
+        rests = k.rests;
+      }
+
+  ended_issues : (pair : Pair) (l : Both History History) (notes : Notes) (stop : Stop) (broken : Option StepFault)
+      (found : Result FoundMove MoveCause)
+      (effect : Option Effect) → Issues me them l notes → ((f : FoundMove) → found ≡ Ok f → broken ≡ None → Tellable l f.effect)
+      → Issues me them (move_ended lists_move pair me l stop broken found effect).both notes
+  ended_issues pair l notes stop (Some fault) found effect k told = k
+  ended_issues pair l notes stop None (Err cause) effect k told = k
+  ended_issues pair l notes stop None (Ok found) effect k told = told_issues pair l notes found.effect k (told found refl refl)
+
+  left_by_effect : (role : Role) (y z : History) (again moved : Bool) (effect : Effect) → (RestsOn me y → RestsOn me z)
+      → Lively role me y again effect
+      → Left z (if again then None else effect_if moved effect)
+  left_by_effect role y z true moved effect go h = tt
+  left_by_effect role y z false false effect go h = tt
+  left_by_effect role y z false true (Invites nonce) go h = tt
+  left_by_effect role y z false true (Enters ticket) go h = tt
+  left_by_effect role y z false true (Leaves ticket) go h = go (h refl)
+
+  left_of : (role : Role) (y z : History) (fates : ℕ → Fate) (found : Result FoundMove MoveCause) → (RestsOn me y → RestsOn me z)
+      → IsLively role me y found
+      → Left z (effect_of fates found)
+  left_of role y z fates (Err cause) go h = tt
+  left_of role y z fates (Ok found) go h = left_by_effect role y z found.again (is_moved (fates 1).ends (fates 2).ends) found.effect go h
+
+  -- what is told once a move wasn't broken off
+  tellable : (l : Both History History) (again moved : Bool) (effect : Effect) → (again ≡ false → moved ≡ true)
+      → Entered l (if again then None else effect_if moved effect) → (again ≡ true → Tellable l effect)
+      → Tellable (affected_if lists_move l (if again then None else effect_if moved effect)) effect
+  tellable l again moved (Invites nonce) done entered told = tt
+  tellable l again moved (Leaves ticket) done entered told = tt
+  tellable l true moved (Enters ticket) done entered told = told refl
+  tellable l false true (Enters ticket) done entered told = (refl, entered)
+  tellable l false false (Enters ticket) done entered told = not_dead (sym (done refl))
+
+  again_told : (l : Both History History) (notes : Notes) (y : History) (again : Bool) (effect : Effect) → Issues me them l notes
+      → (RestsOn me y → RestsOn me l.first.at) → Lively l.first.role me y again effect → again ≡ true → Tellable l effect
+  again_told l notes y again (Invites nonce) k go h e = tt
+  again_told l notes y again (Leaves ticket) k go h e = tt
+  again_told l notes y again (Enters ticket) k go h e =
+      let t = h e in
+      let z : History = l.first.at in
+      let sound : IsSoundIn me.variant z =
+      subst (λ f. IsSoundIn me.variant (history_at f (is_live l.second.role) z l.second.at l.away)) t.0 k.sound in
+      (t.0, issued_here variant meaning key barrier z sound (go t.1).1)
+
+  move_told : (l : Both History History) (notes : Notes) (y : History) (fates : ℕ → Fate) (found : Result FoundMove MoveCause)
+      → Issues me them l notes
+      → (RestsOn me y → RestsOn me l.first.at) → IsLively l.first.role me y found → Entered l (effect_of fates found)
+      → (f : FoundMove) → found ≡ Ok f → (walk fates 1 (move_steps found)).broken ≡ None
+      → Tellable (affected_if lists_move l (effect_of fates found)) f.effect
+  move_told l notes y fates (Err cause) k go h entered f e whole = cc
+  move_told l notes y fates (Ok found) k go h entered f e whole =
+      subst (λ (g : FoundMove). Tellable (affected_if lists_move l (effect_of fates (Ok found))) g.effect) (found_is found f e)
+      (tellable l found.again (is_moved (fates 1).ends (fates 2).ends) found.effect (unbroken fates found.again whole) entered
+      (again_told l notes y found.again found.effect k go h))
+
+  rests_on : (y z : History) → IsAlike y z → RestsOn me y → RestsOn me z
+  rests_on y z a r =
+      (same_open y z a ∙ r.0, subst (λ w. life_of me.variant w ≡ LiveHistory) (sym a.is) (life_holding variant meaning key barrier y z.items r.0 r.1))
+
+  brought_leads : (y : History) (meddles : List Meddle) (stop : Stop) (found : Result FoundMove MoveCause) → IsSoundIn me.variant y
+      → Leads variant meaning key key' barrier y (brought_to lists_move me y meddles stop (move_steps found))
+  brought_leads y meddles stop found sound =
+      let P : List ℕ → Type 0 = λ v. Unit {0} in
+      let fates : ℕ → Fate = (course_of stop meddles).fates in
+      let w : Walked = walk fates 1 (move_steps found) in
+      let keep = events_keep_names variant meaning key barrier in
+      let middle : History = all_made (by_lists me) y w.moves in
+      let a : Lasting me y middle = outer_lasting me keep P w.moves y (found_outer P fates found (λ n. any_value (fates n).brings)) sound in
+      let b = outer_lasting me keep P (stopped_moves stop w.broken) middle (stopped_outer P stop w.broken) a.sound in
+      record { sound = λ s. b.sound; names = λ c n. b.names c (a.names c n) }
+
+  moved_issues : (pair : Pair) (l : Both History History) (notes : Notes) (meddles : List Meddle) (stop : Stop) (command : Command)
+      (found : Option (Result FoundMove MoveCause)) → Issues me them l notes
+      → IsOrdered l.first.role l.second.role notes (moved_if lists_move pair me l meddles stop command found)
+      → IsLivelyIn l.first.role me l.first.at found
+      → (let o = moved_if lists_move pair me l meddles stop command found in Issues me them o.both (noted_if o.effect notes))
+  moved_issues pair l notes meddles stop command None k s h = k
+  moved_issues pair l notes meddles stop command (Some found) k s h =
+      let fates : ℕ → Fate = (course_of stop meddles).fates in
+      let broken : Option StepFault = (walk fates 1 (move_steps found)).broken in
+      let effect : Option Effect = effect_of fates found in
+      let y : History = l.first.at in
+      let z : History = brought_to lists_move me y meddles stop (move_steps found) in
+      let alike : IsAlike y z = brought_alike me y meddles stop found in
+      let l1 : Both History History = record l { first = record l.first { at = z } } in
+      let sound : is_live l.first.role ≡ true → IsSoundIn me.variant y =
+      λ live. subst (λ f. IsSoundIn me.variant (history_at f (is_live l.second.role) y l.second.at l.away)) live k.sound in
+      let k1 : Issues me them l1 notes =
+      brought_issues variant meaning key key' barrier l notes z l.committed k alike
+      (λ live. brought_leads y meddles stop found (sound live)) in
+      let l2 : Both History History = affected_if lists_move l1 effect in
+      let ended : IsEnded lists_move pair me l2 effect (moved_by lists_move pair me l meddles stop found) =
+      ended_told lists_move pair me l2 stop broken found effect in
+      let fine : IsFine l.first.role notes effect = subst (IsFine l.first.role notes) ended.effect_is s.fine in
+      let a : Affected l1 notes effect = affected l1 notes effect k1 fine (left_of l.first.role y z fates found (rests_on y z alike) h) in
+      subst (λ (e : Option Effect). Issues me them (moved_by lists_move pair me l meddles stop found).both (noted_if e notes))
+      (sym ended.effect_is)
+      (ended_issues pair l2 (noted_if effect notes) stop broken found effect a.keeps
+      (move_told l1 notes y fates found k1 (rests_on y z alike) h a.entered))
+
+  here_issues : (pair : Pair) (l : Both History History) (notes : Notes) (act : Act) → Issues me them l notes
+      → IsOrdered l.first.role l.second.role notes (outcome_here lists_move pair me l act)
+      → (let o = outcome_here lists_move pair me l act in Issues me them o.both (noted_if o.effect notes))
+  here_issues pair l notes (Plain event) k s =
+      plain_issues variant meaning key key' barrier l.first.at l.first.issued l.second l.away l.tickets l.committed notes l.first.role event k
+  here_issues pair l notes (Moves meddles stop command) k s =
+      moved_issues pair l notes meddles stop command (finding lists_move pair me l command) k s (finding_lively pair me l command)
+
+module _ (pair : Pair) where
+  event_issues : (l : Both History History) (notes : Notes) (which : Which) (act : Act)
+      → Issues (instance_on pair First) (instance_on pair Second) l notes
+      → (let o : BothOutcome History History = both_outcome lists_move pair l (record { which = which; act = act }) in
+      IsNew notes o.effect → IsOursIn pair l.tickets notes act → Issues (instance_on pair First) (instance_on pair Second) o.both
+      (noted_if o.effect notes))
+  event_issues l notes First act k new ours =
+      here_issues pair.variant pair.meaning pair.first_key pair.second_key pair.barrier pair l notes act k
+      (here_ordered pair (instance_on pair First) l notes act k.order new ours)
+  event_issues l notes Second act k new ours =
+      let i : Instance = instance_on pair Second in
+      let back = turned_issues pair.variant pair.meaning pair.first_key pair.second_key pair.barrier l notes k in
+      let o : BothOutcome History History = outcome_here lists_move pair i (turned l) act in
+      turned_issues pair.variant pair.meaning pair.second_key pair.first_key pair.barrier o.both (noted_if o.effect notes)
+      (here_issues pair.variant pair.meaning pair.second_key pair.first_key pair.barrier pair (turned l) notes act back
+      (here_ordered pair i (turned l) notes act back.order new ours))
+
+  issues_from : (events : List BothEvent) (l : Both History History) (notes : Notes)
+      → Issues (instance_on pair First) (instance_on pair Second) l notes
+      → AreFreshFrom pair l notes events
+      → (let f : BothFollowed History History = both_followed lists_move pair l events in
+      SnapshotsName pair First f.both.first (history_now f.both) × SnapshotsName pair Second f.both.second (history_now f.both))
+  issues_from [] l notes k fresh = (record { here = k.this_here; now = k.this_now }, record { here = k.other_here; now = k.other_now })
+  issues_from (event ∷ events) l notes k fresh =
+      let o : BothOutcome History History = both_outcome lists_move pair l event in
+      issues_from events o.both (noted_if o.effect notes) (event_issues l notes event.which event.act k fresh.0 fresh.1) fresh.2
+
+pub sides_issue_names : SidesIssueNames
+sides_issue_names pair events fresh =
+    let i : Instance = instance_on pair First in
+    let sound = first_sound_in pair.variant pair.meaning pair.first_key pair.barrier in
+    let own : IsIssued i first_history (sealed_of i.key (issued i first_history)) = record {
+      content = issued i first_history;
+      sealed = refl;
+      names = issued_here pair.variant pair.meaning pair.first_key pair.barrier first_history sound
+          (first_lives pair.variant pair.meaning pair.first_key pair.barrier);
+    } in
+    issues_from pair events (first_lists pair) no_notes
+    (record {
+      order = roles_begin;
+      sound = sound;
+      this_here = (own, tt);
+      this_now = (own, tt);
+      other_here = tt;
+      other_now = tt;
+      rests = λ gone left. not_dead gone;
+    }) fresh
