@@ -57,6 +57,7 @@ replanned act p q made now new fault r g =
       items = g.items;
       steps = g.steps;
       writes = g.writes;
+      cycles = g.cycles;
       room = g.room;
       plan = refl;
       ends = ends_under fault p made now new g.is_made g.ends;
