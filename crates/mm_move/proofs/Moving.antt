@@ -64,8 +64,8 @@ keeps_answered {A} old new answer result g e =
       steps = inl (g.steps, g.writes);
     })
 
-keeps_written : {A : Type 0} (old middle new : Standing) (next : List ℕ) (answer : A) (result : Result A MoveRefusal) (fault : Option StepFault)
-    → Goes ReadCell old middle None → Goes (WriteCell next) middle new fault → result ≡ answered answer fault → Keeps old new result
+keeps_written : {A : Type 0} (old middle new : Standing) (next : List ℕ) (answer : A) (result : Result A MoveRefusal)
+    (fault : Option StepFault) → Goes ReadCell old middle None → Goes (WriteCell next) middle new fault → result ≡ answered answer fault → Keeps old new result
 keeps_written {A} old middle new next answer result None g w e =
     subst (λ (r : Result A MoveRefusal). Keeps old new r) (sym e) (record {
       untouched = λ _ (is : false ≡ true). absurd (cc);
@@ -75,7 +75,8 @@ keeps_written {A} old middle new next answer result None g w e =
 keeps_written {A} old middle new next answer result (Some fault) g w e =
     subst (λ (r : Result A MoveRefusal). Keeps old new r) (sym e) (record {
       untouched = λ h _. absurd (cc);
-      faults = blamed_later (Some fault) old.faults middle.faults new.faults g.ends.faults (blamed (Some fault) middle new w.is_made w.ends);
+      faults = blamed_later (Some fault) old.faults middle.faults new.faults g.ends.faults
+          (blamed (Some fault) middle new w.is_made w.ends);
       steps = inr (w.steps ∙ ap counted g.steps, w.writes ∙ ap counted g.writes);
     })
 
@@ -91,7 +92,8 @@ keeps_on {A} old middle new (Err why) result g h w =
     subst (λ (s : Standing). Keeps old s result) (sym w.0) (keeps_refused old middle why result g h w.1)
 keeps_on old middle new (Ok ready) result g h w = keeps_made old middle new ready.next ready.answer result g w
 
-no_fault_or : {A : Type 0} (finds found : Result A MoveRefusal) → move_fault_in finds ≡ None → OrNoMemory finds found → move_fault_in found ≡ None
+no_fault_or : {A : Type 0} (finds found : Result A MoveRefusal) → move_fault_in finds ≡ None → OrNoMemory finds found
+    → move_fault_in found ≡ None
 no_fault_or {A} (Err why) found h o = ap (λ (r : Result A MoveRefusal). move_fault_in r) o ∙ h
 no_fault_or {A} (Ok it) found h (inl e) = ap (λ (r : Result A MoveRefusal). move_fault_in r) e
 no_fault_or {A} (Ok it) found h (inr e) = ap (λ (r : Result A MoveRefusal). move_fault_in r) e

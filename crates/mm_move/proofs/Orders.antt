@@ -40,8 +40,8 @@ offer_no_fault meaning key (Ok offered) =
     no_fault_if (Lacks Content) (not (meaning.is_spelled offered.content.state)) _ _ refl
     (no_fault_if (Lacks Content) (not (bytes_eq offered.tag (tag_of key offered.content))) _ _ refl refl)
 
-leaves_no_fault : (variant : Variant) (link : Link) (nonce : List ℕ) (summary : Digest) (next : Option (List ℕ)) (offered : Result Content MoveRefusal)
-    → move_fault_in offered ≡ None → move_fault_in (leaves_by variant link nonce summary next offered) ≡ None
+leaves_no_fault : (variant : Variant) (link : Link) (nonce : List ℕ) (summary : Digest) (next : Option (List ℕ))
+    (offered : Result Content MoveRefusal) → move_fault_in offered ≡ None → move_fault_in (leaves_by variant link nonce summary next offered) ≡ None
 leaves_no_fault variant link nonce summary next (Err why) h = h
 leaves_no_fault variant link nonce summary next (Ok offered) h =
     no_fault_if (Lacks (Ready (List ℕ))) (not (stands_at summary offered.place)) _ _ refl refl
@@ -63,22 +63,26 @@ retires_no_fault meaning variant link nonce offer (Ok (Left cell)) =
     (leaves_no_fault variant link nonce cell.summary None (right_offer meaning variant cell.key offer)
     (offer_no_fault meaning cell.key (parts_of variant meaning.id offer))))
 
-ticket_no_fault : (meaning : Meaning) (key : List ℕ) (read : Result TaggedTicket PartsFault) → move_fault_in (ticket_by meaning key read) ≡ None
+ticket_no_fault : (meaning : Meaning) (key : List ℕ) (read : Result TaggedTicket PartsFault)
+    → move_fault_in (ticket_by meaning key read) ≡ None
 ticket_no_fault meaning key (Err Form) = refl
 ticket_no_fault meaning key (Err Kind) = refl
 ticket_no_fault meaning key (Ok offered) =
     no_fault_if (Lacks TicketContent) (not (meaning.is_spelled offered.ticket.content.state)) _ _ refl
     (no_fault_if (Lacks TicketContent) (not (bytes_eq offered.tag (ticket_tag key offered.ticket))) _ _ refl refl)
 
-arrives_no_fault : (cell : Waiting) (ticket : Result TicketContent MoveRefusal) → move_fault_in ticket ≡ None → move_fault_in (arrives_by cell ticket) ≡ None
+arrives_no_fault : (cell : Waiting) (ticket : Result TicketContent MoveRefusal) → move_fault_in ticket ≡ None
+    → move_fault_in (arrives_by cell ticket) ≡ None
 arrives_no_fault cell (Err why) h = h
 arrives_no_fault cell (Ok ticket) h =
     no_fault_if (Lacks (Ready Accepted)) (not (bytes_eq ticket.nonce cell.nonce)) _ _ refl refl
 
-has_arrived_no_fault : (cell : Cell) (ticket : Result TicketContent MoveRefusal) → move_fault_in ticket ≡ None → move_fault_in (has_arrived_by cell ticket) ≡ None
+has_arrived_no_fault : (cell : Cell) (ticket : Result TicketContent MoveRefusal) → move_fault_in ticket ≡ None
+    → move_fault_in (has_arrived_by cell ticket) ≡ None
 has_arrived_no_fault cell (Err why) h = h
 has_arrived_no_fault cell (Ok ticket) h =
-    no_fault_if (Lacks (Ready Accepted)) (cell.flag || not (bytes_eq (summary_in ticket.content.place).bytes cell.summary.bytes)) _ _ refl refl
+    no_fault_if (Lacks (Ready Accepted)) (cell.flag || not (bytes_eq (summary_in ticket.content.place).bytes cell.summary.bytes))
+    _ _ refl refl
 
 pub accepts_no_fault : (meaning : Meaning) (variant : Variant) (link : Link) (ticket : List ℕ) (read : Result MovedCell CellFault)
     → move_fault_in (accepts_in meaning variant link ticket read) ≡ None

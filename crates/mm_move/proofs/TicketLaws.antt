@@ -100,7 +100,8 @@ spelled_by_front bytes h =
     (ap (take 82) (sym (bytes_tell (ticket_spelling tagged) bytes e) ∙ append_assoc front tagged.ticket.content.state tagged.tag)
     ∙ take_front 82 front (tagged.ticket.content.state ++ tagged.tag) size))
 
-pub front_tells : (bytes front : List ℕ) (t : TicketContent) (r : Bool) → 114 ≤ length bytes → t ≡ (tagged_in bytes).ticket → front ≡ take 82 bytes
+pub front_tells : (bytes front : List ℕ) (t : TicketContent) (r : Bool) → 114 ≤ length bytes → t ≡ (tagged_in bytes).ticket
+    → front ≡ take 82 bytes
     → r ≡ bytes_eq front (ticket_front t) → is_bounded t.content ≡ true → r ≡ is_spelled_by bytes (tagged_in bytes)
 front_tells bytes front t r h e f is bounded =
     let tagged : TaggedTicket = tagged_in bytes in

@@ -44,7 +44,8 @@ const RECORDED_TAG: [u8; 32] = [
 /// A waiting platform's answer to the good ticket with one byte changed and sealed anew.
 fn changed_said(alloc: Global, at: usize, byte: u8) -> Result<String, Fail> {
     let good = ticket_of(alloc, Variant::Basic, "good")?;
-    let mut bytes = good.as_slice()[..90].to_vec(alloc)?;
+    let mut bytes = good.as_slice().to_vec(alloc)?;
+    bytes.truncate(90);
     if let Some(place) = bytes.get_mut(at) {
         *place = byte;
     }
@@ -59,8 +60,8 @@ fn says_changed(rt: &impl Abort, alloc: Global, line: &str) -> Result<(), Fail> 
     let (asked, said) = line.split_once(" => ").ok_or("no row")?;
     let (at, byte) = asked.split_once(' ').ok_or("no byte")?;
     let at = read_decimal(at.as_bytes()).ok_or("no place")? as usize;
-    let byte = read_decimal(byte.as_bytes()).ok_or("no byte")? as u8;
-    let came = changed_said(alloc, at, byte)?;
+    let byte = read_decimal(byte.as_bytes()).ok_or("no byte")? % 256;
+    let came = changed_said(alloc, at, byte as u8)?;
     assert_eq!(rt; came.as_str(), said, "{line}");
     Ok(())
 }
@@ -106,8 +107,8 @@ fn a_recorded_ticket_is_the_same(rt: HostRuntime) -> Result<(), Fail> {
     let nonce = [0x11; 32];
     let bytes = ticket_bytes(rt.alloc(), &key, &Ticket { nonce, body })?;
     let bytes = bytes.as_slice();
-    assert_eq!(rt; &bytes[..6], b"MMT1\x01\x01".as_slice());
-    assert_eq!(rt; &bytes[90..], RECORDED_TAG.as_slice());
+    assert!(rt; bytes.starts_with(b"MMT1\x01\x01"));
+    assert!(rt; bytes.ends_with(&RECORDED_TAG));
     Ok(())
 }
 
@@ -144,7 +145,7 @@ fn each_field_of_a_cell_counts(rt: HostRuntime) {
     let wrong = [
         (0, 0),
         (1, 0),
-        (2, b'N'),
+        (2, b'Y'),
         (3, b'2'),
         (4, 0),
         (4, 3),

@@ -10,7 +10,8 @@ use Rattle.mm_move.proofs.accepting.accept_by.Goals as goal
 pub returns-in-Ok : goal.returns-in-Ok
 returns-in-Ok g c =
     read_done
-    (λ (bytes : List ℕ). accepts_in (g.M.Module.meaning c.args.module.now) c.args.variant c.args.link.now c.args.ticket.now (moved_of bytes))
+    (λ (bytes : List ℕ).
+    accepts_in (g.M.Module.meaning c.args.module.now) c.args.variant c.args.link.now c.args.ticket.now (moved_of bytes))
     (g.P.Device.standing c.args.platform.now) (g.P.Device.standing c.read.new.platform) (g.P.Device.standing c.go_on.new.platform)
     c.in-Ok.bytes c.arrive.result c.go_on.result c.in-Ok.ensures
     (subst
