@@ -19,6 +19,7 @@ struct Untold {
     cell: [u8; CELL_LENGTH],
     steps: u64,
     writes: u64,
+    cycles: u64,
     faults: u64,
     failing: u64,
 }
@@ -29,6 +30,7 @@ impl Untold {
             cell,
             steps: 0,
             writes: 0,
+            cycles: 0,
             faults: 0,
             failing,
         }
@@ -38,6 +40,7 @@ impl Untold {
     fn step(&mut self) -> Result<(), StepFault>
         ensures steps { self.new.steps ≡ counted self.old.steps }
         ensures writes { self.new.writes ≡ self.old.writes }
+        ensures cycles { self.new.cycles ≡ self.old.cycles }
         ensures counts { CountsFaults self.old.faults self.new.faults result }
         ensures failed { IfErr result (λ fault. fault ≡ StepFault.Failed) }
     {
@@ -59,6 +62,7 @@ impl Device for Untold {
       is_on = true;
       steps = it.steps;
       writes = it.writes;
+      cycles = it.cycles;
       spare = 1;
       faults = it.faults;
       plan = None;
@@ -101,6 +105,7 @@ impl Register for Untold {
 
 impl Platform for Untold {
     fn cycle(&mut self) -> Result<(), StepFault> {
+        self.cycles = self.cycles.saturating_add(1);
         Ok(())
     }
 }
