@@ -1,0 +1,95 @@
+-- Each slot is where its own fold leaves it.
+use Rattle.std.proofs.Common.{◌≡◌, ◌∙◌, ◌+◌, ◌==◌, ℕ, zero, suc, Bool, true, false, cond, List, [], ◌∷◌, ◌++◌, map, Option, None, Some, refl, sym, ap, arith, append-nil}
+use Rattle.std.specs.List.{slice_get}
+use Rattle.std.specs.Option.{option_map, option_map_or}
+use Rattle.std.proofs.lemmas.Bool.{eqb-true}
+use Rattle.std.proofs.lemmas.List.{append_assoc}
+use Rattle.mm_model.specs.Instance.{Instance}
+use Rattle.mm_slots.specs.declared.event.Action.{Action}
+use Rattle.mm_slots.specs.declared.event.SlotEvent.{SlotEvent}
+use Rattle.mm_slots.specs.declared.event.SlotEvent.TheVariants.{Power, At}
+use Rattle.mm_slots.specs.declared.said.Said.{Said}
+use Rattle.mm_slots.specs.Slot.{Slot, Turned, Met, Acts, Loses, turned, acted, folded, followed_by}
+use Rattle.mm_slots.specs.Table.{Row, row_after, by_place, after_event, after_events, cuts_all, met_in, met_by, Answer, PowerLost, Says, said_at, answers_to, answers, said_for}
+use Rattle.mm_slots.specs.Laws.{IsAlone, SlotsAreAlone}
+
+pub by_place_get : {A B : Type 0} (f : ℕ → A → B) (place : ℕ) (xs : List A) (n at : ℕ) → at ≡ place + n
+    → slice_get (by_place f place xs) n ≡ option_map (f at) (slice_get xs n)
+by_place_get f place [] n at e = refl
+by_place_get f place (x ∷ xs) zero at e = let same : place ≡ at = omega (arith, e) in ap (λ (k : ℕ). Some (f k x)) same
+by_place_get f place (x ∷ xs) (suc n) at e = by_place_get f (place + 1) xs n at (omega (arith, e))
+
+-- the row of a slot behind one event
+pub row_behind : (rows : List Row) (event : SlotEvent) (n : ℕ) (row : Row) → slice_get rows n ≡ Some row
+    → slice_get (after_event rows event) n ≡ Some (row_after row (met_in n rows event))
+row_behind rows event n row is =
+    by_place_get (λ number row. row_after row (met_in number rows event)) 0 rows n n (omega arith)
+    ∙ ap (λ (found : Option Row). option_map (λ r. row_after r (met_in n rows event)) found) is
+
+followed_assoc : (a b c : Turned) → followed_by a (followed_by b c) ≡ followed_by (followed_by a b) c
+followed_assoc a b c = λ j. record {
+  slot = c.slot;
+  said = sym (append_assoc a.said b.said c.said) j;
+  events = sym (append_assoc a.events b.events c.events) j;
+  replies = sym (append_assoc a.replies b.replies c.replies) j;
+}
+
+-- a fold goes on from where it stands
+pub folded_more : (i : Instance) (slot : Slot) (xs ys : List Met)
+    → folded i slot (xs ++ ys) ≡ followed_by (folded i slot xs) (folded i (folded i slot xs).slot ys)
+folded_more i slot [] ys = refl
+folded_more i slot (x ∷ xs) ys =
+    let t = turned i slot x in
+    ap (followed_by t) (folded_more i t.slot xs ys)
+    ∙ followed_assoc t (folded i t.slot xs) (folded i (folded i t.slot xs).slot ys)
+
+said_more : (n : ℕ) (xs ys : List Answer) → said_for n (xs ++ ys) ≡ said_for n xs ++ said_for n ys
+said_more n [] ys = refl
+said_more n (PowerLost ∷ xs) ys = said_more n xs ys
+said_more n (Says other said ∷ xs) ys =
+    ap (λ (rest : List Said). cond (n == other) (said ∷ []) [] ++ rest) (said_more n xs ys)
+    ∙ sym (append_assoc (cond (n == other) (said ∷ []) []) (said_for n xs) (said_for n ys))
+
+-- what is said for the slot, and for another
+said_own : (n other : ℕ) (said : List Said) → (n == other) ≡ true → said_for n (map (Says other) said) ≡ said
+said_own n other [] own = refl
+said_own n other (first ∷ said) own = rw own (ap (λ (rest : List Said). first ∷ rest) (said_own n other said own))
+
+said_others : (n other : ℕ) (said : List Said) → (n == other) ≡ false → said_for n (map (Says other) said) ≡ []
+said_others n other [] own = refl
+said_others n other (first ∷ said) own = rw own (said_others n other said own)
+
+-- what is said for a slot at what happens in it, or in another
+said_here : (rows : List Row) (n other : ℕ) (what : Action) (row : Row) (own cuts : Bool) → slice_get rows n ≡ Some row
+    → (n == other) ≡ own
+    → said_for n (map (Says other) (said_at rows other what))
+    ≡ (folded row.instance row.slot (cond own (Acts what ∷ []) (cond cuts (Loses ∷ []) []))).said
+said_here rows n other what row true cuts is own =
+    let same : n ≡ other = eqb-true n other own in
+    said_own n other (said_at rows other what) own
+    ∙ ap (λ (k : ℕ). said_at rows k what) (sym same)
+    ∙ ap (λ (found : Option Row). option_map_or (λ (r : Row). (acted r.instance r.slot what).said) found []) is
+    ∙ sym (append-nil (acted row.instance row.slot what).said)
+said_here rows n other what row false true is own = said_others n other (said_at rows other what) own
+said_here rows n other what row false false is own = said_others n other (said_at rows other what) own
+
+said_one : (rows : List Row) (event : SlotEvent) (n : ℕ) (row : Row) → slice_get rows n ≡ Some row
+    → said_for n (answers_to rows event) ≡ (folded row.instance row.slot (met_in n rows event)).said
+said_one rows Power n row is = refl
+said_one rows (At other what) n row is = said_here rows n other what row (n == other) (cuts_all rows other what) is refl
+
+pub alone : SlotsAreAlone
+alone rows [] n row is = record { stands = is; said = refl }
+alone rows (event ∷ events) n row is =
+    let mets = met_in n rows event in
+    let next = after_event rows event in
+    let later = met_by n next events in
+    let a = alone next events n (row_after row mets) (row_behind rows event n row is) in
+    let split = folded_more row.instance row.slot mets later in
+    record {
+      stands = a.stands ∙ ap (λ (t : Turned). Some (record row { slot = t.slot })) (sym split);
+      said = said_more n (answers_to rows event) (answers next events)
+          ∙ ap (λ (front : List Said). front ++ said_for n (answers next events)) (said_one rows event n row is)
+          ∙ ap (λ (rest : List Said). (folded row.instance row.slot mets).said ++ rest) a.said
+          ∙ ap (λ (t : Turned). t.said) (sym split);
+    }

@@ -1,0 +1,315 @@
+-- What begins a call in a slot, what is refused, a value of others, and a loss of power.
+use Rattle.std.proofs.Common.{◌≡◌, ◌∙◌, ◌+◌, ◌-◌, ◌^◌, ◌≤◌, ◌<◌, ℕ, Bool, true, false, cond, List, [], ◌∷◌, ◌++◌, length, Option, None, Some, IsSome, refl, sym, ap, subst, arith}
+use Rattle.std.specs.Prelude.{vec_capacity}
+use Rattle.std.specs.Option.{option_map, option_map_or}
+use Rattle.std.specs.List.{sum_by}
+use Rattle.mm_base.specs.Faults.{counted}
+use Rattle.mm_digest.specs.declared.digest.Digest.{Digest}
+use Rattle.mm_digest.specs.Messages.{zero_bytes}
+use Rattle.mm_module.specs.Batch.{Batch, One}
+use Rattle.mm_modules.specs.Modules.{meaning_of}
+use Rattle.mm_platform.specs.declared.plan.Meddle.{Meddle}
+use Rattle.mm_platform.specs.declared.plan.Stop.TheVariants.{Quiet}
+use Rattle.mm_platform.specs.Standing.{Item, Plan, Standing, next_step, item_values, register_after}
+use Rattle.mm_platform.specs.Told.{next_plan, quiet_plan}
+use Rattle.mm_platform.specs.Memory.{meddling, cycled}
+use Rattle.mm_model.specs.Instance.{Instance}
+use Rattle.mm_model.specs.History.{Foreign, Power as PowerMove}
+use Rattle.mm_model.specs.Long.{is_long}
+use Rattle.mm_model.specs.Moves.{Digests, made}
+use Rattle.mm_model.specs.Standing.{register_reads}
+use Rattle.mm_call.specs.Levels.{by_digests}
+use Rattle.mm_schedule.specs.Events.{Event, Ask, Extend, Power}
+use Rattle.mm_schedule.specs.declared.event.Offer.{Offer}
+use Rattle.mm_schedule.specs.declared.reply.Cause.{Cause}
+use Rattle.mm_schedule.specs.declared.reply.Cause.TheVariants as cause
+use Rattle.mm_schedule.specs.declared.reply.Reply.TheVariants as reply
+use Rattle.mm_run.specs.Held.{rising_from}
+use Rattle.mm_run.specs.Offered.{offered_bytes}
+use Rattle.mm_opt.specs.declared.stage.CheckpointStage.TheVariants as stage
+use Rattle.mm_flight.specs.declared.ask.AskCall.{AskCall}
+use Rattle.mm_flight.specs.Asks.{begun as begun_call}
+use Rattle.mm_flight.specs.InFlight.{plan_by}
+use Rattle.mm_flight.proofs.Flying.{meddled}
+use Rattle.mm_world.specs.Held.{digest_in, flag_in}
+use Rattle.mm_world.specs.Stands.{Stands, IsQuiet}
+use Rattle.mm_world.proofs.Worlds.{extended_by, stands_extended}
+use Rattle.mm_world.proofs.Asking.{stands_settled}
+use Rattle.mm_steps.specs.Asking.{AsksInFlight}
+use Rattle.mm_steps.specs.Closing.{ClosesInFlight}
+use Rattle.mm_steps.proofs.Beginning.{asks_begun, closes_begun, asks_take_in, closes_take_in, may_take_in}
+use Rattle.mm_slots.specs.declared.event.Action.{Action}
+use Rattle.mm_slots.specs.declared.event.Action.TheVariants as action
+use Rattle.mm_slots.specs.declared.event.Breaking.{Breaking}
+use Rattle.mm_slots.specs.declared.flight.Asking.{Asking}
+use Rattle.mm_slots.specs.declared.flight.Closing.{Closing}
+use Rattle.mm_slots.specs.declared.flight.Flight.{Flight as CodeFlight}
+use Rattle.mm_slots.specs.declared.flight.Flight.TheVariants as code
+use Rattle.mm_slots.specs.declared.said.Said.{Said}
+use Rattle.mm_slots.specs.declared.said.Said.TheVariants.{Busy, Idle, Begun, Replied}
+use Rattle.mm_slots.specs.declared.slot.Slot.{Slot as CodeSlot}
+use Rattle.mm_slots.specs.Slot.{Slot, Flight, Turned, Asks, Closes, slot_instance, outcome_in, plays, merely, flying, beginning, begun, acted, acted_by, joined, unpowered}
+use Rattle.mm_slots.specs.Held.{digests_in, slot_in, flight_in, call_in, instance_in, FitsFlight, FitsAsking, FitsClosing, Fits, GoesOn, Comes, Loses, flown, HasRegister, within_64, KeepsSlot}
+use Rattle.mm_slots.proofs.Fitting.{settled, idle, unchanged, still_fits, same_slot, mine_are}
+use Rattle.mm_slots.proofs.Stepping.{flight_of, plan_is, asking_of, closing_of}
+
+-- what is said by whether a call is in flight
+
+pub comes_by : (new : Standing) (slot slot' : CodeSlot) (one other : Turned) (said : Said) → one ≡ other → Comes new slot slot' one said → Comes new slot slot' other said
+comes_by new slot slot' one other said e c = subst (λ (t : Turned). Comes new slot slot' t said) e c
+
+-- with no call in flight
+pub acts_idle : (standing : Standing) (slot : CodeSlot) (what : Action) → slot.flight ≡ None
+    → acted (instance_in slot) (slot_in standing slot) what ≡ acted_by (instance_in slot) (slot_in standing slot) None what
+acts_idle standing slot what none =
+    ap (λ (f : Option CodeFlight). acted_by (instance_in slot) (slot_in standing slot) (flight_in (next_plan standing) f) what) none
+
+-- with one
+pub acts_flying : (standing : Standing) (slot : CodeSlot) (what : Action) (flight : CodeFlight) → slot.flight ≡ Some flight
+    → acted (instance_in slot) (slot_in standing slot) what ≡ acted_by (instance_in slot) (slot_in standing slot) (Some (flight_of standing flight)) what
+acts_flying standing slot what flight some =
+    ap (λ (f : Option CodeFlight). acted_by (instance_in slot) (slot_in standing slot) (flight_in (next_plan standing) f) what) some
+
+-- a call begins
+
+quiet_next : (standing : Standing) → IsQuiet standing → next_plan standing ≡ quiet_plan
+quiet_next standing q = plan_is standing quiet_plan q.plan
+
+begins_comes : (standing : Standing) (slot : CodeSlot) (flight : CodeFlight) → IsQuiet standing → Fits standing (flown slot flight)
+    → Comes standing slot (flown slot flight) (merely (flying (slot_in standing slot) (beginning (call_in flight))) Begun) Begun
+begins_comes standing slot flight q fits = record {
+  goes = record { fits = fits; header = refl; number = refl; few = omega arith };
+  stands = λ j. record {
+    digests = digests_in standing slot;
+    issued = slot.issued.items;
+    flight = Some (record { call = call_in flight; meddles = (quiet_next standing q j).meddles; next = (quiet_next standing q j).at + 1 });
+  };
+  says = refl;
+  sayable = tt;
+}
+
+pub ask_begins : (standing : Standing) (slot : CodeSlot) (asking : Asking) → Fits standing slot → slot.flight ≡ None
+    → offered_bytes slot.issued.items asking.offer ≡ Some asking.bytes → is_long (One asking.request) ≡ false → asking.call ≡ begun_call slot.header.variant
+    → length slot.issued.items < vec_capacity slot.issued
+    → Comes standing slot (flown slot (code.Asks asking)) (acted (instance_in slot) (slot_in standing slot) (action.Begin asking.offer asking.request)) Begun
+ask_begins standing slot asking fits none some short is room =
+    let s = slot_in standing slot in
+    let i = instance_in slot in
+    let at = idle standing slot none fits in
+    let key = rising_from slot.number in
+    let barrier = rising_from (128 + slot.number) in
+    let begins = asks_begun slot.header.variant (meaning_of slot.header.«module») key barrier (digests_in standing slot) standing asking.call asking.bytes (One asking.request) is at.0 at.1 in
+    let flies = subst (λ (p : Plan). AsksInFlight slot.header.variant (meaning_of slot.header.«module») key barrier (digests_in standing slot) standing
+    asking.call standing p.meddles (p.at + 1) asking.bytes (One asking.request)) (sym (quiet_next standing at.1)) begins in
+    let on : Turned = merely (flying s (beginning (Asks asking.offer (One asking.request)))) Begun in
+    let opens : begun i s asking.offer (One asking.request) (offered_bytes s.issued asking.offer) ≡ on = rw (some, short) refl in
+    comes_by standing slot (flown slot (code.Asks asking)) on (acted i s (action.Begin asking.offer asking.request)) Begun
+    (sym (acts_idle standing slot (action.Begin asking.offer asking.request) none ∙ opens))
+    (begins_comes standing slot (code.Asks asking) at.1
+    (record { flight = record { from = standing; flies = flies; offered = some; short = short; room = room }; kept = fits.kept }))
+
+pub close_begins : (standing : Standing) (slot : CodeSlot) → Fits standing slot → slot.flight ≡ None
+    → Comes standing slot (flown slot (code.Closes (record { call = stage.Begun }))) (acted (instance_in slot) (slot_in standing slot) action.Close) Begun
+close_begins standing slot fits none =
+    let s = slot_in standing slot in
+    let at = idle standing slot none fits in
+    let key = rising_from slot.number in
+    let barrier = rising_from (128 + slot.number) in
+    let closing : Closing = record { call = stage.Begun } in
+    let begins = closes_begun slot.header.variant (meaning_of slot.header.«module») key barrier (digests_in standing slot) standing at.0 at.1 in
+    let flies = subst (λ (p : Plan). ClosesInFlight slot.header.variant (meaning_of slot.header.«module») key barrier (digests_in standing slot) standing
+    stage.Begun standing p.meddles (p.at + 1)) (sym (quiet_next standing at.1)) begins in
+    comes_by standing slot (flown slot (code.Closes closing)) (merely (flying s (beginning Closes)) Begun) (acted (instance_in slot) s action.Close) Begun
+    (sym (acts_idle standing slot action.Close none))
+    (begins_comes standing slot (code.Closes closing) at.1 (record { flight = record { from = standing; flies = flies }; kept = fits.kept }))
+
+-- others extend the register
+
+pub extends_now : (old new : Standing) (slot slot' : CodeSlot) (value : Digest) → Fits old slot → slot.flight ≡ None → new ≡ extended_by old value.bytes
+    → slot'.header ≡ slot.header → slot'.number ≡ slot.number → slot'.committed ≡ slot.committed → slot'.flight ≡ slot.flight → slot'.kept ≡ slot.kept
+    → slot'.issued.items ≡ slot.issued.items → HasRegister new slot'
+    → Comes new slot slot' (acted (instance_in slot) (slot_in old slot) (action.Extend value)) (Replied reply.Extended)
+extends_now old new slot slot' value fits none e h n c f k issued r =
+    let i = instance_in slot in
+    let s = slot_in old slot in
+    let d = digests_in old slot in
+    let at = idle old slot none fits in
+    let after = made i d (Foreign value.bytes) in
+    let there : Stands i new after = subst (λ (x : Standing). Stands i x after) (sym e) (stands_extended i d value.bytes old at.0) in
+    let mine = subst (λ (j : Instance). Stands j new after) (λ j. slot_instance (sym h j) (sym n j)) there in
+    let quiet : IsQuiet new = subst IsQuiet (sym e) (record { is_on = at.1.is_on; plan = at.1.plan }) in
+    let idle' = f ∙ none in
+    let kept = k ∙ fits.kept ∙ ap (λ (x : List (List ℕ)). within_64 (sum_by length x)) (sym issued) in
+    let digests : digests_in new slot' ≡ after = mine_are new slot' after mine r ∙ (λ j. record after { count = c j }) in
+    comes_by new slot slot' (plays i s (Extend value.bytes)) (acted i s (action.Extend value)) (Replied reply.Extended)
+    (sym (acts_idle old slot (action.Extend value) none))
+    (record {
+      goes = record { fits = settled new slot' after idle' mine quiet r kept; header = h; number = n; few = omega (arith, c) };
+      stands = λ j. record { digests = digests j; issued = issued j; flight = ap (flight_in (next_plan new)) idle' j };
+      says = refl;
+      sayable = tt;
+    })
+
+meddled_plan : (old new : Standing) (meddles : List Meddle) (made next : ℕ) (value : Digest) → old.plan ≡ Some (record (plan_by Quiet meddles) { at = made }) → made < 255
+    → next ≡ made + 1 → new ≡ record old { plan = option_map (meddling value) old.plan }
+    → next_plan new ≡ record (plan_by Quiet (meddled meddles next value)) { at = made }
+meddled_plan old new meddles made next value planned few is e =
+    let plan : Plan = record (plan_by Quiet meddles) { at = made } in
+    let step : next_step plan ≡ next = omega (arith, few, is) in
+    plan_is new (meddling value plan) (ap (λ (x : Standing). x.plan) e ∙ ap (option_map (meddling value)) planned)
+    ∙ ap (λ (n : ℕ). record (plan_by Quiet (meddled meddles n value)) { at = made }) step
+
+-- what a value that comes leaves of a call in flight
+joins_comes : (old new : Standing) (slot : CodeSlot) (flight : CodeFlight) (value : Digest) → slot.flight ≡ Some flight → new.cell ≡ old.cell
+    → next_plan new ≡ record (next_plan old) { stop = Quiet; meddles = meddled (next_plan old).meddles ((next_plan old).at + 1) value } → Fits new slot
+    → Comes new slot slot (acted (instance_in slot) (slot_in old slot) (action.Extend value)) (Replied reply.Extended)
+joins_comes old new slot flight value some cell plan fits =
+    let s = slot_in old slot in
+    let on : Turned = merely (flying s (joined (flight_of old flight) value.bytes)) (Replied reply.Extended) in
+    let flies : flight_in (next_plan new) slot.flight ≡ Some (joined (flight_of old flight) value.bytes) =
+    ap (flight_in (next_plan new)) some ∙ (λ j. Some (record { call = call_in flight; meddles = (plan j).meddles; next = (plan j).at + 1 })) in
+    comes_by new slot slot on (acted (instance_in slot) s (action.Extend value)) (Replied reply.Extended)
+    (sym (acts_flying old slot (action.Extend value) flight some))
+    (record {
+      goes = record { fits = fits; header = refl; number = refl; few = omega arith };
+      stands = λ j. record {
+        digests = record { digest = digest_in (cell j); flag = flag_in (cell j); register = slot.register.bytes; count = slot.committed };
+        issued = slot.issued.items;
+        flight = flies j;
+      };
+      says = refl;
+      sayable = tt;
+    })
+
+-- one call in flight, by which it is
+some_flight : (standing : Standing) (slot : CodeSlot) (flight : CodeFlight) → slot.flight ≡ Some flight → Fits standing slot → Fits standing (flown slot flight)
+some_flight standing slot flight some fits = record {
+  flight = subst (λ (f : Option CodeFlight). FitsFlight slot.header slot.number (digests_in standing slot) slot.issued.items (vec_capacity slot.issued) standing f) some fits.flight;
+  kept = fits.kept;
+}
+
+back_from : (standing : Standing) (slot : CodeSlot) (flight : CodeFlight) → slot.flight ≡ Some flight → Fits standing (flown slot flight) → Fits standing slot
+back_from standing slot flight some fits = record {
+  flight = subst (λ (f : Option CodeFlight). FitsFlight slot.header slot.number (digests_in standing slot) slot.issued.items (vec_capacity slot.issued) standing f) (sym some) fits.flight;
+  kept = fits.kept;
+}
+
+-- there is a next step to plan a value for
+pub may_meddle : (standing : Standing) (slot : CodeSlot) (flight : CodeFlight) → Fits standing slot → slot.flight ≡ Some flight → (next_plan standing).at < 255
+may_meddle standing slot (code.Asks asking) fits some =
+    let a = (asking_of standing slot asking (some_flight standing slot (code.Asks asking) some fits)).flies in
+    may_take_in standing (plan_by Quiet (next_plan standing).meddles) a.made a.flies.planned a.flies.few
+may_meddle standing slot (code.Closes closing) fits some =
+    let a = (closing_of standing slot closing (some_flight standing slot (code.Closes closing) some fits)).flies in
+    may_take_in standing (plan_by Quiet (next_plan standing).meddles) a.made a.flies.planned a.flies.few
+
+pub extends_flying : (old new : Standing) (slot : CodeSlot) (flight : CodeFlight) (value : Digest) → Fits old slot → slot.flight ≡ Some flight
+    → new ≡ record old { plan = option_map (meddling value) old.plan }
+    → Comes new slot slot (acted (instance_in slot) (slot_in old slot) (action.Extend value)) (Replied reply.Extended)
+extends_flying old new slot (code.Asks asking) value fits some e =
+    let f = asking_of old slot asking (some_flight old slot (code.Asks asking) some fits) in
+    let a = f.flies in
+    let p = next_plan old in
+    let known : p ≡ record (plan_by Quiet p.meddles) { at = a.made } = plan_is old (record (plan_by Quiet p.meddles) { at = a.made }) a.flies.planned in
+    let key = rising_from slot.number in
+    let barrier = rising_from (128 + slot.number) in
+    let cell : new.cell ≡ old.cell = ap (λ (x : Standing). x.cell) e in
+    let plan : next_plan new ≡ record p { stop = Quiet; meddles = meddled p.meddles (p.at + 1) value } =
+    meddled_plan old new p.meddles a.made (p.at + 1) value a.flies.planned a.flies.few a.is_next e
+    ∙ ap (λ (n : ℕ). record (plan_by Quiet (meddled p.meddles (p.at + 1) value)) { at = n }) (sym (ap (λ (q : Plan). q.at) known)) in
+    let taken = asks_take_in slot.header.variant (meaning_of slot.header.«module») key barrier (digests_in old slot) f.from asking.call old new p.meddles (p.at + 1)
+    asking.bytes (One asking.request) value a e in
+    let d : digests_in new slot ≡ digests_in old slot =
+    (λ j. record { digest = digest_in (cell j); flag = flag_in (cell j); register = slot.register.bytes; count = slot.committed }) in
+    let P : Digests → Plan → Type 0 = λ x q. AsksInFlight slot.header.variant (meaning_of slot.header.«module») key barrier x f.from asking.call new q.meddles (q.at + 1)
+    asking.bytes (One asking.request) in
+    let flies = subst (λ (q : Plan). P (digests_in new slot) q) (sym plan)
+    (subst (λ (x : Digests). P x (record p { stop = Quiet; meddles = meddled p.meddles (p.at + 1) value })) (sym d) taken) in
+    joins_comes old new slot (code.Asks asking) value some cell plan
+    (back_from new slot (code.Asks asking) some
+    (record { flight = record { from = f.from; flies = flies; offered = f.offered; short = f.short; room = f.room }; kept = fits.kept }))
+extends_flying old new slot (code.Closes closing) value fits some e =
+    let f = closing_of old slot closing (some_flight old slot (code.Closes closing) some fits) in
+    let a = f.flies in
+    let p = next_plan old in
+    let known : p ≡ record (plan_by Quiet p.meddles) { at = a.made } = plan_is old (record (plan_by Quiet p.meddles) { at = a.made }) a.flies.planned in
+    let key = rising_from slot.number in
+    let barrier = rising_from (128 + slot.number) in
+    let cell : new.cell ≡ old.cell = ap (λ (x : Standing). x.cell) e in
+    let plan : next_plan new ≡ record p { stop = Quiet; meddles = meddled p.meddles (p.at + 1) value } =
+    meddled_plan old new p.meddles a.made (p.at + 1) value a.flies.planned a.flies.few a.is_next e
+    ∙ ap (λ (n : ℕ). record (plan_by Quiet (meddled p.meddles (p.at + 1) value)) { at = n }) (sym (ap (λ (q : Plan). q.at) known)) in
+    let taken = closes_take_in slot.header.variant (meaning_of slot.header.«module») key barrier (digests_in old slot) f.from closing.call old new p.meddles (p.at + 1) value a e in
+    let d : digests_in new slot ≡ digests_in old slot =
+    (λ j. record { digest = digest_in (cell j); flag = flag_in (cell j); register = slot.register.bytes; count = slot.committed }) in
+    let P : Digests → Plan → Type 0 = λ x q. ClosesInFlight slot.header.variant (meaning_of slot.header.«module») key barrier x f.from closing.call new q.meddles (q.at + 1) in
+    let flies = subst (λ (q : Plan). P (digests_in new slot) q) (sym plan)
+    (subst (λ (x : Digests). P x (record p { stop = Quiet; meddles = meddled p.meddles (p.at + 1) value })) (sym d) taken) in
+    joins_comes old new slot (code.Closes closing) value some cell plan
+    (back_from new slot (code.Closes closing) some (record { flight = record { from = f.from; flies = flies }; kept = fits.kept }))
+
+-- power is lost
+
+-- a register that is told, once it is empty
+abbrev none_left : List Item → List Item
+none_left items = []
+
+emptied : (items : Option (List Item)) (value : List ℕ) → option_map (λ xs. register_after (item_values xs)) (option_map none_left items) ≡ Some value
+    → option_map none_left items ≡ Some []
+emptied None value e = cc
+emptied (Some xs) value e = refl
+
+-- at which digests the slot's platform stood before the call in flight
+stood : (standing : Standing) (slot : CodeSlot) (flight : Option CodeFlight) → slot.flight ≡ flight → Fits standing slot
+    → (from : Standing) × Stands (instance_in slot) from (digests_in standing slot) × (from.cell ≡ standing.cell)
+stood standing slot None none fits = let at = idle standing slot none fits in (standing, at.0, refl)
+stood standing slot (Some (code.Asks asking)) some fits =
+    let f = asking_of standing slot asking (some_flight standing slot (code.Asks asking) some fits) in (f.from, f.flies.stands, sym f.flies.flies.cell)
+stood standing slot (Some (code.Closes closing)) some fits =
+    let f = closing_of standing slot closing (some_flight standing slot (code.Closes closing) some fits) in (f.from, f.flies.stands, sym f.flies.flies.cell)
+
+items_told : (from : Standing) (value : List ℕ) → register_reads from ≡ Some value → option_map none_left from.items ≡ Some []
+items_told from value e = by_items from.items e
+  where
+    by_items : (items : Option (List Item)) → option_map (λ xs. register_after (item_values xs)) items ≡ Some value → option_map none_left items ≡ Some []
+    by_items None e = cc
+    by_items (Some xs) e = refl
+
+pub loses : (old new : Standing) (slot slot' : CodeSlot) → Fits old slot → new ≡ record (cycled old) { plan = Some quiet_plan }
+    → slot'.header ≡ slot.header → slot'.number ≡ slot.number → slot'.committed ≡ slot.committed → slot'.flight ≡ None → slot'.kept ≡ slot.kept
+    → slot'.issued.items ≡ slot.issued.items → HasRegister new slot' → Loses old new slot slot'
+loses old new slot slot' fits e h n c none k issued r =
+    let i = instance_in slot in
+    let d = digests_in old slot in
+    let at = stood old slot slot.flight refl fits in
+    let from = at.0 in
+    let after = made i d PowerMove in
+    let items : new.items ≡ Some [] = ap (λ (x : Standing). x.items) e ∙ emptied old.items slot'.register.bytes (sym (ap register_reads e) ∙ r) in
+    let there : Stands i new after = stands_settled i d from new true at.1 (ap (λ (x : Standing). x.cell) e ∙ sym at.2) (items ∙ sym (items_told from d.register at.1.register)) in
+    let mine = subst (λ (j : Instance). Stands j new after) (λ j. slot_instance (sym h j) (sym n j)) there in
+    let quiet : IsQuiet new = subst IsQuiet (sym e) (record { is_on = refl; plan = refl }) in
+    let kept = k ∙ fits.kept ∙ ap (λ (x : List (List ℕ)). within_64 (sum_by length x)) (sym issued) in
+    let digests : digests_in new slot' ≡ after = mine_are new slot' after mine r ∙ (λ j. record after { count = c j }) in
+    record {
+      goes = record { fits = settled new slot' after none mine quiet r kept; header = h; number = n; few = omega (arith, c) };
+      stands = λ j. record { digests = digests j; issued = issued j; flight = ap (flight_in (next_plan new)) none j };
+      same = c;
+    }
+
+-- with some call in flight
+pub extends_some : (old new : Standing) (slot : CodeSlot) (value : Digest) → Fits old slot → IsSome slot.flight
+    → new ≡ record old { plan = option_map (meddling value) old.plan }
+    → Comes new slot slot (acted (instance_in slot) (slot_in old slot) (action.Extend value)) (Replied reply.Extended)
+extends_some old new slot value fits some e = by_flight slot.flight refl some
+  where
+    by_flight : (f : Option CodeFlight) → slot.flight ≡ f → IsSome f
+        → Comes new slot slot (acted (instance_in slot) (slot_in old slot) (action.Extend value)) (Replied reply.Extended)
+    by_flight None is some = cc
+    by_flight (Some flight) is some = extends_flying old new slot flight value fits is e
+
+pub may_meddle_some : (standing : Standing) (slot : CodeSlot) → Fits standing slot → IsSome slot.flight → (next_plan standing).at < 255
+may_meddle_some standing slot fits some = by_flight slot.flight refl some
+  where
+    by_flight : (f : Option CodeFlight) → slot.flight ≡ f → IsSome f → (next_plan standing).at < 255
+    by_flight None is some = cc
+    by_flight (Some flight) is some = may_meddle standing slot flight fits is

@@ -1,0 +1,179 @@
+-- A slot in code over its platform: what stands, what ends a call, and what begins one.
+use Rattle.std.proofs.Common.{◌≡◌, ◌∙◌, ◌+◌, ◌-◌, ◌^◌, ◌≤◌, ◌<◌, ℕ, Bool, true, false, cond, List, [], ◌∷◌, ◌++◌, length, Option, None, Some, refl, sym, ap, subst, arith}
+use Rattle.std.specs.Prelude.{min, option_to_list, vec_capacity}
+use Rattle.std.specs.List.{sum_by}
+use Rattle.std.proofs.Math.Nat.{min-eq_left}
+use Rattle.std.proofs.lemmas.List.Sums.{sum_by-append}
+use Rattle.mm_base.specs.Limits.{most_members}
+use Rattle.mm_digest.specs.declared.variant.Variant.{Variant}
+use Rattle.mm_digest.specs.declared.variant.Variant.TheVariants.{Basic, Opt}
+use Rattle.mm_module.specs.Meaning.{Meaning, IsLawful}
+use Rattle.mm_modules.specs.Modules.{meaning_of}
+use Rattle.mm_modules.specs.ModulesLaws.{any_is_lawful}
+use Rattle.mm_platform.specs.Standing.{Standing}
+use Rattle.mm_model.specs.Instance.{Instance}
+use Rattle.mm_model.specs.Moves.{Digests}
+use Rattle.mm_call.specs.Standing.{instance_by}
+use Rattle.mm_schedule.specs.Events.{Event}
+use Rattle.mm_schedule.specs.declared.header.Header.{Header}
+use Rattle.mm_schedule.specs.declared.reply.Reply.{Reply}
+use Rattle.mm_schedule.specs.Replies.{IsPrintable}
+use Rattle.mm_run.specs.Held.{rising_from}
+use Rattle.mm_run.specs.Folds.{Outcome}
+use Rattle.mm_run.proofs.Counting.{few_committed, printable}
+use Rattle.mm_world.specs.declared.call.Called.{Called}
+use Rattle.mm_world.specs.Asks.{Came}
+use Rattle.mm_world.specs.Held.{digest_in, flag_in, value_in}
+use Rattle.mm_world.specs.Stands.{Stands, IsQuiet}
+use Rattle.mm_world.proofs.Worlds.{digests_are, counting}
+use Rattle.mm_slots.specs.declared.flight.Flight.{Flight as CodeFlight}
+use Rattle.mm_slots.specs.declared.said.Said.{Said}
+use Rattle.mm_slots.specs.declared.said.Said.TheVariants.{Replied}
+use Rattle.mm_slots.specs.declared.slot.Slot.{Slot as CodeSlot}
+use Rattle.mm_slots.specs.Answers.{IsSayable}
+use Rattle.mm_slots.specs.Slot.{Slot, Turned, slot_instance, outcome_in, plays}
+use Rattle.mm_slots.specs.Held.{digests_in, slot_in, flight_in, instance_in, FitsFlight, Fits, GoesOn, Comes, flown, HasRegister, within_64, EndsCall, KeepsSlot}
+use Rattle.mm_slots.specs.Lengths.{length_if}
+use Rattle.mm_platform.specs.Told.{next_plan}
+
+-- where the platform of a slot stands, by the register's value that the slot has
+pub mine_are : (standing : Standing) (slot : CodeSlot) (d : Digests) → Stands (instance_in slot) standing d → HasRegister standing slot
+    → digests_in standing slot ≡ record d { count = slot.committed }
+mine_are standing slot d s r =
+    let register : value_in (Some slot.register.bytes) ≡ d.register = ap value_in (sym r ∙ s.register) in
+    let world = digests_are (instance_in slot) d standing slot.committed s in
+    λ j. record {
+      digest = ap (λ (x : Digests). x.digest) world j;
+      flag = ap (λ (x : Digests). x.flag) world j;
+      register = register j;
+      count = slot.committed;
+    }
+
+-- a slot with no call in flight
+pub settled : (standing : Standing) (slot : CodeSlot) (d : Digests) → slot.flight ≡ None → Stands (instance_in slot) standing d → IsQuiet standing
+    → HasRegister standing slot → slot.kept ≡ within_64 (sum_by length slot.issued.items) → Fits standing slot
+settled standing slot d none s q r kept =
+    let stands = subst (λ (x : Digests). Stands (instance_in slot) standing x) (sym (mine_are standing slot d s r)) (counting (instance_in slot) d standing slot.committed s) in
+    record {
+      flight = subst
+          (λ (f : Option CodeFlight). FitsFlight slot.header slot.number (digests_in standing slot) slot.issued.items (vec_capacity slot.issued) standing f) (sym none)
+          (stands, q);
+      kept = kept;
+    }
+
+pub idle : (standing : Standing) (slot : CodeSlot) → slot.flight ≡ None → Fits standing slot
+    → Stands (instance_in slot) standing (digests_in standing slot) × IsQuiet standing
+idle standing slot none f =
+    subst (λ (x : Option CodeFlight). FitsFlight slot.header slot.number (digests_in standing slot) slot.issued.items (vec_capacity slot.issued) standing x) none f.flight
+
+pub same_instance : (slot slot' : CodeSlot) → slot'.header ≡ slot.header → slot'.number ≡ slot.number → instance_in slot' ≡ instance_in slot
+same_instance slot slot' h n = ap (λ (x : Header). slot_instance x slot'.number) h ∙ ap (λ (x : ℕ). slot_instance slot.header x) n
+
+-- the bytes that are kept, with one more snapshot
+sum_more : (issued : List (List ℕ)) (snapshot : Option (List ℕ)) → sum_by length (issued ++ option_to_list snapshot) ≡ sum_by length issued + length_if snapshot
+sum_more issued None = sum_by-append length issued []
+sum_more issued (Some bytes) =
+    let one : sum_by length (bytes ∷ []) ≡ length bytes = omega arith in
+    sum_by-append length issued (bytes ∷ []) ∙ ap (λ (n : ℕ). sum_by length issued + n) one
+
+kept_more : (kept kept' : ℕ) (issued : List (List ℕ)) (snapshot : Option (List ℕ)) → kept ≡ within_64 (sum_by length issued)
+    → kept' ≡ within_64 (kept + length_if snapshot) → kept' ≡ within_64 (sum_by length (issued ++ option_to_list snapshot))
+kept_more kept kept' issued snapshot is e = omega (arith, is, e, sum_more issued snapshot)
+
+meaning_by : (variant : Variant) (meaning : Meaning) (key barrier : List ℕ) → (instance_by variant meaning key barrier).meaning ≡ meaning
+meaning_by Basic meaning key barrier = refl
+meaning_by Opt meaning key barrier = refl
+
+pub printable_in : (slot : CodeSlot) (s : Slot) (event : Event) → IsPrintable (outcome_in (instance_in slot) s event).reply
+printable_in slot s event =
+    let key = rising_from slot.number in
+    let barrier = rising_from (128 + slot.number) in
+    let lawful = subst IsLawful (sym (meaning_by slot.header.variant (meaning_of slot.header.«module») key barrier)) (any_is_lawful slot.header.«module») in
+    printable (instance_in slot) lawful s.digests s.issued event
+
+-- A call is over: the slot stands as its event says.
+pub over_comes : (slot slot' : CodeSlot) (flight : CodeFlight) (old from new : Standing) (event : Event) (it : Called) (said : Said)
+    → slot.flight ≡ None → slot.kept ≡ within_64 (sum_by length slot.issued.items) → slot.committed < 2 ^ 63
+    → (let s = slot_in old (flown slot flight) in
+    Came (instance_in slot) (outcome_in (instance_in slot) s event) s.digests.count s.issued from new it
+    → EndsCall new it slot slot' said → Comes new (flown slot flight) slot' (plays (instance_in slot) s event) said)
+over_comes slot slot' flight old from new event it said none kept few c e =
+    let i = instance_in slot in
+    let s = slot_in old (flown slot flight) in
+    let o : Outcome Digests = outcome_in i s event in
+    let most : o.state.count ≤ slot.committed + most_members = few_committed i s.digests s.issued event in
+    let counts : o.state.count ≡ slot.committed + it.committed = c.counts in
+    let committed : slot'.committed ≡ o.state.count = omega (arith, e.committed, counts, most, few) in
+    let same = same_instance slot slot' e.header e.number in
+    let stands = subst (λ (x : Instance). Stands x new o.state) (sym same) c.stands in
+    let idle = e.flight ∙ none in
+    let kept' = subst (λ (x : List (List ℕ)). slot'.kept ≡ within_64 (sum_by length x)) (sym e.issued) (kept_more slot.kept slot'.kept slot.issued.items it.snapshot kept e.kept) in
+    let digests : digests_in new slot' ≡ o.state = mine_are new slot' o.state stands e.register ∙ (λ j. record o.state { count = committed j }) in
+    let issued : slot'.issued.items ≡ o.issued = e.issued ∙ c.issues in
+    let ends : flight_in (next_plan new) slot'.flight ≡ None = ap (flight_in (next_plan new)) idle in
+    record {
+      goes = record {
+        fits = settled new slot' o.state idle stands c.quiet e.register kept';
+        header = e.header;
+        number = e.number;
+        few = omega (arith, committed, most);
+      };
+      stands = λ j. record { digests = digests j; issued = issued j; flight = ends j };
+      says = ap (λ (r : Reply). Replied r ∷ []) (sym c.reply) ∙ ap (λ (x : Said). x ∷ []) (sym e.says);
+      sayable = subst IsSayable (sym e.says) (subst IsPrintable (sym c.reply) (printable_in slot s event));
+    }
+
+-- the same slot: nothing has happened in it, but that something was said
+pub unchanged : (standing : Standing) (slot slot' : CodeSlot) (it : Turned) (said : Said) → Fits standing slot' → KeepsSlot slot slot'
+    → slot'.issued.items ≡ slot.issued.items → it.slot ≡ slot_in standing slot → it.said ≡ said ∷ [] → IsSayable said
+    → Comes standing slot slot' it said
+unchanged standing slot slot' it said fits k issued stands says sayable = record {
+  goes = record { fits = fits; header = k.header; number = k.number; few = omega (arith, k.committed) };
+  stands = (λ j. record {
+    digests = record {
+      digest = digest_in standing.cell;
+      flag = flag_in standing.cell;
+      register = ap (λ x. x.bytes) k.register j;
+      count = k.committed j;
+    };
+    issued = issued j;
+    flight = flight_in (next_plan standing) (k.flight j);
+  }) ∙ sym stands;
+  says = says;
+  sayable = sayable;
+}
+
+-- no call is in flight in a slot that is the same but for the room of its snapshots
+pub still_fits : (standing : Standing) (slot slot' : CodeSlot) → slot.flight ≡ None → Fits standing slot → KeepsSlot slot slot'
+    → slot'.issued.items ≡ slot.issued.items → slot'.kept ≡ slot.kept → Fits standing slot'
+still_fits standing slot slot' none f k issued kept =
+    let at = idle standing slot none f in
+    let same = same_instance slot slot' k.header k.number in
+    let digests : digests_in standing slot' ≡ digests_in standing slot = (λ j. record {
+      digest = digest_in standing.cell;
+      flag = flag_in standing.cell;
+      register = ap (λ x. x.bytes) k.register j;
+      count = k.committed j;
+    }) in
+    record {
+      flight = subst
+          (λ (x : Option CodeFlight). FitsFlight slot'.header slot'.number (digests_in standing slot') slot'.issued.items (vec_capacity slot'.issued) standing x)
+          (sym (k.flight ∙ none)) (
+            subst (λ (i : Instance). Stands i standing (digests_in standing slot')) (sym same)
+                (subst (λ (d : Digests). Stands (instance_in slot) standing d) (sym digests) at.0),
+            at.1,
+          );
+      kept = kept ∙ f.kept ∙ ap (λ (x : List (List ℕ)). within_64 (sum_by length x)) (sym issued);
+    }
+
+pub same_slot : (slot : CodeSlot) → KeepsSlot slot slot
+same_slot slot = record { header = refl; number = refl; committed = refl; register = refl; flight = refl }
+
+pub goes_on_same : (standing : Standing) (slot slot' : CodeSlot) → slot.flight ≡ None → Fits standing slot → KeepsSlot slot slot'
+    → slot'.issued.items ≡ slot.issued.items → slot'.kept ≡ slot.kept → GoesOn standing slot slot'
+goes_on_same standing slot slot' none f k issued kept = record {
+  fits = still_fits standing slot slot' none f k issued kept;
+  header = k.header;
+  number = k.number;
+  few = omega (arith, k.committed);
+}

@@ -1,0 +1,9 @@
+pub mod Powering
+pub mod Alone
+pub mod Running
+pub mod Fitting
+pub mod Stepping
+pub mod Beginning
+pub mod Rowing
+pub mod Answering
+pub mod Telling

@@ -1,0 +1,58 @@
+-- All slots lose their power, one after another.
+use Rattle.std.proofs.Common.{◌≡◌, ◌∙◌, ◌+◌, ◌<◌, ℕ, List, [], ◌∷◌, ◌++◌, map, take, drop, length, get_or, slice_set, None, true, refl, sym, ap, subst, arith}
+use Rattle.std.proofs.lemmas.List.{take_more_set, take_more, drop_more, drop-set-lt, map-append}
+use Rattle.std.proofs.lemmas.Option.{get_or_from_slice_get, slice_get-get_or, slice_get-map}
+use Rattle.std.specs.List.{slice_get}
+use Rattle.std.specs.Option.{option_map}
+use Rattle.mm_platform.specs.Standing.{Standing}
+use Rattle.mm_platform.specs.Memory.{new_platform, cycled}
+use Rattle.mm_platform.specs.Steps.{Cycles}
+use Rattle.mm_slots.specs.Slots.{Slots, selected_of, all_cycled}
+
+-- so many slots have lost it, and the others are as they were
+abbrev pub AreCycled : List Standing → List Standing → ℕ → Type 0
+AreCycled before now i = (take i now ≡ map cycled (take i before)) × (drop i now ≡ drop i before)
+
+heads : (x y : Standing) (xs ys : List Standing) → x ∷ xs ≡ y ∷ ys → x ≡ y
+heads x y xs ys h = cc
+
+tails : (x y : Standing) (xs ys : List Standing) → x ∷ xs ≡ y ∷ ys → xs ≡ ys
+tails x y xs ys h = cc
+
+pub one_more : (before now : List Standing) (i : ℕ) (n x : Standing) → i < length now → i < length before → n ≡ cycled (get_or now i x)
+    → AreCycled before now i → AreCycled before (slice_set now i n) (i + 1)
+one_more before now i n x few few' is are =
+    let both : get_or now i x ∷ drop (i + 1) now ≡ get_or before i x ∷ drop (i + 1) before =
+    sym (drop_more now i x few) ∙ are.1 ∙ drop_more before i x few' in
+    let same : get_or now i x ≡ get_or before i x = heads (get_or now i x) (get_or before i x) (drop (i + 1) now) (drop (i + 1) before) both in (
+      take_more_set now i n few ∙ ap (λ (front : List Standing). front ++ n ∷ []) are.0
+          ∙ ap (λ (y : Standing). map cycled (take i before) ++ y ∷ []) (is ∙ ap cycled same)
+          ∙ sym (map-append cycled (take i before) (get_or before i x ∷ [])) ∙ ap (map cycled) (sym (take_more before i x few')),
+      drop-set-lt (i + 1) now i n (omega arith)
+          ∙ tails (get_or now i x) (get_or before i x) (drop (i + 1) now) (drop (i + 1) before) both,
+    )
+
+-- the selected slot, once all have lost it
+selected_cycled : (s : Slots) → s.selected < length s.slots → selected_of (all_cycled s) ≡ cycled (selected_of s)
+selected_cycled s inside =
+    let d : Standing = new_platform [] in
+    get_or_from_slice_get (map cycled s.slots) s.selected (cycled (get_or s.slots s.selected d)) d
+    (slice_get-map cycled s.slots s.selected ∙ ap (λ found. option_map cycled found) (slice_get-get_or s.slots s.selected d inside))
+
+cycles : (old : Standing) → Cycles old (cycled old) None
+cycles old = record {
+  is_emptied = true;
+  cell = refl;
+  items = refl;
+  steps = refl;
+  writes = refl;
+  cycles = refl;
+  room = omega arith;
+  plan = refl;
+  ends = (refl, refl, refl);
+  told = λ _. refl;
+}
+
+pub cycles_selected : (old new : Slots) → new ≡ all_cycled old → old.selected < length old.slots → Cycles (selected_of old) (selected_of new) None
+cycles_selected old new is inside =
+    subst (λ (s : Standing). Cycles (selected_of old) s None) (sym (ap selected_of is ∙ selected_cycled old inside)) (cycles (selected_of old))

@@ -1,0 +1,112 @@
+-- The calls of a slot that are over are a schedule, told by digests.
+use Rattle.std.proofs.Common.{◌≡◌, ◌∙◌, ℕ, Bool, true, false, cond, List, [], ◌∷◌, ◌++◌, length, Option, None, Some, refl, sym, ap, subst}
+use Rattle.mm_digest.specs.declared.variant.Variant.{Variant}
+use Rattle.mm_digest.specs.declared.variant.Variant.TheVariants.{Basic, Opt}
+use Rattle.mm_module.specs.Batch.{Batch, One}
+use Rattle.mm_module.specs.Meaning.{Meaning}
+use Rattle.mm_model.specs.Instance.{Instance}
+use Rattle.mm_model.specs.History.{first_history, requests_of}
+use Rattle.mm_model.specs.Long.{is_long}
+use Rattle.mm_model.specs.Moves.{Digests}
+use Rattle.mm_call.specs.Levels.{by_digests}
+use Rattle.mm_call.specs.Standing.{instance_by}
+use Rattle.mm_schedule.specs.Events.{Event}
+use Rattle.mm_schedule.specs.declared.event.Offer.{Offer}
+use Rattle.mm_schedule.specs.Machine.{Runs}
+use Rattle.mm_run.specs.Folds.{Followed, followed, expected, replies_by_digests}
+use Rattle.mm_run.specs.Premises.{IsClearRun, IsGenuineRun}
+use Rattle.mm_run.specs.Laws.{AgreesThroughout, BasicIsExpected, OptIsExpected, ExpectedRuns, SchedulesGoOn, continued}
+use Rattle.mm_run.specs.Offered.{offered_bytes}
+use Rattle.mm_steps.specs.Stopping.{is_nothing}
+use Rattle.mm_slots.specs.declared.event.Action.{Action}
+use Rattle.mm_slots.specs.declared.event.Action.TheVariants as action
+use Rattle.mm_slots.specs.Slot.{Slot, Flight, Turned, Met, Acts, Loses, turned, acted_by, begun, stepped, outcome_in, so_far, folded, followed_by, first_slot}
+use Rattle.mm_slots.specs.Laws.{SlotRuns, SlotsRun}
+
+abbrev told_from : Instance → Slot → List Event → Followed Digests
+told_from i slot events = followed i (by_digests i) slot.digests slot.issued events
+
+-- The events that were completed lead by digests to where the slot stands, with these replies.
+record Completes (i : Instance) (slot : Slot) (it : Turned) : Type 0 where
+  state : (told_from i slot it.events).state ≡ it.slot.digests
+  issued : (told_from i slot it.events).issued ≡ it.slot.issued
+  replies : (told_from i slot it.events).replies ≡ it.replies
+
+begun_completes : (i : Instance) (slot : Slot) (offer : Offer) (batch : Batch) (bytes : List ℕ) (long : Bool) → is_long batch ≡ long
+    → Completes i slot (begun i slot offer batch (Some bytes))
+begun_completes i slot offer batch bytes true is = rw is (record { state = refl; issued = refl; replies = refl })
+begun_completes i slot offer batch bytes false is = rw is (record { state = refl; issued = refl; replies = refl })
+
+asked_completes : (i : Instance) (slot : Slot) (offer : Offer) (batch : Batch) (bytes : Option (List ℕ)) → Completes i slot (begun i slot offer batch bytes)
+asked_completes i slot offer batch None = record { state = refl; issued = refl; replies = refl }
+asked_completes i slot offer batch (Some bytes) = begun_completes i slot offer batch bytes (is_long batch) refl
+
+step_completes : (i : Instance) (slot : Slot) (flight : Flight) (nothing : Bool) → is_nothing (outcome_in i slot (so_far flight)).reply ≡ nothing
+    → Completes i slot (stepped i slot flight)
+step_completes i slot flight true is = rw is (record { state = refl; issued = refl; replies = refl })
+step_completes i slot flight false is = rw is (record { state = refl; issued = refl; replies = refl })
+
+action_completes : (i : Instance) (slot : Slot) (flight : Option Flight) (what : Action) → Completes i slot (acted_by i slot flight what)
+action_completes i slot None (action.Begin offer request) = asked_completes i slot offer (One request) (offered_bytes slot.issued offer)
+action_completes i slot None action.Close = record { state = refl; issued = refl; replies = refl }
+action_completes i slot None action.Step = record { state = refl; issued = refl; replies = refl }
+action_completes i slot None (action.Break how) = record { state = refl; issued = refl; replies = refl }
+action_completes i slot None (action.Extend value) = record { state = refl; issued = refl; replies = refl }
+action_completes i slot (Some flight) (action.Begin offer request) = record { state = refl; issued = refl; replies = refl }
+action_completes i slot (Some flight) action.Close = record { state = refl; issued = refl; replies = refl }
+action_completes i slot (Some flight) action.Step = step_completes i slot flight (is_nothing (outcome_in i slot (so_far flight)).reply) refl
+action_completes i slot (Some flight) (action.Break how) = record { state = refl; issued = refl; replies = refl }
+action_completes i slot (Some flight) (action.Extend value) = record { state = refl; issued = refl; replies = refl }
+
+met_completes : (i : Instance) (slot : Slot) (met : Met) → Completes i slot (turned i slot met)
+met_completes i slot (Acts what) = action_completes i slot slot.flight what
+met_completes i slot Loses = record { state = refl; issued = refl; replies = refl }
+
+completes_on : SchedulesGoOn → (i : Instance) (slot : Slot) (first rest : Turned) → Completes i slot first → Completes i first.slot rest
+    → Completes i slot (followed_by first rest)
+completes_on law i slot first rest c r =
+    let f = told_from i slot first.events in
+    let joins : told_from i slot (first.events ++ rest.events) ≡ continued f (followed i (by_digests i) f.state f.issued rest.events) =
+    (law i first.events rest.events first_history slot.digests slot.issued).1 in
+    let same : followed i (by_digests i) f.state f.issued rest.events ≡ told_from i first.slot rest.events =
+    ap (λ (d : Digests). followed i (by_digests i) d f.issued rest.events) c.state
+    ∙ ap (λ (s : List (List ℕ)). followed i (by_digests i) first.slot.digests s rest.events) c.issued in
+    let whole : told_from i slot (first.events ++ rest.events) ≡ continued f (told_from i first.slot rest.events) = joins ∙ ap (continued f) same in
+    record {
+      state = ap (λ (t : Followed Digests). t.state) whole ∙ r.state;
+      issued = ap (λ (t : Followed Digests). t.issued) whole ∙ r.issued;
+      replies = ap (λ (t : Followed Digests). t.replies) whole ∙ ap (λ rs. rs ++ (told_from i first.slot rest.events).replies) c.replies
+          ∙ ap (λ rs. first.replies ++ rs) r.replies;
+    }
+
+completes : SchedulesGoOn → (i : Instance) (slot : Slot) (mets : List Met) → Completes i slot (folded i slot mets)
+completes law i slot [] = record { state = refl; issued = refl; replies = refl }
+completes law i slot (met ∷ more) =
+    let t = turned i slot met in
+    completes_on law i slot t (folded i t.slot more) (met_completes i slot met) (completes law i t.slot more)
+
+-- by digests a slot is told as expected, in either variant
+agrees : BasicIsExpected → OptIsExpected → (variant : Variant) (meaning : Meaning) (key barrier : List ℕ) (events : List Event)
+    → (let i = instance_by variant meaning key barrier in
+    IsClearRun i events → IsGenuineRun i events → AgreesThroughout i (expected i events) (replies_by_digests i events))
+agrees basic opt Basic meaning key barrier events clear genuine = basic meaning key events clear genuine
+agrees basic opt Opt meaning key barrier events clear genuine = opt meaning key barrier events clear genuine
+
+slot_runs : (runs : ExpectedRuns) (i : Instance) (it : Turned) → Completes i (first_slot i) it
+    → AgreesThroughout i (expected i it.events) (replies_by_digests i it.events) → SlotRuns i it
+slot_runs runs i it c a =
+    let requests = requests_of (expected i it.events).state.batches in
+    let told : it.replies ≡ (expected i it.events).replies = sym c.replies ∙ a.replies in
+    record {
+      requests = requests;
+      runs = subst (λ rs. Runs i.meaning [] it.events rs requests) (sym told) (runs i it.events);
+      judged = told;
+      count = ap (λ (d : Digests). d.count) (sym c.state) ∙ a.stands.count;
+      shown = ap length (sym c.issued) ∙ ap length a.issued;
+    }
+
+pub slots_run : BasicIsExpected → OptIsExpected → ExpectedRuns → SchedulesGoOn → SlotsRun
+slots_run basic opt runs law variant meaning key barrier mets = λ clear genuine.
+    let i = instance_by variant meaning key barrier in
+    let it = folded i (first_slot i) mets in
+    slot_runs runs i it (completes law i (first_slot i) mets) (agrees basic opt variant meaning key barrier it.events clear genuine)

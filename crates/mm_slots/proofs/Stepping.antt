@@ -1,0 +1,318 @@
+-- The call in flight of a slot: its next step, a step that breaks it off, a value that comes, a loss of power.
+use Rattle.std.proofs.Common.{◌≡◌, ◌∙◌, ◌+◌, ◌-◌, ◌^◌, ◌≤◌, ◌<◌, ◌==◌, ℕ, Bool, true, false, cond, List, [], ◌∷◌, ◌++◌, length, Option, None, Some, IsSome, Result, Ok, Err, refl, sym, ap, subst, arith, inl, inr}
+use Rattle.std.specs.Prelude.{◌⊎◌, min, vec_capacity}
+use Rattle.std.specs.Option.{option_map, option_map_or}
+use Rattle.std.specs.List.{sum_by}
+use Rattle.std.proofs.lemmas.Bool.{eq-eqb}
+use Rattle.mm_base.specs.Faults.{counted}
+use Rattle.mm_base.specs.declared.fault.Memory.{Memory}
+use Rattle.mm_digest.specs.declared.digest.Digest.{Digest}
+use Rattle.mm_module.specs.Batch.{One}
+use Rattle.mm_modules.specs.Modules.{meaning_of}
+use Rattle.mm_platform.specs.declared.plan.Meddle.{Meddle}
+use Rattle.mm_platform.specs.declared.plan.Stop.{Stop}
+use Rattle.mm_platform.specs.declared.plan.Stop.TheVariants.{Quiet}
+use Rattle.mm_platform.specs.Standing.{Plan, Standing, next_step}
+use Rattle.mm_platform.specs.Steps.{fault_at}
+use Rattle.mm_platform.specs.Told.{next_plan, quiet_plan}
+use Rattle.mm_platform.specs.Memory.{meddling}
+use Rattle.mm_model.specs.Instance.{Instance}
+use Rattle.mm_model.specs.Moves.{Digests}
+use Rattle.mm_call.specs.Levels.{by_digests}
+use Rattle.mm_call.specs.Called.{seen_at}
+use Rattle.mm_run.specs.Folds.{course_of}
+use Rattle.mm_run.specs.Held.{rising_from}
+use Rattle.mm_opt.specs.declared.stage.CheckpointStage.{CheckpointStage}
+use Rattle.mm_opt.specs.Checkpoints.{closing_number_of}
+use Rattle.mm_flight.specs.declared.ask.AskCall.{AskCall}
+use Rattle.mm_flight.specs.Asks.{ask_number, MayAsk}
+use Rattle.mm_flight.specs.InFlight.{plan_by}
+use Rattle.mm_flight.proofs.Flying.{meddled}
+use Rattle.mm_world.specs.declared.call.Called.{Called}
+use Rattle.mm_world.specs.Asks.{Lacks, quiet_as}
+use Rattle.mm_schedule.specs.declared.reply.Reply.{Reply}
+use Rattle.mm_world.specs.Calls.{stopped_step}
+use Rattle.mm_world.specs.Held.{digest_in, flag_in}
+use Rattle.mm_world.specs.Stands.{Stands, IsQuiet}
+use Rattle.mm_steps.specs.Stopping.{BreaksNext, is_nothing, stop_behind}
+use Rattle.mm_steps.specs.Asking.{AsksInFlight, SteppedTo, StepsAs, BreaksAs}
+use Rattle.mm_steps.specs.Closing.{ClosesInFlight, SteppedClosingTo, StepsClosingAs, BreaksClosingAs}
+use Rattle.mm_steps.specs.declared.asks.Stepped.TheVariants as asks
+use Rattle.mm_steps.specs.declared.closings.SteppedClosing.TheVariants as closings
+use Rattle.mm_slots.specs.declared.event.Breaking.{Breaking}
+use Rattle.mm_slots.specs.declared.event.Breaking.TheVariants as breaking
+use Rattle.mm_slots.specs.declared.flight.Asking.{Asking}
+use Rattle.mm_slots.specs.declared.flight.Closing.{Closing}
+use Rattle.mm_slots.specs.declared.flight.Flight.{Flight as CodeFlight}
+use Rattle.mm_slots.specs.declared.flight.Flight.TheVariants as code
+use Rattle.mm_slots.specs.declared.said.Said.{Said}
+use Rattle.mm_slots.specs.declared.said.Said.TheVariants.{Going}
+use Rattle.mm_slots.specs.declared.slot.Slot.{Slot as CodeSlot}
+use Rattle.mm_slots.specs.Slot.{Slot, Flight, Turned, slot_instance, outcome_in, plays, merely, flying, so_far, stepped, event_by, stop_at}
+use Rattle.mm_slots.specs.Held.{digests_in, slot_in, flight_in, call_in, instance_in, FitsFlight, FitsAsking, FitsClosing, Fits, GoesOn, Comes, flown, HasRegister, within_64, EndsCall}
+use Rattle.mm_slots.proofs.Fitting.{settled, over_comes, same_instance}
+
+-- the flight of a slot in the words of its fold
+abbrev pub flight_of : Standing → CodeFlight → Flight
+flight_of standing flight = record { call = call_in flight; meddles = (next_plan standing).meddles; next = (next_plan standing).at + 1 }
+
+-- what the platform plans behind steps that were made
+pub plan_is : (standing : Standing) (plan : Plan) → standing.plan ≡ Some plan → next_plan standing ≡ plan
+plan_is standing plan e = ap (λ (p : Option Plan). option_map_or (λ x. x) p quiet_plan) e
+
+-- a call that goes on has left the cell as it was, and is planned as before
+record GoesPlanned (old new : Standing) (meddles : List Meddle) (next : ℕ) : Type 0 where
+  cell : new.cell ≡ old.cell
+  plan : next_plan new ≡ record (plan_by Quiet meddles) { at = next }
+
+goes_planned : (old new from : Standing) (meddles : List Meddle) (made next : ℕ) → old.cell ≡ from.cell → new.cell ≡ from.cell
+    → new.plan ≡ Some (record (plan_by Quiet meddles) { at = made }) → next + 1 ≡ made + 1 → GoesPlanned old new meddles next
+goes_planned old new from meddles made next before now planned is =
+    let same : made ≡ next = omega (arith, is) in
+    record {
+      cell = now ∙ sym before;
+      plan = plan_is new (record (plan_by Quiet meddles) { at = made }) planned ∙ ap (λ (n : ℕ). record (plan_by Quiet meddles) { at = n }) same;
+    }
+
+-- the digests of a slot whose platform has the same cell
+digests_kept : (old new : Standing) (slot : CodeSlot) (before after : Option CodeFlight) (keys : Unit {0}) → new.cell ≡ old.cell
+    → digests_in new (record slot { flight = after; keys = keys }) ≡ digests_in old (record slot { flight = before })
+digests_kept old new slot before after keys e = λ j. record {
+  digest = digest_in (e j);
+  flag = flag_in (e j);
+  register = slot.register.bytes;
+  count = slot.committed;
+}
+
+-- a call that goes on stands as its fold says
+goes_comes : (slot : CodeSlot) (before after : CodeFlight) (keys : Unit {0}) (old new : Standing) (step : ℕ)
+    → call_in after ≡ call_in before → GoesPlanned old new (next_plan old).meddles ((next_plan old).at + 1)
+    → Fits new (record slot { flight = Some after; keys = keys }) → step ≡ (next_plan old).at + 1 + 1
+    → is_nothing (outcome_in (instance_in slot) (slot_in old (flown slot before)) (so_far (flight_of old before))).reply ≡ true
+    → Comes new (flown slot before) (record slot { flight = Some after; keys = keys })
+    (stepped (instance_in slot) (slot_in old (flown slot before)) (flight_of old before)) (Going step)
+goes_comes slot before after keys old new step same planned fits number nothing =
+    let s = slot_in old (flown slot before) in
+    let f = flight_of old before in
+    let i = instance_in slot in
+    let on : Turned = merely (flying s (record f { next = f.next + 1 })) (Going (f.next + 1)) in
+    let slot' = record slot { flight = Some after; keys = keys } in
+    let P : Bool → Type 0 = λ b. Comes new (flown slot before) slot' (cond b on (plays i s (so_far f))) (Going step) in
+    subst P (sym nothing) (record {
+      goes = record { fits = fits; header = refl; number = refl; few = omega arith };
+      stands = λ j. record {
+        digests = digests_kept old new slot (Some before) (Some after) keys planned.cell j;
+        issued = slot.issued.items;
+        flight = Some (record { call = same j; meddles = (planned.plan j).meddles; next = (planned.plan j).at + 1 });
+      };
+      says = ap (λ (n : ℕ). Going n ∷ []) (sym number);
+      sayable = tt;
+    })
+
+-- the slot fits the flight of a call that asks
+pub asking_of : (standing : Standing) (slot : CodeSlot) (asking : Asking) → Fits standing (flown slot (code.Asks asking))
+    → FitsAsking slot.header slot.number (digests_in standing (flown slot (code.Asks asking))) slot.issued.items (vec_capacity slot.issued) standing asking
+asking_of standing slot asking f = f.flight
+
+pub closing_of : (standing : Standing) (slot : CodeSlot) (closing : Closing) → Fits standing (flown slot (code.Closes closing))
+    → FitsClosing slot.header slot.number (digests_in standing (flown slot (code.Closes closing))) standing closing
+closing_of standing slot closing f = f.flight
+
+-- a call that asks goes on
+pub ask_goes : (slot : CodeSlot) (asking : Asking) (call : AskCall) (keys : Unit {0}) (old new : Standing) (bytes request : List ℕ) (step : ℕ)
+    → bytes ≡ asking.bytes → request ≡ asking.request
+    → Fits old (flown slot (code.Asks asking))
+    → StepsAs (meaning_of slot.header.«module») asking.call old new bytes (One request) (Ok (asks.Going call)) → step ≡ ask_number call
+    → Comes new (flown slot (code.Asks asking)) (record slot { flight = Some (code.Asks (record asking { call = call })); keys = keys })
+    (stepped (instance_in slot) (slot_in old (flown slot (code.Asks asking))) (flight_of old (code.Asks asking))) (Going step)
+ask_goes slot asking call keys old new bytes request step same-bytes same-request fits goes number =
+    let f = asking_of old slot asking fits in
+    let key = rising_from slot.number in
+    let barrier = rising_from (128 + slot.number) in
+    let d = digests_in old (flown slot (code.Asks asking)) in
+    let p = next_plan old in
+    let there : StepsAs (meaning_of slot.header.«module») asking.call old new asking.bytes (One asking.request) (Ok (asks.Going call)) =
+    subst (λ (x : List ℕ). StepsAs (meaning_of slot.header.«module») asking.call old new x (One asking.request) (Ok (asks.Going call))) same-bytes
+    (subst (λ (x : List ℕ). StepsAs (meaning_of slot.header.«module») asking.call old new bytes (One x) (Ok (asks.Going call))) same-request goes) in
+    let t = there slot.header.variant key barrier d f.from slot.issued.items p.meddles (p.at + 1) asking.offer f.flies f.offered in
+    let a = t.0 in
+    let planned = goes_planned old new f.from p.meddles a.made (p.at + 1) f.flies.flies.cell a.flies.cell a.flies.planned a.is_next in
+    let slot' = record slot { flight = Some (code.Asks (record asking { call = call })); keys = keys } in
+    let P : Digests → Plan → Type 0 = λ x q. AsksInFlight slot.header.variant (meaning_of slot.header.«module») key barrier x f.from
+    call new q.meddles (q.at + 1) asking.bytes (One asking.request) in
+    let flies = subst (λ (q : Plan). P (digests_in new slot') q) (sym planned.plan)
+    (subst (λ (x : Digests). P x (record (plan_by Quiet p.meddles) { at = p.at + 1 })) (sym (digests_kept old new slot (Some (code.Asks asking)) slot'.flight keys planned.cell)) a) in
+    goes_comes slot (code.Asks asking) (code.Asks (record asking { call = call })) keys old new step refl planned
+    (record { flight = record { from = f.from; flies = flies; offered = f.offered; short = f.short; room = f.room }; kept = fits.kept })
+    (number ∙ a.number ∙ sym a.is_next) t.1
+
+-- a checkpoint goes on
+pub close_goes : (slot : CodeSlot) (closing : Closing) (call : CheckpointStage) (old new : Standing) (step : ℕ)
+    → Fits old (flown slot (code.Closes closing)) → StepsClosingAs closing.call old new (closings.Going call) → step ≡ closing_number_of call
+    → Comes new (flown slot (code.Closes closing)) (record slot { flight = Some (code.Closes (record { call = call })) })
+    (stepped (instance_in slot) (slot_in old (flown slot (code.Closes closing))) (flight_of old (code.Closes closing))) (Going step)
+close_goes slot closing call old new step fits goes number =
+    let f = closing_of old slot closing fits in
+    let key = rising_from slot.number in
+    let barrier = rising_from (128 + slot.number) in
+    let d = digests_in old (flown slot (code.Closes closing)) in
+    let p = next_plan old in
+    let t = goes slot.header.variant (meaning_of slot.header.«module») key barrier d f.from slot.issued.items p.meddles (p.at + 1) f.flies in
+    let a = t.0 in
+    let planned = goes_planned old new f.from p.meddles a.made (p.at + 1) f.flies.flies.cell a.flies.cell a.flies.planned a.is_next in
+    let slot' = record slot { flight = Some (code.Closes (record { call = call })) } in
+    let P : Digests → Plan → Type 0 = λ x q. ClosesInFlight slot.header.variant (meaning_of slot.header.«module») key barrier x f.from call new q.meddles (q.at + 1) in
+    let flies = subst (λ (q : Plan). P (digests_in new slot') q) (sym planned.plan)
+    (subst (λ (x : Digests). P x (record (plan_by Quiet p.meddles) { at = p.at + 1 })) (sym (digests_kept old new slot (Some (code.Closes closing)) slot'.flight slot.keys planned.cell)) a) in
+    goes_comes slot (code.Closes closing) (code.Closes (record { call = call })) slot.keys old new step refl planned
+    (record { flight = record { from = f.from; flies = flies }; kept = fits.kept })
+    (number ∙ a.number ∙ sym a.is_next) t.1
+
+-- a step that ends the call
+stepped_over : (slot slot' : CodeSlot) (flight : CodeFlight) (old new : Standing) (said : Said)
+    → (let i = instance_in slot in
+    let s = slot_in old (flown slot flight) in
+    is_nothing (outcome_in i s (so_far (flight_of old flight))).reply ≡ false → Comes new (flown slot flight) slot' (plays i s (so_far (flight_of old flight))) said
+    → Comes new (flown slot flight) slot' (stepped i s (flight_of old flight)) said)
+stepped_over slot slot' flight old new said something c =
+    let i = instance_in slot in
+    let s = slot_in old (flown slot flight) in
+    let f = flight_of old flight in
+    let on : Turned = merely (flying s (record f { next = f.next + 1 })) (Going (f.next + 1)) in
+    let P : Bool → Type 0 = λ b. Comes new (flown slot flight) slot' (cond b on (plays i s (so_far f))) said in
+    subst P (sym something) c
+
+pub ask_over : (slot slot' : CodeSlot) (asking : Asking) (old new : Standing) (bytes request : List ℕ) (it : Called) (said : Said)
+    → bytes ≡ asking.bytes → request ≡ asking.request → slot.flight ≡ None → slot.committed < 2 ^ 63
+    → Fits old (flown slot (code.Asks asking))
+    → StepsAs (meaning_of slot.header.«module») asking.call old new bytes (One request) (Ok (asks.Over it)) → EndsCall new it slot slot' said
+    → Comes new (flown slot (code.Asks asking)) slot' (stepped (instance_in slot) (slot_in old (flown slot (code.Asks asking))) (flight_of old (code.Asks asking))) said
+ask_over slot slot' asking old new bytes request it said same-bytes same-request none few fits goes ends =
+    let f = asking_of old slot asking fits in
+    let d = digests_in old (flown slot (code.Asks asking)) in
+    let p = next_plan old in
+    let there : StepsAs (meaning_of slot.header.«module») asking.call old new asking.bytes (One asking.request) (Ok (asks.Over it)) =
+    subst (λ (x : List ℕ). StepsAs (meaning_of slot.header.«module») asking.call old new x (One asking.request) (Ok (asks.Over it))) same-bytes
+    (subst (λ (x : List ℕ). StepsAs (meaning_of slot.header.«module») asking.call old new bytes (One x) (Ok (asks.Over it))) same-request goes) in
+    let t = there slot.header.variant (rising_from slot.number) (rising_from (128 + slot.number)) d f.from slot.issued.items p.meddles (p.at + 1) asking.offer f.flies f.offered in
+    stepped_over slot slot' (code.Asks asking) old new said t.1
+    (over_comes slot slot' (code.Asks asking) old f.from new (so_far (flight_of old (code.Asks asking))) it said none fits.kept few t.0 ends)
+
+pub close_over : (slot slot' : CodeSlot) (closing : Closing) (old new : Standing) (reply : Reply) (said : Said)
+    → slot.flight ≡ None → slot.committed < 2 ^ 63
+    → Fits old (flown slot (code.Closes closing)) → StepsClosingAs closing.call old new (closings.Over reply) → EndsCall new (quiet_as reply) slot slot' said
+    → Comes new (flown slot (code.Closes closing)) slot' (stepped (instance_in slot) (slot_in old (flown slot (code.Closes closing))) (flight_of old (code.Closes closing))) said
+close_over slot slot' closing old new reply said none few fits goes ends =
+    let f = closing_of old slot closing fits in
+    let d = digests_in old (flown slot (code.Closes closing)) in
+    let p = next_plan old in
+    let t = goes slot.header.variant (meaning_of slot.header.«module») (rising_from slot.number) (rising_from (128 + slot.number)) d f.from slot.issued.items p.meddles (p.at + 1) f.flies in
+    stepped_over slot slot' (code.Closes closing) old new said t.1
+    (over_comes slot slot' (code.Closes closing) old f.from new (so_far (flight_of old (code.Closes closing))) (quiet_as reply) said none fits.kept few t.0 ends)
+
+-- a call is broken off
+
+pub stopped_at : (how : Breaking) (n : ℕ) → stopped_step (stop_at how n) ≡ n
+stopped_at breaking.Cut n = refl
+stopped_at breaking.Drop n = refl
+stopped_at (breaking.Fail done) n = refl
+
+fails_at : (how : Breaking) (n : ℕ) → IsSome (fault_at (stop_at how n) n)
+fails_at breaking.Cut n = rw (eq-eqb n n refl) refl
+fails_at breaking.Drop n = rw (eq-eqb n n refl) refl
+fails_at (breaking.Fail done) n = rw (eq-eqb n n refl) refl
+
+breaks_at : (how : Breaking) (standing : Standing) (meddles : List Meddle) (made n : ℕ) → standing.is_on ≡ true
+    → standing.plan ≡ Some (record (plan_by Quiet meddles) { at = made }) → made < 255 → n ≡ made + 1 → BreaksNext (stop_at how n) standing
+breaks_at how standing meddles made n on planned few is =
+    let plan : Plan = record (plan_by Quiet meddles) { at = made } in
+    let next : n ≡ next_step plan = omega (arith, is, few) in
+    record {
+      plan = plan;
+      is_on = on;
+      planned = planned;
+      fails = subst (λ (k : ℕ). IsSome (fault_at (stop_at how n) k)) next (fails_at how n);
+    }
+
+pub ask_breaks_next : (how : Breaking) (slot : CodeSlot) (asking : Asking) (standing : Standing) (n : ℕ) → Fits standing (flown slot (code.Asks asking))
+    → n ≡ ask_number asking.call → BreaksNext (stop_at how n) standing
+ask_breaks_next how slot asking standing n fits is =
+    let a = (asking_of standing slot asking fits).flies in
+    breaks_at how standing (next_plan standing).meddles a.made n a.flies.is_on a.flies.planned a.flies.few (is ∙ a.number)
+
+pub ask_broken : (how : Breaking) (slot slot' : CodeSlot) (asking : Asking) (old new : Standing) (bytes request : List ℕ) (n : ℕ) (it : Called) (said : Said)
+    → bytes ≡ asking.bytes → request ≡ asking.request → slot.flight ≡ None → slot.committed < 2 ^ 63
+    → Fits old (flown slot (code.Asks asking)) → n ≡ ask_number asking.call
+    → BreaksAs (meaning_of slot.header.«module») asking.call old new bytes (One request) (stop_at how n) it → EndsCall new it slot slot' said
+    → Comes new (flown slot (code.Asks asking)) slot'
+    (plays (instance_in slot) (slot_in old (flown slot (code.Asks asking))) (event_by (call_in (code.Asks asking)) (next_plan old).meddles (stop_at how ((next_plan old).at + 1)))) said
+ask_broken how slot slot' asking old new bytes request n it said same-bytes same-request none few fits is breaks ends =
+    let f = asking_of old slot asking fits in
+    let d = digests_in old (flown slot (code.Asks asking)) in
+    let p = next_plan old in
+    let at : n ≡ p.at + 1 = is ∙ f.flies.number ∙ sym f.flies.is_next in
+    let P : List ℕ → List ℕ → ℕ → Type 0 = λ x y k. BreaksAs (meaning_of slot.header.«module») asking.call old new x (One y) (stop_at how k) it in
+    let there : P asking.bytes asking.request (p.at + 1) =
+    subst (λ (k : ℕ). P asking.bytes asking.request k) at (subst (λ (x : List ℕ). P x asking.request n) same-bytes (subst (λ (y : List ℕ). P bytes y n) same-request breaks)) in
+    let t = there slot.header.variant (rising_from slot.number) (rising_from (128 + slot.number)) d f.from slot.issued.items p.meddles (p.at + 1) asking.offer f.flies f.offered
+    (stopped_at how (p.at + 1)) in
+    over_comes slot slot' (code.Asks asking) old f.from new (event_by (call_in (code.Asks asking)) p.meddles (stop_at how (p.at + 1))) it said none fits.kept few t ends
+
+pub close_broken : (how : Breaking) (slot slot' : CodeSlot) (closing : Closing) (old new : Standing) (n : ℕ) (reply : Reply) (said : Said)
+    → slot.flight ≡ None → slot.committed < 2 ^ 63
+    → Fits old (flown slot (code.Closes closing)) → n ≡ closing_number_of closing.call
+    → BreaksClosingAs closing.call old new (stop_at how n) reply → EndsCall new (quiet_as reply) slot slot' said
+    → Comes new (flown slot (code.Closes closing)) slot'
+    (plays (instance_in slot) (slot_in old (flown slot (code.Closes closing))) (event_by (call_in (code.Closes closing)) (next_plan old).meddles (stop_at how ((next_plan old).at + 1)))) said
+close_broken how slot slot' closing old new n reply said none few fits is breaks ends =
+    let f = closing_of old slot closing fits in
+    let d = digests_in old (flown slot (code.Closes closing)) in
+    let p = next_plan old in
+    let at : n ≡ p.at + 1 = is ∙ f.flies.number ∙ sym f.flies.is_next in
+    let there = subst (λ (k : ℕ). BreaksClosingAs closing.call old new (stop_at how k) reply) at breaks in
+    let t = there slot.header.variant (meaning_of slot.header.«module») (rising_from slot.number) (rising_from (128 + slot.number)) d f.from slot.issued.items p.meddles (p.at + 1) f.flies
+    (stopped_at how (p.at + 1)) in
+    over_comes slot slot' (code.Closes closing) old f.from new (event_by (call_in (code.Closes closing)) p.meddles (stop_at how (p.at + 1))) (quiet_as reply) said none fits.kept few t ends
+
+-- want of memory: the call is over, and nothing was done but that it has read
+pub ask_lacks : (slot slot' : CodeSlot) (asking : Asking) (old new : Standing) (bytes request : List ℕ) (memory : Memory)
+    → bytes ≡ asking.bytes → request ≡ asking.request
+    → Fits old (flown slot (code.Asks asking))
+    → StepsAs (meaning_of slot.header.«module») asking.call old new bytes (One request) (Err memory)
+    → slot'.header ≡ slot.header → slot'.number ≡ slot.number → slot'.committed ≡ slot.committed → slot'.flight ≡ None → slot'.kept ≡ slot.kept
+    → slot'.issued.items ≡ slot.issued.items → HasRegister new slot' → GoesOn new (flown slot (code.Asks asking)) slot'
+ask_lacks slot slot' asking old new bytes request memory same-bytes same-request fits goes h n c none k issued r =
+    let f = asking_of old slot asking fits in
+    let i = instance_in slot in
+    let d = digests_in old (flown slot (code.Asks asking)) in
+    let p = next_plan old in
+    let there : StepsAs (meaning_of slot.header.«module») asking.call old new asking.bytes (One asking.request) (Err memory) =
+    subst (λ (x : List ℕ). StepsAs (meaning_of slot.header.«module») asking.call old new x (One asking.request) (Err memory)) same-bytes
+    (subst (λ (x : List ℕ). StepsAs (meaning_of slot.header.«module») asking.call old new bytes (One x) (Err memory)) same-request goes) in
+    let l : Lacks i d p.meddles (stop_behind (p.at + 1)) f.from new =
+    there slot.header.variant (rising_from slot.number) (rising_from (128 + slot.number)) d f.from slot.issued.items p.meddles (p.at + 1) asking.offer f.flies f.offered in
+    let kept = k ∙ fits.kept ∙ ap (λ (x : List (List ℕ)). within_64 (sum_by length x)) (sym issued) in
+    let at : (x : Digests) → Stands i new x → GoesOn new (flown slot (code.Asks asking)) slot' = λ x s. record {
+      fits = settled new slot' x none (subst (λ (j : Instance). Stands j new x) (sym (same_instance slot slot' h n)) s) l.quiet r kept;
+      header = h;
+      number = n;
+      few = omega (arith, c);
+    } in
+    elim l.called [
+      | inl e ↦ at d (subst (λ (x : Standing). Stands i x d) (sym e) f.flies.stands)
+      | inr e ↦ at (seen_at i (by_digests i) d (course_of (stop_behind (p.at + 1)) p.meddles)) e.0
+    ]
+
+-- the key that a slot keeps is told by nothing
+pub rekeyed : (new : Standing) (it : Called) (slot slot' : CodeSlot) (keys : Unit {0}) (said : Said) → EndsCall new it (record slot { keys = keys }) slot' said
+    → EndsCall new it slot slot' said
+rekeyed new it slot slot' keys said e = record {
+  header = e.header;
+  number = e.number;
+  flight = e.flight;
+  register = e.register;
+  issued = e.issued;
+  kept = e.kept;
+  committed = e.committed;
+  says = e.says;
+}

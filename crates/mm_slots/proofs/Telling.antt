@@ -1,0 +1,389 @@
+-- From a run over lines to what the lines of slots are answered.
+use Rattle.std.proofs.Common.{◌≡◌, ◌∙◌, ◌+◌, ◌-◌, ◌≤◌, ◌<◌, ℕ, Bool, true, false, cond, ◌||◌, ◌==◌, List, [], ◌∷◌, ◌++◌, length, map, nat_lt, Result, Ok, Err, Option, None, Some, refl, sym, ap, subst, append-nil, arith, inl, inr, ◌⊎◌}
+use Rattle.std.specs.Prelude.{min, if◌then◌else◌, codes}
+use Rattle.std.specs.List.{sum_by, slice_get}
+use Rattle.std.specs.Option.{option_map}
+use Rattle.std.proofs.lemmas.Bool.Decides.{nat_tests}
+use Rattle.std.proofs.lemmas.List.{append_assoc, map-append}
+use Rattle.mm_base.specs.declared.replay_fault.ReplayFault.{ReplayFault}
+use Rattle.mm_base.specs.declared.replay_fault.ReplayFault.TheVariants.{LineLong}
+use Rattle.mm_base.specs.Limits.{longest_line}
+use Rattle.mm_modules.specs.Modules.{meaning_of}
+use Rattle.mm_digest.specs.declared.variant.Variant.{Variant}
+use Rattle.mm_digest.specs.declared.variant.Variant.TheVariants.{Basic, Opt}
+use Rattle.mm_module.specs.Meaning.{Meaning}
+use Rattle.mm_call.specs.Standing.{instance_by}
+use Rattle.mm_schedule.specs.declared.header.Header.{Header}
+use Rattle.mm_schedule.specs.Headers.{head_at}
+use Rattle.mm_schedule.specs.Words.{◌>>=◌, after_prefix, number_at}
+use Rattle.mm_schedule.specs.Machine.{Runs}
+use Rattle.mm_schedule.proofs.PromiseLaws.{promises-kept}
+use Rattle.mm_play.specs.declared.player.Refused.{Refused}
+use Rattle.mm_play.specs.declared.player.Refused.TheVariants.{Bad, Much}
+use Rattle.mm_play.specs.Play.{Told, told, stopped, refusal_at, answered, run, run_of, after_writing}
+use Rattle.mm_play.specs.Plays.{Settles}
+use Rattle.mm_play.specs.Tells.{Answered, Finished, RefusesMuch}
+use Rattle.mm_play.proofs.Runs.{not_ok, ok_same}
+use Rattle.mm_play.proofs.Telling.{tells_by, tells_more}
+use Rattle.mm_run.specs.Held.{rising_from}
+use Rattle.mm_slots.specs.declared.event.SlotEvent.{SlotEvent}
+use Rattle.mm_slots.specs.Answers.{answers_text, end_lines}
+use Rattle.mm_slots.specs.Grammar.{first_at, event_at}
+use Rattle.mm_slots.specs.Laws.{SlotsAreAlone, SlotRuns, SlotsRun}
+use Rattle.mm_slots.specs.Slot.{Turned, slot_instance, slot_after}
+use Rattle.mm_slots.specs.Stage.{Running, begun, is_too_much, after_line, kept_in, SlotsStage, AtFirst, AtHeads, InEvents, first_answer, head_answer, are_to_come, behind_heads, event_answer, slots_answer, slots_closing}
+use Rattle.mm_slots.specs.Table.{Row, first_row, first_rows, after_events, answers, answers_to, met_by, by_place}
+use Rattle.mm_slots.specs.Headline.{own_fold, AreOwn, IsOneRun, AreContinuous, IsOver, AreWithinLimits, AnswersSlots, unended, IsHeading, AnswersLines, AnswersAll, IsTooMuch, IsOut}
+use Rattle.mm_slots.proofs.Alone.{alone, by_place_get}
+use Rattle.mm_slots.proofs.Answering.{AnswersFrom, answers_from, over_of, length-by_place}
+
+-- each slot's row at first
+first_at_place : (headers : List Header) (number : ℕ) (header : Header) → slice_get headers number ≡ Some header
+    → slice_get (first_rows headers) number ≡ Some (first_row number header)
+first_at_place headers number header is =
+    by_place_get first_row 0 headers number number (omega arith) ∙ ap (λ (found : Option Header). option_map (first_row number) found) is
+
+-- each slot's answers are its own
+own : (headers : List Header) (events : List SlotEvent) → AreOwn headers events
+own headers events = λ number header is.
+    (alone (first_rows headers) events number (first_row number header) (first_at_place headers number header is)).said
+
+meaning_is : (variant : Variant) (meaning : Meaning) (key barrier : List ℕ) → (instance_by variant meaning key barrier).meaning ≡ meaning
+meaning_is Basic meaning key barrier = refl
+meaning_is Opt meaning key barrier = refl
+
+-- the headline, of each slot and of each first part of the events
+continuous : SlotsRun → (headers : List Header) (events : List SlotEvent) → AreContinuous headers events
+continuous law headers events = λ number header front rest is split clear genuine.
+    let key = rising_from number in
+    let barrier = rising_from (128 + number) in
+    let meaning = meaning_of header.«module» in
+    let it = own_fold headers front number header in
+    let run = law header.variant meaning key barrier (met_by number (first_rows headers) front) clear genuine in
+    let ran = subst (λ m. Runs m [] it.events it.replies run.requests) (meaning_is header.variant meaning key barrier) run.runs in
+    record { run = run; promised = promises-kept header.«module» it.events it.replies run.requests ran }
+
+outcome_is : (t u : Told SlotsStage) → t ≡ u → t.outcome ≡ u.outcome
+outcome_is t u h = ap (λ (x : Told SlotsStage). x.outcome) h
+
+-- The header lines were answered, from some headers on: and others are still to come, or the lines behind them are events.
+record HeadsFrom (count : ℕ) (before : List Header) (lines : List (List ℕ)) (written : List ℕ) (p : SlotsStage) : Type 0 where
+  headers : List Header
+  headed : map head_at lines ≡ map Some headers
+  silent : written ≡ []
+  stands : p ≡ AtHeads count (before ++ headers)
+  fewer : length (before ++ headers) < count
+
+record EventsFrom (count : ℕ) (before : List Header) (lines : List (List ℕ)) (written : List ℕ) (p : SlotsStage) : Type 0 where
+  heads : List (List ℕ)
+  others : List (List ℕ)
+  headers : List Header
+  split : lines ≡ heads ++ others
+  headed : map head_at heads ≡ map Some headers
+  full : length (before ++ headers) ≡ count
+  answers : AnswersFrom count (begun (before ++ headers)) others written p
+
+abbrev Headed : ℕ → List Header → List (List ℕ) → List ℕ → SlotsStage → Type 0
+Headed count before lines written p = HeadsFrom count before lines written p ⊎ EventsFrom count before lines written p
+
+abbrev rest_of : List (List ℕ) → ℕ → SlotsStage → Told SlotsStage
+rest_of lines number next = run slots_answer (number + 1) next lines
+
+said_first : (t : Told SlotsStage) (written : List ℕ) (p : SlotsStage) → after_writing [] t ≡ told written (Ok p) → t ≡ told written (Ok p)
+said_first t written p h = h
+
+not_stopped : (why : ReplayFault) (written : List ℕ) (p : SlotsStage) → stopped why ≡ told written (Ok p) → ⊥
+not_stopped why written p h = not_ok why p (outcome_is (stopped why) (told written (Ok p)) h)
+
+-- one more header in front
+heads_more : (count : ℕ) (before : List Header) (line : List ℕ) (lines : List (List ℕ)) (header : Header) (written : List ℕ) (p : SlotsStage)
+    → head_at line ≡ Some header → Headed count (before ++ header ∷ []) lines written p → Headed count before (line ∷ lines) written p
+heads_more count before line lines header written p is (inl h) = inl (record {
+  headers = header ∷ h.headers;
+  headed = ap (λ first. first ∷ map head_at lines) is ∙ ap (λ others. Some header ∷ others) h.headed;
+  silent = h.silent;
+  stands = h.stands ∙ ap (AtHeads count) (append_assoc before (header ∷ []) h.headers);
+  fewer = subst (λ (x : List Header). length x < count) (append_assoc before (header ∷ []) h.headers) h.fewer;
+})
+heads_more count before line lines header written p is (inr e) = inr (record {
+  heads = line ∷ e.heads;
+  others = e.others;
+  headers = header ∷ e.headers;
+  split = ap (λ (x : List (List ℕ)). line ∷ x) e.split;
+  headed = ap (λ first. first ∷ map head_at e.heads) is ∙ ap (λ others. Some header ∷ others) e.headed;
+  full = subst (λ (x : List Header). length x ≡ count) (append_assoc before (header ∷ []) e.headers) e.full;
+  answers = subst (λ (x : List Header). AnswersFrom count (begun x) e.others written p) (append_assoc before (header ∷ []) e.headers) e.answers;
+})
+
+-- the last header was the one before the events
+begins_events : (count : ℕ) (all : List Header) (lines : List (List ℕ)) (number : ℕ) (written : List ℕ) (p : SlotsStage)
+    → length all ≡ count → run slots_answer number (InEvents (begun all)) lines ≡ told written (Ok p)
+    → AnswersFrom count (begun all) lines written p
+begins_events count all lines number written p full h =
+    answers_from count lines number (begun all) written p (length-by_place first_row 0 all ∙ full) h
+
+length-push : (before : List Header) (header : Header) → length (before ++ header ∷ []) ≡ length before + 1
+length-push [] header = refl
+length-push (x ∷ before) header = let one : length (before ++ header ∷ []) ≡ length before + 1 = length-push before header in omega (arith, one)
+
+-- by whether others are to come
+headed_behind : (count : ℕ) (before : List Header) (line : List ℕ) (lines : List (List ℕ)) (number : ℕ) (header : Header) (written : List ℕ) (p : SlotsStage) (more : Bool)
+    → are_to_come count (before ++ header ∷ []) ≡ more → length before < count → count ≤ 16 → head_at line ≡ Some header
+    → (length (before ++ header ∷ []) < count → run slots_answer (number + 1) (AtHeads count (before ++ header ∷ [])) lines ≡ told written (Ok p)
+    → Headed count (before ++ header ∷ []) lines written p)
+    → rest_of lines number (cond more (AtHeads count (before ++ header ∷ [])) (InEvents (begun (before ++ header ∷ [])))) ≡ told written (Ok p)
+    → Headed count before (line ∷ lines) written p
+headed_behind count before line lines number header written p true come room few is on h =
+    let all = before ++ header ∷ [] in
+    let fewer : length all < count = grind (arith, nat_tests) in
+    heads_more count before line lines header written p is (on fewer h)
+headed_behind count before line lines number header written p false come room few is on h =
+    let all = before ++ header ∷ [] in
+    let one : length all ≡ length before + 1 = length-push before header in
+    let late : count ≤ length all = grind (arith, nat_tests) in
+    let full : length all ≡ count = omega (arith, one, late, room) in
+    heads_more count before line lines header written p is (inr (record {
+      heads = [];
+      others = lines;
+      headers = [];
+      split = refl;
+      headed = refl;
+      full = ap length (append-nil all) ∙ full;
+      answers = subst (λ (x : List Header). AnswersFrom count (begun x) lines written p) (sym (append-nil all)) (begins_events count all lines (number + 1) written p full h);
+    }))
+
+headed_found : (count : ℕ) (before : List Header) (line : List ℕ) (lines : List (List ℕ)) (number : ℕ) (written : List ℕ) (p : SlotsStage) (found : Option Header)
+    → head_at line ≡ found → length before < count → count ≤ 16
+    → ((header : Header) → length (before ++ header ∷ []) < count → run slots_answer (number + 1) (AtHeads count (before ++ header ∷ [])) lines ≡ told written (Ok p)
+    → Headed count (before ++ header ∷ []) lines written p)
+    → answered (rest_of lines number) number (head_answer count before found) ≡ told written (Ok p)
+    → Headed count before (line ∷ lines) written p
+headed_found count before line lines number written p None is room few on h = absurd (not_stopped (refusal_at number Bad) written p h)
+headed_found count before line lines number written p (Some header) is room few on h =
+    headed_behind count before line lines number header written p (are_to_come count (before ++ header ∷ [])) refl room few is (on header)
+    (said_first (rest_of lines number (behind_heads count (before ++ header ∷ []))) written p h)
+
+headed_line : (count : ℕ) (before : List Header) (line : List ℕ) (lines : List (List ℕ)) (number : ℕ) (written : List ℕ) (p : SlotsStage) (long : Bool)
+    → length before < count → count ≤ 16
+    → ((header : Header) → length (before ++ header ∷ []) < count → run slots_answer (number + 1) (AtHeads count (before ++ header ∷ [])) lines ≡ told written (Ok p)
+    → Headed count (before ++ header ∷ []) lines written p)
+    → cond long (stopped (LineLong number)) (answered (rest_of lines number) number (head_answer count before (head_at line))) ≡ told written (Ok p)
+    → Headed count before (line ∷ lines) written p
+headed_line count before line lines number written p true room few on h = absurd (not_stopped (LineLong number) written p h)
+headed_line count before line lines number written p false room few on h = headed_found count before line lines number written p (head_at line) refl room few on h
+
+headed_from : (count : ℕ) (lines : List (List ℕ)) (number : ℕ) (before : List Header) (written : List ℕ) (p : SlotsStage) → length before < count → count ≤ 16
+    → run slots_answer number (AtHeads count before) lines ≡ told written (Ok p) → Headed count before lines written p
+headed_from count [] number before written p room few h = inl (record {
+  headers = [];
+  headed = refl;
+  silent = sym (ap (λ (t : Told SlotsStage). t.written) h);
+  stands = sym (ok_same (AtHeads count before) p (outcome_is (told [] (Ok (AtHeads count before))) (told written (Ok p)) h)) ∙ ap (AtHeads count) (sym (append-nil before));
+  fewer = subst (λ (x : List Header). length x < count) (sym (append-nil before)) room;
+})
+headed_from count (line ∷ lines) number before written p room few h =
+    headed_line count before line lines number written p (nat_lt longest_line (length line)) room few
+    (λ header fewer on. headed_from count lines (number + 1) (before ++ header ∷ []) written p fewer few on) h
+
+-- the first line names 1 to 16 slots
+
+counted_by_test : (number count : ℕ) (out : Bool) → (number == 0 || nat_lt 16 number) ≡ out
+    → (let found : Option ℕ = cond out None (Some number) in found ≡ Some count) → (0 < count) × (count ≤ 16)
+counted_by_test number count true is h = cc
+counted_by_test number count false is h =
+    let same : number ≡ count = cc in
+    let both : (0 < number) × (number ≤ 16) = (grind (arith, nat_tests), grind (arith, nat_tests)) in
+    subst (λ (n : ℕ). (0 < n) × (n ≤ 16)) same both
+
+counted_word : (found : Option ℕ) (count : ℕ) → (found >>= λ number. if number == 0 || nat_lt 16 number then None else Some number) ≡ Some count
+    → (0 < count) × (count ≤ 16)
+counted_word None count h = cc
+counted_word (Some number) count h = counted_by_test number count (number == 0 || nat_lt 16 number) refl h
+
+counted_behind : (words : Option (List ℕ)) (count : ℕ)
+    → (words >>= λ word. number_at word >>= λ number. if number == 0 || nat_lt 16 number then None else Some number) ≡ Some count
+    → (0 < count) × (count ≤ 16)
+counted_behind None count h = cc
+counted_behind (Some word) count h = counted_word (number_at word) count h
+
+few_slots : (line : List ℕ) (count : ℕ) → first_at line ≡ Some count → (0 < count) × (count ≤ 16)
+unfolding first_at
+few_slots line count h = counted_behind (after_prefix (codes "memoir slots 1 ") line) count h
+
+-- The lines were answered: none; or the first, and header lines; or all of these, and events.
+record Opened (lines : List (List ℕ)) (written : List ℕ) (p : SlotsStage) : Type 0 where
+  first : List ℕ
+  others : List (List ℕ)
+  count : ℕ
+  split : lines ≡ first ∷ others
+  counted : first_at first ≡ Some count
+  headed : Headed count [] others written p
+
+abbrev Begun : List (List ℕ) → List ℕ → SlotsStage → Type 0
+Begun lines written p = ((lines ≡ []) × (written ≡ []) × (p ≡ AtFirst)) ⊎ Opened lines written p
+
+opened_found : (first : List ℕ) (others : List (List ℕ)) (written : List ℕ) (p : SlotsStage) (found : Option ℕ) → first_at first ≡ found
+    → answered (rest_of others 1) 1 (first_answer found) ≡ told written (Ok p) → Begun (first ∷ others) written p
+opened_found first others written p None is h = absurd (not_stopped (refusal_at 1 Bad) written p h)
+opened_found first others written p (Some count) is h =
+    let few = few_slots first count is in
+    inr (record {
+      first = first;
+      others = others;
+      count = count;
+      split = refl;
+      counted = is;
+      headed = headed_from count others (1 + 1) [] written p few.0 few.1 (said_first (rest_of others 1 (AtHeads count [])) written p h);
+    })
+
+opened_line : (first : List ℕ) (others : List (List ℕ)) (written : List ℕ) (p : SlotsStage) (long : Bool)
+    → cond long (stopped (LineLong 1)) (answered (rest_of others 1) 1 (first_answer (first_at first))) ≡ told written (Ok p) → Begun (first ∷ others) written p
+opened_line first others written p true h = absurd (not_stopped (LineLong 1) written p h)
+opened_line first others written p false h = opened_found first others written p (first_at first) refl h
+
+opened : (lines : List (List ℕ)) (written : List ℕ) (p : SlotsStage) → run slots_answer 1 AtFirst lines ≡ told written (Ok p) → Begun lines written p
+opened [] written p h = inl (
+  refl,
+  sym (ap (λ (t : Told SlotsStage). t.written) h),
+  sym (ok_same AtFirst p (outcome_is (told [] (Ok AtFirst)) (told written (Ok p)) h)),
+)
+opened (first ∷ others) written p h = opened_line first others written p (nat_lt longest_line (length first)) h
+
+-- the limits, from the first event on
+within_limits : (headers : List Header) (others : List (List ℕ)) (written : List ℕ) (p : SlotsStage)
+    → AnswersFrom (length headers) (begun headers) others written p → AreWithinLimits headers others
+within_limits headers others written p a before line after events split read over =
+    a.within before line after events split read (elim over [ inl h ↦ inl (omega (arith, h)) | inr h ↦ inr (omega (arith, h)) ])
+
+-- these lines were answered: what was written, and what any last lines add
+answers_slots : SlotsRun → (first : List ℕ) (heads others : List (List ℕ)) (headers : List Header) (lines : List (List ℕ)) (said written : List ℕ) (p : SlotsStage)
+    (last : List Row → List ℕ) → lines ≡ first ∷ heads ++ others → first_at first ≡ Some (length headers) → map head_at heads ≡ map Some headers
+    → (a : AnswersFrom (length headers) (begun headers) others said p) → written ≡ said ++ last a.last.rows → AnswersSlots lines written last
+answers_slots law first heads others headers lines said written p last split counted headed a whole = record {
+  first = first;
+  heads = heads;
+  others = others;
+  headers = headers;
+  events = a.events;
+  split = split;
+  counted = counted;
+  headed = headed;
+  read = a.read;
+  told = whole ∙ ap (λ (w : List ℕ). w ++ last a.last.rows) a.sent
+      ∙ ap (λ (rows : List Row). answers_text (answers (first_rows headers) a.events) ++ last rows) a.rows;
+  within = within_limits headers others said p a;
+  own = own headers a.events;
+  headline = continuous law headers a.events;
+}
+
+-- the same, by the number of slots
+abbrev SizedFrom : ℕ → List Header → List (List ℕ) → List ℕ → SlotsStage → Type 0
+SizedFrom count headers others written p = AnswersFrom count (begun headers) others written p
+
+answers_lines : SlotsRun → (lines : List (List ℕ)) (written : List ℕ) → Answered slots_answer AtFirst lines written → AnswersLines lines written
+answers_lines law lines written a = by_begun (opened lines written a.0 a.1)
+  where
+    by_headed : (o : Opened lines written a.0) → Headed o.count [] o.others written a.0 → AnswersLines lines written
+    by_headed o (inl h) = inl (
+      inr (record { first = o.first; heads = o.others; count = o.count; headers = h.headers; split = o.split; counted = o.counted; headed = h.headed; fewer = h.fewer }),
+      h.silent,
+    )
+    by_headed o (inr e) =
+        let answers = subst (λ (n : ℕ). SizedFrom n e.headers e.others written a.0) (sym e.full) e.answers in
+        inr (answers_slots law o.first e.heads e.others e.headers lines written written a.0 unended (o.split ∙ ap (λ (x : List (List ℕ)). o.first ∷ x) e.split)
+        (o.counted ∙ ap Some (sym e.full)) e.headed answers (sym (append-nil written)))
+
+    by_begun : Begun lines written a.0 → AnswersLines lines written
+    by_begun (inl none) = inl (inl none.0, none.1)
+    by_begun (inr o) = by_headed o o.headed
+
+-- the last lines need all header lines
+closes_none : (p : SlotsStage) (last : List ℕ) → p ≡ AtFirst → slots_closing p ≡ Some last → ⊥
+closes_none AtFirst last is h = cc
+closes_none (AtHeads count headers) last is h = cc
+closes_none (InEvents r) last is h = cc
+
+closes_heads : (p : SlotsStage) (last : List ℕ) (count : ℕ) (headers : List Header) → p ≡ AtHeads count headers → slots_closing p ≡ Some last → ⊥
+closes_heads AtFirst last count headers is h = cc
+closes_heads (AtHeads n hs) last count headers is h = cc
+closes_heads (InEvents r) last count headers is h = cc
+
+closes_with : (r : Running) (p : SlotsStage) (last : List ℕ) → p ≡ InEvents r → slots_closing p ≡ Some last → last ≡ end_lines 0 r.rows
+closes_with r p last is h = some_same (sym h ∙ ap slots_closing is)
+  where
+    some_same : Some last ≡ Some (end_lines 0 r.rows) → last ≡ end_lines 0 r.rows
+    some_same e = cc
+
+answers_all : SlotsRun → (lines : List (List ℕ)) (written : List ℕ) → Finished slots_answer slots_closing AtFirst lines written → AnswersAll lines written
+answers_all law lines written f = by_begun (opened lines f.said f.next f.ran)
+  where
+    by_headed : (o : Opened lines f.said f.next) → Headed o.count [] o.others f.said f.next → AnswersAll lines written
+    by_headed o (inl h) = absurd (closes_heads f.next f.last o.count h.headers h.stands f.closed)
+    by_headed o (inr e) =
+        let answers = subst (λ (n : ℕ). SizedFrom n e.headers e.others f.said f.next) (sym e.full) e.answers in
+        answers_slots law o.first e.heads e.others e.headers lines f.said written f.next (end_lines 0) (o.split ∙ ap (λ (x : List (List ℕ)). o.first ∷ x) e.split)
+        (o.counted ∙ ap Some (sym e.full)) e.headed answers (f.whole ∙ ap (λ (l : List ℕ). f.said ++ l) (closes_with answers.last f.next f.last answers.stands f.closed))
+
+    by_begun : Begun lines f.said f.next → AnswersAll lines written
+    by_begun (inl none) = absurd (closes_none f.next f.last none.2 f.closed)
+    by_begun (inr o) = by_headed o o.headed
+
+-- a first line and a header line are no events too many
+first_refuses : (found : Option ℕ) → first_answer found ≡ Err Much → ⊥
+first_refuses None h = cc
+first_refuses (Some count) h = cc
+
+head_refuses : (count : ℕ) (headers : List Header) (found : Option Header) → head_answer count headers found ≡ Err Much → ⊥
+head_refuses count headers None h = cc
+head_refuses count headers (Some header) h = cc
+
+full_event : (r : Running) (line : List ℕ) (event : SlotEvent) (much : Bool)
+    → (let a : Result (List ℕ × SlotsStage) Refused = cond much (Err Much) (Ok (answers_text (answers_to r.rows event), InEvents (after_line r line event))) in a ≡ Err Much)
+    → much ≡ true
+full_event r line event true h = refl
+full_event r line event false h = cc
+
+refuses_event : (r : Running) (line : List ℕ) (found : Option SlotEvent) → event_answer r line found ≡ Err Much → is_too_much r line ≡ true
+refuses_event r line None h = cc
+refuses_event r line (Some event) h = full_event r line event (is_too_much r line) h
+
+-- the next event is one too many
+too_much : (done rest : List (List ℕ)) → RefusesMuch slots_answer AtFirst done rest → IsTooMuch done rest
+too_much done rest m = by_begun (opened done m.said m.next m.ran)
+  where
+    by_headed : (o : Opened done m.said m.next) → Headed o.count [] o.others m.said m.next → IsTooMuch done rest
+    by_headed o (inl h) =
+        absurd (head_refuses o.count h.headers (head_at m.line) (ap (λ (p : SlotsStage). slots_answer p m.line) (sym h.stands) ∙ m.refused))
+    by_headed o (inr e) =
+        let a = subst (λ (n : ℕ). SizedFrom n e.headers e.others m.said m.next) (sym e.full) e.answers in
+        let full = refuses_event a.last m.line (event_at (length a.last.rows) m.line) (ap (λ (p : SlotsStage). slots_answer p m.line) (sym a.stands) ∙ m.refused) in
+        record {
+          first = o.first;
+          heads = e.heads;
+          others = e.others;
+          headers = e.headers;
+          events = a.events;
+          line = m.line;
+          more = m.more;
+          split = o.split ∙ ap (λ (x : List (List ℕ)). o.first ∷ x) e.split;
+          counted = o.counted ∙ ap Some (sym e.full);
+          headed = e.headed;
+          read = a.read;
+          follows = m.follows;
+          over = elim (over_of a.last m.line full) [
+            | inl over ↦ inl (omega (arith, over, a.counted))
+            | inr over ↦ inr (omega (arith, over, a.bytes, ap kept_in a.rows))
+          ];
+        }
+
+    by_begun : Begun done m.said m.next → IsTooMuch done rest
+    by_begun (inl none) = absurd (first_refuses (first_at m.line) (ap (λ (p : SlotsStage). slots_answer p m.line) (sym none.2) ∙ m.refused))
+    by_begun (inr o) = by_headed o o.headed
+
+-- What is out tells the events.
+pub tells : {T : Type 0} → SlotsRun → (next : SlotsStage) (left : Option (List ℕ)) (taken sent : List ℕ) (result : Result T ReplayFault)
+    → Settles (run slots_answer 1 AtFirst) (run_of slots_answer slots_closing AtFirst) next left taken sent result → IsOut left taken sent result
+tells law next left taken sent result s =
+    tells_more (Answered slots_answer AtFirst) AnswersLines (Finished slots_answer slots_closing AtFirst) AnswersAll
+    (RefusesMuch slots_answer AtFirst) IsTooMuch left taken sent result (answers_lines law) (answers_all law) too_much
+    (tells_by slots_answer slots_closing AtFirst next left taken sent result s)

@@ -1,0 +1,8 @@
+use Rattle.std.proofs.Common.{rules}
+use Rattle.mm_slots.proofs.Powering.{one_more}
+use Rattle.mm_slots.proofs.platform.SlotPlatform.cycle_all.Goals as goal
+
+pub loop-slot-preserved : goal.loop-slot-preserved
+loop-slot-preserved c =
+    one_more c.deref_mut-slot-items.result.now c.loop-slot.slot-items c.loop-slot.slot-index c.lose_power.new.self c.slot-item.result
+    (search rules) (search rules) c.lose_power.ensures c.loop-slot.invariant

@@ -1,0 +1,39 @@
+-- The laws of slots.
+use Rattle.std.specs.Prelude.{◌≡◌, ℕ, List, [], length, Some, slice_get}
+use Rattle.mm_model.specs.Instance.{Instance, basic, opt}
+use Rattle.mm_schedule.specs.Machine.{Runs}
+use Rattle.mm_call.specs.Standing.{instance_by}
+use Rattle.mm_digest.specs.declared.variant.Variant.{Variant}
+use Rattle.mm_module.specs.Meaning.{Meaning}
+use Rattle.mm_run.specs.Folds.{expected}
+use Rattle.mm_run.specs.Premises.{IsClearRun, IsGenuineRun}
+use Rattle.mm_slots.specs.declared.event.SlotEvent.{SlotEvent}
+use Rattle.mm_slots.specs.Slot.{Turned, Met, folded, first_slot}
+use Rattle.mm_slots.specs.Table.{Row, row_after, after_events, answers, met_by, said_for}
+
+-- A slot of a table is where its own fold leaves it, and what is said for it is what its fold says: over what it meets,
+-- and over nothing else.
+pub record IsAlone (number : ℕ) (rows : List Row) (events : List SlotEvent) (row : Row) : Type 0 where
+  pub stands : slice_get (after_events rows events) number ≡ Some (row_after row (met_by number rows events))
+  pub said : said_for number (answers rows events) ≡ (folded row.instance row.slot (met_by number rows events)).said
+
+abbrev pub SlotsAreAlone : Type 0
+SlotsAreAlone = (rows : List Row) (events : List SlotEvent) (number : ℕ) (row : Row) → slice_get rows number ≡ Some row
+    → IsAlone number rows events row
+
+-- The replies that a slot's events come to are those of one run of the module on one list of requests, as the verdict on
+-- histories gives them; so many requests were committed, and as many snapshots issued as that verdict issues.
+pub record SlotRuns (i : Instance) (it : Turned) : Type 0 where
+  pub requests : List (List ℕ)
+  pub runs : Runs i.meaning [] it.events it.replies requests
+  pub judged : it.replies ≡ (expected i it.events).replies
+  pub count : it.slot.digests.count ≡ length requests
+  pub shown : length it.slot.issued ≡ length (expected i it.events).issued
+
+-- So it is of each slot, where no two different messages of its run share a digest, no digest is zero, no value that
+-- others extend its register by is the guard of a batch, and no tag is forged.
+abbrev pub SlotsRun : Type 0
+SlotsRun = (variant : Variant) (meaning : Meaning) (key barrier : List ℕ) (mets : List Met) →
+    let i = instance_by variant meaning key barrier in
+    let it = folded i (first_slot i) mets in
+    IsClearRun i it.events → IsGenuineRun i it.events → SlotRuns i it

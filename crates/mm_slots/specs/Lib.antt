@@ -1,0 +1,15 @@
+pub mod Slots
+pub mod Lending
+pub mod Slot
+pub mod Table
+pub mod Laws
+pub mod Grammar
+pub mod Texts
+pub mod Answers
+pub mod Held
+pub mod Rows
+pub mod Stage
+pub mod Headline
+pub mod Plays
+pub mod Counting
+pub mod Lengths

@@ -1,0 +1,75 @@
+-- The slots of a platform in code.
+use Rattle.std.specs.Prelude.{◌≡◌, ◌≤◌, ◌+◌, ◌*◌, ◌==◌, ℕ, List, [], ◌∷◌, length, if◌then◌else◌}
+use Rattle.mm_base.specs.Limits.{longest_line, most_events, most_members}
+use Rattle.mm_platform.specs.Standing.{Standing}
+use Rattle.mm_slots.specs.declared.event.Action.{Action}
+use Rattle.mm_slots.specs.declared.said.Said.{Said}
+use Rattle.mm_slots.specs.declared.slot.Slot.{Slot as CodeSlot}
+use Rattle.mm_slots.specs.Answers.{IsSayable}
+use Rattle.mm_slots.specs.Held.{instance_in, slot_in, Fits}
+use Rattle.mm_slots.specs.Slot.{Met, Acts, Loses}
+use Rattle.mm_slots.specs.Table.{Row, row_after, by_place, said_at}
+
+abbrev pub row_in : Standing → CodeSlot → Row
+row_in standing slot = record { instance = instance_in slot; slot = slot_in standing slot }
+
+-- what stands in each slot, by the platforms and the slots over them
+abbrev pub rows_in : List Standing → List CodeSlot → List Row
+rows_in [] slots = []
+rows_in (standing ∷ standings) [] = []
+rows_in (standing ∷ standings) (slot ∷ slots) = row_in standing slot ∷ rows_in standings slots
+
+-- the slot is over this platform, and has committed so many requests at most
+pub record FitsWithin (most : ℕ) (standing : Standing) (slot : CodeSlot) : Type 0 where
+  pub fits : Fits standing slot
+  pub few : slot.committed ≤ most
+
+-- each slot is over its platform
+abbrev pub AllFit : ℕ → List Standing → List CodeSlot → Type 0
+AllFit most [] [] = Unit {0}
+AllFit most [] (slot ∷ slots) = ⊥
+AllFit most (standing ∷ standings) [] = ⊥
+AllFit most (standing ∷ standings) (slot ∷ slots) = FitsWithin most standing slot × AllFit most standings slots
+
+-- each slot after what it meets, by its number
+abbrev pub touched : (ℕ → List Met) → List Row → List Row
+touched mets rows = by_place (λ number row. row_after row (mets number)) 0 rows
+
+-- one slot meets something
+abbrev pub only_at : ℕ → Met → ℕ → List Met
+only_at number met other = if other == number then met ∷ [] else []
+
+-- Something happened in the slot with this number, and this was said.
+pub record ActsAt (most number : ℕ) (what : Action) (standings standings' : List Standing) (slots slots' : List CodeSlot)
+    (said : Said) : Type 0 where
+  pub rows : rows_in standings' slots' ≡ touched (only_at number (Acts what)) (rows_in standings slots)
+  pub fit : AllFit (most + most_members) standings' slots'
+  pub says : said_at (rows_in standings slots) number what ≡ said ∷ []
+  pub sayable : IsSayable said
+
+-- the slot with this number lost its power
+pub record LosesAt (most number : ℕ) (standings standings' : List Standing) (slots slots' : List CodeSlot) : Type 0 where
+  pub rows : rows_in standings' slots' ≡ touched (only_at number Loses) (rows_in standings slots)
+  pub fit : AllFit most standings' slots'
+
+-- what the fields of a run among its events keep
+pub record KeepsAll (standings : List Standing) (slots : List CodeSlot) (events read : ℕ) : Type 0 where
+  pub fit : AllFit (most_members * events) standings slots
+  pub some : 1 ≤ length slots
+  pub most : length slots ≤ 16
+  pub few : events ≤ most_events
+  pub short : read ≤ longest_line * events
+
+-- one slot loses its power, but for the one with this number
+abbrev pub others_lose : ℕ → ℕ → List Met
+others_lose but number = if number == but then [] else Loses ∷ []
+
+-- all slots lost their power but the one with this number, if there is one
+pub record LosesAll (most but : ℕ) (standings standings' : List Standing) (slots slots' : List CodeSlot) : Type 0 where
+  pub rows : rows_in standings' slots' ≡ touched (others_lose but) (rows_in standings slots)
+  pub fit : AllFit most standings' slots'
+
+-- the slot with this number lost its power, if it isn't that one
+pub record LosesUnless (most number but : ℕ) (standings standings' : List Standing) (slots slots' : List CodeSlot) : Type 0 where
+  pub rows : rows_in standings' slots' ≡ touched (λ k. if k == number then others_lose but number else []) (rows_in standings slots)
+  pub fit : AllFit most standings' slots'

@@ -1,0 +1,40 @@
+//! The events of slots.
+
+use mm_base::Bytes;
+use mm_digest::Digest;
+use mm_schedule::Offer;
+
+/// How the next step of a call in flight ends it.
+#[derive(Clone, Copy, Debug, PartialEq, Eq)]
+pub enum Breaking {
+    /// Power is lost behind the step and comes back.
+    Cut,
+    /// The step is made, and the call is broken off.
+    Drop,
+    /// The step fails, with its effect or without.
+    Fail { done: bool },
+}
+
+/// What happens in one slot.
+#[derive(Debug, Drop)]
+pub enum Action {
+    /// A call begins that asks a request of the offered snapshot.
+    Begin { offer: Offer, request: Bytes },
+    /// A call begins that closes the open segment.
+    Close,
+    /// The call in flight makes its next step.
+    Step,
+    /// The call in flight makes its next step, or fails to, and is over.
+    Break(Breaking),
+    /// Others extend the slot's register.
+    Extend { value: Digest },
+}
+
+/// One event of a platform with slots.
+#[derive(Debug, Drop)]
+pub enum SlotEvent {
+    /// Power is lost and returns, for all slots.
+    Power,
+    /// Something happens in the slot with this number.
+    At { slot: u8, action: Action },
+}

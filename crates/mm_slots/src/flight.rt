@@ -1,0 +1,28 @@
+//! Calls in flight.
+
+use mm_base::Bytes;
+use mm_flight::AskCall;
+use mm_opt::CheckpointCall;
+use mm_schedule::Offer;
+
+/// A call that asks a request, in flight: what it offers, and the bytes of that.
+#[derive(Drop)]
+pub struct Asking {
+    pub call: AskCall,
+    pub offer: Offer,
+    pub bytes: Bytes,
+    pub request: Bytes,
+}
+
+/// A checkpoint in flight.
+#[derive(Drop)]
+pub struct Closing {
+    pub call: CheckpointCall,
+}
+
+/// A call between two of its device steps.
+#[derive(Drop)]
+pub enum Flight {
+    Asks(Asking),
+    Closes(Closing),
+}

@@ -1,0 +1,61 @@
+//! The answers of slots as text.
+
+ghost use Rattle.std.specs.Prelude.{◌≡◌, ◌++◌, OnOk};
+ghost use Rattle.mm_slots.specs.Answers.{said_text, answer_text, slot_end_line, IsSayable};
+ghost use Rattle.mm_slots.specs.Table.{PowerLost, Says};
+
+use crate::said::Said;
+use mm_base::{Bytes, Memory, put_decimal};
+use mm_replay::put_reply;
+
+/// Puts what is said at the end, with its LF.
+fn put_said(said: &Said, into: &mut Bytes) -> Result<(), Memory>
+    requires { IsSayable said.now }
+    ensures { OnOk result (into.new ≡ into.old ++ said_text said.now) }
+{
+    match said {
+        Said::Busy => into.append(b"no busy\n"),
+        Said::Idle => into.append(b"no idle\n"),
+        Said::Begun => into.append(b"begun\n"),
+        Said::Going(step) => put_going(*step, into),
+        Said::Replied(reply) => put_reply(reply, into),
+    }
+}
+
+fn put_going(step: u64, into: &mut Bytes) -> Result<(), Memory>
+    ensures { OnOk result (into.new ≡ into.old ++ said_text (Said.Going step)) }
+{
+    into.append(b"going ")?;
+    put_decimal(into, step)?;
+    into.push(b'\n')
+}
+
+/// Puts the number of a slot and a space, and what is said for it, at the end.
+pub fn put_answer(slot: u8, said: &Said, into: &mut Bytes) -> Result<(), Memory>
+    requires { IsSayable said.now }
+    ensures { OnOk result (into.new ≡ into.old ++ answer_text (Says slot said.now)) }
+{
+    put_decimal(into, u64::from(slot))?;
+    into.push(b' ')?;
+    put_said(said, into)
+}
+
+/// Puts the line that answers a loss of power at the end.
+pub fn put_power(into: &mut Bytes) -> Result<(), Memory>
+    ensures { OnOk result (into.new ≡ into.old ++ answer_text PowerLost) }
+{
+    into.append(b"power\n")
+}
+
+/// Puts the line `end I N K` at the end: in slot I so many requests were committed, and so many snapshots issued.
+pub fn put_slot_end(slot: u8, committed: u64, issued: u32, into: &mut Bytes) -> Result<(), Memory>
+    ensures { OnOk result (into.new ≡ into.old ++ slot_end_line slot committed issued) }
+{
+    into.append(b"end ")?;
+    put_decimal(into, u64::from(slot))?;
+    into.push(b' ')?;
+    put_decimal(into, committed)?;
+    into.push(b' ')?;
+    put_decimal(into, u64::from(issued))?;
+    into.push(b'\n')
+}

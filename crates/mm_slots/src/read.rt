@@ -1,0 +1,169 @@
+//! Reading the lines of slots.
+
+ghost use Rattle.std.specs.Prelude.{◌≡◌, ◌↔◌, ◌≤◌, Some, None, IfOk, IfSome, IsErrOf};
+ghost use Rattle.std.specs.Option.{option_map};
+ghost use Rattle.mm_slots.specs.Grammar.{action_at, begin_at, breaking_at, event_at, first_at, index_at};
+ghost use Rattle.mm_slots.specs.Texts as texts;
+
+use crate::event::{Action, Breaking, SlotEvent};
+use mm_base::{Bytes, Memory};
+use mm_digest::Digest;
+use mm_schedule::{
+    EventFault, OfferText, after, is_text, number_in, offer_in, owned_offer, value_in, word_in,
+};
+use std::alloc::Global;
+
+/// The most slots of a platform.
+pub const MOST_SLOTS: u32 = 16;
+
+/// What happens in a slot, as it lies in its line.
+pub enum ActionText<'a> {
+    Begin {
+        from: OfferText<'a>,
+        request: &'a [u8],
+    },
+    Close,
+    Step,
+    Break(Breaking),
+    Extend {
+        value: Digest,
+    },
+}
+
+/// An event as it lies in its line.
+pub enum EventText<'a> {
+    Power,
+    At { slot: u8, action: ActionText<'a> },
+}
+
+/// The number of slots that the first line names, as `memoir slots 1 2`: 1 to 16. None where the line is outside the
+/// grammar.
+#[tactic(auto, unfolding(crate::specs::Grammar::first_at))]
+pub fn read_first(line: &[u8]) -> Option<u8>
+    ensures { result ≡ first_at line.now }
+{
+    let word = after(b"memoir slots 1 ", line)?;
+    let count = number_in(word)?;
+    if count == 0 || count > MOST_SLOTS {
+        return None;
+    }
+    Some(count as u8)
+}
+
+/// The event of a line, which stands without its LF, on a platform with so many slots.
+pub fn read_slot_event(alloc: Global, slots: u8, line: &[u8]) -> Result<SlotEvent, EventFault>
+    ensures read { IfOk result (λ event. event_at slots line.now ≡ Some event) }
+    ensures bad { IsErrOf result EventFault.Bad ↔ (event_at slots line.now ≡ None) }
+{
+    let Some(event) = event_in(slots, line) else {
+        return Err(EventFault::Bad);
+    };
+    let event = owned(alloc, event)?;
+    Ok(event)
+}
+
+// The event of a line.
+#[tactic(auto, unfolding(crate::specs::Grammar::event_at))]
+fn event_in(slots: u8, line: &[u8]) -> Option<EventText<'_>>
+    ensures { option_map texts.event_in result ≡ event_at slots line.now }
+{
+    if is_text(line, b"power") {
+        return Some(EventText::Power);
+    }
+    let (word, line) = word_in(line)?;
+    let slot = index_in(slots, word)?;
+    let action = action_in(line)?;
+    Some(EventText::At { slot, action })
+}
+
+// The number of a slot, a decimal below their number.
+#[tactic(auto, unfolding(crate::specs::Grammar::index_at))]
+fn index_in(slots: u8, word: &[u8]) -> Option<u8>
+    ensures { result ≡ index_at slots word.now }
+{
+    let number = number_in(word)?;
+    if number >= u32::from(slots) {
+        return None;
+    }
+    Some(number as u8)
+}
+
+// What happens in a slot.
+#[tactic(auto, unfolding(crate::specs::Grammar::action_at))]
+fn action_in(line: &[u8]) -> Option<ActionText<'_>>
+    ensures { option_map texts.action_in result ≡ action_at line.now }
+{
+    if is_text(line, b"close") {
+        return Some(ActionText::Close);
+    }
+    if is_text(line, b"step") {
+        return Some(ActionText::Step);
+    }
+    if let Some(line) = after(b"begin ", line) {
+        return begin_in(line);
+    }
+    if let Some(word) = after(b"extend ", line) {
+        let value = value_in(word)?;
+        return Some(ActionText::Extend { value });
+    }
+    let how = breaking_in(line)?;
+    Some(ActionText::Break(how))
+}
+
+// An offer and a request behind `begin`.
+#[tactic(auto, unfolding(crate::specs::Grammar::begin_at))]
+fn begin_in(line: &[u8]) -> Option<ActionText<'_>>
+    ensures { option_map texts.action_in result ≡ begin_at line.now }
+{
+    let (from, request) = offer_in(line)?;
+    Some(ActionText::Begin { from, request })
+}
+
+// How a call is broken off.
+#[tactic(auto, unfolding(crate::specs::Grammar::breaking_at))]
+fn breaking_in(line: &[u8]) -> Option<Breaking>
+    ensures { result ≡ breaking_at line.now }
+{
+    if is_text(line, b"cut") {
+        return Some(Breaking::Cut);
+    }
+    if is_text(line, b"drop") {
+        return Some(Breaking::Drop);
+    }
+    if is_text(line, b"fail done") {
+        return Some(Breaking::Fail { done: true });
+    }
+    if is_text(line, b"fail undone") {
+        return Some(Breaking::Fail { done: false });
+    }
+    None
+}
+
+// The event with bytes of its own.
+fn owned(alloc: Global, event: EventText<'_>) -> Result<SlotEvent, Memory>
+    ensures { IfOk result (λ own. own ≡ texts.event_in event.entry) }
+{
+    match event {
+        EventText::Power => Ok(SlotEvent::Power),
+        EventText::At { slot, action } => {
+            let action = owned_action(alloc, action)?;
+            Ok(SlotEvent::At { slot, action })
+        }
+    }
+}
+
+fn owned_action(alloc: Global, action: ActionText<'_>) -> Result<Action, Memory>
+    ensures { IfOk result (λ own. own ≡ texts.action_in action.entry) }
+{
+    match action {
+        ActionText::Begin { from, request } => {
+            let offer = owned_offer(alloc, from)?;
+            let request = Bytes::copy_of(alloc, request)?;
+            Ok(Action::Begin { offer, request })
+        }
+        ActionText::Close => Ok(Action::Close),
+        ActionText::Step => Ok(Action::Step),
+        ActionText::Break(how) => Ok(Action::Break(how)),
+        ActionText::Extend { value } => Ok(Action::Extend { value }),
+    }
+}
