@@ -14,7 +14,12 @@ mod said;
 mod slot;
 
 pub use event::{Action, Breaking, SlotEvent};
+pub use flight::{Asking, Closing, Flight};
 pub use laws::{slots_are_alone, slots_run};
 pub use platform::SlotPlatform;
+pub use put::{put_answer, put_power, put_slot_end};
+pub use read::{read_first, read_slot_event};
 pub use report::SlotReport;
+pub use rows::{act_at, lose_at};
 pub use said::Said;
+pub use slot::Slot;

@@ -30,8 +30,8 @@ pub fn act_at(
     slot.act(alloc, platform.slot(number), action)
 }
 
-// The slot with this number loses its power.
-fn lose_at(platform: &mut SlotPlatform, slots: &mut [Slot], number: usize)
+/// The slot with this number loses its power. Its call in flight is over, and has changed nothing.
+pub fn lose_at(platform: &mut SlotPlatform, slots: &mut [Slot], number: usize)
     requires inside { number < length slots.old }
     requires fit { AllFit (2 ^ 63 - 1) platform.old.slots slots.old }
     ensures { (most : ℕ) → AllFit most platform.old.slots slots.old
