@@ -184,6 +184,10 @@ fn stop_of(word: &str) -> Stop {
         "cut-5" => Stop::Cut(5),
         "drop-3" => Stop::Drop(3),
         "drop-5" => Stop::Drop(5),
+        "undone-3" => Stop::Fail {
+            step: 3,
+            done: false,
+        },
         "undone-5" => Stop::Fail {
             step: 5,
             done: false,
