@@ -15,3 +15,4 @@ pub mod BothAgree
 pub mod SideNames
 pub mod Lively
 pub mod SideIssues
+pub mod OneMove

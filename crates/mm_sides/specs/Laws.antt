@@ -1,5 +1,9 @@
 -- The laws of two sides.
 use Rattle.std.specs.Prelude.{◌≡◌, ℕ, Bool, true, false, List, [], ◌∷◌, ◌++◌, length, Option, None, Some}
+use Rattle.mm_digest.specs.declared.variant.Variant.{Variant}
+use Rattle.mm_module.specs.CounterTable.{counter}
+use Rattle.mm_platform.specs.declared.plan.Stop.TheVariants.{Quiet}
+use Rattle.mm_schedule.specs.declared.event.Offer.TheVariants.{Last}
 use Rattle.std.specs.List.{AllByRecursion}
 use Rattle.mm_model.specs.History.{History, requests_of}
 use Rattle.mm_model.specs.Moves.{Digests}
@@ -8,9 +12,10 @@ use Rattle.mm_schedule.specs.Events.{Event}
 use Rattle.mm_schedule.specs.Machine.{Runs}
 use Rattle.mm_schedule.specs.declared.reply.Reply.{Reply}
 use Rattle.mm_run.specs.Laws.{IsIssued}
-use Rattle.mm_sides.specs.Roles.{Effect, Invites, Leaves, Enters, is_live, Notes, no_notes}
+use Rattle.mm_sides.specs.Roles.{Live, Retired, Effect, Invites, Leaves, Enters, is_live, Notes, no_notes}
 use Rattle.mm_sides.specs.Order.{EntersLast, AtMostOne}
 use Rattle.mm_sides.specs.Both.{Which, First, Second, Pair, instance_on, Side, Both, lists_move, digests_move, first_lists}
+use Rattle.mm_sides.specs.Moves.{Invite, Retire, Accept}
 use Rattle.mm_sides.specs.Folds.{Act, Plain, Moves, BothEvent, BothReply, Said, Invited, Left, Entered, Denied, NoSnapshot, NoTicket, Broken, both_outcome, BothFollowed, both_followed, both_expected, both_by_digests, noted_if}
 use Rattle.mm_sides.specs.Premises.{IsClearPair, IsGenuinePair, IsFreshPair}
 
@@ -117,3 +122,34 @@ SidesIssueNames = (pair : Pair) (events : List BothEvent) → IsFreshPair pair e
     let lists : BothFollowed History History = both_expected pair events in
     SnapshotsName pair First lists.both.first (history_now lists.both)
     × SnapshotsName pair Second lists.both.second (history_now lists.both)
+
+-- The module moves once: the second side is invited under a nonce, the module leaves the first by its snapshot, and enters
+-- the second by its ticket.
+abbrev pub one_move : List ℕ → List BothEvent
+one_move nonce =
+    record { which = Second; act = Moves [] Quiet (Invite nonce) } ∷ record { which = First; act = Moves [] Quiet (Retire nonce Last) }
+    ∷ record { which = Second; act = Moves [] Quiet (Accept Last) } ∷ []
+
+-- a counter on two sides
+abbrev pub counters : Variant → (first_key second_key barrier link : List ℕ) → Pair
+counters variant first_key second_key barrier link = record {
+  variant = variant;
+  meaning = counter;
+  first_key = first_key;
+  second_key = second_key;
+  barrier = barrier;
+  link = link;
+}
+
+-- That run meets what is asked of one, and the module is on the second side then.
+pub record MovesOnce (pair : Pair) (nonce : List ℕ) : Type 0 where
+  pub clear : IsClearPair pair (one_move nonce)
+  pub genuine : IsGenuinePair pair (one_move nonce)
+  pub fresh : IsFreshPair pair (one_move nonce)
+  pub left : (both_expected pair (one_move nonce)).both.first.role ≡ Retired nonce
+  pub entered : (both_expected pair (one_move nonce)).both.second.role ≡ Live
+
+-- So the premises can be met, under all keys.
+abbrev pub PremisesAreMet : Type 0
+PremisesAreMet = (variant : Variant) (first_key second_key barrier link nonce : List ℕ) → length nonce ≡ 32
+    → MovesOnce (counters variant first_key second_key barrier link) nonce

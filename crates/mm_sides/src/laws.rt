@@ -1,7 +1,9 @@
 //! The laws of two sides, each the contract of a function that does nothing.
 
 ghost use Rattle.mm_sides.specs.Order.{RolesBegin, RolesSwap, RolesGoOn, RolesEnterLast, RolesAreOne};
-ghost use Rattle.mm_sides.specs.Laws.{PairsAgreeThroughout, OneIsLive, SidesRunAsOne, PairsGoOn, SidesIssueNames};
+ghost use Rattle.mm_sides.specs.Laws.{PairsAgreeThroughout, OneIsLive, SidesRunAsOne, PairsGoOn, SidesIssueNames, PremisesAreMet};
+
+use mm_run::premises_are_met;
 
 /// The roles of two sides alone, where each nonce is invited once and each accepted ticket is one that the module left
 /// by: at most one side is live, and the module enters one only where none is, by the ticket that it left by last.
@@ -42,3 +44,11 @@ pub fn both_go_on()
 pub fn sides_issue_names()
     ensures { SidesIssueNames }
 {}
+
+/// The premises can be met by a run in which the module moves: in both variants, under all keys, by a counter that leaves
+/// the first side and enters the second, where it is live then.
+pub fn a_move_meets_the_premises()
+    ensures { PremisesAreMet }
+{
+    premises_are_met();
+}
