@@ -1,5 +1,5 @@
 -- Each slot is where its own fold leaves it.
-use Rattle.std.proofs.Common.{◌≡◌, ◌∙◌, ◌+◌, ◌==◌, ℕ, zero, suc, Bool, true, false, cond, List, [], ◌∷◌, ◌++◌, map, Option, None, Some, refl, sym, ap, arith, append-nil}
+use Rattle.std.proofs.Common.{◌≡◌, ◌∙◌, ◌+◌, ◌==◌, ℕ, zero, suc, Bool, true, false, cond, List, [], ◌∷◌, ◌++◌, map, Option, Some, refl, sym, ap, arith, append-nil}
 use Rattle.std.specs.List.{slice_get}
 use Rattle.std.specs.Option.{option_map, option_map_or}
 use Rattle.std.proofs.lemmas.Bool.{eqb-true}
@@ -10,8 +10,8 @@ use Rattle.mm_slots.specs.declared.event.SlotEvent.{SlotEvent}
 use Rattle.mm_slots.specs.declared.event.SlotEvent.TheVariants.{Power, At}
 use Rattle.mm_slots.specs.declared.said.Said.{Said}
 use Rattle.mm_slots.specs.Slot.{Slot, Turned, Met, Acts, Loses, turned, acted, folded, followed_by}
-use Rattle.mm_slots.specs.Table.{Row, row_after, by_place, after_event, after_events, cuts_all, met_in, met_by, Answer, PowerLost, Says, said_at, answers_to, answers, said_for}
-use Rattle.mm_slots.specs.Laws.{IsAlone, SlotsAreAlone}
+use Rattle.mm_slots.specs.Table.{Row, instance_of, row_after, by_place, after_event, cuts_all, met_in, met_by, Answer, PowerLost, Says, said_at, answers_to, answers, said_for}
+use Rattle.mm_slots.specs.Laws.{SlotsAreAlone}
 
 pub by_place_get : {A B : Type 0} (f : ℕ → A → B) (place : ℕ) (xs : List A) (n at : ℕ) → at ≡ place + n
     → slice_get (by_place f place xs) n ≡ option_map (f at) (slice_get xs n)
@@ -63,18 +63,18 @@ said_others n other (first ∷ said) own = rw own (said_others n other said own)
 said_here : (rows : List Row) (n other : ℕ) (what : Action) (row : Row) (own cuts : Bool) → slice_get rows n ≡ Some row
     → (n == other) ≡ own
     → said_for n (map (Says other) (said_at rows other what))
-    ≡ (folded row.instance row.slot (cond own (Acts what ∷ []) (cond cuts (Loses ∷ []) []))).said
+    ≡ (folded (instance_of row) row.slot (cond own (Acts what ∷ []) (cond cuts (Loses ∷ []) []))).said
 said_here rows n other what row true cuts is own =
     let same : n ≡ other = eqb-true n other own in
     said_own n other (said_at rows other what) own
     ∙ ap (λ (k : ℕ). said_at rows k what) (sym same)
-    ∙ ap (λ (found : Option Row). option_map_or (λ (r : Row). (acted r.instance r.slot what).said) found []) is
-    ∙ sym (append-nil (acted row.instance row.slot what).said)
+    ∙ ap (λ (found : Option Row). option_map_or (λ (r : Row). (acted (instance_of r) r.slot what).said) found []) is
+    ∙ sym (append-nil (acted (instance_of row) row.slot what).said)
 said_here rows n other what row false true is own = said_others n other (said_at rows other what) own
 said_here rows n other what row false false is own = said_others n other (said_at rows other what) own
 
 said_one : (rows : List Row) (event : SlotEvent) (n : ℕ) (row : Row) → slice_get rows n ≡ Some row
-    → said_for n (answers_to rows event) ≡ (folded row.instance row.slot (met_in n rows event)).said
+    → said_for n (answers_to rows event) ≡ (folded (instance_of row) row.slot (met_in n rows event)).said
 said_one rows Power n row is = refl
 said_one rows (At other what) n row is = said_here rows n other what row (n == other) (cuts_all rows other what) is refl
 
@@ -85,11 +85,11 @@ alone rows (event ∷ events) n row is =
     let next = after_event rows event in
     let later = met_by n next events in
     let a = alone next events n (row_after row mets) (row_behind rows event n row is) in
-    let split = folded_more row.instance row.slot mets later in
+    let split = folded_more (instance_of row) row.slot mets later in
     record {
       stands = a.stands ∙ ap (λ (t : Turned). Some (record row { slot = t.slot })) (sym split);
       said = said_more n (answers_to rows event) (answers next events)
           ∙ ap (λ (front : List Said). front ++ said_for n (answers next events)) (said_one rows event n row is)
-          ∙ ap (λ (rest : List Said). (folded row.instance row.slot mets).said ++ rest) a.said
+          ∙ ap (λ (rest : List Said). (folded (instance_of row) row.slot mets).said ++ rest) a.said
           ∙ ap (λ (t : Turned). t.said) (sym split);
     }

@@ -1,5 +1,5 @@
 -- A run over event lines of slots is the run of their events.
-use Rattle.std.proofs.Common.{◌≡◌, ◌∙◌, ◌+◌, ◌-◌, ◌≤◌, ◌<◌, ℕ, suc, Bool, true, false, cond, ◌||◌, nat_le, nat_lt, List, [], ◌∷◌, ◌++◌, length, map, Result, Ok, Err, Option, None, Some, refl, sym, ap, subst, arith, inl, inr, ◌⊎◌}
+use Rattle.std.proofs.Common.{◌≡◌, ◌∙◌, ◌+◌, ◌≤◌, ◌<◌, ℕ, suc, Bool, true, false, cond, ◌||◌, nat_le, nat_lt, List, [], ◌∷◌, ◌++◌, length, map, Result, Ok, Err, Option, None, Some, refl, sym, ap, subst, arith, inl, inr, ◌⊎◌}
 use Rattle.std.specs.List.{sum_by}
 use Rattle.std.proofs.lemmas.Bool.Decides.{nat_tests}
 use Rattle.std.proofs.lemmas.Grind.{flat_map-append}
@@ -15,7 +15,7 @@ use Rattle.mm_slots.specs.declared.event.SlotEvent.{SlotEvent}
 use Rattle.mm_slots.specs.Answers.{answer_text, answers_text}
 use Rattle.mm_slots.specs.Grammar.{event_at}
 use Rattle.mm_slots.specs.Stage.{Running, kept_in, is_too_much, after_line, SlotsStage, InEvents, event_answer, slots_answer}
-use Rattle.mm_slots.specs.Table.{Row, Answer, by_place, row_after, met_in, after_event, after_events, answers_to, answers}
+use Rattle.mm_slots.specs.Table.{by_place, row_after, met_in, after_event, after_events, answers_to, answers}
 
 -- behind these lines and their events, the line is one too many
 abbrev pub IsOverFrom : Running → List (List ℕ) → List SlotEvent → List ℕ → Type 0

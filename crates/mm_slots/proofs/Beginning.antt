@@ -1,12 +1,10 @@
 -- What begins a call in a slot, what is refused, a value of others, and a loss of power.
-use Rattle.std.proofs.Common.{◌≡◌, ◌∙◌, ◌+◌, ◌-◌, ◌^◌, ◌≤◌, ◌<◌, ℕ, Bool, true, false, cond, List, [], ◌∷◌, ◌++◌, length, Option, None, Some, IsSome, refl, sym, ap, subst, arith}
+use Rattle.std.proofs.Common.{◌≡◌, ◌∙◌, ◌+◌, ◌<◌, ℕ, true, false, List, [], length, Option, None, Some, IsSome, refl, sym, ap, subst, arith}
 use Rattle.std.specs.Prelude.{vec_capacity}
-use Rattle.std.specs.Option.{option_map, option_map_or}
+use Rattle.std.specs.Option.{option_map}
 use Rattle.std.specs.List.{sum_by}
-use Rattle.mm_base.specs.Faults.{counted}
 use Rattle.mm_digest.specs.declared.digest.Digest.{Digest}
-use Rattle.mm_digest.specs.Messages.{zero_bytes}
-use Rattle.mm_module.specs.Batch.{Batch, One}
+use Rattle.mm_module.specs.Batch.{One}
 use Rattle.mm_modules.specs.Modules.{meaning_of}
 use Rattle.mm_platform.specs.declared.plan.Meddle.{Meddle}
 use Rattle.mm_platform.specs.declared.plan.Stop.TheVariants.{Quiet}
@@ -18,16 +16,11 @@ use Rattle.mm_model.specs.History.{Foreign, Power as PowerMove}
 use Rattle.mm_model.specs.Long.{is_long}
 use Rattle.mm_model.specs.Moves.{Digests, made}
 use Rattle.mm_model.specs.Standing.{register_reads}
-use Rattle.mm_call.specs.Levels.{by_digests}
-use Rattle.mm_schedule.specs.Events.{Event, Ask, Extend, Power}
-use Rattle.mm_schedule.specs.declared.event.Offer.{Offer}
-use Rattle.mm_schedule.specs.declared.reply.Cause.{Cause}
-use Rattle.mm_schedule.specs.declared.reply.Cause.TheVariants as cause
+use Rattle.mm_schedule.specs.Events.{Extend}
 use Rattle.mm_schedule.specs.declared.reply.Reply.TheVariants as reply
 use Rattle.mm_run.specs.Held.{rising_from}
 use Rattle.mm_run.specs.Offered.{offered_bytes}
 use Rattle.mm_opt.specs.declared.stage.CheckpointStage.TheVariants as stage
-use Rattle.mm_flight.specs.declared.ask.AskCall.{AskCall}
 use Rattle.mm_flight.specs.Asks.{begun as begun_call}
 use Rattle.mm_flight.specs.InFlight.{plan_by}
 use Rattle.mm_flight.proofs.Flying.{meddled}
@@ -40,17 +33,16 @@ use Rattle.mm_steps.specs.Closing.{ClosesInFlight}
 use Rattle.mm_steps.proofs.Beginning.{asks_begun, closes_begun, asks_take_in, closes_take_in, may_take_in}
 use Rattle.mm_slots.specs.declared.event.Action.{Action}
 use Rattle.mm_slots.specs.declared.event.Action.TheVariants as action
-use Rattle.mm_slots.specs.declared.event.Breaking.{Breaking}
 use Rattle.mm_slots.specs.declared.flight.Asking.{Asking}
 use Rattle.mm_slots.specs.declared.flight.Closing.{Closing}
 use Rattle.mm_slots.specs.declared.flight.Flight.{Flight as CodeFlight}
 use Rattle.mm_slots.specs.declared.flight.Flight.TheVariants as code
 use Rattle.mm_slots.specs.declared.said.Said.{Said}
-use Rattle.mm_slots.specs.declared.said.Said.TheVariants.{Busy, Idle, Begun, Replied}
+use Rattle.mm_slots.specs.declared.said.Said.TheVariants.{Begun, Replied}
 use Rattle.mm_slots.specs.declared.slot.Slot.{Slot as CodeSlot}
-use Rattle.mm_slots.specs.Slot.{Slot, Flight, Turned, Asks, Closes, slot_instance, outcome_in, plays, merely, flying, beginning, begun, acted, acted_by, joined, unpowered}
-use Rattle.mm_slots.specs.Held.{digests_in, slot_in, flight_in, call_in, instance_in, FitsFlight, FitsAsking, FitsClosing, Fits, GoesOn, Comes, Loses, flown, HasRegister, within_64, KeepsSlot}
-use Rattle.mm_slots.proofs.Fitting.{settled, idle, unchanged, still_fits, same_slot, mine_are}
+use Rattle.mm_slots.specs.Slot.{Turned, Asks, Closes, slot_instance, plays, merely, flying, beginning, begun, acted, acted_by, joined}
+use Rattle.mm_slots.specs.Held.{digests_in, slot_in, flight_in, call_in, instance_in, FitsFlight, Fits, Comes, Loses, flown, HasRegister, within_64}
+use Rattle.mm_slots.proofs.Fitting.{settled, idle, mine_are}
 use Rattle.mm_slots.proofs.Stepping.{flight_of, plan_is, asking_of, closing_of}
 
 -- what is said by whether a call is in flight
@@ -78,7 +70,7 @@ quiet_next standing q = plan_is standing quiet_plan q.plan
 begins_comes : (standing : Standing) (slot : CodeSlot) (flight : CodeFlight) → IsQuiet standing → Fits standing (flown slot flight)
     → Comes standing slot (flown slot flight) (merely (flying (slot_in standing slot) (beginning (call_in flight))) Begun) Begun
 begins_comes standing slot flight q fits = record {
-  goes = record { fits = fits; header = refl; number = refl; few = omega arith };
+  goes = record { fits = fits; header = refl; number = refl; few = omega arith; short = omega arith };
   stands = λ j. record {
     digests = digests_in standing slot;
     issued = slot.issued.items;
@@ -144,7 +136,7 @@ extends_now old new slot slot' value fits none e h n c f k issued r =
     comes_by new slot slot' (plays i s (Extend value.bytes)) (acted i s (action.Extend value)) (Replied reply.Extended)
     (sym (acts_idle old slot (action.Extend value) none))
     (record {
-      goes = record { fits = settled new slot' after idle' mine quiet r kept; header = h; number = n; few = omega (arith, c) };
+      goes = record { fits = settled new slot' after idle' mine quiet r kept; header = h; number = n; few = omega (arith, c); short = omega (arith, ap length issued) };
       stands = λ j. record { digests = digests j; issued = issued j; flight = ap (flight_in (next_plan new)) idle' j };
       says = refl;
       sayable = tt;
@@ -171,7 +163,7 @@ joins_comes old new slot flight value some cell plan fits =
     comes_by new slot slot on (acted (instance_in slot) s (action.Extend value)) (Replied reply.Extended)
     (sym (acts_flying old slot (action.Extend value) flight some))
     (record {
-      goes = record { fits = fits; header = refl; number = refl; few = omega arith };
+      goes = record { fits = fits; header = refl; number = refl; few = omega arith; short = omega arith };
       stands = λ j. record {
         digests = record { digest = digest_in (cell j); flag = flag_in (cell j); register = slot.register.bytes; count = slot.committed };
         issued = slot.issued.items;
@@ -291,7 +283,7 @@ loses old new slot slot' fits e h n c none k issued r =
     let kept = k ∙ fits.kept ∙ ap (λ (x : List (List ℕ)). within_64 (sum_by length x)) (sym issued) in
     let digests : digests_in new slot' ≡ after = mine_are new slot' after mine r ∙ (λ j. record after { count = c j }) in
     record {
-      goes = record { fits = settled new slot' after none mine quiet r kept; header = h; number = n; few = omega (arith, c) };
+      goes = record { fits = settled new slot' after none mine quiet r kept; header = h; number = n; few = omega (arith, c); short = omega (arith, ap length issued) };
       stands = λ j. record { digests = digests j; issued = issued j; flight = ap (flight_in (next_plan new)) none j };
       same = c;
     }

@@ -1,8 +1,7 @@
 -- A slot in code over its platform: what stands, what ends a call, and what begins one.
-use Rattle.std.proofs.Common.{◌≡◌, ◌∙◌, ◌+◌, ◌-◌, ◌^◌, ◌≤◌, ◌<◌, ℕ, Bool, true, false, cond, List, [], ◌∷◌, ◌++◌, length, Option, None, Some, refl, sym, ap, subst, arith}
-use Rattle.std.specs.Prelude.{min, option_to_list, vec_capacity}
+use Rattle.std.proofs.Common.{◌≡◌, ◌∙◌, ◌+◌, ◌^◌, ◌≤◌, ◌<◌, ℕ, List, [], ◌∷◌, ◌++◌, length, Option, None, Some, refl, sym, ap, subst, arith}
+use Rattle.std.specs.Prelude.{option_to_list, vec_capacity}
 use Rattle.std.specs.List.{sum_by}
-use Rattle.std.proofs.Math.Nat.{min-eq_left}
 use Rattle.std.proofs.lemmas.List.Sums.{sum_by-append}
 use Rattle.mm_base.specs.Limits.{most_members}
 use Rattle.mm_digest.specs.declared.variant.Variant.{Variant}
@@ -76,6 +75,12 @@ sum_more issued (Some bytes) =
     let one : sum_by length (bytes ∷ []) ≡ length bytes = omega arith in
     sum_by-append length issued (bytes ∷ []) ∙ ap (λ (n : ℕ). sum_by length issued + n) one
 
+-- at most one snapshot more
+one_at_most : (issued : List (List ℕ)) (snapshot : Option (List ℕ)) → length (issued ++ option_to_list snapshot) ≤ length issued + 1
+one_at_most [] None = omega arith
+one_at_most [] (Some bytes) = omega arith
+one_at_most (first ∷ issued) snapshot = let more = one_at_most issued snapshot in omega (arith, more)
+
 kept_more : (kept kept' : ℕ) (issued : List (List ℕ)) (snapshot : Option (List ℕ)) → kept ≡ within_64 (sum_by length issued)
     → kept' ≡ within_64 (kept + length_if snapshot) → kept' ≡ within_64 (sum_by length (issued ++ option_to_list snapshot))
 kept_more kept kept' issued snapshot is e = omega (arith, is, e, sum_more issued snapshot)
@@ -117,6 +122,7 @@ over_comes slot slot' flight old from new event it said none kept few c e =
         header = e.header;
         number = e.number;
         few = omega (arith, committed, most);
+        short = omega (arith, ap length e.issued, one_at_most slot.issued.items it.snapshot);
       };
       stands = λ j. record { digests = digests j; issued = issued j; flight = ends j };
       says = ap (λ (r : Reply). Replied r ∷ []) (sym c.reply) ∙ ap (λ (x : Said). x ∷ []) (sym e.says);
@@ -128,7 +134,7 @@ pub unchanged : (standing : Standing) (slot slot' : CodeSlot) (it : Turned) (sai
     → slot'.issued.items ≡ slot.issued.items → it.slot ≡ slot_in standing slot → it.said ≡ said ∷ [] → IsSayable said
     → Comes standing slot slot' it said
 unchanged standing slot slot' it said fits k issued stands says sayable = record {
-  goes = record { fits = fits; header = k.header; number = k.number; few = omega (arith, k.committed) };
+  goes = record { fits = fits; header = k.header; number = k.number; few = omega (arith, k.committed); short = omega (arith, ap length issued) };
   stands = (λ j. record {
     digests = record {
       digest = digest_in standing.cell;
@@ -176,4 +182,5 @@ goes_on_same standing slot slot' none f k issued kept = record {
   header = k.header;
   number = k.number;
   few = omega (arith, k.committed);
+  short = omega (arith, ap length issued);
 }

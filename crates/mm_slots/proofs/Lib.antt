@@ -7,3 +7,9 @@ pub mod Beginning
 pub mod Rowing
 pub mod Answering
 pub mod Telling
+pub mod Concluding
+pub mod Following
+pub mod Starting
+pub mod Totalling
+pub mod Progressing
+pub mod Tellings

@@ -2,7 +2,6 @@
 use Rattle.std.proofs.Common.{◌≡◌, ◌∙◌, ◌+◌, ◌<◌, ℕ, List, [], ◌∷◌, ◌++◌, map, take, drop, length, get_or, slice_set, None, true, refl, sym, ap, subst, arith}
 use Rattle.std.proofs.lemmas.List.{take_more_set, take_more, drop_more, drop-set-lt, map-append}
 use Rattle.std.proofs.lemmas.Option.{get_or_from_slice_get, slice_get-get_or, slice_get-map}
-use Rattle.std.specs.List.{slice_get}
 use Rattle.std.specs.Option.{option_map}
 use Rattle.mm_platform.specs.Standing.{Standing}
 use Rattle.mm_platform.specs.Memory.{new_platform, cycled}

@@ -5,23 +5,21 @@ use Rattle.std.specs.Prelude.{Result, Ok, Err, IfOk, OnErr}
 use Rattle.std.proofs.lemmas.Bool.{eq-eqb, ne_eqb, eqb-true}
 use Rattle.std.proofs.lemmas.Bool.Decides.{nat_tests}
 use Rattle.std.specs.Prelude.{if◌then◌else◌, nat_lt}
-use Rattle.mm_base.specs.Limits.{most_members}
 use Rattle.mm_platform.specs.Standing.{Standing}
-use Rattle.mm_model.specs.Instance.{Instance}
 use Rattle.mm_slots.specs.declared.slot.Slot.{Slot as CodeSlot}
 use Rattle.std.specs.Option.{option_map_or}
 use Rattle.mm_slots.specs.declared.event.Action.{Action}
 use Rattle.mm_slots.specs.declared.said.Said.{Said}
-use Rattle.mm_slots.specs.Held.{instance_in, slot_in, Fits, GoesOn, Comes}
+use Rattle.mm_slots.specs.Held.{instance_in, slot_in, GoesOn, Comes}
 use Rattle.mm_slots.specs.Held.{Loses as Lost}
-use Rattle.mm_slots.specs.Slot.{Slot, Turned, Met, Acts, Loses, slot_instance, acted, unpowered, folded}
-use Rattle.mm_slots.specs.Table.{Row, row_after, by_place}
+use Rattle.mm_slots.specs.Slot.{Slot, Turned, Met, Acts, Loses, acted, unpowered}
+use Rattle.mm_slots.specs.Table.{Row, instance_of, row_after, by_place}
 use Rattle.mm_slots.specs.Rows.{row_in, rows_in, FitsWithin, AllFit, ActsAt, LosesAt, LosesUnless, LosesAll, others_lose, touched, only_at}
 use Rattle.mm_slots.proofs.Alone.{folded_more}
 
 -- a row that meets more
 row_more : (row : Row) (xs ys : List Met) → row_after (row_after row xs) ys ≡ row_after row (xs ++ ys)
-row_more row xs ys = ap (λ (t : Turned). record row { slot = t.slot }) (sym (folded_more row.instance row.slot xs ys))
+row_more row xs ys = ap (λ (t : Turned). record row { slot = t.slot }) (sym (folded_more (instance_of row) row.slot xs ys))
 
 touched_from : (f g : ℕ → List Met) (place : ℕ) (rows : List Row)
     → by_place (λ k row. row_after row (g k)) place (by_place (λ k row. row_after row (f k)) place rows)
@@ -87,41 +85,41 @@ set_rows n met standings slots s c ds dc few few' here =
     (λ k low other. only_there n met k (λ e. other (omega (arith, e))))
 
 -- each slot fits, and so does the one that is new
-within_more : (most more : ℕ) (standing : Standing) (slot : CodeSlot) → most ≤ more → FitsWithin most standing slot → FitsWithin more standing slot
-within_more most more standing slot less f = record { fits = f.fits; few = omega (arith, less, f.few) }
+within_more : (events more : ℕ) (standing : Standing) (slot : CodeSlot) → events ≤ more → FitsWithin events standing slot → FitsWithin more standing slot
+within_more events more standing slot less f = record { fits = f.fits; few = omega (arith, less, f.few); short = omega (arith, less, f.short) }
 
-pub all_more : (most more : ℕ) (standings : List Standing) (slots : List CodeSlot) → most ≤ more → AllFit most standings slots → AllFit more standings slots
-all_more most more [] [] less fit = tt
-all_more most more [] (slot ∷ slots) less fit = fit
-all_more most more (standing ∷ standings) [] less fit = fit
-all_more most more (standing ∷ standings) (slot ∷ slots) less fit =
-    (within_more most more standing slot less fit.0, all_more most more standings slots less fit.1)
+pub all_more : (events more : ℕ) (standings : List Standing) (slots : List CodeSlot) → events ≤ more → AllFit events standings slots → AllFit more standings slots
+all_more events more [] [] less fit = tt
+all_more events more [] (slot ∷ slots) less fit = fit
+all_more events more (standing ∷ standings) [] less fit = fit
+all_more events more (standing ∷ standings) (slot ∷ slots) less fit =
+    (within_more events more standing slot less fit.0, all_more events more standings slots less fit.1)
 
-pub set_fit : (most more n : ℕ) (standings : List Standing) (slots : List CodeSlot) (s : Standing) (c : CodeSlot) → most ≤ more → AllFit most standings slots → FitsWithin more s c
+pub set_fit : (events more n : ℕ) (standings : List Standing) (slots : List CodeSlot) (s : Standing) (c : CodeSlot) → events ≤ more → AllFit events standings slots → FitsWithin more s c
     → AllFit more (slice_set standings n s) (slice_set slots n c)
-set_fit most more n [] [] s c less fit new = tt
-set_fit most more n [] (slot ∷ slots) s c less fit new = absurd fit
-set_fit most more n (standing ∷ standings) [] s c less fit new = absurd fit
-set_fit most more zero (standing ∷ standings) (slot ∷ slots) s c less fit new = (new, all_more most more standings slots less fit.1)
-set_fit most more (suc n) (standing ∷ standings) (slot ∷ slots) s c less fit new =
-    (within_more most more standing slot less fit.0, set_fit most more n standings slots s c less fit.1 new)
+set_fit events more n [] [] s c less fit new = tt
+set_fit events more n [] (slot ∷ slots) s c less fit new = absurd fit
+set_fit events more n (standing ∷ standings) [] s c less fit new = absurd fit
+set_fit events more zero (standing ∷ standings) (slot ∷ slots) s c less fit new = (new, all_more events more standings slots less fit.1)
+set_fit events more (suc n) (standing ∷ standings) (slot ∷ slots) s c less fit new =
+    (within_more events more standing slot less fit.0, set_fit events more n standings slots s c less fit.1 new)
 
-pub fit_at : (most n : ℕ) (standings : List Standing) (slots : List CodeSlot) (ds : Standing) (dc : CodeSlot) → n < length slots → AllFit most standings slots
-    → FitsWithin most (get_or standings n ds) (get_or slots n dc)
-fit_at most n [] [] ds dc few fit = absurd (omega (arith, few))
-fit_at most n [] (slot ∷ slots) ds dc few fit = absurd fit
-fit_at most n (standing ∷ standings) [] ds dc few fit = absurd fit
-fit_at most zero (standing ∷ standings) (slot ∷ slots) ds dc few fit = fit.0
-fit_at most (suc n) (standing ∷ standings) (slot ∷ slots) ds dc few fit = fit_at most n standings slots ds dc (omega (arith, few)) fit.1
+pub fit_at : (events n : ℕ) (standings : List Standing) (slots : List CodeSlot) (ds : Standing) (dc : CodeSlot) → n < length slots → AllFit events standings slots
+    → FitsWithin events (get_or standings n ds) (get_or slots n dc)
+fit_at events n [] [] ds dc few fit = absurd (omega (arith, few))
+fit_at events n [] (slot ∷ slots) ds dc few fit = absurd fit
+fit_at events n (standing ∷ standings) [] ds dc few fit = absurd fit
+fit_at events zero (standing ∷ standings) (slot ∷ slots) ds dc few fit = fit.0
+fit_at events (suc n) (standing ∷ standings) (slot ∷ slots) ds dc few fit = fit_at events n standings slots ds dc (omega (arith, few)) fit.1
 
-pub same_length : (most : ℕ) (standings : List Standing) (slots : List CodeSlot) → AllFit most standings slots → length standings ≡ length slots
-same_length most [] [] fit = refl
-same_length most [] (slot ∷ slots) fit = absurd fit
-same_length most (standing ∷ standings) [] fit = absurd fit
-same_length most (standing ∷ standings) (slot ∷ slots) fit = ap (λ (n : ℕ). suc n) (same_length most standings slots fit.1)
+pub same_length : (events : ℕ) (standings : List Standing) (slots : List CodeSlot) → AllFit events standings slots → length standings ≡ length slots
+same_length events [] [] fit = refl
+same_length events [] (slot ∷ slots) fit = absurd fit
+same_length events (standing ∷ standings) [] fit = absurd fit
+same_length events (standing ∷ standings) (slot ∷ slots) fit = ap (λ (n : ℕ). suc n) (same_length events standings slots fit.1)
 
 -- the row of a slot
-get_row : (n : ℕ) (standings : List Standing) (slots : List CodeSlot) (ds : Standing) (dc : CodeSlot) → n < length standings → n < length slots
+pub get_row : (n : ℕ) (standings : List Standing) (slots : List CodeSlot) (ds : Standing) (dc : CodeSlot) → n < length standings → n < length slots
     → slice_get (rows_in standings slots) n ≡ Some (row_in (get_or standings n ds) (get_or slots n dc))
 get_row n [] slots ds dc few few' = absurd (omega (arith, few))
 get_row n (standing ∷ standings) [] ds dc few few' = absurd (omega (arith, few'))
@@ -130,79 +128,80 @@ get_row (suc n) (standing ∷ standings) (slot ∷ slots) ds dc few few' = get_r
 
 -- the row of a slot that went on
 row_on : (new : Standing) (slot slot' : CodeSlot) (s t : Slot) → GoesOn new slot slot' → slot_in new slot' ≡ t
-    → row_in new slot' ≡ record { instance = instance_in slot; slot = t }
-row_on new slot slot' s t g stands = λ j. record { instance = slot_instance (g.header j) (g.number j); slot = stands j }
+    → row_in new slot' ≡ record { header = slot.header; number = slot.number; slot = t }
+row_on new slot slot' s t g stands = λ j. record { header = g.header j; number = g.number j; slot = stands j }
 
-few_on : (most : ℕ) (new : Standing) (slot slot' : CodeSlot) → slot.committed ≤ most → GoesOn new slot slot' → FitsWithin (most + most_members) new slot'
-few_on most new slot slot' few g = record { fits = g.fits; few = omega (arith, few, g.few) }
+few_on : (events : ℕ) (old new : Standing) (slot slot' : CodeSlot) → FitsWithin events old slot → GoesOn new slot slot' → FitsWithin (events + 1) new slot'
+few_on events old new slot slot' f g = record { fits = g.fits; few = omega (arith, f.few, g.few); short = omega (arith, f.short, g.short) }
 
 -- something happened in the slot with this number
-pub acts_at : (most number : ℕ) (what : Action) (standings standings' : List Standing) (slots slots' : List CodeSlot) (new : Standing) (slot' : CodeSlot) (said : Said)
+pub acts_at : (events number : ℕ) (what : Action) (standings standings' : List Standing) (slots slots' : List CodeSlot) (new : Standing) (slot' : CodeSlot) (said : Said)
     (ds : Standing) (dc : CodeSlot)
-    → standings' ≡ slice_set standings number new → slots' ≡ slice_set slots number slot' → number < length slots → AllFit most standings slots
+    → standings' ≡ slice_set standings number new → slots' ≡ slice_set slots number slot' → number < length slots → AllFit events standings slots
     → (let s = get_or standings number ds in
     let c = get_or slots number dc in
-    Comes new c slot' (acted (instance_in c) (slot_in s c) what) said → ActsAt most number what standings standings' slots slots' said)
-acts_at most number what standings standings' slots slots' new slot' said ds dc ps cs few fit c =
+    Comes new c slot' (acted (instance_in c) (slot_in s c) what) said → ActsAt events number what standings standings' slots slots' said)
+acts_at events number what standings standings' slots slots' new slot' said ds dc ps cs few fit c =
     let s = get_or standings number ds in
     let slot = get_or slots number dc in
-    let there : number < length standings = omega (arith, few, same_length most standings slots fit) in
-    let here = fit_at most number standings slots ds dc few fit in
+    let there : number < length standings = omega (arith, few, same_length events standings slots fit) in
+    let here = fit_at events number standings slots ds dc few fit in
     let row = row_on new slot slot' (slot_in s slot) (acted (instance_in slot) (slot_in s slot) what).slot c.goes c.stands in
     record {
       rows = (λ j. rows_in (ps j) (cs j)) ∙ set_rows number (Acts what) standings slots new slot' ds dc there few row;
-      fit = subst (λ (x : List Standing). AllFit (most + most_members) x slots') (sym ps)
-          (subst (λ (x : List CodeSlot). AllFit (most + most_members) (slice_set standings number new) x) (sym cs)
-          (set_fit most (most + most_members) number standings slots new slot' (omega arith) fit (few_on most new slot slot' here.few c.goes)));
-      says = ap (λ (found : Option Row). option_map_or (λ (r : Row). (acted r.instance r.slot what).said) found []) (get_row number standings slots ds dc there few) ∙ c.says;
+      fit = subst (λ (x : List Standing). AllFit (events + 1) x slots') (sym ps)
+          (subst (λ (x : List CodeSlot). AllFit (events + 1) (slice_set standings number new) x) (sym cs)
+          (set_fit events (events + 1) number standings slots new slot' (omega arith) fit (few_on events s new slot slot' here c.goes)));
+      says = ap (λ (found : Option Row). option_map_or (λ (r : Row). (acted (instance_of r) r.slot what).said) found []) (get_row number standings slots ds dc there few) ∙ c.says;
       sayable = c.sayable;
     }
 
 -- or memory was wanting
-pub lacks_at : (most number : ℕ) (standings standings' : List Standing) (slots slots' : List CodeSlot) (new : Standing) (slot' : CodeSlot) (ds : Standing) (dc : CodeSlot)
-    → standings' ≡ slice_set standings number new → slots' ≡ slice_set slots number slot' → number < length slots → AllFit most standings slots
-    → GoesOn new (get_or slots number dc) slot' → AllFit (most + most_members) standings' slots'
-lacks_at most number standings standings' slots slots' new slot' ds dc ps cs few fit g =
-    let here = fit_at most number standings slots ds dc few fit in
-    subst (λ (x : List Standing). AllFit (most + most_members) x slots') (sym ps)
-    (subst (λ (x : List CodeSlot). AllFit (most + most_members) (slice_set standings number new) x) (sym cs)
-    (set_fit most (most + most_members) number standings slots new slot' (omega arith) fit (few_on most new (get_or slots number dc) slot' here.few g)))
+pub lacks_at : (events number : ℕ) (standings standings' : List Standing) (slots slots' : List CodeSlot) (new : Standing) (slot' : CodeSlot) (ds : Standing) (dc : CodeSlot)
+    → standings' ≡ slice_set standings number new → slots' ≡ slice_set slots number slot' → number < length slots → AllFit events standings slots
+    → GoesOn new (get_or slots number dc) slot' → AllFit (events + 1) standings' slots'
+lacks_at events number standings standings' slots slots' new slot' ds dc ps cs few fit g =
+    let here = fit_at events number standings slots ds dc few fit in
+    subst (λ (x : List Standing). AllFit (events + 1) x slots') (sym ps)
+    (subst (λ (x : List CodeSlot). AllFit (events + 1) (slice_set standings number new) x) (sym cs)
+    (set_fit events (events + 1) number standings slots new slot' (omega arith) fit (few_on events (get_or standings number ds) new (get_or slots number dc) slot' here g)))
 
 -- the slot with this number lost its power
-pub loses_at : (most number : ℕ) (standings standings' : List Standing) (slots slots' : List CodeSlot) (new : Standing) (slot' : CodeSlot) (ds : Standing) (dc : CodeSlot)
-    → standings' ≡ slice_set standings number new → slots' ≡ slice_set slots number slot' → number < length slots → AllFit most standings slots
-    → Lost (get_or standings number ds) new (get_or slots number dc) slot' → LosesAt most number standings standings' slots slots'
-loses_at most number standings standings' slots slots' new slot' ds dc ps cs few fit l =
+pub loses_at : (events number : ℕ) (standings standings' : List Standing) (slots slots' : List CodeSlot) (new : Standing) (slot' : CodeSlot) (ds : Standing) (dc : CodeSlot)
+    → standings' ≡ slice_set standings number new → slots' ≡ slice_set slots number slot' → number < length slots → AllFit events standings slots
+    → Lost (get_or standings number ds) new (get_or slots number dc) slot' → LosesAt events number standings standings' slots slots'
+loses_at events number standings standings' slots slots' new slot' ds dc ps cs few fit l =
     let s = get_or standings number ds in
     let slot = get_or slots number dc in
-    let there : number < length standings = omega (arith, few, same_length most standings slots fit) in
-    let here = fit_at most number standings slots ds dc few fit in
+    let there : number < length standings = omega (arith, few, same_length events standings slots fit) in
+    let here = fit_at events number standings slots ds dc few fit in
     let row = row_on new slot slot' (slot_in s slot) (unpowered (instance_in slot) (slot_in s slot)).slot l.goes l.stands in
     record {
       rows = (λ j. rows_in (ps j) (cs j)) ∙ set_rows number Loses standings slots new slot' ds dc there few row;
-      fit = subst (λ (x : List Standing). AllFit most x slots') (sym ps)
-          (subst (λ (x : List CodeSlot). AllFit most (slice_set standings number new) x) (sym cs)
-          (set_fit most most number standings slots new slot' (omega arith) fit (record { fits = l.goes.fits; few = omega (arith, l.same, here.few) })));
+      fit = subst (λ (x : List Standing). AllFit events x slots') (sym ps)
+          (subst (λ (x : List CodeSlot). AllFit events (slice_set standings number new) x) (sym cs)
+          (set_fit events events number standings slots new slot' (omega arith) fit
+          (record { fits = l.goes.fits; few = omega (arith, l.same, here.few); short = omega (arith, ap (λ (x : Slot). length x.issued) l.stands, here.short) })));
     }
 
 -- all slots but one lose their power, one after another
 
-rows_length : (most : ℕ) (standings : List Standing) (slots : List CodeSlot) → AllFit most standings slots → length (rows_in standings slots) ≡ length slots
-rows_length most [] [] fit = refl
-rows_length most [] (slot ∷ slots) fit = absurd fit
-rows_length most (standing ∷ standings) [] fit = absurd fit
-rows_length most (standing ∷ standings) (slot ∷ slots) fit = ap (λ (n : ℕ). suc n) (rows_length most standings slots fit.1)
+pub rows_length : (events : ℕ) (standings : List Standing) (slots : List CodeSlot) → AllFit events standings slots → length (rows_in standings slots) ≡ length slots
+rows_length events [] [] fit = refl
+rows_length events [] (slot ∷ slots) fit = absurd fit
+rows_length events (standing ∷ standings) [] fit = absurd fit
+rows_length events (standing ∷ standings) (slot ∷ slots) fit = ap (λ (n : ℕ). suc n) (rows_length events standings slots fit.1)
 
-untouched : (rows : List Row) → touched (λ _. []) rows ≡ rows
+pub untouched : (rows : List Row) → touched (λ _. []) rows ≡ rows
 untouched rows = untouched_from (λ _. []) 0 rows (λ k low. refl)
 
 other_loses : (but number k : ℕ) (here is : Bool) → (number == but) ≡ false → (k == number) ≡ here → only_at number Loses k ≡ cond here (others_lose but number) []
 other_loses but number k true is none own = rw (own, none) refl
 other_loses but number k false is none own = rw own refl
 
-pub loses_other : (most number but : ℕ) (standings standings' : List Standing) (slots slots' : List CodeSlot) → (number ≡ but → ⊥)
-    → LosesAt most number standings standings' slots slots' → LosesUnless most number but standings standings' slots slots'
-loses_other most number but standings standings' slots slots' other l = record {
+pub loses_other : (events number but : ℕ) (standings standings' : List Standing) (slots slots' : List CodeSlot) → (number ≡ but → ⊥)
+    → LosesAt events number standings standings' slots slots' → LosesUnless events number but standings standings' slots slots'
+loses_other events number but standings standings' slots slots' other l = record {
   rows = l.rows ∙ touched_same (only_at number Loses) (λ k. cond (k == number) (others_lose but number) []) (rows_in standings slots)
       (λ k few. other_loses but number k (k == number) true (ne_eqb number but other) refl);
   fit = l.fit;
@@ -212,18 +211,18 @@ none_lost : (but number k : ℕ) (here : Bool) → (number == but) ≡ true → 
 none_lost but number k true same own = rw same refl
 none_lost but number k false same own = refl
 
-pub loses_none : (most number but : ℕ) (standings : List Standing) (slots : List CodeSlot) → number ≡ but → AllFit most standings slots
-    → LosesUnless most number but standings standings slots slots
-loses_none most number but standings slots same fit = record {
+pub loses_none : (events number but : ℕ) (standings : List Standing) (slots : List CodeSlot) → number ≡ but → AllFit events standings slots
+    → LosesUnless events number but standings standings slots slots
+loses_none events number but standings slots same fit = record {
   rows = sym (touched_same (λ k. cond (k == number) (others_lose but number) []) (λ _. []) (rows_in standings slots)
       (λ k few. none_lost but number k (k == number) (eq-eqb number but same) refl) ∙ untouched (rows_in standings slots));
   fit = fit;
 }
 
 -- so many have lost it
-pub record LostBelow (most but below : ℕ) (standings standings' : List Standing) (slots slots' : List CodeSlot) : Type 0 where
+pub record LostBelow (events but below : ℕ) (standings standings' : List Standing) (slots slots' : List CodeSlot) : Type 0 where
   pub rows : rows_in standings' slots' ≡ touched (λ k. if nat_lt k below then others_lose but k else []) (rows_in standings slots)
-  pub fit : AllFit most standings' slots'
+  pub fit : AllFit events standings' slots'
 
 one_more : (but below k : ℕ) (less here : Bool) → nat_lt k below ≡ less → (k == below) ≡ here
     → cond less (others_lose but k) [] ++ cond here (others_lose but below) [] ≡ (if nat_lt k (below + 1) then others_lose but k else [])
@@ -237,10 +236,10 @@ one_more but below k false true l h =
 one_more but below k false false l h =
     let more : nat_lt k (below + 1) ≡ false = grind (arith, nat_tests) in rw more refl
 
-pub lost_more : (most but below : ℕ) (first standings standings' : List Standing) (slots0 slots slots' : List CodeSlot)
-    → LostBelow most but below first standings slots0 slots → LosesUnless most below but standings standings' slots slots'
-    → LostBelow most but (below + 1) first standings' slots0 slots'
-lost_more most but below first standings standings' slots0 slots slots' b l =
+pub lost_more : (events but below : ℕ) (first standings standings' : List Standing) (slots0 slots slots' : List CodeSlot)
+    → LostBelow events but below first standings slots0 slots → LosesUnless events below but standings standings' slots slots'
+    → LostBelow events but (below + 1) first standings' slots0 slots'
+lost_more events but below first standings standings' slots0 slots slots' b l =
     let f : ℕ → List Met = λ k. if nat_lt k below then others_lose but k else [] in
     let g : ℕ → List Met = λ k. if k == below then others_lose but below else [] in
     record {
@@ -250,17 +249,17 @@ lost_more most but below first standings standings' slots0 slots slots' b l =
       fit = l.fit;
     }
 
-pub lost_first : (most but : ℕ) (standings : List Standing) (slots : List CodeSlot) → AllFit most standings slots → LostBelow most but 0 standings standings slots slots
-lost_first most but standings slots fit = record {
+pub lost_first : (events but : ℕ) (standings : List Standing) (slots : List CodeSlot) → AllFit events standings slots → LostBelow events but 0 standings standings slots slots
+lost_first events but standings slots fit = record {
   rows = sym (touched_same (λ k. if nat_lt k 0 then others_lose but k else []) (λ _. []) (rows_in standings slots)
       (λ k few. let none : nat_lt k 0 ≡ false = grind (arith, nat_tests) in rw none refl) ∙ untouched (rows_in standings slots));
   fit = fit;
 }
 
-pub lost_all : (most but : ℕ) (first standings : List Standing) (slots0 slots : List CodeSlot) (n : ℕ) → n ≡ length slots0 → AllFit most first slots0
-    → LostBelow most but n first standings slots0 slots → LosesAll most but first standings slots0 slots
-lost_all most but first standings slots0 slots n size fit b =
-    let len = rows_length most first slots0 fit in
+pub lost_all : (events but : ℕ) (first standings : List Standing) (slots0 slots : List CodeSlot) (n : ℕ) → length slots0 ≤ n → AllFit events first slots0
+    → LostBelow events but n first standings slots0 slots → LosesAll events but first standings slots0 slots
+lost_all events but first standings slots0 slots n size fit b =
+    let len = rows_length events first slots0 fit in
     record {
       rows = b.rows ∙ touched_same (λ k. if nat_lt k n then others_lose but k else []) (others_lose but) (rows_in first slots0)
           (λ k few. let less : nat_lt k n ≡ true = grind (arith, nat_tests) in rw less refl);

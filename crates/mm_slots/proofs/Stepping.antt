@@ -1,12 +1,10 @@
 -- The call in flight of a slot: its next step, a step that breaks it off, a value that comes, a loss of power.
-use Rattle.std.proofs.Common.{◌≡◌, ◌∙◌, ◌+◌, ◌-◌, ◌^◌, ◌≤◌, ◌<◌, ◌==◌, ℕ, Bool, true, false, cond, List, [], ◌∷◌, ◌++◌, length, Option, None, Some, IsSome, Result, Ok, Err, refl, sym, ap, subst, arith, inl, inr}
-use Rattle.std.specs.Prelude.{◌⊎◌, min, vec_capacity}
-use Rattle.std.specs.Option.{option_map, option_map_or}
+use Rattle.std.proofs.Common.{◌≡◌, ◌∙◌, ◌+◌, ◌^◌, ◌<◌, ℕ, Bool, true, false, cond, List, [], ◌∷◌, ◌++◌, map, length, Option, None, Some, IsSome, Ok, Err, refl, sym, ap, subst, arith, ◌⊎◌, inl, inr}
+use Rattle.std.specs.Prelude.{vec_capacity}
+use Rattle.std.specs.Option.{option_map_or}
 use Rattle.std.specs.List.{sum_by}
 use Rattle.std.proofs.lemmas.Bool.{eq-eqb}
-use Rattle.mm_base.specs.Faults.{counted}
 use Rattle.mm_base.specs.declared.fault.Memory.{Memory}
-use Rattle.mm_digest.specs.declared.digest.Digest.{Digest}
 use Rattle.mm_module.specs.Batch.{One}
 use Rattle.mm_modules.specs.Modules.{meaning_of}
 use Rattle.mm_platform.specs.declared.plan.Meddle.{Meddle}
@@ -15,28 +13,32 @@ use Rattle.mm_platform.specs.declared.plan.Stop.TheVariants.{Quiet}
 use Rattle.mm_platform.specs.Standing.{Plan, Standing, next_step}
 use Rattle.mm_platform.specs.Steps.{fault_at}
 use Rattle.mm_platform.specs.Told.{next_plan, quiet_plan}
-use Rattle.mm_platform.specs.Memory.{meddling}
+use Rattle.mm_seal.specs.declared.cell.Cell.{Cell}
+use Rattle.mm_seal.specs.Cell.{cell_spelling}
 use Rattle.mm_model.specs.Instance.{Instance}
-use Rattle.mm_model.specs.Moves.{Digests}
-use Rattle.mm_call.specs.Levels.{by_digests}
-use Rattle.mm_call.specs.Called.{seen_at}
+use Rattle.mm_model.specs.Steps.{Step}
+use Rattle.mm_model.specs.History.{Move, Foreign}
+use Rattle.mm_model.specs.Moves.{Digests, made}
+use Rattle.mm_call.specs.Levels.{by_digests, all_made}
+use Rattle.mm_call.specs.Courses.{Fate, seen_in}
+use Rattle.mm_call.specs.Called.{seen_at, reading_steps}
+use Rattle.mm_call.specs.Standing.{cell_at}
 use Rattle.mm_run.specs.Folds.{course_of}
 use Rattle.mm_run.specs.Held.{rising_from}
 use Rattle.mm_opt.specs.declared.stage.CheckpointStage.{CheckpointStage}
 use Rattle.mm_opt.specs.Checkpoints.{closing_number_of}
 use Rattle.mm_flight.specs.declared.ask.AskCall.{AskCall}
-use Rattle.mm_flight.specs.Asks.{ask_number, MayAsk}
+use Rattle.mm_flight.specs.Asks.{ask_number}
 use Rattle.mm_flight.specs.InFlight.{plan_by}
-use Rattle.mm_flight.proofs.Flying.{meddled}
 use Rattle.mm_world.specs.declared.call.Called.{Called}
 use Rattle.mm_world.specs.Asks.{Lacks, quiet_as}
 use Rattle.mm_schedule.specs.declared.reply.Reply.{Reply}
 use Rattle.mm_world.specs.Calls.{stopped_step}
 use Rattle.mm_world.specs.Held.{digest_in, flag_in}
-use Rattle.mm_world.specs.Stands.{Stands, IsQuiet}
+use Rattle.mm_world.specs.Stands.{Stands}
 use Rattle.mm_steps.specs.Stopping.{BreaksNext, is_nothing, stop_behind}
-use Rattle.mm_steps.specs.Asking.{AsksInFlight, SteppedTo, StepsAs, BreaksAs}
-use Rattle.mm_steps.specs.Closing.{ClosesInFlight, SteppedClosingTo, StepsClosingAs, BreaksClosingAs}
+use Rattle.mm_steps.specs.Asking.{AsksInFlight, StepsAs, BreaksAs}
+use Rattle.mm_steps.specs.Closing.{ClosesInFlight, StepsClosingAs, BreaksClosingAs}
 use Rattle.mm_steps.specs.declared.asks.Stepped.TheVariants as asks
 use Rattle.mm_steps.specs.declared.closings.SteppedClosing.TheVariants as closings
 use Rattle.mm_slots.specs.declared.event.Breaking.{Breaking}
@@ -48,9 +50,11 @@ use Rattle.mm_slots.specs.declared.flight.Flight.TheVariants as code
 use Rattle.mm_slots.specs.declared.said.Said.{Said}
 use Rattle.mm_slots.specs.declared.said.Said.TheVariants.{Going}
 use Rattle.mm_slots.specs.declared.slot.Slot.{Slot as CodeSlot}
-use Rattle.mm_slots.specs.Slot.{Slot, Flight, Turned, slot_instance, outcome_in, plays, merely, flying, so_far, stepped, event_by, stop_at}
-use Rattle.mm_slots.specs.Held.{digests_in, slot_in, flight_in, call_in, instance_in, FitsFlight, FitsAsking, FitsClosing, Fits, GoesOn, Comes, flown, HasRegister, within_64, EndsCall}
-use Rattle.mm_slots.proofs.Fitting.{settled, over_comes, same_instance}
+use Rattle.mm_slots.specs.Slot.{Flight, Turned, outcome_in, plays, merely, flying, so_far, stepped, event_by, stop_at}
+use Rattle.mm_slots.specs.Held.{digests_in, slot_in, call_in, instance_in, FitsAsking, FitsClosing, Fits, GoesOn, Wants, Comes, flown, HasRegister, within_64, EndsCall}
+use Rattle.mm_call.proofs.Walks.{seen_none}
+use Rattle.mm_world.proofs.Committing.{count_none}
+use Rattle.mm_slots.proofs.Fitting.{mine_are, settled, over_comes, same_instance}
 
 -- the flight of a slot in the words of its fold
 abbrev pub flight_of : Standing → CodeFlight → Flight
@@ -99,7 +103,7 @@ goes_comes slot before after keys old new step same planned fits number nothing 
     let slot' = record slot { flight = Some after; keys = keys } in
     let P : Bool → Type 0 = λ b. Comes new (flown slot before) slot' (cond b on (plays i s (so_far f))) (Going step) in
     subst P (sym nothing) (record {
-      goes = record { fits = fits; header = refl; number = refl; few = omega arith };
+      goes = record { fits = fits; header = refl; number = refl; few = omega arith; short = omega arith };
       stands = λ j. record {
         digests = digests_kept old new slot (Some before) (Some after) keys planned.cell j;
         issued = slot.issued.items;
@@ -274,21 +278,62 @@ close_broken how slot slot' closing old new n reply said none few fits is breaks
     (stopped_at how (p.at + 1)) in
     over_comes slot slot' (code.Closes closing) old f.from new (event_by (call_in (code.Closes closing)) p.meddles (stop_at how (p.at + 1))) (quiet_as reply) said none fits.kept few t ends
 
+-- The cell is the same behind values of others, and so behind what a call sees.
+brought_cell : (i : Instance) (values : List (List ℕ)) (rest : List Move) (d : Digests)
+    → ((e : Digests) → cell_at i (all_made (by_digests i) e rest) ≡ cell_at i e)
+    → cell_at i (all_made (by_digests i) d (map Foreign values ++ rest)) ≡ cell_at i d
+brought_cell i [] rest d same = same d
+brought_cell i (v ∷ values) rest d same = brought_cell i values rest (made i d (Foreign v)) same
+
+seen_cell : (i : Instance) (fates : ℕ → Fate) (steps : List Step) (n : ℕ) (d : Digests)
+    → cell_at i (all_made (by_digests i) d (seen_in fates steps n)) ≡ cell_at i d
+seen_cell i fates [] n d = refl
+seen_cell i fates (step ∷ steps) n d =
+    brought_cell i (fates n).brings (seen_in fates steps (n + 1)) d (seen_cell i fates steps (n + 1))
+
+lacks_cell : (i : Instance) (d : Digests) (meddles : List Meddle) (stop : Stop) (old new : Standing) → Stands i old d
+    → Lacks i d meddles stop old new → new.cell ≡ old.cell
+lacks_cell i d meddles stop old new s l = elim l.called [
+  | inl e ↦ ap (λ (x : Standing). x.cell) e
+  | inr e ↦
+      let c = course_of stop meddles in
+      e.0.at.cell ∙ ap (λ (x : Cell). Some (cell_spelling x)) (seen_cell i c.fates (reading_steps i.variant) 1 d) ∙ sym s.at.cell
+]
+
+-- where the slot stands then: as it stood, or behind the reading steps
+lacks_stands : (slot slot' : CodeSlot) (d : Digests) (meddles : List Meddle) (stop : Stop) (old new : Standing)
+    → Lacks (instance_in slot) d meddles stop old new → Stands (instance_in slot) old d
+    → slot'.header ≡ slot.header → slot'.number ≡ slot.number → slot'.committed ≡ d.count → HasRegister new slot'
+    → (digests_in new slot' ≡ d)
+    ⊎ (digests_in new slot' ≡ seen_at (instance_in slot) (by_digests (instance_in slot)) d (course_of stop meddles))
+lacks_stands slot slot' d meddles stop old new l s h n c r =
+    let i = instance_in slot in
+    let fates = (course_of stop meddles).fates in
+    let moves = seen_in fates (reading_steps i.variant) 1 in
+    let seen = seen_at i (by_digests i) d (course_of stop meddles) in
+    let none : seen.count ≡ d.count = count_none i moves d (seen_none fates (reading_steps i.variant) 1) in
+    let at : (x : Digests) → Stands i new x → slot'.committed ≡ x.count → digests_in new slot' ≡ x = λ x s e.
+    mine_are new slot' x (subst (λ (j : Instance). Stands j new x) (sym (same_instance slot slot' h n)) s) r ∙ (λ j. record x { count = e j }) in
+    elim l.called [
+      | inl e ↦ inl (at d (subst (λ (x : Standing). Stands i x d) (sym e) s) c)
+      | inr e ↦ inr (at seen e.0 (c ∙ sym none))
+    ]
+
 -- want of memory: the call is over, and nothing was done but that it has read
 pub ask_lacks : (slot slot' : CodeSlot) (asking : Asking) (old new : Standing) (bytes request : List ℕ) (memory : Memory)
     → bytes ≡ asking.bytes → request ≡ asking.request
     → Fits old (flown slot (code.Asks asking))
     → StepsAs (meaning_of slot.header.«module») asking.call old new bytes (One request) (Err memory)
     → slot'.header ≡ slot.header → slot'.number ≡ slot.number → slot'.committed ≡ slot.committed → slot'.flight ≡ None → slot'.kept ≡ slot.kept
-    → slot'.issued.items ≡ slot.issued.items → HasRegister new slot' → GoesOn new (flown slot (code.Asks asking)) slot'
-ask_lacks slot slot' asking old new bytes request memory same-bytes same-request fits goes h n c none k issued r =
+    → slot'.issued.items ≡ slot.issued.items → HasRegister new slot' → Wants old new (flown slot (code.Asks asking)) slot'
+ask_lacks slot slot' asking old new bytes request memory same-bytes same-request fits steps h n c none k issued r =
     let f = asking_of old slot asking fits in
     let i = instance_in slot in
     let d = digests_in old (flown slot (code.Asks asking)) in
     let p = next_plan old in
     let there : StepsAs (meaning_of slot.header.«module») asking.call old new asking.bytes (One asking.request) (Err memory) =
     subst (λ (x : List ℕ). StepsAs (meaning_of slot.header.«module») asking.call old new x (One asking.request) (Err memory)) same-bytes
-    (subst (λ (x : List ℕ). StepsAs (meaning_of slot.header.«module») asking.call old new bytes (One x) (Err memory)) same-request goes) in
+    (subst (λ (x : List ℕ). StepsAs (meaning_of slot.header.«module») asking.call old new bytes (One x) (Err memory)) same-request steps) in
     let l : Lacks i d p.meddles (stop_behind (p.at + 1)) f.from new =
     there slot.header.variant (rising_from slot.number) (rising_from (128 + slot.number)) d f.from slot.issued.items p.meddles (p.at + 1) asking.offer f.flies f.offered in
     let kept = k ∙ fits.kept ∙ ap (λ (x : List (List ℕ)). within_64 (sum_by length x)) (sym issued) in
@@ -297,11 +342,19 @@ ask_lacks slot slot' asking old new bytes request memory same-bytes same-request
       header = h;
       number = n;
       few = omega (arith, c);
+      short = omega (arith, ap length issued);
     } in
-    elim l.called [
+    let goes : GoesOn new (flown slot (code.Asks asking)) slot' = elim l.called [
       | inl e ↦ at d (subst (λ (x : Standing). Stands i x d) (sym e) f.flies.stands)
       | inr e ↦ at (seen_at i (by_digests i) d (course_of (stop_behind (p.at + 1)) p.meddles)) e.0
-    ]
+    ] in
+    record {
+      goes = goes;
+      cell = lacks_cell i d p.meddles (stop_behind (p.at + 1)) f.from new f.flies.stands l ∙ sym f.flies.flies.cell;
+      stands = lacks_stands slot slot' d p.meddles (stop_behind (p.at + 1)) f.from new l f.flies.stands h n c r;
+      committed = c;
+      issued = issued;
+    }
 
 -- the key that a slot keeps is told by nothing
 pub rekeyed : (new : Standing) (it : Called) (slot slot' : CodeSlot) (keys : Unit {0}) (said : Said) → EndsCall new it (record slot { keys = keys }) slot' said

@@ -1,10 +1,10 @@
 -- From a run over lines to what the lines of slots are answered.
-use Rattle.std.proofs.Common.{◌≡◌, ◌∙◌, ◌+◌, ◌-◌, ◌≤◌, ◌<◌, ℕ, Bool, true, false, cond, ◌||◌, ◌==◌, List, [], ◌∷◌, ◌++◌, length, map, nat_lt, Result, Ok, Err, Option, None, Some, refl, sym, ap, subst, append-nil, arith, inl, inr, ◌⊎◌}
-use Rattle.std.specs.Prelude.{min, if◌then◌else◌, codes}
-use Rattle.std.specs.List.{sum_by, slice_get}
+use Rattle.std.proofs.Common.{◌≡◌, ◌∙◌, ◌+◌, ◌≤◌, ◌<◌, ℕ, Bool, true, false, cond, ◌||◌, ◌==◌, List, [], ◌∷◌, ◌++◌, length, map, nat_lt, Result, Ok, Err, Option, None, Some, refl, sym, ap, subst, append-nil, arith, inl, inr, ◌⊎◌}
+use Rattle.std.specs.Prelude.{if◌then◌else◌, codes}
+use Rattle.std.specs.List.{slice_get}
 use Rattle.std.specs.Option.{option_map}
 use Rattle.std.proofs.lemmas.Bool.Decides.{nat_tests}
-use Rattle.std.proofs.lemmas.List.{append_assoc, map-append}
+use Rattle.std.proofs.lemmas.List.{append_assoc}
 use Rattle.mm_base.specs.declared.replay_fault.ReplayFault.{ReplayFault}
 use Rattle.mm_base.specs.declared.replay_fault.ReplayFault.TheVariants.{LineLong}
 use Rattle.mm_base.specs.Limits.{longest_line}
@@ -29,11 +29,10 @@ use Rattle.mm_run.specs.Held.{rising_from}
 use Rattle.mm_slots.specs.declared.event.SlotEvent.{SlotEvent}
 use Rattle.mm_slots.specs.Answers.{answers_text, end_lines}
 use Rattle.mm_slots.specs.Grammar.{first_at, event_at}
-use Rattle.mm_slots.specs.Laws.{SlotsAreAlone, SlotRuns, SlotsRun}
-use Rattle.mm_slots.specs.Slot.{Turned, slot_instance, slot_after}
+use Rattle.mm_slots.specs.Laws.{SlotsRun}
 use Rattle.mm_slots.specs.Stage.{Running, begun, is_too_much, after_line, kept_in, SlotsStage, AtFirst, AtHeads, InEvents, first_answer, head_answer, are_to_come, behind_heads, event_answer, slots_answer, slots_closing}
-use Rattle.mm_slots.specs.Table.{Row, first_row, first_rows, after_events, answers, answers_to, met_by, by_place}
-use Rattle.mm_slots.specs.Headline.{own_fold, AreOwn, IsOneRun, AreContinuous, IsOver, AreWithinLimits, AnswersSlots, unended, IsHeading, AnswersLines, AnswersAll, IsTooMuch, IsOut}
+use Rattle.mm_slots.specs.Table.{Row, first_row, first_rows, answers, answers_to, met_by}
+use Rattle.mm_slots.specs.Headline.{own_fold, AreOwn, AreContinuous, AreWithinLimits, AnswersSlots, unended, AnswersLines, AnswersAll, IsTooMuch, IsOut}
 use Rattle.mm_slots.proofs.Alone.{alone, by_place_get}
 use Rattle.mm_slots.proofs.Answering.{AnswersFrom, answers_from, over_of, length-by_place}
 
@@ -206,7 +205,7 @@ counted_behind : (words : Option (List ℕ)) (count : ℕ)
 counted_behind None count h = cc
 counted_behind (Some word) count h = counted_word (number_at word) count h
 
-few_slots : (line : List ℕ) (count : ℕ) → first_at line ≡ Some count → (0 < count) × (count ≤ 16)
+pub few_slots : (line : List ℕ) (count : ℕ) → first_at line ≡ Some count → (0 < count) × (count ≤ 16)
 unfolding first_at
 few_slots line count h = counted_behind (after_prefix (codes "memoir slots 1 ") line) count h
 

@@ -1,5 +1,5 @@
 -- The grammar of the lines of slots, as a reading of the bytes.
-use Rattle.std.specs.Prelude.{ℕ, ◌+◌, Bool, true, false, ◌==◌, ◌||◌, nat_le, nat_lt, List, Option, Some, None, if◌then◌else◌, codes}
+use Rattle.std.specs.Prelude.{ℕ, true, false, ◌==◌, ◌||◌, nat_le, nat_lt, List, Option, Some, None, if◌then◌else◌, codes}
 use Rattle.std.specs.Option.{option_map_or}
 use Rattle.std.specs.Str.{bytes_eq}
 use Rattle.mm_module.specs.Values.{value_at}

@@ -10,7 +10,6 @@ use Rattle.mm_play.specs.Tells.{TellsBy}
 use Rattle.mm_run.specs.Premises.{IsClearRun, IsGenuineRun}
 use Rattle.mm_replay.specs.Schedule.{most_kept}
 use Rattle.mm_slots.specs.declared.event.SlotEvent.{SlotEvent}
-use Rattle.mm_slots.specs.declared.report.SlotReport.{SlotReport}
 use Rattle.mm_slots.specs.Answers.{answers_text, end_lines}
 use Rattle.mm_slots.specs.Grammar.{first_at, event_at}
 use Rattle.mm_slots.specs.Laws.{SlotRuns}

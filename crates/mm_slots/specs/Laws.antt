@@ -1,6 +1,6 @@
 -- The laws of slots.
 use Rattle.std.specs.Prelude.{◌≡◌, ℕ, List, [], length, Some, slice_get}
-use Rattle.mm_model.specs.Instance.{Instance, basic, opt}
+use Rattle.mm_model.specs.Instance.{Instance}
 use Rattle.mm_schedule.specs.Machine.{Runs}
 use Rattle.mm_call.specs.Standing.{instance_by}
 use Rattle.mm_digest.specs.declared.variant.Variant.{Variant}
@@ -9,13 +9,13 @@ use Rattle.mm_run.specs.Folds.{expected}
 use Rattle.mm_run.specs.Premises.{IsClearRun, IsGenuineRun}
 use Rattle.mm_slots.specs.declared.event.SlotEvent.{SlotEvent}
 use Rattle.mm_slots.specs.Slot.{Turned, Met, folded, first_slot}
-use Rattle.mm_slots.specs.Table.{Row, row_after, after_events, answers, met_by, said_for}
+use Rattle.mm_slots.specs.Table.{Row, instance_of, row_after, after_events, answers, met_by, said_for}
 
 -- A slot of a table is where its own fold leaves it, and what is said for it is what its fold says: over what it meets,
 -- and over nothing else.
 pub record IsAlone (number : ℕ) (rows : List Row) (events : List SlotEvent) (row : Row) : Type 0 where
   pub stands : slice_get (after_events rows events) number ≡ Some (row_after row (met_by number rows events))
-  pub said : said_for number (answers rows events) ≡ (folded row.instance row.slot (met_by number rows events)).said
+  pub said : said_for number (answers rows events) ≡ (folded (instance_of row) row.slot (met_by number rows events)).said
 
 abbrev pub SlotsAreAlone : Type 0
 SlotsAreAlone = (rows : List Row) (events : List SlotEvent) (number : ℕ) (row : Row) → slice_get rows number ≡ Some row

@@ -1,27 +1,13 @@
 -- A run of slots, whole.
-use Rattle.std.specs.Prelude.{◌≡◌, ◌+◌, ℕ, List, [], ◌∷◌, length, Option, Result, Ok, Err}
+use Rattle.std.specs.Prelude.{ℕ, List, Option, Result, Ok, Err}
 use Rattle.std.specs.Io.KnownBytes.{Appends, Consumes}
 use Rattle.mm_base.specs.declared.replay_fault.ReplayFault.{ReplayFault}
 use Rattle.mm_play.specs.Play.{run, run_of}
 use Rattle.mm_play.specs.Plays.{Settles}
 use Rattle.mm_slots.specs.declared.report.SlotReport.{SlotReport}
 use Rattle.mm_slots.specs.Headline.{IsOut}
-use Rattle.mm_slots.specs.Stage.{SlotsStage, AtFirst, AtHeads, InEvents, slots_answer, slots_closing}
-use Rattle.mm_slots.specs.Table.{Row}
-
--- how many requests were committed and snapshots issued in these slots, all together
-abbrev pub committed_in : List Row → ℕ
-committed_in [] = 0
-committed_in (row ∷ rows) = row.slot.digests.count + committed_in rows
-
-abbrev pub issued_in : List Row → ℕ
-issued_in [] = 0
-issued_in (row ∷ rows) = length row.slot.issued + issued_in rows
-
-abbrev pub Reports : SlotsStage → SlotReport → Type 0
-Reports AtFirst report = (report.committed ≡ 0) × (report.issued ≡ 0)
-Reports (AtHeads count headers) report = (report.committed ≡ 0) × (report.issued ≡ 0)
-Reports (InEvents r) report = (report.committed ≡ committed_in r.rows) × (report.issued ≡ issued_in r.rows)
+use Rattle.mm_slots.specs.Progress.{Reports}
+use Rattle.mm_slots.specs.Stage.{SlotsStage, AtFirst, slots_answer, slots_closing}
 
 abbrev pub IsReported : {T : Type 0} → SlotsStage → Result SlotReport T → Type 0
 IsReported next (Ok report) = Reports next report

@@ -1,6 +1,5 @@
 -- One slot of a platform, followed event by event. What a call in flight comes to is what the call comes to in one go.
 use Rattle.std.specs.Prelude.{ℕ, ◌+◌, List, [], ◌∷◌, ◌++◌, Option, None, Some, if◌then◌else◌}
-use Rattle.mm_digest.specs.declared.variant.Variant.{Variant}
 use Rattle.mm_module.specs.Batch.{Batch, One}
 use Rattle.mm_modules.specs.Modules.{meaning_of}
 use Rattle.mm_platform.specs.declared.plan.Meddle.{Meddle}
@@ -10,13 +9,14 @@ use Rattle.mm_model.specs.Instance.{Instance}
 use Rattle.mm_model.specs.Long.{is_long}
 use Rattle.mm_model.specs.Moves.{Digests}
 use Rattle.mm_call.specs.Levels.{by_digests}
+use Rattle.mm_call.specs.Called.{seen_at}
 use Rattle.mm_call.specs.Standing.{instance_by}
 use Rattle.mm_schedule.specs.Events.{Event, Ask, Checkpoint, Power, Extend}
 use Rattle.mm_schedule.specs.declared.event.Offer.{Offer}
 use Rattle.mm_schedule.specs.declared.header.Header.{Header}
 use Rattle.mm_schedule.specs.declared.reply.Reply.{Reply}
 use Rattle.mm_schedule.specs.declared.reply.Reply.TheVariants as reply
-use Rattle.mm_run.specs.Folds.{Outcome, event_outcome, first_issued, first_digests}
+use Rattle.mm_run.specs.Folds.{Outcome, course_of, event_outcome, first_issued, first_digests}
 use Rattle.mm_run.specs.Held.{rising_from}
 use Rattle.mm_run.specs.Offered.{offered_bytes}
 use Rattle.mm_steps.specs.Stopping.{is_nothing, stop_behind}
@@ -90,6 +90,11 @@ begun i slot offer batch (Some bytes) =
 -- the call as it was made up to its next step, which it makes, and is stopped at the one behind it without effect
 abbrev pub so_far : Flight → Event
 so_far flight = event_by flight.call flight.meddles (stop_behind flight.next)
+
+-- the digests once the reading steps of the call in flight are made, if there is one
+abbrev pub having_read : Instance → Digests → Option Flight → Digests
+having_read i d None = d
+having_read i d (Some flight) = seen_at i (by_digests i) d (course_of (stop_behind flight.next) flight.meddles)
 
 -- the call makes its next step, and goes on, or is over
 abbrev pub stepped : Instance → Slot → Flight → Turned

@@ -11,10 +11,15 @@ use Rattle.mm_slots.specs.declared.event.SlotEvent.TheVariants.{Power, At}
 use Rattle.mm_slots.specs.declared.said.Said.{Said}
 use Rattle.mm_slots.specs.Slot.{Slot, Flight, Met, Acts, Loses, acted, folded, slot_instance, first_slot}
 
--- a slot and the instance in it
+-- a slot, its number, and the header of the module in it
 pub record Row : Type 0 where
-  pub instance : Instance
+  pub header : Header
+  pub number : ℕ
   pub slot : Slot
+
+-- the instance in a slot
+abbrev pub instance_of : Row → Instance
+instance_of row = slot_instance row.header row.number
 
 -- a cut of a call in flight takes the power of all slots
 abbrev pub is_cut : Option Flight → Action → Bool
@@ -38,7 +43,7 @@ met_in number rows (At other what) =
     else if cuts_all rows other what then Loses ∷ [] else []
 
 abbrev pub row_after : Row → List Met → Row
-row_after row mets = record row { slot = (folded row.instance row.slot mets).slot }
+row_after row mets = record row { slot = (folded (instance_of row) row.slot mets).slot }
 
 -- each of a list by its place, from this one on
 abbrev pub by_place : {A B : Type 0} → (ℕ → A → B) → ℕ → List A → List B
@@ -59,7 +64,7 @@ pub data Answer : Type 0 where
   Says : (number : ℕ) (said : Said) → Answer
 
 abbrev pub said_at : List Row → ℕ → Action → List Said
-said_at rows number what = option_map_or (λ (row : Row). (acted row.instance row.slot what).said) (slice_get rows number) []
+said_at rows number what = option_map_or (λ (row : Row). (acted (instance_of row) row.slot what).said) (slice_get rows number) []
 
 abbrev pub answers_to : List Row → SlotEvent → List Answer
 answers_to rows Power = PowerLost ∷ []
@@ -83,7 +88,7 @@ said_for number (Says other said ∷ answers) = (if number == other then said �
 
 -- the slots at first, by their header lines
 abbrev pub first_row : ℕ → Header → Row
-first_row number header = record { instance = slot_instance header number; slot = first_slot (slot_instance header number) }
+first_row number header = record { header = header; number = number; slot = first_slot (slot_instance header number) }
 
 abbrev pub first_rows : List Header → List Row
 first_rows headers = by_place first_row 0 headers

@@ -1,6 +1,7 @@
 //! The laws of slots, each the contract of a function that does nothing.
 
 ghost use Rattle.mm_slots.specs.Laws.{SlotsAreAlone, SlotsRun};
+ghost use Rattle.mm_slots.specs.Tellings.{SlotsTellReplies};
 
 use mm_run::{basic_is_expected, expected_runs, opt_is_expected, schedules_go_on};
 
@@ -20,3 +21,8 @@ pub fn slots_run()
     expected_runs();
     schedules_go_on();
 }
+
+/// The replies to calls that are said for a slot are those that its fold gives, and so those of which `slots_run` speaks.
+pub fn slots_tell_replies()
+    ensures { SlotsTellReplies }
+{}

@@ -3,23 +3,31 @@
 #![tactic(auto)]
 
 mod event;
+mod first;
 mod flight;
 mod laws;
 mod platform;
+mod progress;
 mod put;
 mod read;
 mod report;
 mod rows;
 mod said;
 mod slot;
+mod stage;
+#[cfg(test)]
+mod tests;
+mod totals;
+mod whole;
 
 pub use event::{Action, Breaking, SlotEvent};
 pub use flight::{Asking, Closing, Flight};
-pub use laws::{slots_are_alone, slots_run};
+pub use laws::{slots_are_alone, slots_run, slots_tell_replies};
 pub use platform::SlotPlatform;
+pub use progress::Progress;
 pub use put::{put_answer, put_power, put_slot_end};
 pub use read::{read_first, read_slot_event};
 pub use report::SlotReport;
-pub use rows::{act_at, lose_at};
 pub use said::Said;
 pub use slot::Slot;
+pub use whole::slots;

@@ -77,7 +77,7 @@ impl Slot {
     ghost use Rattle.std.specs.Prelude.{◌≡◌, ◌+◌, ◌++◌, ◌<◌, ◌^◌, None, IfOk, OnErr, Some, IsSome, option_to_list, vec_len, vec_capacity};
     ghost use Rattle.mm_platform.specs.Standing.{Standing};
     ghost use Rattle.mm_run.specs.Offered.{offered_bytes};
-    ghost use Rattle.mm_slots.specs.Held.{instance_in, slot_in, Fits, GoesOn, Comes, Loses, flown, EndsCall, KeepsSlot, IsNewSlot, within_64};
+    ghost use Rattle.mm_slots.specs.Held.{instance_in, slot_in, Fits, Wants, Comes, Loses, flown, EndsCall, KeepsSlot, IsNewSlot, within_64};
     ghost use Rattle.mm_slots.specs.Lengths.{length_if};
     ghost use Rattle.mm_slots.specs.Slot.{acted};
     ghost use Rattle.mm_slots.specs.Table.{is_cut};
@@ -101,7 +101,8 @@ impl Slot {
         })
     }
 
-    /// Lets something happen in the slot, which is over this platform. After want of memory the slot can go on.
+    /// Lets something happen in the slot, which is over this platform. After want of memory the slot can go on: nothing was
+    /// committed, and no snapshot was issued. A call in flight is over then if it was its step that wanted memory.
     pub fn act(
         &mut self,
         alloc: Global,
@@ -112,7 +113,7 @@ impl Slot {
         requires few { self.old.committed < 2 ^ 63 }
         ensures ok { IfOk result (Comes platform.new self.old self.new
             (acted (instance_in self.old) (slot_in platform.old self.old) action)) }
-        ensures err { OnErr result (GoesOn platform.new self.old self.new) }
+        ensures err { OnErr result (Wants platform.old platform.new self.old self.new) }
     {
         match action {
             Action::Begin { offer, request } => self.begin(alloc, platform, offer, request),
@@ -135,7 +136,7 @@ impl Slot {
         ensures ok { IfOk result (Comes platform.now self.old self.new
             (acted (instance_in self.old) (slot_in platform.now self.old)
             (Action.Begin offer request))) }
-        ensures err { OnErr result (GoesOn platform.now self.old self.new) }
+        ensures err { OnErr result (Wants platform.now platform.now self.old self.new) }
     {
         if self.flight.is_some() {
             return Ok(Said::Busy);
@@ -193,13 +194,13 @@ impl Slot {
         Said::Begun
     }
 
-    // The call in flight makes its next step.
+    // The call in flight makes its next step. After want of memory the call is over, with nothing done but its reading steps.
     fn step(&mut self, alloc: Global, platform: &mut MemPlatform) -> Result<Said, Memory>
         requires fits { Fits platform.old self.old }
         requires few { self.old.committed < 2 ^ 63 }
         ensures ok { IfOk result (Comes platform.new self.old self.new
             (acted (instance_in self.old) (slot_in platform.old self.old) Action.Step)) }
-        ensures err { OnErr result (GoesOn platform.new self.old self.new) }
+        ensures err { OnErr result (Wants platform.old platform.new self.old self.new) }
     {
         match self.flight.take() {
             None => Ok(Said::Idle),
@@ -208,7 +209,7 @@ impl Slot {
         }
     }
 
-    // A call that asks makes its next step.
+    // A call that asks makes its next step. After want of memory the call is over, and has committed nothing.
     fn step_asking(
         &mut self,
         alloc: Global,
@@ -222,7 +223,7 @@ impl Slot {
             (acted (instance_in self.old) (slot_in platform.old (flown self.old (Flight.Asks asking)))
             Action.Step)) }
         ensures err { OnErr result
-            (GoesOn platform.new (flown self.old (Flight.Asks asking)) self.new) }
+            (Wants platform.old platform.new (flown self.old (Flight.Asks asking)) self.new) }
     {
         let Asking {
             call,
@@ -376,7 +377,7 @@ impl Slot {
         ensures ok { IfOk result (Comes platform.new self.old self.new
             (acted (instance_in self.old) (slot_in platform.old self.old)
             (Action.Extend value.now))) }
-        ensures err { OnErr result (GoesOn platform.new self.old self.new) }
+        ensures err { OnErr result (Wants platform.old platform.new self.old self.new) }
     {
         match &self.flight {
             None => self.extend_now(platform, value),
@@ -391,7 +392,7 @@ impl Slot {
         ensures ok { IfOk result (Comes platform.new self.old self.new
             (acted (instance_in self.old) (slot_in platform.old self.old)
             (Action.Extend value.now))) }
-        ensures err { OnErr result (GoesOn platform.new self.old self.new) }
+        ensures err { OnErr result (Wants platform.old platform.new self.old self.new) }
     {
         platform.foreign(value)?;
         self.register = *platform.register();
@@ -405,7 +406,7 @@ impl Slot {
         ensures ok { IfOk result (Comes platform.new self.old self.new
             (acted (instance_in self.old) (slot_in platform.old self.old)
             (Action.Extend value.now))) }
-        ensures err { OnErr result (GoesOn platform.new self.old self.new) }
+        ensures err { OnErr result (Wants platform.old platform.new self.old self.new) }
     {
         platform.meddle_next(value)?;
         Ok(Said::Replied(Reply::Extended))

@@ -1,4 +1,4 @@
-use Rattle.std.proofs.Common.{ℕ, [], ◌-◌, ◌^◌, get_or, refl, sym, subst, arith}
+use Rattle.std.proofs.Common.{[], ◌^◌, get_or, refl, sym, subst, arith}
 use Rattle.mm_platform.specs.Standing.{Standing}
 use Rattle.mm_platform.specs.Memory.{new_platform}
 use Rattle.mm_slots.specs.Held.{Fits, Loses}
@@ -6,16 +6,16 @@ use Rattle.mm_slots.proofs.Rowing.{same_length, fit_at, loses_at}
 use Rattle.mm_slots.proofs.rows.lose_at.Goals as goal
 
 pub slot-requires : goal.slot-requires
-slot-requires c = omega (arith, c.requires.inside, same_length (2 ^ 63 - 1) c.args.platform.now.slots c.args.slots.now c.requires.fit)
+slot-requires c = omega (arith, c.requires.inside, same_length (2 ^ 32) c.args.platform.now.slots c.args.slots.now c.requires.fit)
 
 pub lose_power-requires : goal.lose_power-requires
 lose_power-requires c =
     subst (λ (s : Standing). Fits s (get_or c.args.slots.now c.args.number c.index-slots-number.result)) (sym c.slot.ensures.value)
-    (fit_at (2 ^ 63 - 1) c.args.number c.args.platform.now.slots c.args.slots.now (new_platform []) c.index-slots-number.result c.requires.inside c.requires.fit).fits
+    (fit_at (2 ^ 32) c.args.number c.args.platform.now.slots c.args.slots.now (new_platform []) c.index-slots-number.result c.requires.inside c.requires.fit).fits
 
 pub returns : goal.returns
-returns c = λ most fit.
-    loses_at most c.args.number c.args.platform.now.slots _ c.args.slots.now _ c.lose_power.new.platform c.lose_power.new.self (new_platform []) c.index-slots-number.result
+returns c = λ events fit.
+    loses_at events c.args.number c.args.platform.now.slots _ c.args.slots.now _ c.lose_power.new.platform c.lose_power.new.self (new_platform []) c.index-slots-number.result
     refl refl c.requires.inside fit
     (subst (λ (s : Standing). Loses s c.lose_power.new.platform (get_or c.args.slots.now c.args.number c.index-slots-number.result) c.lose_power.new.self)
     c.slot.ensures.value c.lose_power.ensures)

@@ -1,0 +1,100 @@
+-- All slots lose their power, and what an event leaves of them.
+use Rattle.std.proofs.Common.{◌≡◌, ◌∙◌, ◌+◌, ◌≤◌, ◌<◌, ◌==◌, ℕ, Bool, true, false, cond, List, [], ◌∷◌, ◌++◌, length, map, get_or, Option, refl, sym, ap, append-nil, arith}
+use Rattle.std.specs.Option.{option_map_or}
+use Rattle.std.proofs.lemmas.Bool.{ne_eqb}
+use Rattle.mm_platform.specs.Standing.{Standing}
+use Rattle.mm_platform.specs.Memory.{new_platform}
+use Rattle.mm_slots.specs.declared.event.Action.{Action}
+use Rattle.mm_slots.specs.declared.event.SlotEvent.TheVariants.{Power, At}
+use Rattle.mm_slots.specs.declared.said.Said.{Said}
+use Rattle.mm_slots.specs.declared.slot.Slot.{Slot as CodeSlot}
+use Rattle.mm_slots.specs.Answers.{answer_text, answers_text}
+use Rattle.mm_slots.specs.Held.{slot_in}
+use Rattle.mm_slots.specs.Slot.{Met, Acts, Loses}
+use Rattle.mm_slots.specs.Table.{Row, PowerLost, Says, is_cut, cuts_all, met_in}
+use Rattle.mm_slots.specs.Rows.{rows_in, AllFit, ActsAt, LosesIf, LosesAll, others_lose, touched, only_at, Follows, Tells, Answers}
+use Rattle.mm_slots.proofs.Rowing.{touched_more, touched_same, untouched, rows_length, all_more, same_length, get_row}
+
+-- where no slot has the number, all lose their power
+all_lose : (but k : ℕ) → (k ≡ but → ⊥) → others_lose but k ≡ Loses ∷ []
+all_lose but k other = rw (ne_eqb k but other) refl
+
+pub power_follows : (events n : ℕ) (standings standings' : List Standing) (slots slots' : List CodeSlot) → length slots ≤ n
+    → AllFit events standings slots
+    → LosesAll events n standings standings' slots slots' → Follows events Power standings standings' slots slots'
+power_follows events n standings standings' slots slots' past fit l =
+    let size = rows_length events standings slots fit in
+    record {
+      rows = l.rows ∙ touched_same (others_lose n) (λ k. met_in k (rows_in standings slots) Power) (rows_in standings slots)
+          (λ k few. all_lose n k (λ e. omega (arith, e, few, size, past)));
+      fit = all_more events (events + 1) standings' slots' (omega arith) l.fit;
+    }
+
+-- by whether a call was cut
+pub cut_loses : (events but : ℕ) (standings standings' : List Standing) (slots slots' : List CodeSlot)
+    → LosesAll events but standings standings' slots slots'
+    → LosesIf events but true standings standings' slots slots'
+cut_loses events but standings standings' slots slots' l = record { rows = l.rows; fit = l.fit }
+
+pub uncut_loses : (events but : ℕ) (cuts : Bool) (standings : List Standing) (slots : List CodeSlot) → cuts ≡ false
+    → AllFit events standings slots
+    → LosesIf events but cuts standings standings slots slots
+uncut_loses events but true standings slots is fit = cc
+uncut_loses events but false standings slots is fit = record { rows = sym (untouched (rows_in standings slots)); fit = fit }
+
+-- what a slot meets where one acts, and where that is a cut
+acts_then : (number k : ℕ) (what : Action) (own cuts : Bool) → (k == number) ≡ own
+    → only_at number (Acts what) k ++ cond cuts (others_lose number k) [] ≡ cond own (Acts what ∷ []) (cond cuts (Loses ∷ []) [])
+acts_then number k what true true own = rw own refl
+acts_then number k what true false own = rw own refl
+acts_then number k what false true own = rw own refl
+acts_then number k what false false own = rw own refl
+
+pub tells : (events number : ℕ) (what : Action) (cuts : Bool) (first second last : List Standing) (slots0 slots1 slots2 : List CodeSlot)
+    (said : Said)
+    → cuts ≡ cuts_all (rows_in first slots0) number what → ActsAt events number what first second slots0 slots1 said
+    → LosesIf (events + 1) number cuts second last slots1 slots2 → Tells events number what first last slots0 slots2 said
+tells events number what cuts first second last slots0 slots1 slots2 said is a l =
+    let rows = rows_in first slots0 in
+    let f = only_at number (Acts what) in
+    let g : ℕ → List Met = λ k. cond cuts (others_lose number k) [] in
+    record {
+      follows = record {
+        rows = l.rows ∙ ap (touched g) a.rows ∙ touched_more f g rows
+            ∙ touched_same (λ k. f k ++ g k) (λ k. met_in k rows (At number what)) rows
+            (λ k few. acts_then number k what (k == number) cuts refl
+            ∙ ap (λ (c : Bool). cond (k == number) (Acts what ∷ []) (cond c (Loses ∷ []) [])) is);
+        fit = l.fit;
+      };
+      says = a.says;
+      sayable = a.sayable;
+    }
+
+-- whether it is a cut is told by the slot
+pub cuts_at : (events number : ℕ) (what : Action) (standings : List Standing) (slots : List CodeSlot) (dc : CodeSlot) (cuts : Bool)
+    → number < length slots → AllFit events standings slots
+    → ((standing : Standing) → cuts ≡ is_cut (slot_in standing (get_or slots number dc)).flight what)
+    → cuts ≡ cuts_all (rows_in standings slots) number what
+cuts_at events number what standings slots dc cuts few fit is =
+    let ds : Standing = new_platform [] in
+    let there : number < length standings = omega (arith, few, same_length events standings slots fit) in
+    is (get_or standings number ds)
+    ∙ sym (ap (λ (found : Option Row). option_map_or (λ (r : Row). is_cut r.slot.flight what) found false)
+    (get_row number standings slots ds dc there few))
+
+-- the answer to an event, as text
+pub answers_power : (events : ℕ) (standings standings' : List Standing) (slots slots' : List CodeSlot) (text : List ℕ)
+    → text ≡ answer_text PowerLost
+    → Follows events Power standings standings' slots slots' → Answers events Power standings standings' slots slots' text
+answers_power events standings standings' slots slots' text is f =
+    record { follows = f; answers = is ∙ sym (append-nil (answer_text PowerLost)) }
+
+pub answers_action : (events number : ℕ) (what : Action) (standings standings' : List Standing) (slots slots' : List CodeSlot)
+    (said : Said) (text : List ℕ)
+    → text ≡ answer_text (Says number said) → Tells events number what standings standings' slots slots' said
+    → Answers events (At number what) standings standings' slots slots' text
+answers_action events number what standings standings' slots slots' said text is t = record {
+  follows = t.follows;
+  answers = is ∙ sym (append-nil (answer_text (Says number said)))
+      ∙ ap (λ (all : List Said). answers_text (map (Says number) all)) (sym t.says);
+}

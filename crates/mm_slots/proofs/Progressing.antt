@@ -1,0 +1,149 @@
+-- A run of slots among its events: what it keeps, and what an event leaves.
+use Rattle.std.proofs.Common.{◌≡◌, ◌∙◌, ◌+◌, ◌≤◌, ◌<◌, ◌||◌, ℕ, Bool, true, false, List, length, map, nat_le, nat_lt, Option, None, Some, refl, sym, ap, subst, arith}
+use Rattle.std.specs.Str.{bytes_eq}
+use Rattle.std.specs.Prelude.{codes, if◌then◌else◌}
+use Rattle.std.proofs.lemmas.Bool.Decides.{nat_tests}
+use Rattle.mm_base.specs.Limits.{longest_line, most_events}
+use Rattle.mm_platform.specs.Standing.{Standing}
+use Rattle.mm_platform.specs.Memory.{new_platform}
+use Rattle.mm_play.specs.Counting.{left_or}
+use Rattle.mm_replay.specs.Schedule.{most_kept}
+use Rattle.mm_schedule.specs.declared.header.Header.{Header}
+use Rattle.mm_schedule.specs.Words.{◌>>=◌, number_at, word_at}
+use Rattle.mm_slots.specs.declared.event.Action.{Action}
+use Rattle.mm_slots.specs.declared.event.SlotEvent.{SlotEvent}
+use Rattle.mm_slots.specs.declared.event.SlotEvent.TheVariants.{Power, At}
+use Rattle.mm_slots.specs.declared.slot.Slot.{Slot as CodeSlot}
+use Rattle.mm_slots.specs.First.{AreFirst}
+use Rattle.mm_slots.specs.Grammar.{action_at, event_at, index_at}
+use Rattle.mm_slots.specs.Held.{within_64}
+use Rattle.mm_slots.specs.Rows.{rows_in, AllFit, KeepsAll, IsInside, Follows}
+use Rattle.mm_slots.specs.Stage.{Running, begun, kept_in, is_too_much, after_line}
+use Rattle.mm_slots.specs.Table.{Row}
+use Rattle.mm_slots.specs.Totals.{bytes_in}
+use Rattle.mm_slots.proofs.Rowing.{rows_length}
+use Rattle.mm_slots.proofs.Starting.{rows_there, all_there, sizes}
+use Rattle.mm_slots.proofs.Totalling.{bytes_are}
+
+abbrev pub stands : List Row → ℕ → ℕ → Running
+stands rows events read = record { rows = rows; events = events; read = read }
+
+-- there are as many rows as slots
+pub sized : (r : Running) (standings : List Standing) (slots : List CodeSlot) (events read : ℕ)
+    → stands (rows_in standings slots) events read ≡ r
+    → AllFit events standings slots → length r.rows ≡ length slots
+sized r standings slots events read view fit = ap (λ (x : Running). length x.rows) (sym view) ∙ rows_length events standings slots fit
+
+-- a run at its first event
+pub keeps_first : (headers : List Header) (cells : List (List ℕ)) (slots : List CodeSlot) (standings : List Standing)
+    → standings ≡ map new_platform cells
+    → AreFirst 0 headers cells slots → 1 ≤ length headers → length headers ≤ 16 → KeepsAll standings slots 0 0
+keeps_first headers cells slots standings at are some few =
+    let size = sizes 0 headers cells slots are in
+    record {
+      fit = subst (λ (x : List Standing). AllFit 0 x slots) (sym at) (all_there 0 headers cells slots are);
+      some = omega (arith, some, size.1);
+      most = omega (arith, few, size.1);
+      few = omega arith;
+      short = omega arith;
+    }
+
+pub runs_first : (headers : List Header) (cells : List (List ℕ)) (slots : List CodeSlot) (standings : List Standing)
+    → standings ≡ map new_platform cells
+    → AreFirst 0 headers cells slots → stands (rows_in standings slots) 0 0 ≡ begun headers
+runs_first headers cells slots standings at are =
+    ap (λ (x : List Standing). stands (rows_in x slots) 0 0) at
+    ∙ ap (λ (rows : List Row). stands rows 0 0) (rows_there 0 headers cells slots are)
+
+-- whether an event is one too many
+same_test : (a b c : ℕ) → (a < b → a < c) → (a < c → a < b) → nat_lt a b ≡ nat_lt a c
+same_test a b c to from = by_tests (nat_lt a b) (nat_lt a c) refl refl
+  where
+    by_tests : (x y : Bool) → nat_lt a b ≡ x → nat_lt a c ≡ y → x ≡ y
+    by_tests true true h g = refl
+    by_tests false false h g = refl
+    by_tests true false h g = let less : a < b = grind (arith, nat_tests) in let more = to less in absurd (grind (arith, nat_tests))
+    by_tests false true h g = let less : a < c = grind (arith, nat_tests) in let more = from less in absurd (grind (arith, nat_tests))
+
+pub over_by : (events read : ℕ) (line : List ℕ) (standings : List Standing) (slots : List CodeSlot) (bytes total : ℕ)
+    → AllFit events standings slots
+    → bytes ≡ within_64 (bytes_in slots) → total ≡ within_64 (read + length line + bytes)
+    → nat_lt most_kept total ≡ nat_lt most_kept (read + length line + kept_in (rows_in standings slots))
+over_by events read line standings slots bytes total fit is sum =
+    let all = bytes_are events standings slots fit in
+    same_test most_kept total (read + length line + kept_in (rows_in standings slots)) (λ h. omega (arith, h, all, is, sum))
+    (λ h. omega (arith, h, all, is, sum))
+
+pub full_by : (r : Running) (events read : ℕ) (line : List ℕ) (standings : List Standing) (slots : List CodeSlot) (bytes total : ℕ)
+    → stands (rows_in standings slots) events read ≡ r → events < most_events → AllFit events standings slots
+    → bytes ≡ within_64 (bytes_in slots) → total ≡ within_64 (read + length line + bytes) → nat_lt most_kept total ≡ is_too_much r line
+full_by r events read line standings slots bytes total view few fit is sum =
+    let less : nat_le most_events events ≡ false = grind (arith, nat_tests) in
+    subst (λ (x : Running). nat_lt most_kept total ≡ is_too_much x line) view
+    (over_by events read line standings slots bytes total fit is sum
+    ∙ ap (λ (b : Bool). b || nat_lt most_kept (read + length line + kept_in (rows_in standings slots))) (sym less))
+
+pub few_events : (r : Running) (line : List ℕ) → is_too_much r line ≡ false → r.events < most_events
+few_events r line h = let a : nat_le most_events r.events ≡ false = left_or (nat_le most_events r.events) _ h in grind (arith, nat_tests)
+
+-- an event was followed, or memory was wanting
+pub keeps_on : (standings standings' : List Standing) (slots slots' : List CodeSlot) (events read more : ℕ)
+    → KeepsAll standings slots events read → events < most_events
+    → more ≤ longest_line → length slots' ≡ length slots → AllFit (events + 1) standings' slots'
+    → KeepsAll standings' slots' (events + 1) (read + more)
+keeps_on standings standings' slots slots' events read more k few line same fit = record {
+  fit = fit;
+  some = omega (arith, k.some, same);
+  most = omega (arith, k.most, same);
+  few = omega (arith, few);
+  short = omega (arith, k.short, line);
+}
+
+pub stands_after : (standings standings' : List Standing) (slots slots' : List CodeSlot) (events read : ℕ) (line : List ℕ)
+    (event : SlotEvent)
+    → Follows events event standings standings' slots slots'
+    → stands (rows_in standings' slots') (events + 1) (read + length line)
+    ≡ after_line (stands (rows_in standings slots) events read) line event
+stands_after standings standings' slots slots' events read line event f =
+    ap (λ (rows : List Row). stands rows (events + 1) (read + length line)) f.rows
+
+-- the event of a line is in one of the slots
+same_number : (slots number found : ℕ) (past : Bool) → nat_le slots number ≡ past
+    → (let x : Option ℕ = if past then None else Some number in x ≡ Some found) → found < slots
+same_number slots number found true is h = cc
+same_number slots number found false is h = let same : number ≡ found = cc in grind (arith, nat_tests)
+
+index_inside : (slots : ℕ) (word : List ℕ) (found : ℕ) → index_at slots word ≡ Some found → found < slots
+unfolding index_at
+index_inside slots word found h = by_number (number_at word) h
+  where
+    by_number : (number : Option ℕ) → (number >>= λ n. if nat_le slots n then None else Some n) ≡ Some found → found < slots
+    by_number None g = cc
+    by_number (Some n) g = same_number slots n found (nat_le slots n) refl g
+
+same_event : (slots number : ℕ) (what : Option Action) (event : SlotEvent) → number < slots
+    → (what >>= λ w. Some (At number w)) ≡ Some event → IsInside slots event
+same_event slots number None event few h = cc
+same_event slots number (Some what) event few h =
+    let same : At number what ≡ event = cc in subst (λ (e : SlotEvent). IsInside slots e) same few
+
+at_inside : (slots : ℕ) (number : Option ℕ) (what : Option Action) (event : SlotEvent) → ((n : ℕ) → number ≡ Some n → n < slots)
+    → (number >>= λ n. what >>= λ w. Some (At n w)) ≡ Some event → IsInside slots event
+at_inside slots None what event few h = cc
+at_inside slots (Some n) what event few h = same_event slots n what event (few n refl) h
+
+word_inside : (slots : ℕ) (word : Option (List ℕ × List ℕ)) (event : SlotEvent)
+    → (word >>= λ w. index_at slots w.0 >>= λ n. action_at w.1 >>= λ what. Some (At n what)) ≡ Some event → IsInside slots event
+word_inside slots None event h = cc
+word_inside slots (Some w) event h = at_inside slots (index_at slots w.0) (action_at w.1) event (λ n is. index_inside slots w.0 n is) h
+
+power_inside : (slots : ℕ) (word : Option (List ℕ × List ℕ)) (event : SlotEvent) (power : Bool)
+    → (let x : Option SlotEvent = if power then Some Power
+    else (word >>= λ w. index_at slots w.0 >>= λ n. action_at w.1 >>= λ what. Some (At n what)) in x ≡ Some event)
+    → IsInside slots event
+power_inside slots word event true h = let same : Power ≡ event = cc in subst (λ (e : SlotEvent). IsInside slots e) same tt
+power_inside slots word event false h = word_inside slots word event h
+
+pub event_inside : (slots : ℕ) (line : List ℕ) (event : SlotEvent) → event_at slots line ≡ Some event → IsInside slots event
+unfolding event_at
+event_inside slots line event h = power_inside slots (word_at line) event (bytes_eq line (codes "power")) h

@@ -1,0 +1,6 @@
+use Rattle.std.proofs.Common.{take}
+use Rattle.mm_slots.specs.First.{AreFirst}
+use Rattle.mm_slots.proofs.first.first_slots.Given as goal
+
+abbrev pub invariant-loop-number : goal.invariant-loop-number
+invariant-loop-number l = AreFirst 0 (take l.number l.headers) l.first.cells.items l.first.slots.items

@@ -1,0 +1,5 @@
+use Rattle.mm_slots.proofs.Tellings.{tells_replies}
+use Rattle.mm_slots.proofs.laws.slots_tell_replies.Goals as goal
+
+pub returns : goal.returns
+returns c = tells_replies

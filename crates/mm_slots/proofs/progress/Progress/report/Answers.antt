@@ -1,0 +1,25 @@
+use Rattle.std.proofs.Common.{List, ap, arith}
+use Rattle.mm_base.specs.Limits.{most_events}
+use Rattle.mm_slots.specs.declared.slot.Slot.{Slot as CodeSlot}
+use Rattle.mm_slots.specs.Totals.{snapshots_in}
+use Rattle.mm_slots.proofs.Rowing.{all_more}
+use Rattle.mm_slots.proofs.Totalling.{reports_requests, reports_snapshots, snapshots_few}
+use Rattle.mm_slots.proofs.progress.Progress.report.Goals as goal
+
+pub overflow_cast-result : goal.overflow_cast-result
+overflow_cast-result c =
+    let p = c.self.inside in
+    let k = c.self.invariant in
+    let few = snapshots_few p.platform.slots p.slots.items (all_more p.events most_events p.platform.slots p.slots.items k.few k.fit) in
+    let all = ap (λ (x : List CodeSlot). snapshots_in x) c.as_slice-2.ensures.value in
+    omega (arith, c.snapshots_in.ensures, all, few, k.most)
+
+pub returns : goal.returns
+returns c =
+    let p = c.self.inside in
+    let k = c.self.invariant in (
+      reports_requests p.events p.read p.platform.slots p.slots.items c.args.self.now c.requests_in.result c.as_slice.result.now
+          c.self.view_is k c.as_slice.ensures.value c.requests_in.ensures,
+      reports_snapshots p.events p.read p.platform.slots p.slots.items c.args.self.now c.snapshots_in.result c.as_slice-2.result.now
+          c.self.view_is k c.as_slice-2.ensures.value c.snapshots_in.ensures,
+    )

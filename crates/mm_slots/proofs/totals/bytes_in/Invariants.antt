@@ -1,0 +1,7 @@
+use Rattle.std.proofs.Common.{◌≡◌, take}
+use Rattle.mm_slots.specs.Held.{within_64}
+use Rattle.mm_slots.specs.Totals.{bytes_in}
+use Rattle.mm_slots.proofs.totals.bytes_in.Given as goal
+
+abbrev pub invariant-loop-slot : goal.invariant-loop-slot
+invariant-loop-slot l = l.total ≡ within_64 (bytes_in (take l.slot-index l.slots))

@@ -1,0 +1,6 @@
+use Rattle.std.proofs.Common.{◌≡◌, ◌++◌, take}
+use Rattle.mm_slots.specs.Totals.{ends_from}
+use Rattle.mm_slots.proofs.totals.put_ends.Given as goal
+
+abbrev pub invariant-loop-number : goal.invariant-loop-number
+invariant-loop-number l = l.into ≡ l.fn.into ++ ends_from 0 (take l.number l.slots)

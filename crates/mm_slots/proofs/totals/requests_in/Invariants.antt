@@ -1,0 +1,7 @@
+use Rattle.std.proofs.Common.{◌≡◌, take}
+use Rattle.mm_slots.specs.Held.{within_64}
+use Rattle.mm_slots.specs.Totals.{requests_in}
+use Rattle.mm_slots.proofs.totals.requests_in.Given as goal
+
+abbrev pub invariant-loop-slot : goal.invariant-loop-slot
+invariant-loop-slot l = l.total ≡ within_64 (requests_in (take l.slot-index l.slots))
