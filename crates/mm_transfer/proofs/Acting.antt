@@ -1,0 +1,192 @@
+-- What happens on a side is what happens on both.
+use Rattle.std.proofs.Common.{◌≡◌, ◌∙◌, ◌^◌, ◌<◌, ℕ, List, length, Option, None, Some, Result, Ok, Err, refl, sym, ap, subst, arith}
+use Rattle.std.specs.Prelude.{MatchResult, IfOk, OnOk}
+use Rattle.std.specs.List.{sum_by}
+use Rattle.mm_base.specs.declared.fault.Memory.{Memory}
+use Rattle.mm_platform.specs.declared.fault.StepFault.{StepFault}
+use Rattle.mm_platform.specs.declared.plan.Meddle.{Meddle}
+use Rattle.mm_platform.specs.declared.plan.Stop.{Stop}
+use Rattle.mm_model.specs.Instance.{Instance}
+use Rattle.mm_model.specs.Moves.{Digests}
+use Rattle.mm_call.specs.Courses.{walk}
+use Rattle.mm_run.specs.Folds.{course_of}
+use Rattle.mm_schedule.specs.Events.{meddles_of}
+use Rattle.mm_schedule.specs.declared.event.Meddles.{Meddles}
+use Rattle.mm_schedule.specs.declared.header.Header.{Header}
+use Rattle.mm_sides.specs.Both.{Which, First, Second, Pair, instance_on, Side, Both, turned, digests_move}
+use Rattle.mm_sides.specs.Folds.{Act, Moves, BothEvent, affected_if, brought_to, effect_of, finding, move_ended, move_outcome, move_steps, moved_if}
+use Rattle.mm_sides.specs.Moves.{Command, Invite, Retire, Accept, FoundMove, MoveCause}
+use Rattle.mm_sides.specs.Roles.{Effect, Invites, Leaves, Enters}
+use Rattle.mm_transfer.specs.declared.between.Between.{Between}
+use Rattle.mm_transfer.specs.declared.event.Act.{Act as CodeAct}
+use Rattle.mm_transfer.specs.declared.event.Act.TheVariants as code
+use Rattle.mm_transfer.specs.declared.event.Command.{Command as CodeCommand}
+use Rattle.mm_transfer.specs.declared.event.SideEvent.{SideEvent}
+use Rattle.mm_transfer.specs.declared.event.Which.{Which as CodeWhich}
+use Rattle.mm_transfer.specs.declared.event.Which.TheVariants as which
+use Rattle.mm_transfer.specs.declared.reply.MoveReply.{MoveReply}
+use Rattle.mm_transfer.specs.declared.side.Side.{Side as CodeSide}
+use Rattle.mm_transfer.specs.declared.sides.Sides.TheInside.{Inside}
+use Rattle.mm_transfer.specs.Acting.{acted, AreWithin, ActDone, ActLacks, Acts}
+use Rattle.mm_transfer.specs.Between.{both_with, commanded, FitsBetween, CommandDone, CommandLacks, Commands}
+use Rattle.mm_transfer.specs.Events.{act_of, command_of, side_event_of, which_of}
+use Rattle.mm_transfer.specs.OneSide.{side_in, within_64}
+use Rattle.mm_transfer.specs.Pairs.{pair_of}
+use Rattle.mm_transfer.specs.Replies.{reply_said, IsSayable}
+use Rattle.mm_transfer.specs.Sides.{BothHeld, held_in, outcome_in}
+
+-- no move is answered as an event of a schedule is
+told_sayable : (pair : Pair) (i : Instance) (both : Both Digests ℕ) (stop : Stop) (found : FoundMove) (effect : Effect)
+    (had : Option Effect)
+    → IsSayable (reply_said (move_ended digests_move pair i both stop None (Ok (record found { effect = effect })) had).reply)
+told_sayable pair i both stop found (Invites nonce) had = tt
+told_sayable pair i both stop found (Leaves ticket) had = tt
+told_sayable pair i both stop found (Enters ticket) had = tt
+
+ended_sayable : (pair : Pair) (i : Instance) (both : Both Digests ℕ) (stop : Stop) (fault : Option StepFault)
+    (found : Result FoundMove MoveCause) (effect : Option Effect)
+    → IsSayable (reply_said (move_ended digests_move pair i both stop fault found effect).reply)
+ended_sayable pair i both stop (Some fault) found effect = tt
+ended_sayable pair i both stop None (Err cause) effect = tt
+ended_sayable pair i both stop None (Ok found) effect = told_sayable pair i both stop found found.effect effect
+
+found_sayable : (pair : Pair) (i : Instance) (both : Both Digests ℕ) (meddles : List Meddle) (stop : Stop) (command : Command)
+    (found : Option (Result FoundMove MoveCause))
+    → IsSayable (reply_said (moved_if digests_move pair i both meddles stop command found).reply)
+found_sayable pair i both meddles stop (Invite nonce) None = tt
+found_sayable pair i both meddles stop (Retire nonce offer) None = tt
+found_sayable pair i both meddles stop (Accept offer) None = tt
+found_sayable pair i both meddles stop command (Some found) =
+    let fates = (course_of stop meddles).fates in
+    let effect = effect_of fates found in
+    let here = record both { first = record both.first { at = brought_to digests_move i both.first.at meddles stop (move_steps found) } } in
+    ended_sayable pair i (affected_if digests_move here effect) stop (walk fates 1 (move_steps found)).broken found effect
+
+move_sayable : (pair : Pair) (i : Instance) (both : Both Digests ℕ) (meddles : List Meddle) (stop : Stop) (command : Command)
+    → IsSayable (reply_said (move_outcome digests_move pair i both meddles stop command).reply)
+move_sayable pair i both meddles stop command = found_sayable pair i both meddles stop command (finding digests_move pair i both command)
+
+done_acts : (pair : Pair) (which : Which) (meddles : List Meddle) (stop : Stop) (command : Command) (old new : CodeSide) (was now : Between)
+    (committed : ℕ) (said : MoveReply) → AreWithin old was committed
+    → CommandDone pair which old new was now (commanded pair which old was meddles stop command) said
+    → ActDone pair which old new was now committed committed (acted pair which old was committed (Moves meddles stop command)) said
+done_acts pair which meddles stop command old new was now committed said w d =
+    let counts = d.counts committed w.position w.away in
+    record {
+      fits = d.fits;
+      between = d.between;
+      within = record { position = counts.0; away = counts.1 };
+      both = λ other. d.both other committed;
+      says = λ other. d.says other committed;
+      sayable = subst IsSayable (sym (d.says (side_in old) committed))
+          (move_sayable pair (instance_on pair which) (both_with old was (side_in old) committed) meddles stop command);
+      rises = omega arith;
+      few = omega arith;
+      issued = d.issued;
+      tickets = d.tickets;
+    }
+
+lacks_acts : (pair : Pair) (which : Which) (old new : CodeSide) (was now : Between) (committed : ℕ)
+    → FitsBetween was → AreWithin old was committed → CommandLacks pair which old new was now
+    → ActLacks pair which old new was now committed committed
+lacks_acts pair which old new was now committed f w l =
+    let position : new.position ≡ old.position = ap (λ (s : Side Digests). s.at.count) l.side in
+    let away = l.away in
+    let less = w.position in
+    let less_away = w.away in
+    let kept = l.kept in
+    record {
+      fits = l.fits;
+      between = kept ∙ f ∙ ap (λ (x : List (List ℕ)). within_64 (sum_by length x)) (sym l.tickets);
+      within = record { position = omega (arith, position, less); away = omega (arith, away, less_away) };
+      side = l.side;
+      away = l.away;
+      tickets = l.tickets;
+      same = refl;
+    }
+
+command_acts : (pair : Pair) (which : Which) (meddles : List Meddle) (stop : Stop) (command : Command) (old new : CodeSide)
+    (was now : Between) (committed : ℕ) (result : Result MoveReply Memory)
+    → Commands pair which meddles stop command old new was now result
+    → Acts pair which (Moves meddles stop command) old new was now committed committed result
+command_acts pair which meddles stop command old new was now committed (Ok said) c =
+    λ f b w few. done_acts pair which meddles stop command old new was now committed said w (c f b)
+command_acts pair which meddles stop command old new was now committed (Err fault) c =
+    λ f b w few. lacks_acts pair which old new was now committed b w (c f b)
+
+pub moves_acts : (pair : Pair) (which : Which) (act : CodeAct) (meddles : Meddles) (listed : List Meddle) (stop : Stop)
+    (command : CodeCommand) (old new : CodeSide) (was now : Between) (committed : ℕ) (result : Result MoveReply Memory)
+    → act ≡ code.Moves meddles stop command
+    → listed ≡ meddles_of meddles → Commands pair which listed stop (command_of command) old new was now result
+    → Acts pair which (act_of act) old new was now committed committed result
+moves_acts pair which act meddles listed stop command old new was now committed result is lists c =
+    let done = command_acts pair which listed stop (command_of command) old new was now committed result c in
+    let listing = subst (λ (m : List Meddle).
+    Acts pair which (Moves m stop (command_of command)) old new was now committed committed result) lists done in
+    subst (λ (a : CodeAct). Acts pair which (act_of a) old new was now committed committed result) (sym is) listing
+
+-- An event has come to what it comes to on both sides, and was answered so.
+pub record Comes (held : BothHeld) (event : BothEvent) (new : Both Digests ℕ) (result : Result MoveReply Memory) : Type 0 where
+  pub reply : IfOk result (λ reply. reply ≡ reply_said (outcome_in held event).reply)
+  pub after : OnOk result (new ≡ (outcome_in held event).both)
+
+first_comes : (header : Header) (first first' second : CodeSide) (between between' : Between) (committed committed' : ℕ) (act : Act)
+    (result : Result MoveReply Memory) → MatchResult result
+    (ActDone (pair_of header) First first first' between between' committed committed'
+    (acted (pair_of header) First first between committed act))
+    (λ fault. ActLacks (pair_of header) First first first' between between' committed committed')
+    → Comes (held_in header first second between committed) (record { which = First; act = act })
+    (both_with first' between' (side_in second) committed') result
+first_comes header first first' second between between' committed committed' act (Ok said) d =
+    record { reply = d.says (side_in second); after = d.both (side_in second) }
+first_comes header first first' second between between' committed committed' act (Err fault) d = record { reply = tt; after = tt }
+
+second_comes : (header : Header) (first second second' : CodeSide) (between between' : Between) (committed committed' : ℕ) (act : Act)
+    (result : Result MoveReply Memory) → MatchResult result
+    (ActDone (pair_of header) Second second second' between between' committed committed'
+    (acted (pair_of header) Second second between committed act))
+    (λ fault. ActLacks (pair_of header) Second second second' between between' committed committed')
+    → Comes (held_in header first second between committed) (record { which = Second; act = act })
+    (both_with first between' (side_in second') committed') result
+second_comes header first second second' between between' committed committed' act (Ok said) d = record {
+  reply = d.says (side_in first);
+  after = ap (λ (both : Both Digests ℕ). turned both) (d.both (side_in first));
+}
+second_comes header first second second' between between' committed committed' act (Err fault) d = record { reply = tt; after = tt }
+
+-- an event on either side, as the code has followed it
+pub event_first : (old : Inside) (held : BothHeld) (event : SideEvent) (new : Both Digests ℕ) (here : CodeSide)
+    (between : Between) (committed : ℕ) (result came : Result MoveReply Memory)
+    → held_in old.header old.first old.second old.between old.committed ≡ held → held.both.committed < 2 ^ 63
+    → event.which ≡ which.First → result ≡ came → new ≡ both_with here between (side_in old.second) committed
+    → Acts (pair_of old.header) First (act_of event.act) old.first here old.between between old.committed committed came
+    → Comes held (side_event_of event) new result
+event_first old held event new here between committed result came view few is came_is now acts =
+    let act = act_of event.act in
+    let within : AreWithin old.first old.between old.committed = record { position = old.first_within; away = old.away_within } in
+    let room = subst (λ (h : BothHeld). h.both.committed < 2 ^ 63) (sym view) few in
+    let comes = first_comes old.header old.first here old.second old.between between old.committed committed act came
+    (acts old.first_fits old.between_fits within room) in
+    let event : BothEvent = record { which = First; act = act } in
+    let held_comes = subst (λ (h : BothHeld). Comes h event (both_with here between (side_in old.second) committed) came) view comes in
+    let new_comes = subst (λ (both : Both Digests ℕ). Comes held event both came) (sym now) held_comes in
+    let result_comes = subst (λ (r : Result MoveReply Memory). Comes held event new r) (sym came_is) new_comes in
+    subst (λ (w : CodeWhich). Comes held (record { which = which_of w; act = act }) new result) (sym is) result_comes
+
+pub event_second : (old : Inside) (held : BothHeld) (event : SideEvent) (new : Both Digests ℕ) (here : CodeSide)
+    (between : Between) (committed : ℕ) (result came : Result MoveReply Memory)
+    → held_in old.header old.first old.second old.between old.committed ≡ held → held.both.committed < 2 ^ 63
+    → event.which ≡ which.Second → result ≡ came → new ≡ both_with old.first between (side_in here) committed
+    → Acts (pair_of old.header) Second (act_of event.act) old.second here old.between between old.committed committed came
+    → Comes held (side_event_of event) new result
+event_second old held event new here between committed result came view few is came_is now acts =
+    let act = act_of event.act in
+    let within : AreWithin old.second old.between old.committed = record { position = old.second_within; away = old.away_within } in
+    let room = subst (λ (h : BothHeld). h.both.committed < 2 ^ 63) (sym view) few in
+    let comes = second_comes old.header old.first old.second here old.between between old.committed committed act came
+    (acts old.second_fits old.between_fits within room) in
+    let event : BothEvent = record { which = Second; act = act } in
+    let held_comes = subst (λ (h : BothHeld). Comes h event (both_with old.first between (side_in here) committed) came) view comes in
+    let new_comes = subst (λ (both : Both Digests ℕ). Comes held event both came) (sym now) held_comes in
+    let result_comes = subst (λ (r : Result MoveReply Memory). Comes held event new r) (sym came_is) new_comes in
+    subst (λ (w : CodeWhich). Comes held (record { which = which_of w; act = act }) new result) (sym is) result_comes

@@ -1,0 +1,16 @@
+pub mod VainEvents
+pub mod SideStands
+pub mod SideEvents
+pub mod Answering
+pub mod Telling
+pub mod Playing
+pub mod Matching
+pub mod Planning
+pub mod Commanding
+pub mod Acting
+pub mod Plainly
+pub mod Sidewise
+pub mod Commanded
+pub mod Formed
+pub mod Retiring
+pub mod Accepting

@@ -1,0 +1,408 @@
+-- What a move finds in a side's cell is what it finds by the side's role.
+use Rattle.std.proofs.Common.{◌≡◌, ℕ, Bool, true, false, List, [], ◌∷◌, length, Option, None, Result, Ok, Err, refl, sym, ap, ◌∙◌, subst}
+use Rattle.std.specs.Prelude.{◌==◌, ◌&&◌, ◌||◌, not, if◌then◌else◌}
+use Rattle.std.specs.List.{list_any}
+use Rattle.std.specs.Str.{bytes_eq}
+use Rattle.mm_digest.specs.declared.digest.Digest.{Digest}
+use Rattle.mm_digest.specs.declared.variant.Variant.{Variant}
+use Rattle.mm_digest.specs.declared.variant.Variant.TheVariants as variants
+use Rattle.mm_digest.specs.Messages.{zero_bytes, anchored_of}
+use Rattle.mm_module.specs.Batch.{Batch, One}
+use Rattle.mm_module.specs.Meaning.{Meaning}
+use Rattle.mm_seal.specs.declared.cell.CellFault.{CellFault}
+use Rattle.mm_seal.specs.declared.cell.CellFault.TheVariants as fault
+use Rattle.mm_seal.specs.declared.snapshot.PartsFault.{PartsFault}
+use Rattle.mm_seal.specs.declared.snapshot.PartsFault.TheVariants.{Form, Kind}
+use Rattle.mm_seal.specs.declared.snapshot.Place.{Place}
+use Rattle.mm_seal.specs.declared.snapshot.Place.TheVariants.{Basic as InBasic, Opt as InOpt}
+use Rattle.mm_seal.specs.Cell.{FitsVariant, blank_cell}
+use Rattle.mm_seal.specs.Parts.{parts_of, same_variant}
+use Rattle.mm_seal.specs.Snapshot.{Content, Snapshot, tag_of, variant_of}
+use Rattle.mm_seal.proofs.Reading.{spells_read}
+use Rattle.mm_model.specs.Instance.{Instance}
+use Rattle.mm_model.specs.Judge.{verdict_by, verdict_by_digests, fits_fresh}
+use Rattle.mm_model.specs.Moves.{Digests}
+use Rattle.mm_model.specs.Places.{digest_of}
+use Rattle.mm_model.specs.StandingHere.{is_new}
+use Rattle.mm_model.specs.declared.refusal.Refusal.{Refusal}
+use Rattle.mm_model.specs.declared.refusal.Refusal.TheVariants as core
+use Rattle.mm_call.specs.Levels.{by_digests}
+use Rattle.mm_call.specs.Order.{weighed}
+use Rattle.mm_call.specs.Standing.{cell_at}
+use Rattle.mm_move.specs.declared.cell.MovedCell.{MovedCell}
+use Rattle.mm_move.specs.declared.cell.MovedCell.TheVariants as moved
+use Rattle.mm_move.specs.declared.link.Link.{Link}
+use Rattle.mm_move.specs.declared.ready.Ready.{Ready}
+use Rattle.mm_move.specs.declared.refusal.MoveRefusal.{MoveRefusal}
+use Rattle.mm_move.specs.declared.refusal.MoveRefusal.TheVariants as refusal
+use Rattle.mm_move.specs.Cells.{IsWaiting, moved_of, waiting_spelling, retired_spelling}
+use Rattle.mm_move.specs.Orders.{barrier_of, is_barred, is_other, waiting_for, same_waiting, invites_in, stands_at, ticket_for, accepted_as, offer_by, right_offer, leaves_by, retires_in, right_ticket, arrives_by, has_arrived_by, accepts_in}
+use Rattle.mm_move.specs.Orders as orders
+use Rattle.mm_move.specs.Refusals.{refuse_if}
+use Rattle.mm_move.specs.Tickets.{TicketContent, TaggedTicket, IsTicket, SpellsTicket, summary_in, place_at, sealed_ticket, ticket_of}
+use Rattle.mm_move.proofs.Parts.{bytes_are, bytes_tell, eq_is}
+use Rattle.mm_move.proofs.CellLaws.{moved_back, blank_read}
+use Rattle.mm_move.proofs.TicketLaws.{tickets_are_read}
+use Rattle.mm_sides.specs.Roles.{Role, Blank, Live, Waiting as Waits, Retired as Left, Enters}
+use Rattle.mm_sides.specs.Both.{digests_move}
+use Rattle.mm_sides.specs.Moves.{MoveCause, Refused, Open, Gone, FoundMove, stands_here, verdict_here, invited_on, left_by, offered_to, retired_on, ticket_by, entered_as, entered_again, accepted_on}
+use Rattle.mm_transfer.specs.RoleCells.{waiting_at, retired_at, cell_of_role, refusal_of, next_if, GivesInvited, GivesTicket, GivesEntry, Matches, FitsCell}
+
+-- what a side's cell reads as
+abbrev pub read_as : Instance → Role → Digests → Result MovedCell CellFault
+read_as i Blank d = Err fault.Blank
+read_as i Live d = Ok (moved.Live (cell_at i d))
+read_as i (Waits nonce) d = Ok (moved.Waiting (waiting_at i nonce))
+read_as i (Left nonce) d = Ok (moved.Retired (retired_at i d nonce))
+
+pub fits_linked : (v : Variant) (barrier : List ℕ) (link : Link) → barrier_of v link ≡ barrier → FitsVariant v false barrier
+fits_linked variants.Basic barrier link e = (refl, sym e)
+fits_linked variants.Opt barrier link e = tt
+
+pub is_waiting : (i : Instance) (link : Link) (nonce : List ℕ) → length i.key ≡ 32 → length i.barrier ≡ 32 → barrier_of i.variant link ≡ i.barrier
+    → length nonce ≡ 32 → IsWaiting (waiting_at i nonce)
+is_waiting i link nonce key barrier linked size =
+    record { nonce = size; key = key; barrier = barrier; variant = fits_linked i.variant i.barrier link linked }
+
+pub role_read : (i : Instance) (link : Link) (role : Role) (d : Digests) → FitsCell i link role d → moved_of (cell_of_role i role d) ≡ read_as i role d
+role_read i link Blank d fit = sym (blank_read blank_cell (bytes_are blank_cell blank_cell refl))
+role_read i link Live d fit =
+    moved_back (moved.Live (cell_at i d)) (record { summary = fit.fits.1; key = fit.key; barrier = fit.barrier; variant = fit.fits.0 })
+role_read i link (Waits nonce) d fit = moved_back (moved.Waiting (waiting_at i nonce)) (is_waiting i link nonce fit.key fit.barrier fit.linked fit.fits.1)
+role_read i link (Left nonce) d fit =
+    moved_back (moved.Retired (retired_at i d nonce)) (record { summary = fit.fits.2; key = fit.key; nonce = fit.fits.1 })
+
+-- tests that come out one way, and two choices by one test
+
+pub same_is : (v : Variant) → same_variant v v ≡ true
+same_is variants.Basic = refl
+same_is variants.Opt = refl
+
+pub no_other : (v : Variant) (id : ℕ) → is_other v id v id ≡ false
+no_other v id = ap (λ (x : Bool). not (x && (id == id))) (same_is v) ∙ ap not (eq_is id id refl)
+
+pub not_barred : (v : Variant) (barrier : List ℕ) (link : Link) → barrier_of v link ≡ barrier → is_barred v barrier link ≡ false
+not_barred variants.Basic barrier link e = refl
+not_barred variants.Opt barrier link e = ap not (bytes_are barrier link.barrier (sym e))
+
+same_tests : (a b : Bool) → (a ≡ true → b ≡ true) → (b ≡ true → a ≡ true) → a ≡ b
+same_tests true true p q = refl
+same_tests true false p q = sym (p refl)
+same_tests false true p q = q refl
+same_tests false false p q = refl
+
+pub eq_turned : (xs ys : List ℕ) → bytes_eq xs ys ≡ bytes_eq ys xs
+eq_turned xs ys =
+    same_tests (bytes_eq xs ys) (bytes_eq ys xs) (λ e. bytes_are ys xs (sym (bytes_tell xs ys e))) (λ e. bytes_are xs ys (sym (bytes_tell ys xs e)))
+
+module _ {A : Type 0} (gives : FoundMove → A → Type 0) (i : Instance) (d : Digests) where
+  -- one is refused where the other goes on
+  by_not : (one other : Bool) (why : MoveRefusal) (rest : Result (Ready A) MoveRefusal) (found : Result FoundMove MoveCause) (cause : MoveCause)
+      → one ≡ other → Matches gives i d rest found → why ≡ refusal_of cause
+      → Matches gives i d (refuse_if (not one) why rest) (if other then found else Err cause)
+  by_not true true why rest found cause e m r = m
+  by_not true false why rest found cause e m r = cc
+  by_not false true why rest found cause e m r = cc
+  by_not false false why rest found cause e m r = r
+
+  by_both : (one : Bool) (why : MoveRefusal) (rest : Result (Ready A) MoveRefusal) (found : Result FoundMove MoveCause) (cause : MoveCause)
+      → why ≡ refusal_of cause → (one ≡ false → Matches gives i d rest found)
+      → Matches gives i d (refuse_if one why rest) (if one then Err cause else found)
+  by_both true why rest found cause r m = r
+  by_both false why rest found cause r m = m refl
+
+  -- no other module's cell, and no other barrier
+  pub past : (one : Bool) (why : MoveRefusal) (rest : Result (Ready A) MoveRefusal) (found : Result FoundMove MoveCause) → one ≡ false
+      → Matches gives i d rest found → Matches gives i d (refuse_if one why rest) found
+  past true why rest found e m = cc
+  past false why rest found e m = m
+
+  pub is_refused : (one : Bool) (why : MoveRefusal) (rest : Result (Ready A) MoveRefusal) (cause : MoveCause) → one ≡ false
+      → why ≡ refusal_of cause → Matches gives i d (refuse_if (not one) why rest) (Err cause)
+  is_refused true why rest cause e r = cc
+  is_refused false why rest cause e r = r
+
+-- invitations
+
+abbrev waits_nonce : List ℕ → Result MovedCell CellFault → List ℕ
+waits_nonce other (Ok (moved.Waiting cell)) = cell.nonce
+waits_nonce other (Ok (moved.Live cell)) = other
+waits_nonce other (Ok (moved.Retired cell)) = other
+waits_nonce other (Err why) = other
+
+same_nonces : (i : Instance) (one other : List ℕ) → IsWaiting (waiting_at i one) → IsWaiting (waiting_at i other)
+    → same_waiting (waiting_at i one) (waiting_at i other) ≡ bytes_eq one other
+same_nonces i one other p q =
+    same_tests (same_waiting (waiting_at i one) (waiting_at i other)) (bytes_eq one other)
+    (λ e.
+    let read : Ok (moved.Waiting (waiting_at i one)) ≡ Ok (moved.Waiting (waiting_at i other)) =
+    sym (moved_back (moved.Waiting (waiting_at i one)) p)
+    ∙ ap moved_of (bytes_tell (waiting_spelling (waiting_at i one)) (waiting_spelling (waiting_at i other)) e)
+    ∙ moved_back (moved.Waiting (waiting_at i other)) q
+    in bytes_are one other (ap (waits_nonce []) read))
+    (λ e.
+    bytes_are (waiting_spelling (waiting_at i one)) (waiting_spelling (waiting_at i other))
+    (ap (λ n. waiting_spelling (waiting_at i n)) (bytes_tell one other e)))
+
+next_waiting : (i : Instance) (link : Link) (nonce : List ℕ) → barrier_of i.variant link ≡ i.barrier
+    → waiting_for link i.variant i.meaning.id nonce i.key ≡ waiting_at i nonce
+next_waiting i link nonce e = λ j. record {
+  variant = i.variant;
+  «module» = i.meaning.id;
+  nonce = nonce;
+  key = i.key;
+  barrier = e j;
+}
+
+invites : (i : Instance) (link : Link) (role : Role) (d : Digests) (nonce : List ℕ) → FitsCell i link role d → length nonce ≡ 32
+    → Matches GivesInvited i d (invites_in (waiting_at i nonce) (read_as i role d)) (invited_on role nonce)
+invites i link Blank d nonce fit size = record { next = refl; answer = (nonce, refl) }
+invites i link Live d nonce fit size = refl
+invites i link (Left left) d nonce fit size = record { next = refl; answer = (nonce, refl) }
+invites i link (Waits awaited) d nonce fit size =
+    by_not GivesInvited i d (same_waiting (waiting_at i awaited) (waiting_at i nonce)) (bytes_eq awaited nonce) _ _ _ _
+    (same_nonces i awaited nonce (is_waiting i link awaited fit.key fit.barrier fit.linked fit.fits.1)
+    (is_waiting i link nonce fit.key fit.barrier fit.linked size))
+    (record { next = refl; answer = (nonce, refl) }) refl
+
+pub invites_match : (i : Instance) (link : Link) (role : Role) (d : Digests) (nonce : List ℕ) → FitsCell i link role d → length nonce ≡ 32
+    → Matches GivesInvited i d (invites_in (waiting_for link i.variant i.meaning.id nonce i.key) (moved_of (cell_of_role i role d)))
+    (invited_on role nonce)
+invites_match i link role d nonce fit size =
+    subst (λ c. Matches GivesInvited i d (invites_in c (moved_of (cell_of_role i role d))) (invited_on role nonce))
+    (sym (next_waiting i link nonce fit.linked))
+    (subst (λ r. Matches GivesInvited i d (invites_in (waiting_at i nonce) r) (invited_on role nonce)) (sym (role_read i link role d fit))
+    (invites i link role d nonce fit size))
+
+-- where an offer stands, by the verdict under a clear flag
+
+new_by : (fresh again : Bool) → is_new (verdict_by false fresh again) ≡ fresh
+new_by true again = refl
+new_by false true = refl
+new_by false false = refl
+
+new_at : (barrier digest register : List ℕ) (place : Place) (b : Batch)
+    → is_new (verdict_by_digests barrier false digest register place b) ≡ stands_at (digest_of digest) place
+new_at barrier digest register (InBasic s) b = new_by _ _
+new_at barrier digest register (InOpt a e) b = new_by _ _
+
+pub stands_alike : (i : Instance) (d : Digests) (content : Content) → d.flag ≡ false
+    → stands_here (by_digests i) d content ≡ stands_at (digest_of d.digest) content.place
+stands_alike i d content e =
+    ap (λ f. is_new (verdict_by_digests i.barrier f d.digest d.register content.place (One []))) e
+    ∙ new_at i.barrier d.digest d.register content.place (One [])
+
+-- retirements
+
+-- what a side says of an offer is the ticket's content
+left_content : (i : Instance) (d : Digests) (nonce : List ℕ) (content : Content) → content.id ≡ i.meaning.id
+    → ticket_for i.variant nonce (digest_of d.digest) content ≡ record { nonce = nonce; content = digests_move.says i d content }
+left_content i d nonce content e = λ j. record {
+  nonce = nonce;
+  content = record {
+    id = e j;
+    place = place_at i.variant (digest_of d.digest);
+    position = content.position;
+    state = content.state;
+  };
+}
+
+module _ (i : Instance) (link : Link) (d : Digests) (again : Bool) (next : Option (List ℕ)) (nonce : List ℕ) where
+  left_match : (content : Content) (spelled tagged fresh : Bool) → next ≡ next_if again (retired_spelling (retired_at i d nonce))
+      → content.id ≡ i.meaning.id → fresh ≡ stands_at (digest_of d.digest) content.place
+      → Matches (GivesTicket link.key) i d
+      (leaves_by i.variant link nonce (digest_of d.digest) next
+      (refuse_if (not spelled) (refusal.Core core.State) (refuse_if (not tagged) (refusal.Core core.Tag) (Ok content))))
+      (left_by digests_move i d again nonce content (weighed spelled tagged (verdict_here fresh) true))
+  left_match content false tagged fresh n e s = refl
+  left_match content true false fresh n e s = refl
+  left_match content true true true n e s =
+      past (GivesTicket link.key) i d (not (stands_at (digest_of d.digest) content.place)) _ _ _ (ap not (sym s))
+      (record { next = n; answer = ap (sealed_ticket link.key) (left_content i d nonce content e) })
+  left_match content true true false n e s =
+      is_refused (GivesTicket link.key) i d (stands_at (digest_of d.digest) content.place) (refusal.Core core.Stale)
+      (Ok (record { next = next; answer = sealed_ticket link.key (ticket_for i.variant nonce (digest_of d.digest) content) }))
+      (Refused core.Stale) (sym s) refl
+
+  offer_match : (parts : Result Snapshot PartsFault) → ((snapshot : Snapshot) → parts ≡ Ok snapshot → snapshot.content.id ≡ i.meaning.id)
+      → next ≡ next_if again (retired_spelling (retired_at i d nonce)) → d.flag ≡ false
+      → Matches (GivesTicket link.key) i d (leaves_by i.variant link nonce (digest_of d.digest) next (offer_by i.meaning i.key parts))
+      (offered_to digests_move i d again nonce parts)
+  offer_match (Err Form) id n clear = refl
+  offer_match (Err Kind) id n clear = refl
+  offer_match (Ok snapshot) id n clear =
+      left_match snapshot.content (i.meaning.is_spelled snapshot.content.state) (bytes_eq snapshot.tag (tag_of i.key snapshot.content))
+      (stands_here (by_digests i) d snapshot.content) n (id snapshot refl) (stands_alike i d snapshot.content clear)
+
+retires : (i : Instance) (link : Link) (role : Role) (d : Digests) (nonce bytes : List ℕ) → FitsCell i link role d
+    → Matches (GivesTicket link.key) i d (retires_in i.meaning i.variant link nonce bytes (read_as i role d))
+    (retired_on digests_move i role d nonce bytes)
+retires i link Blank d nonce bytes fit = refl
+retires i link (Waits awaited) d nonce bytes fit = refl
+retires i link Live d nonce bytes fit =
+    let gives = GivesTicket link.key in
+    past gives i d (is_other i.variant i.meaning.id i.variant i.meaning.id) _ _ _ (no_other i.variant i.meaning.id)
+    (past gives i d (is_barred i.variant i.barrier link) _ _ _ (not_barred i.variant i.barrier link fit.linked)
+    (by_both gives i d d.flag _ _ _ Open refl (λ clear.
+    offer_match i link d false _ nonce (parts_of i.variant i.meaning.id bytes)
+    (λ snapshot e. (spells_read i.variant i.meaning.id bytes snapshot e).1.1) refl clear)))
+retires i link (Left left) d nonce bytes fit =
+    let gives = GivesTicket link.key in
+    past gives i d (is_other i.variant i.meaning.id i.variant i.meaning.id) _ _ _ (no_other i.variant i.meaning.id)
+    (by_not gives i d (bytes_eq left nonce) (bytes_eq left nonce) _ _ _ Gone refl
+    (offer_match i link d true _ nonce (parts_of i.variant i.meaning.id bytes)
+    (λ snapshot e. (spells_read i.variant i.meaning.id bytes snapshot e).1.1) refl fit.fits.0) refl)
+
+pub retires_match : (i : Instance) (link : Link) (role : Role) (d : Digests) (nonce bytes : List ℕ) → FitsCell i link role d
+    → Matches (GivesTicket link.key) i d (retires_in i.meaning i.variant link nonce bytes (moved_of (cell_of_role i role d)))
+    (retired_on digests_move i role d nonce bytes)
+retires_match i link role d nonce bytes fit =
+    subst (λ r. Matches (GivesTicket link.key) i d (retires_in i.meaning i.variant link nonce bytes r) (retired_on digests_move i role d nonce bytes))
+    (sym (role_read i link role d fit)) (retires i link role d nonce bytes fit)
+
+-- acceptances
+
+abbrev refused_core : Result TicketContent Refusal → Result TicketContent MoveRefusal
+refused_core (Ok ticket) = Ok ticket
+refused_core (Err why) = Err (refusal.Core why)
+
+by_tests : (spelled tagged : Bool) (ticket : TicketContent)
+    → refuse_if (not spelled) (refusal.Core core.State) (refuse_if (not tagged) (refusal.Core core.Tag) (Ok ticket))
+    ≡ refused_core (if spelled then (if tagged then Ok ticket else Err core.Tag) else Err core.State)
+by_tests true true ticket = refl
+by_tests true false ticket = refl
+by_tests false tagged ticket = refl
+
+same_ticket : (meaning : Meaning) (key : List ℕ) (read : Result TaggedTicket PartsFault)
+    → orders.ticket_by meaning key read ≡ refused_core (ticket_by meaning key read)
+same_ticket meaning key (Err Form) = refl
+same_ticket meaning key (Err Kind) = refl
+same_ticket meaning key (Ok tagged) = by_tests _ _ tagged.ticket
+
+-- what is known of a ticket that reads as right: it is for this variant and module, and at an anchor
+pub record IsFor (i : Instance) (ticket : TicketContent) : Type 0 where
+  pub is : IsTicket ticket
+  pub variant_is : variant_of ticket.content.place ≡ i.variant
+  pub id_is : ticket.content.id ≡ i.meaning.id
+
+abbrev pub AreFor : Instance → Result TicketContent Refusal → Type 0
+AreFor i (Ok ticket) = IsFor i ticket
+AreFor i (Err why) = Unit {0}
+
+for_by : (i : Instance) (tagged : TaggedTicket) (spelled right : Bool) → IsFor i tagged.ticket
+    → AreFor i (if spelled then (if right then Ok tagged.ticket else Err core.Tag) else Err core.State)
+for_by i tagged true true h = h
+for_by i tagged true false h = tt
+for_by i tagged false right h = tt
+
+for_read : (i : Instance) (link bytes : List ℕ) (read : Result TaggedTicket PartsFault) → ticket_of i.variant i.meaning.id bytes ≡ read
+    → AreFor i (ticket_by i.meaning link read)
+for_read i link bytes (Err Form) e = tt
+for_read i link bytes (Err Kind) e = tt
+for_read i link bytes (Ok tagged) e =
+    let s : SpellsTicket i.variant i.meaning.id bytes tagged = (tickets_are_read i.variant i.meaning.id bytes tagged).0 e in
+    for_by i tagged _ _ (record { is = s.is.ticket; variant_is = s.variant_is; id_is = s.id_is })
+
+pub ticket_for_side : (i : Instance) (link bytes : List ℕ) → AreFor i (ticket_by i.meaning link (ticket_of i.variant i.meaning.id bytes))
+ticket_for_side i link bytes = for_read i link bytes (ticket_of i.variant i.meaning.id bytes) refl
+
+-- what a side says of a ticket at whose summary it stands is the ticket's content
+said_content : (i : Instance) (digest : List ℕ) (ticket : TicketContent) → IsFor i ticket → (summary_in ticket.content.place).bytes ≡ digest
+    → ticket.content ≡ record {
+      id = i.meaning.id;
+      place = place_at i.variant (digest_of digest);
+      position = ticket.content.position;
+      state = ticket.content.state;
+    }
+said_content i digest ticket is stands =
+    let place : ticket.content.place ≡ place_at i.variant (digest_of digest) =
+    is.is.place ∙ ap (λ v. place_at v (summary_in ticket.content.place)) is.variant_is ∙ ap (λ s. place_at i.variant (digest_of s)) stands in
+    λ j. record {
+      id = is.id_is j;
+      place = place j;
+      position = ticket.content.position;
+      state = ticket.content.state;
+    }
+
+entered_match : (i : Instance) (d : Digests) (awaited : List ℕ) (read : Result TicketContent Refusal) → AreFor i read
+    → Matches (GivesEntry i d) i d (arrives_by (waiting_at i awaited) (refused_core read)) (entered_as awaited read)
+entered_match i d awaited (Err why) is = refl
+entered_match i d awaited (Ok ticket) is =
+    by_not (GivesEntry i d) i d (bytes_eq ticket.nonce awaited) (bytes_eq awaited ticket.nonce) _ _ _ _ (eq_turned ticket.nonce awaited)
+    (record { next = refl; answer = ap (accepted_as i.key) (said_content i (summary_in ticket.content.place).bytes ticket is refl) }) refl
+
+-- where a place at an anchor stands
+
+and_or : (x : Bool) → ((x && true) || false) ≡ x
+and_or true = refl
+and_or false = refl
+
+one_form : (anchor extension digest : List ℕ) (closed : Bool) → closed ≡ true → bytes_eq extension zero_bytes ≡ true
+    → list_any (fits_fresh false digest zero_bytes)
+    (record { anchor = anchor; extension = extension } ∷ (if closed then [] else record { anchor = anchored_of anchor extension; extension = zero_bytes } ∷ []))
+    ≡ bytes_eq anchor digest
+one_form anchor extension digest false e z = cc
+one_form anchor extension digest true e z =
+    ap (λ x. (bytes_eq anchor digest && x) || false) z ∙ and_or (bytes_eq anchor digest)
+
+anchor_stands : (variant : Variant) (summary : Digest) (digest : List ℕ)
+    → stands_at (digest_of digest) (place_at variant summary) ≡ bytes_eq summary.bytes digest
+anchor_stands variants.Basic summary digest = refl
+anchor_stands variants.Opt summary digest =
+    one_form summary.bytes zero_bytes digest (bytes_eq zero_bytes zero_bytes) (bytes_are zero_bytes zero_bytes refl) (bytes_are zero_bytes zero_bytes refl)
+
+ticket_stands : (i : Instance) (d : Digests) (ticket : TicketContent) → IsFor i ticket → d.flag ≡ false
+    → bytes_eq (summary_in ticket.content.place).bytes d.digest ≡ stands_here (by_digests i) d ticket.content
+ticket_stands i d ticket is clear =
+    sym (stands_alike i d ticket.content clear ∙ ap (stands_at (digest_of d.digest)) is.is.place
+    ∙ anchor_stands (variant_of ticket.content.place) (summary_in ticket.content.place) d.digest)
+
+again_by : (i : Instance) (d : Digests) (ticket : TicketContent) → IsFor i ticket → (flag here stands : Bool) → d.flag ≡ flag
+    → bytes_eq (summary_in ticket.content.place).bytes d.digest ≡ here → (flag ≡ false → here ≡ stands)
+    → Matches (GivesEntry i d) i d
+    (refuse_if (flag || not here) (refusal.Core core.Stale) (Ok (record { next = None; answer = accepted_as i.key ticket.content })))
+    (if flag then Err (Refused core.Stale)
+    else (if stands then Ok (record { again = true; effect = Enters ticket }) else Err (Refused core.Stale)))
+again_by i d ticket is true here stands f h s = refl
+again_by i d ticket is false true true f h s =
+    record { next = refl; answer = ap (accepted_as i.key) (said_content i d.digest ticket is (bytes_tell (summary_in ticket.content.place).bytes d.digest h)) }
+again_by i d ticket is false false false f h s = refl
+again_by i d ticket is false true false f h s = let e = s refl in cc
+again_by i d ticket is false false true f h s = let e = s refl in cc
+
+again_match : (i : Instance) (d : Digests) (read : Result TicketContent Refusal) → AreFor i read
+    → Matches (GivesEntry i d) i d (has_arrived_by (cell_at i d) (refused_core read)) (entered_again (by_digests i) d read)
+again_match i d (Err why) is = refl
+again_match i d (Ok ticket) is =
+    again_by i d ticket is d.flag (bytes_eq (summary_in ticket.content.place).bytes d.digest) (stands_here (by_digests i) d ticket.content) refl refl
+    (ticket_stands i d ticket is)
+
+accepts : (i : Instance) (link : Link) (role : Role) (d : Digests) (bytes : List ℕ) → FitsCell i link role d
+    → Matches (GivesEntry i d) i d (accepts_in i.meaning i.variant link bytes (read_as i role d))
+    (accepted_on (by_digests i) role d (ticket_by i.meaning link.key (ticket_of i.variant i.meaning.id bytes)))
+accepts i link Blank d bytes fit = refl
+accepts i link (Left left) d bytes fit = refl
+accepts i link (Waits awaited) d bytes fit =
+    let gives = GivesEntry i d in
+    let read = ticket_by i.meaning link.key (ticket_of i.variant i.meaning.id bytes) in
+    past gives i d (is_other i.variant i.meaning.id i.variant i.meaning.id) _ _ _ (no_other i.variant i.meaning.id)
+    (past gives i d (is_barred i.variant i.barrier link) _ _ _ (not_barred i.variant i.barrier link fit.linked)
+    (subst (λ r. Matches gives i d (arrives_by (waiting_at i awaited) r) (entered_as awaited read))
+    (sym (same_ticket i.meaning link.key (ticket_of i.variant i.meaning.id bytes)))
+    (entered_match i d awaited read (ticket_for_side i link.key bytes))))
+accepts i link Live d bytes fit =
+    let gives = GivesEntry i d in
+    let read = ticket_by i.meaning link.key (ticket_of i.variant i.meaning.id bytes) in
+    past gives i d (is_other i.variant i.meaning.id i.variant i.meaning.id) _ _ _ (no_other i.variant i.meaning.id)
+    (past gives i d (is_barred i.variant i.barrier link) _ _ _ (not_barred i.variant i.barrier link fit.linked)
+    (subst (λ r. Matches gives i d (has_arrived_by (cell_at i d) r) (entered_again (by_digests i) d read))
+    (sym (same_ticket i.meaning link.key (ticket_of i.variant i.meaning.id bytes)))
+    (again_match i d read (ticket_for_side i link.key bytes))))
+
+pub accepts_match : (i : Instance) (link : Link) (role : Role) (d : Digests) (bytes : List ℕ) → FitsCell i link role d
+    → Matches (GivesEntry i d) i d (accepts_in i.meaning i.variant link bytes (moved_of (cell_of_role i role d)))
+    (accepted_on (by_digests i) role d (ticket_by i.meaning link.key (ticket_of i.variant i.meaning.id bytes)))
+accepts_match i link role d bytes fit =
+    subst (λ r. Matches (GivesEntry i d) i d (accepts_in i.meaning i.variant link bytes r)
+    (accepted_on (by_digests i) role d (ticket_by i.meaning link.key (ticket_of i.variant i.meaning.id bytes))))
+    (sym (role_read i link role d fit)) (accepts i link role d bytes fit)

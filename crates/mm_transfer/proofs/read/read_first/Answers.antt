@@ -1,0 +1,15 @@
+use Rattle.std.proofs.Common.{◌≡◌, ◌∙◌, ap, Option, Some, List, ℕ}
+use Rattle.std.specs.Prelude.{codes}
+use Rattle.mm_schedule.specs.declared.header.Header.{Header}
+use Rattle.mm_schedule.specs.Headers.{head_at}
+use Rattle.mm_schedule.specs.Words.{◌>>=◌, after_prefix}
+use Rattle.mm_transfer.specs.Grammar.{first_at}
+use Rattle.mm_transfer.proofs.read.read_first.Goals as goal
+
+reads : (line words : List ℕ) (found : Option Header) → Some words ≡ after_prefix (codes "memoir transfer 1 ") line → found ≡ head_at words
+    → found ≡ first_at line
+unfolding first_at
+reads line words found behind is = is ∙ ap (λ (rest : Option (List ℕ)). rest >>= head_at) behind
+
+pub returns : goal.returns
+returns c = reads c.args.line.now c.in_ok-words.words.now c.head_in.result c.in_ok-words.ensures c.head_in.ensures

@@ -1,0 +1,31 @@
+use Rattle.std.proofs.Common.{ℕ, ap}
+use Rattle.mm_model.specs.Moves.{Digests}
+use Rattle.mm_sides.specs.Both.{Both}
+use Rattle.mm_transfer.specs.declared.sides.Sides.TheInside.{Inside}
+use Rattle.mm_transfer.specs.Between.{both_with}
+use Rattle.mm_transfer.specs.Events.{side_event_of}
+use Rattle.mm_transfer.specs.OneSide.{side_in}
+use Rattle.mm_transfer.proofs.Acting.{Comes, event_first, event_second}
+use Rattle.mm_transfer.proofs.sides.Sides.event.Goals as goal
+use Rattle.mm_transfer.proofs.sides.Sides.event.Goals.{in-First, in-Second}
+
+-- both sides, as the fields have them
+abbrev both_in : Inside → Both Digests ℕ
+both_in s = both_with s.first s.between (side_in s.second) s.committed
+
+comes : (c : goal.Joined-event)
+    → Comes c.args.self.now (side_event_of c.args.event.now) (both_in c.match-event.self-inside) c.match-event.result
+comes c = elim c.match-event.branch [
+  | in-First w ↦ event_first c.self.inside c.args.self.now c.args.event.now _ w.act.new.here w.act.new.between
+      w.act.new.committed c.match-event.result w.act.result c.self.view_is c.requires.committed w.in-First.is w.result-is
+      (ap both_in w.self-inside-is) w.act.ensures
+  | in-Second w ↦ event_second c.self.inside c.args.self.now c.args.event.now _ w.act-in-Second.new.here
+      w.act-in-Second.new.between w.act-in-Second.new.committed c.match-event.result w.act-in-Second.result c.self.view_is
+      c.requires.committed w.in-Second.is w.result-is (ap both_in w.self-inside-is) w.act-in-Second.ensures
+]
+
+pub returns-clause-reply : goal.returns-clause-reply
+returns-clause-reply c = (comes c).reply
+
+pub returns-clause-after : goal.returns-clause-after
+returns-clause-after c = (comes c).after

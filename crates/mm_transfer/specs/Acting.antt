@@ -1,0 +1,55 @@
+-- What happens on one side in code, whichever it is: an event of a schedule, or a command.
+use Rattle.std.specs.Prelude.{◌≡◌, ◌≤◌, ◌<◌, ◌+◌, ◌^◌, ℕ, length, Result, MatchResult}
+use Rattle.mm_base.specs.declared.fault.Memory.{Memory}
+use Rattle.mm_base.specs.Limits.{most_members}
+use Rattle.mm_model.specs.Moves.{Digests}
+use Rattle.mm_sides.specs.Both.{Which, Pair, instance_on, Side, digests_move}
+use Rattle.mm_sides.specs.Folds.{Act, BothOutcome, outcome_here}
+use Rattle.mm_transfer.specs.declared.between.Between.{Between}
+use Rattle.mm_transfer.specs.declared.reply.MoveReply.{MoveReply}
+use Rattle.mm_transfer.specs.declared.side.Side.{Side as CodeSide}
+use Rattle.mm_transfer.specs.Between.{both_with, FitsBetween}
+use Rattle.mm_transfer.specs.OneSide.{side_in, FitsSide, SameButRegister}
+use Rattle.mm_transfer.specs.Replies.{reply_said, IsSayable}
+
+-- what happens on a side comes to this, whatever the other is
+abbrev pub acted : Pair → Which → CodeSide → Between → ℕ → Act → Side Digests → BothOutcome Digests ℕ
+acted pair which here between committed act other =
+    outcome_here digests_move pair (instance_on pair which) (both_with here between other committed) act
+
+-- no count is greater than that of the requests committed, on either side
+pub record AreWithin (here : CodeSide) (between : Between) (committed : ℕ) : Type 0 where
+  pub position : here.position ≤ committed
+  pub away : between.away ≤ committed
+
+-- A side with what passes between both, and with how many requests were committed, has come to this outcome, and answers so.
+-- No more came than one event may bring.
+pub record ActDone (pair : Pair) (which : Which) (old new : CodeSide) (was now : Between) (before after : ℕ)
+    (o : Side Digests → BothOutcome Digests ℕ) (said : MoveReply) : Type 0 where
+  pub fits : FitsSide pair which new
+  pub between : FitsBetween now
+  pub within : AreWithin new now after
+  pub both : (other : Side Digests) → both_with new now other after ≡ (o other).both
+  pub says : (other : Side Digests) → said ≡ reply_said (o other).reply
+  pub sayable : IsSayable said
+  pub rises : before ≤ after
+  pub few : after ≤ before + most_members
+  pub issued : length new.issued.items ≤ length old.issued.items + 1
+  pub tickets : length now.tickets.items ≤ length was.tickets.items + 1
+
+-- Memory was wanting: nothing has changed, but that the register may have another value.
+pub record ActLacks (pair : Pair) (which : Which) (old new : CodeSide) (was now : Between) (before after : ℕ) : Type 0 where
+  pub fits : FitsSide pair which new
+  pub between : FitsBetween now
+  pub within : AreWithin new now after
+  pub side : SameButRegister (side_in old) (side_in new)
+  pub away : now.away ≡ was.away
+  pub tickets : now.tickets.items ≡ was.tickets.items
+  pub same : after ≡ before
+
+-- something happened on a side
+abbrev pub Acts : Pair → Which → Act → CodeSide → CodeSide → Between → Between → ℕ → ℕ → Result MoveReply Memory → Type 0
+Acts pair which act old new was now before after result =
+    FitsSide pair which old → FitsBetween was → AreWithin old was before → before < 2 ^ 63
+    → MatchResult result (ActDone pair which old new was now before after (acted pair which old was before act))
+    (λ _. ActLacks pair which old new was now before after)

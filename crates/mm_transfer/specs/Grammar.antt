@@ -1,0 +1,97 @@
+-- The grammar of the lines of two sides, as a reading of the bytes.
+use Rattle.std.specs.Prelude.{ℕ, List, Option, Some, None, if◌then◌else◌, codes}
+use Rattle.std.specs.Option.{option_map_or}
+use Rattle.std.specs.Str.{bytes_eq}
+use Rattle.mm_module.specs.Batch.{One}
+use Rattle.mm_module.specs.Values.{value_at}
+use Rattle.mm_platform.specs.declared.plan.Meddle.{Meddle}
+use Rattle.mm_platform.specs.declared.plan.Stop.{Stop}
+use Rattle.mm_schedule.specs.declared.event.Offer.{Offer}
+use Rattle.mm_schedule.specs.declared.event.Offer.TheVariants.{Number, Last, Flip, Raw}
+use Rattle.mm_schedule.specs.declared.header.Header.{Header}
+use Rattle.mm_schedule.specs.Events.{Ask, Checkpoint, Power, Extend}
+use Rattle.mm_schedule.specs.Grammar.{meddles_at, stop_at, offer_at}
+use Rattle.mm_schedule.specs.Headers.{head_at}
+use Rattle.mm_schedule.specs.Words.{◌>>=◌, after_prefix, bytes_at, number_at, word_at}
+use Rattle.mm_sides.specs.Both.{Which, First, Second}
+use Rattle.mm_sides.specs.Folds.{Act, Plain, Moves, BothEvent}
+use Rattle.mm_sides.specs.Moves.{Command, Invite, Retire, Accept}
+
+-- the header that the first line names, as `memoir transfer 1 basic counter`
+unfoldable pub first_at : List ℕ → Option Header
+first_at line = after_prefix (codes "memoir transfer 1 ") line >>= head_at
+
+-- a side, 0 or 1
+unfoldable pub which_at : List ℕ → Option Which
+which_at word =
+    if bytes_eq word (codes "0") then Some First
+    else if bytes_eq word (codes "1") then Some Second
+    else None
+
+-- bytes behind `raw`, up to the end of the line
+unfoldable pub raw_at : List ℕ → Option Offer
+raw_at word = bytes_at word >>= λ bytes. Some (Raw bytes)
+
+-- a number, `last`, or bytes behind `raw`, up to the end of the line
+unfoldable pub named_at : List ℕ → Option Offer
+named_at line =
+    if bytes_eq line (codes "last") then Some Last
+    else option_map_or raw_at (after_prefix (codes "raw ") line)
+    (number_at line >>= λ number. Some (Number number))
+
+-- two numbers behind `flip`, up to the end of the line
+unfoldable pub flipped_at : List ℕ → Option Offer
+flipped_at line =
+    word_at line >>= λ first.
+    number_at first.0 >>= λ number.
+    number_at first.1 >>= λ byte.
+    Some (Flip number byte)
+
+-- an offer up to the end of the line
+unfoldable pub whole_offer_at : List ℕ → Option Offer
+whole_offer_at line = option_map_or flipped_at (after_prefix (codes "flip ") line) (named_at line)
+
+-- a nonce and an offer behind `retire`
+unfoldable pub retire_at : List ℕ → Option Command
+retire_at line =
+    word_at line >>= λ first.
+    value_at first.0 >>= λ nonce.
+    whole_offer_at first.1 >>= λ offer.
+    Some (Retire nonce offer)
+
+-- a command, behind the meddles and the stop
+unfoldable pub command_at : List ℕ → Option Command
+command_at line =
+    option_map_or (λ word. value_at word >>= λ nonce. Some (Invite nonce)) (after_prefix (codes "invite ") line)
+    (option_map_or retire_at (after_prefix (codes "retire ") line)
+    (option_map_or (λ word. named_at word >>= λ offer. Some (Accept offer)) (after_prefix (codes "accept ") line) None))
+
+-- what one request is asked of, behind the meddles and the stop
+unfoldable pub ask_at : List Meddle → Stop → List ℕ → Option Act
+ask_at meddles stop line = offer_at line >>= λ offer. Some (Plain (Ask meddles stop offer.0 (One offer.1)))
+
+-- a call or a command, behind its meddles and its stop
+unfoldable pub call_at : List Meddle → Stop → List ℕ → Option Act
+call_at meddles stop line =
+    if bytes_eq line (codes "checkpoint") then Some (Plain (Checkpoint meddles stop))
+    else option_map_or (ask_at meddles stop) (after_prefix (codes "ask ") line)
+    (command_at line >>= λ command. Some (Moves meddles stop command))
+
+-- the same with what comes before it
+unfoldable pub prefixed_at : List ℕ → Option Act
+prefixed_at line = meddles_at 8 0 line >>= λ meddles. stop_at meddles.1 >>= λ stop. call_at meddles.0 stop.0 stop.1
+
+-- what happens on a side
+unfoldable pub act_at : List ℕ → Option Act
+act_at line =
+    if bytes_eq line (codes "power") then Some (Plain Power)
+    else option_map_or (λ word. value_at word >>= λ value. Some (Plain (Extend value))) (after_prefix (codes "extend ") line)
+    (prefixed_at line)
+
+-- the event of a line: a side, and what happens there
+unfoldable pub event_at : List ℕ → Option BothEvent
+event_at line =
+    word_at line >>= λ word.
+    which_at word.0 >>= λ which.
+    act_at word.1 >>= λ act.
+    Some (record { which = which; act = act })

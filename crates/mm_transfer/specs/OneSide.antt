@@ -1,0 +1,175 @@
+-- One side in code, and what it is by digests.
+use Rattle.std.specs.Prelude.{◌≡◌, ◌≤◌, ◌+◌, ◌-◌, ◌^◌, ◌++◌, ℕ, Bool, false, List, [], length, min, Option, None, Some, Result, Ok, Err, MatchResult, option_to_list}
+use Rattle.std.specs.List.{sum_by}
+use Rattle.mm_base.specs.declared.fault.Memory.{Memory}
+use Rattle.mm_base.specs.Limits.{most_members}
+use Rattle.mm_digest.specs.Messages.{start_of}
+use Rattle.mm_seal.specs.declared.cell.CellFault.{CellFault}
+use Rattle.mm_seal.specs.Cell.{blank_cell}
+use Rattle.mm_platform.specs.Memory.{new_platform}
+use Rattle.mm_platform.specs.Standing.{Standing}
+use Rattle.mm_modules.specs.Modules.{meaning_of}
+use Rattle.mm_model.specs.Moves.{Digests}
+use Rattle.mm_model.specs.Standing.{register_reads}
+use Rattle.mm_call.specs.Standing.{cell_at}
+use Rattle.mm_schedule.specs.Events.{Event}
+use Rattle.mm_schedule.specs.Replies.{IsPrintable}
+use Rattle.mm_schedule.specs.declared.header.Header.{Header}
+use Rattle.mm_schedule.specs.declared.reply.Reply.{Reply}
+use Rattle.mm_run.specs.Folds.{Outcome}
+use Rattle.mm_world.specs.declared.call.Called.{Called}
+use Rattle.mm_world.specs.Held.{digest_in, flag_in, value_in}
+use Rattle.mm_world.specs.Stands.{Stands, IsQuiet}
+use Rattle.mm_move.specs.declared.cell.MovedCell.{MovedCell}
+use Rattle.mm_move.specs.declared.cell.MovedCell.TheVariants as moved
+use Rattle.mm_move.specs.declared.cell.Retired.{Retired as RetiredCell}
+use Rattle.mm_move.specs.declared.cell.Waiting.{Waiting as WaitingCell}
+use Rattle.mm_move.specs.declared.link.Link.{Link}
+use Rattle.mm_move.specs.Cells.{moved_of, waiting_spelling, retired_spelling, IsWaiting, IsRetired}
+use Rattle.mm_move.specs.Orders.{waiting_for, retired_from}
+use Rattle.mm_sides.specs.Roles.{Role, Blank, Live, Waiting, Retired}
+use Rattle.mm_sides.specs.Both.{Which, Pair, key_of, instance_on, Side, digests_move}
+use Rattle.mm_sides.specs.Folds.{plain_on, grown}
+use Rattle.mm_transfer.specs.declared.side.Side.{Side as CodeSide}
+use Rattle.mm_transfer.specs.Pairs.{pair_of}
+use Rattle.mm_transfer.specs.Lengths.{length_if}
+
+-- nothing of a side has changed, but that its register may have another value
+abbrev pub SameButRegister : Side Digests → Side Digests → Type 0
+SameButRegister old new = new ≡ record old { at = record old.at { register = new.at.register } }
+
+-- what both sides share
+abbrev pub link_of : Pair → Link
+link_of pair = record { key = pair.link; barrier = pair.barrier }
+
+-- The role of a side, as its cell tells it.
+abbrev pub role_of : Result MovedCell CellFault → Role
+role_of (Ok (moved.Live cell)) = Live
+role_of (Ok (moved.Waiting cell)) = Waiting cell.nonce
+role_of (Ok (moved.Retired cell)) = Retired cell.nonce
+role_of (Err fault) = Blank
+
+abbrev pub role_in : Option (List ℕ) → Role
+role_in None = Blank
+role_in (Some bytes) = role_of (moved_of bytes)
+
+-- The summary or anchor where a side stands or last stood, and its flag: a cell has them where the module is or left, and
+-- elsewhere the digest is kept.
+abbrev pub digest_by : Role → List ℕ → Option (List ℕ) → List ℕ
+digest_by Blank kept cell = kept
+digest_by Live kept cell = digest_in cell
+digest_by (Waiting nonce) kept cell = kept
+digest_by (Retired nonce) kept cell = digest_in cell
+
+abbrev pub flag_by : Role → Option (List ℕ) → Bool
+flag_by Blank cell = false
+flag_by Live cell = flag_in cell
+flag_by (Waiting nonce) cell = false
+flag_by (Retired nonce) cell = false
+
+abbrev pub at_by : Role → Standing → (kept : List ℕ) → (position : ℕ) → Digests
+at_by role standing kept position = record {
+  digest = digest_by role kept standing.cell;
+  flag = flag_by role standing.cell;
+  register = value_in (register_reads standing);
+  count = position;
+}
+
+-- where a side stands by digests
+abbrev pub at_in : CodeSide → Digests
+at_in side = at_by (role_in side.platform.cell) side.platform side.digest.bytes side.position
+
+-- a side as contracts see it
+abbrev pub side_in : CodeSide → Side Digests
+side_in side = record { role = role_in side.platform.cell; at = at_in side; issued = side.issued.items }
+
+-- the cell of a side that waits for a ticket with this nonce, and that of one that the module left for this nonce
+abbrev pub waiting_on : Pair → Which → List ℕ → WaitingCell
+waiting_on pair which nonce = waiting_for (link_of pair) pair.variant pair.meaning.id nonce (key_of pair which)
+
+abbrev pub retired_on : Pair → Which → Digests → List ℕ → RetiredCell
+retired_on pair which d nonce = retired_from (cell_at (instance_on pair which) d) nonce
+
+-- the platform has exactly these bytes in its cell, and this value in its register
+pub record Rests (bytes : List ℕ) (standing : Standing) (d : Digests) : Type 0 where
+  pub cell : standing.cell ≡ Some bytes
+  pub register : register_reads standing ≡ Some d.register
+
+-- the platform of a side stands there, by the side's role
+abbrev pub StandsAs : Pair → Which → Role → Standing → Digests → Type 0
+StandsAs pair which Blank standing d = Rests blank_cell standing d
+StandsAs pair which Live standing d = Stands (instance_on pair which) standing d
+StandsAs pair which (Waiting nonce) standing d =
+    IsWaiting (waiting_on pair which nonce) × Rests (waiting_spelling (waiting_on pair which nonce)) standing d
+StandsAs pair which (Retired nonce) standing d =
+    IsRetired (retired_on pair which d nonce) × Rests (retired_spelling (retired_on pair which d nonce)) standing d
+
+-- a count of 64 bits stays at the greatest once it is there
+abbrev pub within_64 : ℕ → ℕ
+within_64 n = min n (2 ^ 64 - 1)
+
+-- What the fields of a side keep.
+pub record FitsSide (pair : Pair) (which : Which) (side : CodeSide) : Type 0 where
+  pub stands : StandsAs pair which (role_in side.platform.cell) side.platform (at_in side)
+  pub quiet : IsQuiet side.platform
+  pub kept : side.kept ≡ within_64 (sum_by length side.issued.items)
+
+-- The same side, in which something happened: it issued one snapshot at most.
+pub record GoesOn (pair : Pair) (which : Which) (old new : CodeSide) : Type 0 where
+  pub fits : FitsSide pair which new
+  pub few : new.position ≤ old.position + most_members
+  pub one : length new.issued.items ≤ length old.issued.items + 1
+
+-- An event of a schedule came to this outcome, and was answered so; the side's position grew by what the event committed.
+pub record Comes (pair : Pair) (which : Which) (old new : CodeSide) (o : Outcome Digests) (said : Reply) : Type 0 where
+  pub goes : GoesOn pair which old new
+  pub stands : side_in new ≡ record (side_in old) { at = o.state; issued = o.issued }
+  pub says : said ≡ o.reply
+  pub printable : IsPrintable said
+  pub commits : new.position ≡ old.position + grown (side_in old).role (at_in old).count o.state.count
+
+-- The side keeps the snapshot that was handed out, if one was, and nothing else changes but its position.
+pub record Keeps (old new : CodeSide) (snapshot : Option (List ℕ)) : Type 0 where
+  pub platform : new.platform ≡ old.platform
+  pub digest : new.digest ≡ old.digest
+  pub issued : new.issued.items ≡ old.issued.items ++ option_to_list snapshot
+  pub kept : new.kept ≡ within_64 (old.kept + length_if snapshot)
+
+-- A call is over that came to this, and was answered so.
+pub record EndsCall (it : Called) (old new : CodeSide) (said : Reply) : Type 0 where
+  pub keeps : Keeps old new it.snapshot
+  pub position : new.position ≡ within_64 (old.position + it.committed)
+  pub says : said ≡ it.reply
+
+-- Memory was wanting: nothing has changed, but that a call may have made its reading steps.
+pub record Lacks (pair : Pair) (which : Which) (old new : CodeSide) : Type 0 where
+  pub goes : GoesOn pair which old new
+  pub cell : new.platform.cell ≡ old.platform.cell
+  pub digest : new.digest ≡ old.digest
+  pub issued : new.issued.items ≡ old.issued.items
+  pub kept : new.kept ≡ old.kept
+  pub position : new.position ≡ old.position
+
+-- what an event of a schedule comes to on a side
+abbrev pub outcome_on : Pair → Which → CodeSide → Event → Outcome Digests
+outcome_on pair which side event = plain_on digests_move (instance_on pair which) (side_in side).role (side_in side) event
+
+-- An event of a schedule happened on a side of a transfer with this header, which is either of the two.
+abbrev pub Follows : Header → Event → CodeSide → CodeSide → Result Reply Memory → Type 0
+Follows header event old new result = (which : Which) → FitsSide (pair_of header) which old → MatchResult result
+    (Comes (pair_of header) which old new (outcome_on (pair_of header) which old event))
+    (λ _. Lacks (pair_of header) which old new)
+
+-- a side over a new platform with this cell, on which nothing was issued
+pub record IsBare (header : Header) (cell : List ℕ) (side : CodeSide) : Type 0 where
+  pub platform : side.platform ≡ new_platform cell
+  pub issued : side.issued.items ≡ []
+  pub kept : side.kept ≡ 0
+  pub digest : side.digest.bytes ≡ start_of header.variant (meaning_of header.«module»).id
+  pub position : side.position ≡ 0
+
+-- a side at first
+pub record IsNew (pair : Pair) (which : Which) (first : Side Digests) (side : CodeSide) : Type 0 where
+  pub fits : FitsSide pair which side
+  pub stands : side_in side ≡ first
+  pub position : side.position ≡ 0

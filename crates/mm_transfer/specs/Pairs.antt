@@ -1,0 +1,16 @@
+-- The two sides that a header sets up.
+use Rattle.mm_modules.specs.Modules.{meaning_of}
+use Rattle.mm_run.specs.Held.{rising_from, world_key, world_barrier}
+use Rattle.mm_schedule.specs.declared.header.Header.{Header}
+use Rattle.mm_sides.specs.Both.{Pair}
+
+-- its variant and module; each key, and the barrier, are 32 bytes in rising order
+abbrev pub pair_of : Header → Pair
+pair_of header = record {
+  variant = header.variant;
+  meaning = meaning_of header.«module»;
+  first_key = world_key;
+  second_key = rising_from 0x40;
+  barrier = world_barrier;
+  link = rising_from 0x60;
+}

@@ -1,0 +1,82 @@
+-- A move over a platform in memory, under the plan of an event.
+use Rattle.std.specs.Prelude.{◌≡◌, ◌==◌, ◌&&◌, ℕ, Bool, true, false, List, [], ◌∷◌, Option, None, Some, Result, Ok, Err, ◌⊎◌}
+use Rattle.mm_platform.specs.declared.fault.StepFault.{StepFault}
+use Rattle.mm_platform.specs.declared.plan.Meddle.{Meddle}
+use Rattle.mm_platform.specs.declared.plan.Stop.{Stop}
+use Rattle.mm_platform.specs.Standing.{Standing}
+use Rattle.mm_model.specs.Instance.{Instance}
+use Rattle.mm_model.specs.Moves.{Digests}
+use Rattle.mm_model.specs.Standing.{register_reads}
+use Rattle.mm_model.specs.Steps.{Step, Reads}
+use Rattle.mm_model.specs.declared.refusal.Refusal.TheVariants.{Memory, Device}
+use Rattle.mm_call.specs.Courses.{Walked, walk}
+use Rattle.mm_call.specs.Levels.{by_digests, all_made}
+use Rattle.mm_run.specs.Folds.{course_of}
+use Rattle.mm_world.specs.Calls.{takes_effect, stopped_step}
+use Rattle.mm_world.specs.Stands.{IsQuiet}
+use Rattle.mm_move.specs.declared.ready.Ready.{Ready}
+use Rattle.mm_move.specs.declared.refusal.MoveRefusal.{MoveRefusal}
+use Rattle.mm_move.specs.declared.refusal.MoveRefusal.TheVariants.{Core}
+use Rattle.mm_sides.specs.Folds.{is_moved, stopped_moves}
+
+-- the steps behind the first one: where the cell is to be written there is a second
+abbrev pub steps_to : Option (List ℕ) → List Step
+steps_to None = []
+steps_to (Some next) = Reads ∷ []
+
+abbrev pub later_steps : {A : Type 0} → Result (Ready A) MoveRefusal → List Step
+later_steps (Ok ready) = steps_to ready.next
+later_steps (Err why) = []
+
+-- the cell's bytes, once these were written in their place or not
+abbrev pub written_if : Option (List ℕ) → Bool → List ℕ → List ℕ
+written_if None moved bytes = bytes
+written_if (Some next) true bytes = next
+written_if (Some next) false bytes = bytes
+
+abbrev pub written_by : {A : Type 0} → Result (Ready A) MoveRefusal → Bool → List ℕ → List ℕ
+written_by (Ok ready) moved bytes = written_if ready.next moved bytes
+written_by (Err why) moved bytes = bytes
+
+-- what a move answers, by the fault of the step that broke it off, if one did
+abbrev pub ended_as : {A : Type 0} → Option StepFault → Result (Ready A) MoveRefusal → Result A MoveRefusal
+ended_as (Some fault) found = Err (Core (Device fault))
+ended_as None (Ok ready) = Ok ready.answer
+ended_as None (Err why) = Err why
+
+-- The move is over that found this: the cell was written or not, the register took in what others brought, and is empty
+-- where power was lost behind.
+pub record Ends {A : Type 0} (i : Instance) (d : Digests) (stop : Stop) (bytes : List ℕ) (found : Result (Ready A) MoveRefusal)
+    (walked : Walked) (moved : Bool) (new : Standing) (result : Result A MoveRefusal) : Type 0 where
+  pub cell : new.cell ≡ Some (written_by found moved bytes)
+  pub register : register_reads new
+      ≡ Some (all_made (by_digests i) (all_made (by_digests i) d walked.moves) (stopped_moves stop walked.broken)).register
+  pub quiet : IsQuiet new
+  pub says : result ≡ ended_as walked.broken found
+
+-- the move that found this was made under the plan, over a platform with these bytes in its cell
+abbrev pub MakesMove : {A : Type 0} → Instance → Digests → Stop → List Meddle → List ℕ → Result (Ready A) MoveRefusal → Standing
+    → Result A MoveRefusal → Type 0
+MakesMove i d stop meddles bytes found new result =
+    let fates = (course_of stop meddles).fates in
+    Ends i d stop bytes found (walk fates 1 (Reads ∷ later_steps found)) (is_moved (fates 1).ends (fates 2).ends) new result
+
+-- Memory was wanting: nothing has changed, but that the first step may have been made.
+pub record WantsMemory {A : Type 0} (i : Instance) (d : Digests) (stop : Stop) (meddles : List Meddle) (old new : Standing)
+    (result : Result A MoveRefusal) : Type 0 where
+  pub says : result ≡ Err (Core Memory)
+  pub cell : new.cell ≡ old.cell
+  pub register : (register_reads new ≡ Some d.register)
+      ⊎ (register_reads new ≡ Some (all_made (by_digests i) d (walk (course_of stop meddles).fates 1 (Reads ∷ [])).moves).register)
+  pub quiet : IsQuiet new
+
+-- A move by what it finds, over a quiet platform that tells its cell and its register.
+abbrev pub MovesPlanned : {A : Type 0} → (List ℕ → Result (Ready A) MoveRefusal) → Stop → List Meddle → Standing → Standing
+    → Result A MoveRefusal → Type 0
+MovesPlanned finds stop meddles old new result =
+    (i : Instance) (d : Digests) (bytes : List ℕ) → old.cell ≡ Some bytes → register_reads old ≡ Some d.register → IsQuiet old
+    → MakesMove i d stop meddles bytes (finds bytes) new result ⊎ WantsMemory i d stop meddles old new result
+
+-- whether a move that is stopped so has its effect: its second step has that
+abbrev pub moves_at : Stop → Bool
+moves_at stop = (stopped_step stop == 2) && takes_effect stop

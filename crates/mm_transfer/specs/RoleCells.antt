@@ -1,0 +1,125 @@
+-- What a side's cell holds, by what the side is to the module; and what a move finds there.
+use Rattle.std.specs.Prelude.{◌≡◌, ℕ, Bool, true, false, List, length, Option, None, Some, Result, Ok, Err, if◌then◌else◌}
+use Rattle.mm_seal.specs.Cell.{FitsVariant, cell_spelling, blank_cell}
+use Rattle.mm_model.specs.Instance.{Instance}
+use Rattle.mm_model.specs.Moves.{Digests}
+use Rattle.mm_model.specs.Places.{digest_of}
+use Rattle.mm_call.specs.Standing.{cell_at}
+use Rattle.mm_move.specs.declared.accepting.Accepted.{Accepted}
+use Rattle.mm_move.specs.declared.cell.Retired.{Retired}
+use Rattle.mm_move.specs.declared.cell.Waiting.{Waiting}
+use Rattle.mm_move.specs.declared.inviting.Invited.{Invited}
+use Rattle.mm_move.specs.declared.link.Link.{Link}
+use Rattle.mm_move.specs.declared.ready.Ready.{Ready}
+use Rattle.mm_move.specs.declared.refusal.MoveRefusal.{MoveRefusal}
+use Rattle.mm_move.specs.declared.refusal.MoveRefusal.TheVariants as refusal
+use Rattle.mm_move.specs.Cells.{waiting_spelling, retired_spelling}
+use Rattle.mm_move.specs.Orders.{barrier_of, accepted_as}
+use Rattle.mm_move.specs.Tickets.{sealed_ticket}
+use Rattle.mm_sides.specs.Roles.{Role, Blank, Live, Waiting as Waits, Retired as Left, Effect, Invites, Leaves, Enters}
+use Rattle.mm_sides.specs.Both.{digests_move}
+use Rattle.mm_sides.specs.Moves.{MoveCause, Refused, Already, Open, Gone, Nonce, FoundMove}
+
+-- the cell of an instance that is awaited under a nonce
+abbrev pub waiting_at : Instance → List ℕ → Waiting
+waiting_at i nonce = record {
+  variant = i.variant;
+  «module» = i.meaning.id;
+  nonce = nonce;
+  key = i.key;
+  barrier = i.barrier;
+}
+
+-- the cell of an instance that has left by a ticket with this nonce, from where it stood
+abbrev pub retired_at : Instance → Digests → List ℕ → Retired
+retired_at i d nonce = record {
+  variant = i.variant;
+  «module» = i.meaning.id;
+  summary = digest_of d.digest;
+  key = i.key;
+  nonce = nonce;
+}
+
+-- the 104 bytes of a side's cell: by its role, and by the digest and the flag where it is live, by the digest where the
+-- module has left
+abbrev pub cell_of_role : Instance → Role → Digests → List ℕ
+cell_of_role i Blank d = blank_cell
+cell_of_role i Live d = cell_spelling (cell_at i d)
+cell_of_role i (Waits nonce) d = waiting_spelling (waiting_at i nonce)
+cell_of_role i (Left nonce) d = retired_spelling (retired_at i d nonce)
+
+-- where a side stands after an effect, as far as its cell goes
+abbrev pub at_after : Digests → Effect → Digests
+at_after d (Invites nonce) = d
+at_after d (Leaves ticket) = d
+at_after d (Enters ticket) = digests_move.enters d d.count ticket.content
+
+abbrev pub cell_after : Instance → Digests → Effect → List ℕ
+cell_after i d (Invites nonce) = cell_of_role i (Waits nonce) d
+cell_after i d (Leaves ticket) = cell_of_role i (Left ticket.nonce) d
+cell_after i d (Enters ticket) = cell_of_role i Live (at_after d (Enters ticket))
+
+-- the refusal of a cause. That a cell has another barrier than the link is the refusal of none.
+abbrev pub refusal_of : MoveCause → MoveRefusal
+refusal_of (Refused why) = refusal.Core why
+refusal_of Already = refusal.Already
+refusal_of Open = refusal.Open
+refusal_of Gone = refusal.Gone
+refusal_of Nonce = refusal.Nonce
+
+-- the cell that a move writes, unless it was made before
+abbrev pub next_if : Bool → List ℕ → Option (List ℕ)
+next_if true bytes = None
+next_if false bytes = Some bytes
+
+-- where a side stands once a move that was found is made, as far as its cell goes
+abbrev pub stood : Digests → FoundMove → Digests
+stood d found = if found.again then d else at_after d found.effect
+
+-- The answers: an invitation says nothing more; a retirement gives its ticket, sealed under the link's key; an acceptance
+-- the snapshot of where the module stands, sealed under the side's.
+abbrev pub GivesInvited : FoundMove → Invited → Type 0
+GivesInvited found answer = (nonce : List ℕ) × (found.effect ≡ Invites nonce)
+
+abbrev pub GivesTicketBy : List ℕ → Effect → List ℕ → Type 0
+GivesTicketBy link (Invites nonce) bytes = ⊥
+GivesTicketBy link (Leaves ticket) bytes = bytes ≡ sealed_ticket link ticket
+GivesTicketBy link (Enters ticket) bytes = ⊥
+
+abbrev pub GivesTicket : List ℕ → FoundMove → List ℕ → Type 0
+GivesTicket link found bytes = GivesTicketBy link found.effect bytes
+
+abbrev pub GivesEntryBy : Instance → Digests → Effect → Accepted → Type 0
+GivesEntryBy i d (Invites nonce) accepted = ⊥
+GivesEntryBy i d (Leaves ticket) accepted = ⊥
+GivesEntryBy i d (Enters ticket) accepted = accepted ≡ accepted_as i.key (digests_move.says i d ticket.content)
+
+abbrev pub GivesEntry : Instance → Digests → FoundMove → Accepted → Type 0
+GivesEntry i d found accepted = GivesEntryBy i (stood d found) found.effect accepted
+
+-- What is ready is what was found: by the cell that it writes, if any, and by its answer.
+pub record IsReady {A : Type 0} (gives : FoundMove → A → Type 0) (i : Instance) (d : Digests) (ready : Ready A) (found : FoundMove) : Type 0 where
+  pub next : ready.next ≡ next_if found.again (cell_after i d found.effect)
+  pub answer : gives found ready.answer
+
+-- what a move finds in the cell is what it finds by the role
+abbrev pub Matches : {A : Type 0} → (FoundMove → A → Type 0) → Instance → Digests → Result (Ready A) MoveRefusal → Result FoundMove MoveCause → Type 0
+Matches gives i d (Err why) (Err cause) = why ≡ refusal_of cause
+Matches gives i d (Err why) (Ok found) = ⊥
+Matches gives i d (Ok ready) (Err cause) = ⊥
+Matches gives i d (Ok ready) (Ok found) = IsReady gives i d ready found
+
+-- a role with where its side stands: nonces have 32 bytes, and digests where a cell has one; a segment is open on a live side
+-- alone, and in Opt
+abbrev pub FitsRole : Instance → Role → Digests → Type 0
+FitsRole i Blank d = d.flag ≡ false
+FitsRole i Live d = FitsVariant i.variant d.flag i.barrier × (length d.digest ≡ 32)
+FitsRole i (Waits nonce) d = (d.flag ≡ false) × (length nonce ≡ 32)
+FitsRole i (Left nonce) d = (d.flag ≡ false) × (length nonce ≡ 32) × (length d.digest ≡ 32)
+
+-- Keys and barriers have 32 bytes each, and the barrier is the link's; in Basic it is zero.
+pub record FitsCell (i : Instance) (link : Link) (role : Role) (d : Digests) : Type 0 where
+  pub key : length i.key ≡ 32
+  pub barrier : length i.barrier ≡ 32
+  pub linked : barrier_of i.variant link ≡ i.barrier
+  pub fits : FitsRole i role d

@@ -1,0 +1,53 @@
+-- Both sides in code, as contracts see them.
+use Rattle.std.specs.Prelude.{◌≡◌, ◌≤◌, ◌<◌, ◌+◌, ◌-◌, ◌^◌, ℕ, length}
+use Rattle.mm_base.specs.Limits.{most_members}
+use Rattle.mm_model.specs.Moves.{Digests}
+use Rattle.mm_schedule.specs.declared.header.Header.{Header}
+use Rattle.mm_sides.specs.Both.{Both, digests_move, first_both}
+use Rattle.mm_sides.specs.Folds.{BothEvent, BothOutcome, both_outcome}
+use Rattle.mm_transfer.specs.declared.between.Between.{Between}
+use Rattle.mm_transfer.specs.declared.side.Side.{Side as CodeSide}
+use Rattle.mm_transfer.specs.Between.{both_with}
+use Rattle.mm_transfer.specs.OneSide.{side_in, SameButRegister}
+use Rattle.mm_transfer.specs.Pairs.{pair_of}
+
+-- the header, and what stands on both sides by digests
+pub record BothHeld : Type 0 where
+  pub header : Header
+  pub both : Both Digests ℕ
+
+abbrev pub first_held : Header → BothHeld
+first_held header = record { header = header; both = first_both (pair_of header) }
+
+-- what an event comes to
+abbrev pub outcome_in : BothHeld → BothEvent → BothOutcome Digests ℕ
+outcome_in held event = both_outcome digests_move (pair_of held.header) held.both event
+
+-- so few requests, snapshots and tickets that one event more can be counted in 64 bits, and numbered in 32
+pub record HasRoom (held : BothHeld) : Type 0 where
+  pub committed : held.both.committed < 2 ^ 63
+  pub first : length held.both.first.issued < 2 ^ 32 - 1
+  pub second : length held.both.second.issued < 2 ^ 32 - 1
+  pub tickets : length held.both.tickets < 2 ^ 32 - 1
+
+-- no more came than one event may bring: 64 requests, a snapshot on either side, and a ticket
+pub record GrowsByOne (old new : BothHeld) : Type 0 where
+  pub header : new.header ≡ old.header
+  pub committed : new.both.committed ≤ old.both.committed + most_members
+  pub first : length new.both.first.issued ≤ length old.both.first.issued + 1
+  pub second : length new.both.second.issued ≤ length old.both.second.issued + 1
+  pub tickets : length new.both.tickets ≤ length old.both.tickets + 1
+
+-- Nothing has changed, but that the registers may have other values.
+pub record Stays (old new : BothHeld) : Type 0 where
+  pub header : new.header ≡ old.header
+  pub first : SameButRegister old.both.first new.both.first
+  pub second : SameButRegister old.both.second new.both.second
+  pub away : new.both.away ≡ old.both.away
+  pub tickets : new.both.tickets ≡ old.both.tickets
+  pub committed : new.both.committed ≡ old.both.committed
+
+-- both sides in code, with what passes between them, and how many requests were committed
+abbrev pub held_in : Header → CodeSide → CodeSide → Between → ℕ → BothHeld
+held_in header first second between committed =
+    record { header = header; both = both_with first between (side_in second) committed }

@@ -1,0 +1,81 @@
+-- A transfer line by line: the first line, and then the events.
+use Rattle.std.specs.Prelude.{ℕ, ◌+◌, ◌-◌, Bool, ◌||◌, nat_le, nat_lt, List, [], length, Option, None, Some, Result, Ok, Err, if◌then◌else◌}
+use Rattle.std.specs.List.{sum_by}
+use Rattle.mm_base.specs.Limits.{most_events}
+use Rattle.mm_model.specs.Moves.{Digests}
+use Rattle.mm_play.specs.declared.player.Refused.{Refused}
+use Rattle.mm_play.specs.declared.player.Refused.TheVariants.{Bad, Much}
+use Rattle.mm_replay.specs.Schedule.{most_kept}
+use Rattle.mm_schedule.specs.declared.header.Header.{Header}
+use Rattle.mm_sides.specs.Both.{Both, digests_move, first_both}
+use Rattle.mm_sides.specs.Folds.{BothEvent, BothOutcome, both_outcome}
+use Rattle.mm_transfer.specs.Answers.{answer_text, end_line}
+use Rattle.mm_transfer.specs.Grammar.{first_at, event_at}
+use Rattle.mm_transfer.specs.Pairs.{pair_of}
+use Rattle.mm_transfer.specs.Replies.{reply_said}
+
+-- what stands between two events, by digests: the header, both sides, the events answered, and the bytes of their lines
+pub record Running : Type 0 where
+  pub header : Header
+  pub both : Both Digests ℕ
+  pub events : ℕ
+  pub read : ℕ
+
+abbrev pub begun : Header → Running
+begun header = record { header = header; both = first_both (pair_of header); events = 0; read = 0 }
+
+-- the bytes of the snapshots issued on both sides, and of the tickets
+abbrev pub kept_in : {S A : Type 0} → Both S A → ℕ
+kept_in both = sum_by length both.first.issued + sum_by length both.second.issued + sum_by length both.tickets
+
+-- one event more would be too many, or its line too many bytes
+abbrev pub is_too_much : Running → List ℕ → Bool
+is_too_much r line = nat_le most_events r.events || nat_lt most_kept (r.read + length line + kept_in r.both)
+
+-- what an event comes to
+abbrev pub running_outcome : Running → BothEvent → BothOutcome Digests ℕ
+running_outcome r event = both_outcome digests_move (pair_of r.header) r.both event
+
+abbrev pub after_event : Running → List ℕ → BothEvent → Running
+after_event r line event =
+    record r { both = (running_outcome r event).both; events = r.events + 1; read = r.read + length line }
+
+-- before the first line, or among the events
+pub data TransferStage : Type 0 where
+  AtHeader : TransferStage
+  InEvents : Running → TransferStage
+
+-- the first line begins the events
+abbrev pub first_answer : Option Header → Result (List ℕ × TransferStage) Refused
+first_answer None = Err Bad
+first_answer (Some header) = Ok ([], InEvents (begun header))
+
+-- the line that answers an event
+abbrev pub running_text : Running → BothEvent → List ℕ
+running_text r event = answer_text event.which (reply_said (running_outcome r event).reply)
+
+-- an event is answered, unless it is one too many
+abbrev pub answered_unless : (much : Bool) → Running → List ℕ → BothEvent → Result (List ℕ × TransferStage) Refused
+answered_unless much r line event = if much then Err Much else Ok (running_text r event, InEvents (after_event r line event))
+
+abbrev pub event_answer : Running → List ℕ → Option BothEvent → Result (List ℕ × TransferStage) Refused
+event_answer r line None = Err Bad
+event_answer r line (Some event) = answered_unless (is_too_much r line) r line event
+
+-- the reply to a line
+abbrev pub transfer_answer : TransferStage → List ℕ → Result (List ℕ × TransferStage) Refused
+transfer_answer AtHeader line = first_answer (first_at line)
+transfer_answer (InEvents r) line = event_answer r line (event_at line)
+
+-- the last line, which needs the first one before it
+abbrev pub both_end_line : {S A : Type 0} → Both S A → List ℕ
+both_end_line both = end_line both.committed (length both.first.issued) (length both.second.issued) (length both.tickets)
+
+abbrev pub transfer_closing : TransferStage → Option (List ℕ)
+transfer_closing AtHeader = None
+transfer_closing (InEvents r) = Some (both_end_line r.both)
+
+-- how many more lines can be answered
+abbrev pub lines_left_at : TransferStage → ℕ
+lines_left_at AtHeader = most_events + 1
+lines_left_at (InEvents r) = most_events - r.events

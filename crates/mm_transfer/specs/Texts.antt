@@ -1,0 +1,30 @@
+-- Events of two sides whose bytes still lie in their line.
+use Rattle.mm_module.specs.Batch.{One}
+use Rattle.mm_schedule.specs.Events.{Ask, Checkpoint, Power, Extend, meddles_of}
+use Rattle.mm_schedule.specs.Texts.{offer_of}
+use Rattle.mm_sides.specs.Folds.{Act, Plain, Moves, BothEvent}
+use Rattle.mm_sides.specs.Moves.{Command, Invite, Retire, Accept}
+use Rattle.mm_transfer.specs.declared.read.ActText.{ActText}
+use Rattle.mm_transfer.specs.declared.read.ActText.TheVariants as text
+use Rattle.mm_transfer.specs.declared.read.CommandText.{CommandText}
+use Rattle.mm_transfer.specs.declared.read.CommandText.TheVariants as command
+use Rattle.mm_transfer.specs.declared.read.EventText.{EventText}
+use Rattle.mm_transfer.specs.Events.{which_of}
+
+-- the command that stands in a line
+abbrev pub command_in : CommandText → Command
+command_in (command.Invite nonce) = Invite nonce
+command_in (command.Retire nonce from) = Retire nonce (offer_of from)
+command_in (command.Accept from) = Accept (offer_of from)
+
+-- what happens on a side, by its line
+abbrev pub act_in : ActText → Act
+act_in (text.Ask meddles stop from request) = Plain (Ask (meddles_of meddles) stop (offer_of from) (One request.now))
+act_in (text.Checkpoint meddles stop) = Plain (Checkpoint (meddles_of meddles) stop)
+act_in text.Power = Plain Power
+act_in (text.Extend value) = Plain (Extend value.bytes)
+act_in (text.Moves meddles stop what) = Moves (meddles_of meddles) stop (command_in what)
+
+-- the event that stands in a line
+abbrev pub event_in : EventText → BothEvent
+event_in event = record { which = which_of event.which; act = act_in event.act }

@@ -1,0 +1,303 @@
+//! Commands that move the module, on one side.
+
+ghost use Rattle.std.specs.Prelude.{◌≡◌, ◌<◌, ◌^◌, Some, vec_len, vec_capacity, take, drop};
+ghost use Rattle.mm_move.specs.Cells.{moved_of};
+ghost use Rattle.mm_move.specs.Orders.{retires_in, accepts_in};
+ghost use Rattle.mm_modules.specs.Modules.{meaning_of};
+ghost use Rattle.mm_run.specs.Offered.{offered_bytes};
+ghost use Rattle.mm_schedule.specs.declared.header.Header.{Header};
+ghost use Rattle.mm_move.specs.declared.link.Link.{Link};
+ghost use Rattle.mm_sides.specs.Both.{key_of};
+ghost use Rattle.mm_sides.specs.Moves.{Invite, Retire, Accept};
+ghost use Rattle.mm_sides.specs.Roles.{is_live};
+ghost use Rattle.mm_transfer.specs.declared.between.Between.{Between};
+ghost use Rattle.mm_transfer.specs.Between.{InvitedAs, EnteredAs, KeepsDigest, Tried, Commands};
+ghost use Rattle.mm_transfer.specs.Events.{which_of, command_of};
+ghost use Rattle.mm_transfer.specs.OneSide.{link_of, role_in, digest_by};
+ghost use Rattle.mm_transfer.specs.Pairs.{pair_of};
+
+use crate::between::{Between, either};
+use crate::event::{Command, Which};
+use crate::moving::{has_moved, planned_accept, planned_invite, planned_retire, refused};
+use crate::reply::MoveReply;
+use crate::side::Side;
+use mm_base::{Bytes, CELL_LENGTH, Memory};
+use mm_digest::Digest;
+use mm_module::Module;
+use mm_move::{Accepted, Invited, Link, MoveRefusal, MovedCell, read_moved};
+use mm_platform::{Meddle, MemPlatform, Stop};
+use mm_run::{offered, rising, world_barrier, world_key};
+use mm_schedule::{Header, Offer};
+use std::alloc::Global;
+
+// The key that the snapshots of a side are sealed under.
+fn key_on(which: Which) -> [u8; 32]
+    ensures { (header : Header) → result ≡ key_of (pair_of header) (which_of which) }
+{
+    match which {
+        Which::First => world_key(),
+        Which::Second => rising(0x40),
+    }
+}
+
+// What both sides share.
+fn link() -> Link
+    ensures { (header : Header) → result ≡ link_of (pair_of header) }
+{
+    Link {
+        key: rising(0x60),
+        barrier: world_barrier(),
+    }
+}
+
+// Whether a cell says that the module is there.
+fn is_live(cell: &[u8; CELL_LENGTH]) -> bool
+    ensures { result ≡ is_live (role_in (Some cell.now)) }
+{
+    matches!(read_moved(cell), Ok(MovedCell::Live(_)))
+}
+
+// The summary or anchor in a cell that has one, and otherwise what was kept.
+fn rests_at(cell: &[u8; CELL_LENGTH], kept: Digest) -> Digest
+    ensures { result.bytes ≡ digest_by (role_in (Some cell.now)) kept.bytes (Some cell.now) }
+{
+    match read_moved(cell) {
+        Ok(MovedCell::Live(_)) | Ok(MovedCell::Retired(_)) => digest_in(cell),
+        Ok(MovedCell::Waiting(_)) | Err(_) => kept,
+    }
+}
+
+// The summary or anchor in a cell.
+fn digest_in(cell: &[u8; CELL_LENGTH]) -> Digest
+    ensures { result.bytes ≡ take 32 (drop 8 cell.now) }
+{
+    let (_, rest) = cell.split_at(8);
+    let (summary, _) = rest.split_at(32);
+    let mut bytes = [0; 32];
+    bytes.copy_from_slice(summary);
+    Digest { bytes }
+}
+
+// Keeps the summary or anchor of the cell, which an invitation puts none in place of.
+fn keep_digest(here: &mut Side)
+    ensures { KeepsDigest here.old here.new }
+{
+    here.digest = rests_at(here.platform.cell(), here.digest);
+}
+
+// What an invitation is told as.
+fn invited(stop: Stop, came: Result<Invited, MoveRefusal>) -> Result<MoveReply, Memory>
+    ensures { InvitedAs stop came result }
+{
+    match came {
+        Ok(_) => Ok(MoveReply::Invited),
+        Err(why) => refused(stop, why),
+    }
+}
+
+// The module is invited to the side.
+fn invite(
+    header: &Header,
+    which: Which,
+    here: &mut Side,
+    nonce: &[u8; 32],
+    meddles: &[Meddle],
+    stop: Stop,
+) -> Result<MoveReply, Memory>
+    ensures { (between : Between) → Commands (pair_of header.now) (which_of which) meddles.now stop
+        (Invite nonce.now) here.old here.new between between result }
+{
+    keep_digest(here);
+    let came = planned_invite(
+        &mut here.platform,
+        &link(),
+        header.variant,
+        header.module.id(),
+        nonce,
+        &key_on(which),
+        meddles,
+        stop,
+    );
+    invited(stop, came)
+}
+
+// Retires the platform with the snapshot that the offer names.
+fn try_retire(
+    alloc: Global,
+    header: &Header,
+    platform: &mut MemPlatform,
+    issued: &[Bytes],
+    nonce: &[u8; 32],
+    offer: &Offer,
+    meddles: &[Meddle],
+    stop: Stop,
+) -> Result<Option<Result<Bytes, MoveRefusal>>, Memory>
+    ensures { (link : Link) → link ≡ link_of (pair_of header.now) → Tried (λ bytes cell.
+        retires_in (meaning_of header.now.«module») header.now.variant link nonce.now bytes (moved_of cell)) stop meddles.now
+        (offered_bytes issued.now offer.now) platform.old platform.new result }
+{
+    match offered(alloc, issued, offer) {
+        Err(memory) => Err(memory),
+        Ok(None) => Ok(None),
+        Ok(Some(offered)) => Ok(Some(planned_retire(
+            alloc,
+            &header.module,
+            header.variant,
+            platform,
+            &link(),
+            nonce,
+            offered.bytes(),
+            meddles,
+            stop,
+        ))),
+    }
+}
+
+// The module leaves the side.
+fn retire(
+    alloc: Global,
+    header: &Header,
+    which: Which,
+    here: &mut Side,
+    between: &mut Between,
+    nonce: &[u8; 32],
+    offer: &Offer,
+    meddles: &[Meddle],
+    stop: Stop,
+) -> Result<MoveReply, Memory>
+    requires { vec_len between.old.tickets < 2 ^ 32 }
+    ensures { Commands (pair_of header.now) (which_of which) meddles.now stop
+        (Retire nonce.now offer.now) here.old here.new between.old between.new result }
+{
+    between.tickets.reserve(1)?;
+    let was_live = is_live(here.platform.cell());
+    match try_retire(
+        alloc,
+        header,
+        &mut here.platform,
+        here.issued.as_slice(),
+        nonce,
+        offer,
+        meddles,
+        stop,
+    ) {
+        Err(memory) => Err(memory),
+        Ok(None) => Ok(MoveReply::NoSnapshot),
+        Ok(Some(came)) => between.leave(was_live, here.position, stop, came),
+    }
+}
+
+// Accepts the ticket that the offer names on the platform.
+fn try_accept(
+    alloc: Global,
+    header: &Header,
+    platform: &mut MemPlatform,
+    tickets: &[Bytes],
+    offer: &Offer,
+    meddles: &[Meddle],
+    stop: Stop,
+) -> Result<Option<Result<Accepted, MoveRefusal>>, Memory>
+    ensures { (link : Link) → link ≡ link_of (pair_of header.now) → Tried (λ bytes cell.
+        accepts_in (meaning_of header.now.«module») header.now.variant link bytes (moved_of cell)) stop meddles.now
+        (offered_bytes tickets.now offer.now) platform.old platform.new result }
+{
+    match offered(alloc, tickets, offer) {
+        Err(memory) => Err(memory),
+        Ok(None) => Ok(None),
+        Ok(Some(offered)) => Ok(Some(planned_accept(
+            alloc,
+            &header.module,
+            header.variant,
+            platform,
+            &link(),
+            offered.bytes(),
+            meddles,
+            stop,
+        ))),
+    }
+}
+
+// The module entered the side, after so many requests, if it wasn't there; or it was refused. Hands out the snapshot.
+fn enter(
+    here: &mut Side,
+    was_live: bool,
+    away: u64,
+    stop: Stop,
+    came: Result<Accepted, MoveRefusal>,
+) -> Result<MoveReply, Memory>
+    requires { vec_len here.old.issued < vec_capacity here.old.issued }
+    ensures { EnteredAs was_live away stop came here.old here.new result }
+{
+    match came {
+        Ok(accepted) => {
+            let Accepted { position, snapshot } = accepted;
+            here.position = either(was_live, here.position, away);
+            here.keep(Some(snapshot));
+            Ok(MoveReply::Entered { position })
+        }
+        Err(why) => {
+            here.position = either(!was_live && has_moved(stop, why), away, here.position);
+            refused(stop, why)
+        }
+    }
+}
+
+// The module enters the side.
+fn accept(
+    alloc: Global,
+    header: &Header,
+    which: Which,
+    here: &mut Side,
+    between: &Between,
+    offer: &Offer,
+    meddles: &[Meddle],
+    stop: Stop,
+) -> Result<MoveReply, Memory>
+    ensures { Commands (pair_of header.now) (which_of which) meddles.now stop (Accept offer.now)
+        here.old here.new between.now between.now result }
+{
+    here.issued.reserve(1)?;
+    let was_live = is_live(here.platform.cell());
+    match try_accept(
+        alloc,
+        header,
+        &mut here.platform,
+        between.tickets.as_slice(),
+        offer,
+        meddles,
+        stop,
+    ) {
+        Err(memory) => Err(memory),
+        Ok(None) => Ok(MoveReply::NoTicket),
+        Ok(Some(came)) => enter(here, was_live, between.away, stop, came),
+    }
+}
+
+/// Makes a command on a side, and answers it. After want of memory nothing has changed, but that the command may have made
+/// its first step.
+pub fn command(
+    alloc: Global,
+    header: &Header,
+    which: Which,
+    here: &mut Side,
+    between: &mut Between,
+    meddles: &[Meddle],
+    stop: Stop,
+    command: &Command,
+) -> Result<MoveReply, Memory>
+    requires { vec_len between.old.tickets < 2 ^ 32 }
+    ensures { Commands (pair_of header.now) (which_of which) meddles.now stop
+        (command_of command.now) here.old here.new between.old between.new result }
+{
+    match command {
+        Command::Invite { nonce } => invite(header, which, here, nonce, meddles, stop),
+        Command::Retire { nonce, offer } => {
+            retire(
+                alloc, header, which, here, between, nonce, offer, meddles, stop,
+            )
+        }
+        Command::Accept { offer } => {
+            accept(alloc, header, which, here, between, offer, meddles, stop)
+        }
+    }
+}

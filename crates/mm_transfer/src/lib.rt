@@ -1,0 +1,27 @@
+//! A module that moves between two platforms, and keeps its one list of requests: schedules of both sides, from bytes to
+//! bytes.
+#![tactic(auto)]
+
+mod between;
+mod commands;
+mod event;
+mod moving;
+mod progress;
+mod put;
+mod read;
+mod reply;
+mod report;
+mod side;
+mod sides;
+#[cfg(test)]
+mod tests;
+mod whole;
+
+pub use event::{Act, Command, SideEvent, Which};
+pub use progress::Progress;
+pub use put::{put_answer, put_end};
+pub use read::{read_first, read_side_event};
+pub use reply::{MoveCause, MoveReply};
+pub use report::TransferReport;
+pub use sides::Sides;
+pub use whole::transfer;

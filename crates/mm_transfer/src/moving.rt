@@ -1,0 +1,163 @@
+//! Moves under the plan of an event.
+
+ghost use Rattle.std.specs.Prelude.{◌≡◌, is_some};
+ghost use Rattle.mm_move.specs.Cells.{moved_of};
+ghost use Rattle.mm_move.specs.Orders.{waiting_for, invites_in, retires_in, accepts_in};
+ghost use Rattle.mm_move.specs.Refusals.{move_fault_in};
+ghost use Rattle.mm_run.specs.Folds.{cause_of};
+ghost use Rattle.mm_transfer.specs.Between.{RefusedAs, has_moved};
+ghost use Rattle.mm_transfer.specs.Planned.{MovesPlanned, moves_at};
+
+use crate::reply::{MoveCause, MoveReply};
+use mm_base::{Bytes, Memory};
+use mm_digest::Variant;
+use mm_model::Refusal;
+use mm_module::Module;
+use mm_move::{Accepted, Invited, Link, MoveRefusal};
+use mm_platform::{Meddle, MemPlatform, Stop};
+use mm_schedule::Cause;
+use mm_world::{settle, way};
+use std::alloc::Global;
+
+const NO_MEMORY: MoveRefusal = MoveRefusal::Core(Refusal::Memory);
+
+/// Whether a device's fault broke a move off.
+pub fn is_broken<A>(came: &Result<A, MoveRefusal>) -> bool
+    ensures { result ≡ is_some (move_fault_in came.now) }
+{
+    matches!(came, Err(MoveRefusal::Core(Refusal::Device(_))))
+}
+
+/// Whether a move that was broken off, and stopped so, has its effect: its second step has that, by writing the cell.
+pub fn moves_at(stop: Stop) -> bool
+    ensures { result ≡ moves_at stop }
+{
+    match stop {
+        Stop::Quiet => false,
+        Stop::Cut(step) | Stop::Drop(step) => step == 2,
+        Stop::Fail { step, done } => step == 2 && done,
+    }
+}
+
+/// Whether a move that was refused so, and stopped so, has its effect.
+pub fn has_moved(stop: Stop, why: MoveRefusal) -> bool
+    ensures { result ≡ has_moved stop why }
+{
+    match why {
+        MoveRefusal::Core(Refusal::Device(_)) => moves_at(stop),
+        _ => false,
+    }
+}
+
+// The cause that a reply names. A move is refused for no other reason of a call.
+fn cause(refusal: Refusal) -> Cause
+    ensures { result ≡ cause_of refusal }
+{
+    match refusal {
+        Refusal::Lost => Cause::Lost,
+        Refusal::Form => Cause::Form,
+        Refusal::Kind => Cause::Kind,
+        Refusal::State => Cause::State,
+        Refusal::Tag => Cause::Tag,
+        Refusal::Stale => Cause::Stale,
+        Refusal::Full => Cause::Full,
+        Refusal::Blank => Cause::Blank,
+        Refusal::Cell => Cause::Cell,
+        Refusal::Memory | Refusal::Long | Refusal::Device(_) => Cause::Long,
+    }
+}
+
+/// What is told of a move that was refused, or broken off. Memory exactly where it was refused for that.
+pub fn refused(stop: Stop, why: MoveRefusal) -> Result<MoveReply, Memory>
+    ensures { RefusedAs stop why result }
+{
+    match why {
+        MoveRefusal::Core(Refusal::Memory) => Err(Memory),
+        MoveRefusal::Core(Refusal::Device(_)) => Ok(MoveReply::Broken {
+            way: way(stop),
+            moved: moves_at(stop),
+        }),
+        MoveRefusal::Core(refusal) => Ok(MoveReply::Denied(MoveCause::Refused(cause(refusal)))),
+        MoveRefusal::Already => Ok(MoveReply::Denied(MoveCause::Already)),
+        MoveRefusal::Open => Ok(MoveReply::Denied(MoveCause::Open)),
+        MoveRefusal::Gone => Ok(MoveReply::Denied(MoveCause::Gone)),
+        MoveRefusal::Nonce => Ok(MoveReply::Denied(MoveCause::Nonce)),
+        MoveRefusal::Barrier => Ok(MoveReply::Denied(MoveCause::Barrier)),
+    }
+}
+
+/// Invites the platform under the plan of these meddles and this stop.
+pub fn planned_invite(
+    platform: &mut MemPlatform,
+    link: &Link,
+    variant: Variant,
+    module: u8,
+    nonce: &[u8; 32],
+    key: &[u8; 32],
+    meddles: &[Meddle],
+    stop: Stop,
+) -> Result<Invited, MoveRefusal>
+    ensures { MovesPlanned (λ bytes.
+        invites_in (waiting_for link.now variant «module» nonce.now key.now) (moved_of bytes))
+        stop meddles.now platform.old platform.new result }
+{
+    match platform.plan(stop, meddles) {
+        Err(_) => Err(NO_MEMORY),
+        Ok(()) => {
+            let came = mm_move::invite(platform, link, variant, module, nonce, key);
+            settle(platform, stop, is_broken(&came));
+            came
+        }
+    }
+}
+
+/// Retires the platform under such a plan.
+pub fn planned_retire<M: Module>(
+    alloc: Global,
+    module: &M,
+    variant: Variant,
+    platform: &mut MemPlatform,
+    link: &Link,
+    nonce: &[u8; 32],
+    offer: &[u8],
+    meddles: &[Meddle],
+    stop: Stop,
+) -> Result<Bytes, MoveRefusal>
+    ensures { MovesPlanned (λ bytes.
+        retires_in (M.meaning «module».now) variant link.now nonce.now offer.now (moved_of bytes))
+        stop meddles.now platform.old platform.new result }
+{
+    match platform.plan(stop, meddles) {
+        Err(_) => Err(NO_MEMORY),
+        Ok(()) => {
+            let came = mm_move::retire(alloc, module, variant, platform, link, nonce, offer);
+            settle(platform, stop, is_broken(&came));
+            came
+        }
+    }
+}
+
+/// Accepts a ticket on the platform under such a plan.
+pub fn planned_accept<M: Module>(
+    alloc: Global,
+    module: &M,
+    variant: Variant,
+    platform: &mut MemPlatform,
+    link: &Link,
+    ticket: &[u8],
+    meddles: &[Meddle],
+    stop: Stop,
+) -> Result<Accepted, MoveRefusal>
+    ensures { MovesPlanned (λ bytes.
+        accepts_in (M.meaning «module».now) variant link.now ticket.now (moved_of bytes))
+        stop meddles.now platform.old platform.new result }
+{
+    match platform.plan(stop, meddles) {
+        Err(_) => Err(NO_MEMORY),
+        Ok(()) => {
+            let came = mm_move::accept(alloc, module, variant, platform, link, ticket);
+            settle(platform, stop, is_broken(&came));
+            came
+        }
+    }
+}

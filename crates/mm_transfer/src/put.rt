@@ -1,0 +1,114 @@
+//! The answers of two sides as text.
+
+ghost use Rattle.std.specs.Prelude.{◌≡◌, ◌++◌, [], ◌∷◌, codes, OnOk};
+ghost use Rattle.std.specs.Fmt.{decimal};
+ghost use Rattle.mm_transfer.specs.Answers.{answer_text, end_line, move_cause_text, move_text, moved_text, which_text};
+ghost use Rattle.mm_transfer.specs.Events.{which_of};
+ghost use Rattle.mm_transfer.specs.Replies.{IsSayable};
+
+use crate::event::Which;
+use crate::reply::{MoveCause, MoveReply};
+use mm_base::{Bytes, Memory, put_decimal};
+use mm_replay::put_reply;
+
+impl MoveCause {
+    /// The word that a refusal ends with.
+    pub fn text(self) -> &'static [u8]
+        ensures { result.now ≡ move_cause_text self }
+    {
+        match self {
+            MoveCause::Refused(cause) => cause.text(),
+            MoveCause::Already => b"already",
+            MoveCause::Open => b"open",
+            MoveCause::Gone => b"gone",
+            MoveCause::Nonce => b"nonce",
+            MoveCause::Barrier => b"barrier",
+        }
+    }
+}
+
+impl Which {
+    /// The number of a side.
+    pub fn text(self) -> &'static [u8]
+        ensures { result.now ≡ which_text (which_of self) }
+    {
+        match self {
+            Which::First => b"0",
+            Which::Second => b"1",
+        }
+    }
+}
+
+// What became of a move that was disturbed.
+fn moved_word(moved: bool) -> &'static [u8]
+    ensures { result.now ≡ moved_text moved }
+{
+    if moved { b" moved" } else { b" lost" }
+}
+
+// Puts two words and an LF at the end.
+fn put_words(first: &[u8], second: &[u8], into: &mut Bytes) -> Result<(), Memory>
+    ensures { OnOk result (into.new ≡ into.old ++ (first.now ++ second.now ++ 10 ∷ [])) }
+{
+    into.append(first)?;
+    into.append(second)?;
+    into.push(b'\n')
+}
+
+// Puts a word, a number and an LF at the end.
+fn put_numbered(word: &[u8], number: u64, into: &mut Bytes) -> Result<(), Memory>
+    ensures { OnOk result (into.new ≡ into.old ++ (word.now ++ decimal number ++ 10 ∷ [])) }
+{
+    into.append(word)?;
+    put_decimal(into, number)?;
+    into.push(b'\n')
+}
+
+// Puts a reply at the end, with its LF.
+fn put_move(reply: &MoveReply, into: &mut Bytes) -> Result<(), Memory>
+    requires { IsSayable reply.now }
+    ensures { OnOk result (into.new ≡ into.old ++ move_text reply.now) }
+{
+    match reply {
+        MoveReply::Said(reply) => put_reply(reply, into),
+        MoveReply::Invited => put_words(b"invited", b"", into),
+        MoveReply::Left { ticket } => put_numbered(b"retired ", u64::from(*ticket), into),
+        MoveReply::Entered { position } => put_numbered(b"accepted ", *position, into),
+        MoveReply::Denied(cause) => put_words(b"no ", cause.text(), into),
+        MoveReply::NoSnapshot => put_words(b"no snapshot", b"", into),
+        MoveReply::NoTicket => put_words(b"no ticket", b"", into),
+        MoveReply::Broken { way, moved } => put_words(way.text(), moved_word(*moved), into),
+    }
+}
+
+/// Puts the number of a side and a space, and the reply to its event, at the end.
+pub fn put_answer(which: Which, reply: &MoveReply, into: &mut Bytes) -> Result<(), Memory>
+    requires { IsSayable reply.now }
+    ensures { OnOk result (into.new ≡ into.old ++ answer_text (which_of which) reply.now) }
+{
+    into.append(which.text())?;
+    into.push(b' ')?;
+    put_move(reply, into)
+}
+
+/// Puts the line `end N K0 K1 T` at the end: so many requests were committed, so many snapshots issued on each side, and
+/// so many tickets.
+pub fn put_end(
+    committed: u64,
+    first: u32,
+    second: u32,
+    tickets: u32,
+    into: &mut Bytes,
+) -> Result<(), Memory>
+    ensures { OnOk result (into.new ≡ into.old ++ end_line committed first second tickets) }
+{
+    into.append(b"end ")?;
+    put_decimal(into, committed)?;
+    into.push(b' ')?;
+    put_decimal(into, u64::from(first))?;
+    into.push(b' ')?;
+    put_decimal(into, u64::from(second))?;
+    into.push(b' ')?;
+    put_decimal(into, u64::from(tickets))?;
+    into.push(b'\n')
+}

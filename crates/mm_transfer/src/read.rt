@@ -1,0 +1,324 @@
+//! Reading the lines of two sides.
+
+ghost use Rattle.std.specs.Prelude.{◌≡◌, ◌↔◌, Some, None, IfOk, IsErrOf};
+ghost use Rattle.std.specs.Option.{option_map};
+ghost use Rattle.mm_module.specs.Values.{value_at};
+ghost use Rattle.mm_schedule.specs.Events.{meddles_of};
+ghost use Rattle.mm_schedule.specs.Headers.{head_at};
+ghost use Rattle.mm_schedule.specs.Texts.{offer_of};
+ghost use Rattle.mm_transfer.specs.Events.{which_of, command_of, act_of, side_event_of};
+ghost use Rattle.mm_transfer.specs.Grammar.{first_at, which_at, named_at, raw_at, flipped_at, whole_offer_at, retire_at, command_at, ask_at, call_at, prefixed_at, act_at, event_at};
+ghost use Rattle.mm_transfer.specs.Texts as texts;
+
+use crate::event::{Act, Command, SideEvent, Which};
+use mm_base::{Bytes, Memory};
+use mm_digest::Digest;
+use mm_platform::Stop;
+use mm_schedule::{
+    Event, EventFault, Header, Meddles, OfferText, after, is_text, meddles_in, number_in, offer_in,
+    owned_offer, read_head, spells_bytes, stop_in, value_in, word_in,
+};
+use std::alloc::Global;
+
+/// A command as it lies in its line.
+pub enum CommandText<'a> {
+    Invite {
+        nonce: [u8; 32],
+    },
+    Retire {
+        nonce: [u8; 32],
+        from: OfferText<'a>,
+    },
+    Accept {
+        from: OfferText<'a>,
+    },
+}
+
+/// What happens on a side, as it lies in its line.
+pub enum ActText<'a> {
+    Ask {
+        meddles: Meddles,
+        stop: Stop,
+        from: OfferText<'a>,
+        request: &'a [u8],
+    },
+    Checkpoint {
+        meddles: Meddles,
+        stop: Stop,
+    },
+    Power,
+    Extend {
+        value: Digest,
+    },
+    Moves {
+        meddles: Meddles,
+        stop: Stop,
+        command: CommandText<'a>,
+    },
+}
+
+/// An event as it lies in its line.
+pub struct EventText<'a> {
+    pub which: Which,
+    pub act: ActText<'a>,
+}
+
+/// What the first line names, as `memoir transfer 1 basic counter`. None where the line is outside the grammar.
+#[tactic(auto, unfolding(crate::specs::Grammar::first_at))]
+pub fn read_first(line: &[u8]) -> Option<Header>
+    ensures { result ≡ first_at line.now }
+{
+    let words = after(b"memoir transfer 1 ", line)?;
+    head_in(words)
+}
+
+// A variant and a module.
+fn head_in(words: &[u8]) -> Option<Header>
+    ensures { result ≡ head_at words.now }
+{
+    read_head(words)
+}
+
+/// The event of a line, which stands without its LF.
+pub fn read_side_event(alloc: Global, line: &[u8]) -> Result<SideEvent, EventFault>
+    ensures read { IfOk result (λ event. event_at line.now ≡ Some (side_event_of event)) }
+    ensures bad { IsErrOf result EventFault.Bad ↔ (event_at line.now ≡ None) }
+{
+    let Some(event) = event_in(line) else {
+        return Err(EventFault::Bad);
+    };
+    let event = owned(alloc, event)?;
+    Ok(event)
+}
+
+// The event of a line.
+#[tactic(auto, unfolding(crate::specs::Grammar::event_at))]
+fn event_in(line: &[u8]) -> Option<EventText<'_>>
+    ensures { option_map texts.event_in result ≡ event_at line.now }
+{
+    let (word, line) = word_in(line)?;
+    let which = which_in(word)?;
+    let act = act_in(line)?;
+    Some(EventText { which, act })
+}
+
+// A side, by its number.
+#[tactic(auto, unfolding(crate::specs::Grammar::which_at))]
+fn which_in(word: &[u8]) -> Option<Which>
+    ensures { option_map which_of result ≡ which_at word.now }
+{
+    if is_text(word, b"0") {
+        return Some(Which::First);
+    }
+    if is_text(word, b"1") {
+        return Some(Which::Second);
+    }
+    None
+}
+
+// What happens on a side.
+#[tactic(auto, unfolding(crate::specs::Grammar::act_at))]
+fn act_in(line: &[u8]) -> Option<ActText<'_>>
+    ensures { option_map texts.act_in result ≡ act_at line.now }
+{
+    if is_text(line, b"power") {
+        return Some(ActText::Power);
+    }
+    let Some(word) = after(b"extend ", line) else {
+        return prefixed_in(line);
+    };
+    let value = value_in(word)?;
+    Some(ActText::Extend { value })
+}
+
+// A call or a command with what comes before it.
+#[tactic(auto, unfolding(crate::specs::Grammar::prefixed_at))]
+fn prefixed_in(line: &[u8]) -> Option<ActText<'_>>
+    ensures { option_map texts.act_in result ≡ prefixed_at line.now }
+{
+    let (meddles, line) = meddles_in(line)?;
+    let (stop, line) = stop_in(line)?;
+    call_in(meddles, stop, line)
+}
+
+// A call or a command behind its meddles and its stop.
+#[tactic(auto, unfolding(crate::specs::Grammar::call_at))]
+fn call_in(meddles: Meddles, stop: Stop, line: &[u8]) -> Option<ActText<'_>>
+    ensures { option_map texts.act_in result ≡ call_at (meddles_of meddles) stop line.now }
+{
+    if is_text(line, b"checkpoint") {
+        return Some(ActText::Checkpoint { meddles, stop });
+    }
+    if let Some(line) = after(b"ask ", line) {
+        return ask_in(meddles, stop, line);
+    }
+    let command = command_in(line)?;
+    Some(ActText::Moves {
+        meddles,
+        stop,
+        command,
+    })
+}
+
+// An offer and a request behind `ask`.
+#[tactic(auto, unfolding(crate::specs::Grammar::ask_at))]
+fn ask_in(meddles: Meddles, stop: Stop, line: &[u8]) -> Option<ActText<'_>>
+    ensures { option_map texts.act_in result ≡ ask_at (meddles_of meddles) stop line.now }
+{
+    let (from, request) = offer_in(line)?;
+    Some(ActText::Ask {
+        meddles,
+        stop,
+        from,
+        request,
+    })
+}
+
+// A command.
+#[tactic(auto, unfolding(crate::specs::Grammar::command_at))]
+fn command_in(line: &[u8]) -> Option<CommandText<'_>>
+    ensures { option_map texts.command_in result ≡ command_at line.now }
+{
+    if let Some(word) = after(b"invite ", line) {
+        let nonce = nonce_in(word)?;
+        return Some(CommandText::Invite { nonce });
+    }
+    if let Some(line) = after(b"retire ", line) {
+        return retire_in(line);
+    }
+    let word = after(b"accept ", line)?;
+    let from = named_in(word)?;
+    Some(CommandText::Accept { from })
+}
+
+// A nonce of 64 hexadecimal digits.
+fn nonce_in(word: &[u8]) -> Option<[u8; 32]>
+    ensures { result ≡ value_at word.now }
+{
+    let value = value_in(word)?;
+    let nonce = value.bytes;
+    Some(nonce)
+}
+
+// A nonce and an offer behind `retire`.
+#[tactic(auto, unfolding(crate::specs::Grammar::retire_at))]
+fn retire_in(line: &[u8]) -> Option<CommandText<'_>>
+    ensures { option_map texts.command_in result ≡ retire_at line.now }
+{
+    let (word, line) = word_in(line)?;
+    let nonce = nonce_in(word)?;
+    let from = whole_offer_in(line)?;
+    Some(CommandText::Retire { nonce, from })
+}
+
+// An offer up to the end of the line.
+#[tactic(auto, unfolding(crate::specs::Grammar::whole_offer_at))]
+fn whole_offer_in(line: &[u8]) -> Option<OfferText<'_>>
+    ensures { option_map offer_of result ≡ whole_offer_at line.now }
+{
+    match after(b"flip ", line) {
+        Some(words) => flipped_in(words),
+        None => named_in(line),
+    }
+}
+
+// Two numbers behind `flip`, up to the end of the line.
+#[tactic(auto, unfolding(crate::specs::Grammar::flipped_at))]
+fn flipped_in(line: &[u8]) -> Option<OfferText<'_>>
+    ensures { option_map offer_of result ≡ flipped_at line.now }
+{
+    let (word, line) = word_in(line)?;
+    let number = number_in(word)?;
+    let byte = number_in(line)?;
+    Some(OfferText::Flip { number, byte })
+}
+
+// A number, `last`, or bytes behind `raw`, up to the end of the line.
+#[tactic(auto, unfolding(crate::specs::Grammar::named_at))]
+fn named_in(line: &[u8]) -> Option<OfferText<'_>>
+    ensures { option_map offer_of result ≡ named_at line.now }
+{
+    if is_text(line, b"last") {
+        return Some(OfferText::Last);
+    }
+    if let Some(word) = after(b"raw ", line) {
+        return raw_in(word);
+    }
+    let number = number_in(line)?;
+    Some(OfferText::Number(number))
+}
+
+// Bytes behind `raw`, up to the end of the line.
+#[tactic(auto, unfolding(crate::specs::Grammar::raw_at))]
+fn raw_in(word: &[u8]) -> Option<OfferText<'_>>
+    ensures { option_map offer_of result ≡ raw_at word.now }
+{
+    if !spells_bytes(word) {
+        return None;
+    }
+    Some(OfferText::Raw(word))
+}
+
+// The event with bytes of its own.
+fn owned(alloc: Global, event: EventText<'_>) -> Result<SideEvent, Memory>
+    ensures { IfOk result (λ own. side_event_of own ≡ texts.event_in event.entry) }
+{
+    let EventText { which, act } = event;
+    let act = owned_act(alloc, act)?;
+    Ok(SideEvent { which, act })
+}
+
+fn owned_act(alloc: Global, act: ActText<'_>) -> Result<Act, Memory>
+    ensures { IfOk result (λ own. act_of own ≡ texts.act_in act.entry) }
+{
+    match act {
+        ActText::Ask {
+            meddles,
+            stop,
+            from,
+            request,
+        } => {
+            let offer = owned_offer(alloc, from)?;
+            let request = Bytes::copy_of(alloc, request)?;
+            Ok(Act::Plain(Event::Ask {
+                meddles,
+                stop,
+                offer,
+                request,
+            }))
+        }
+        ActText::Checkpoint { meddles, stop } => {
+            Ok(Act::Plain(Event::Checkpoint { meddles, stop }))
+        }
+        ActText::Power => Ok(Act::Plain(Event::Power)),
+        ActText::Extend { value } => Ok(Act::Plain(Event::Extend { value })),
+        ActText::Moves {
+            meddles,
+            stop,
+            command,
+        } => {
+            let command = owned_command(alloc, command)?;
+            Ok(Act::Moves {
+                meddles,
+                stop,
+                command,
+            })
+        }
+    }
+}
+
+fn owned_command(alloc: Global, command: CommandText<'_>) -> Result<Command, Memory>
+    ensures { IfOk result (λ own. command_of own ≡ texts.command_in command.entry) }
+{
+    match command {
+        CommandText::Invite { nonce } => Ok(Command::Invite { nonce }),
+        CommandText::Retire { nonce, from } => {
+            let offer = owned_offer(alloc, from)?;
+            Ok(Command::Retire { nonce, offer })
+        }
+        CommandText::Accept { from } => {
+            let offer = owned_offer(alloc, from)?;
+            Ok(Command::Accept { offer })
+        }
+    }
+}

@@ -1,0 +1,199 @@
+//! Both sides.
+
+ghost use Rattle.std.specs.Prelude.{◌≡◌, ◌+◌, ◌-◌, ◌<◌, ◌≤◌, ◌^◌, min, length, vec_len};
+ghost use Rattle.mm_schedule.specs.Events.{event_of};
+ghost use Rattle.mm_sides.specs.Both.{First, Second};
+ghost use Rattle.mm_sides.specs.Both as both;
+ghost use Rattle.mm_sides.specs.Folds as folds;
+ghost use Rattle.mm_transfer.specs.declared.between.Between.{Between};
+ghost use Rattle.mm_transfer.specs.Acting.{Acts};
+ghost use Rattle.mm_transfer.specs.Between.{FitsBetween};
+ghost use Rattle.mm_transfer.specs.Events.{act_of, which_of};
+ghost use Rattle.mm_transfer.specs.OneSide.{FitsSide};
+ghost use Rattle.mm_transfer.specs.OneProof.{fits_prop};
+ghost use Rattle.mm_transfer.specs.Pairs.{pair_of};
+
+use crate::between::Between;
+use crate::commands;
+use crate::event::{Act, SideEvent, Which};
+use crate::reply::MoveReply;
+use crate::side::Side;
+use mm_base::Memory;
+use mm_schedule::{Event, Header};
+use mm_world::listed;
+use std::alloc::Global;
+use std::marker::Model;
+
+/// Both platforms, the snapshots issued on each, and the tickets.
+#[derive(Drop)]
+pub struct Sides {
+    header: Header,
+    first: Side,
+    second: Side,
+    between: Between,
+    /// How many requests were committed, on either side.
+    committed: u64,
+    ghost first_fits: { FitsSide (pair_of header) First first } by { fits_prop (pair_of header) First first },
+    ghost second_fits: { FitsSide (pair_of header) Second second } by { fits_prop (pair_of header) Second second },
+    ghost between_fits: { FitsBetween between },
+    ghost first_within: { first.position ≤ committed },
+    ghost second_within: { second.position ≤ committed },
+    ghost away_within: { between.away ≤ committed },
+    ghost first_few: { length first.issued.items < 2 ^ 32 },
+    ghost second_few: { length second.issued.items < 2 ^ 32 },
+    ghost tickets_few: { length between.tickets.items < 2 ^ 32 },
+}
+
+impl Model for Sides {
+    ghost use Rattle.mm_transfer.specs.Sides.{BothHeld, held_in};
+
+    ghost Value = { BothHeld };
+
+    ghost view = { λ s. held_in s.header s.first s.second s.between s.committed };
+}
+
+// Follows an event of a schedule on a side, and counts what it committed.
+fn play(
+    alloc: Global,
+    header: &Header,
+    here: &mut Side,
+    committed: &mut u64,
+    event: &Event,
+) -> Result<MoveReply, Memory>
+    requires { here.old.position < 2 ^ 63 }
+    ensures { (which : both.Which) (between : Between) → Acts (pair_of header.now) which (folds.Plain (event_of event.now))
+        here.old here.new between between committed.old committed.new result }
+{
+    let before = here.position;
+    match here.event(alloc, header, event) {
+        Err(memory) => Err(memory),
+        Ok(said) => {
+            *committed = committed.saturating_add(here.position.saturating_sub(before));
+            Ok(MoveReply::Said(said))
+        }
+    }
+}
+
+// Follows what happens on a side, and answers it.
+fn act(
+    alloc: Global,
+    header: &Header,
+    which: Which,
+    here: &mut Side,
+    between: &mut Between,
+    committed: &mut u64,
+    act: &Act,
+) -> Result<MoveReply, Memory>
+    requires position { here.old.position < 2 ^ 63 }
+    requires tickets { vec_len between.old.tickets < 2 ^ 32 }
+    ensures { Acts (pair_of header.now) (which_of which) (act_of act.now) here.old here.new between.old between.new
+        committed.old committed.new result }
+{
+    match act {
+        Act::Plain(event) => play(alloc, header, here, committed, event),
+        Act::Moves {
+            meddles,
+            stop,
+            command,
+        } => {
+            let meddles = listed(meddles);
+            commands::command(alloc, header, which, here, between, meddles, *stop, command)
+        }
+    }
+}
+
+impl Sides {
+    ghost use Rattle.std.specs.Prelude.{IfOk, OnErr, OnOk};
+    ghost use Rattle.mm_transfer.specs.Events.{side_event_of};
+    ghost use Rattle.mm_transfer.specs.Replies.{reply_said, IsSayable};
+    ghost use Rattle.mm_transfer.specs.Sides.{first_held, outcome_in, HasRoom, GrowsByOne, Stays};
+    ghost use Rattle.mm_transfer.specs.Stage.{kept_in};
+    ghost use Rattle.mm_sides.specs.Both.{facing};
+
+    /// New sides: the first is provisioned for the header's module, and its first snapshot has number 0; the second is blank.
+    pub fn new(alloc: Global, header: &Header) -> Result<Sides, Memory>
+        ensures { IfOk result (λ sides. sides ≡ first_held header.now) }
+    {
+        Ok(Sides {
+            header: *header,
+            first: Side::live(alloc, header)?,
+            second: Side::blank(alloc, header),
+            between: Between::new(alloc),
+            committed: 0,
+        })
+    }
+
+    /// Follows one event, and answers it. After want of memory nothing has changed, but that a call may have made its
+    /// reading steps.
+    pub fn event(&mut self, alloc: Global, event: &SideEvent) -> Result<MoveReply, Memory>
+        requires { HasRoom self.old }
+        ensures reply { IfOk result
+            (λ reply. reply ≡ reply_said (outcome_in self.old (side_event_of event.now)).reply) }
+        ensures sayable { IfOk result IsSayable }
+        ensures after { OnOk result (self.new.both ≡ (outcome_in self.old (side_event_of event.now)).both) }
+        ensures grows { OnOk result (GrowsByOne self.old self.new) }
+        ensures stays { OnErr result (Stays self.old self.new) }
+    {
+        let Sides {
+            header,
+            first,
+            second,
+            between,
+            committed,
+        } = self;
+        match event.which {
+            Which::First => act(
+                alloc,
+                header,
+                Which::First,
+                first,
+                between,
+                committed,
+                &event.act,
+            ),
+            Which::Second => act(
+                alloc,
+                header,
+                Which::Second,
+                second,
+                between,
+                committed,
+                &event.act,
+            ),
+        }
+    }
+
+    /// The bytes of the snapshots issued on both sides, and of the tickets.
+    pub fn kept(&self) -> u64
+        ensures { result ≡ min (kept_in self.now.both) (2 ^ 64 - 1) }
+    {
+        self.first
+            .kept
+            .saturating_add(self.second.kept)
+            .saturating_add(self.between.kept)
+    }
+
+    /// How many requests were committed.
+    pub fn committed(&self) -> u64
+        ensures { result ≡ self.now.both.committed }
+    {
+        self.committed
+    }
+
+    /// How many snapshots were issued on a side.
+    pub fn issued(&self, which: Which) -> u32
+        ensures { result ≡ length (facing (which_of which) self.now.both).first.issued }
+    {
+        match which {
+            Which::First => self.first.issued.len() as u32,
+            Which::Second => self.second.issued.len() as u32,
+        }
+    }
+
+    /// How many tickets were handed out.
+    pub fn tickets(&self) -> u32
+        ensures { result ≡ length self.now.both.tickets }
+    {
+        self.between.tickets.len() as u32
+    }
+}
