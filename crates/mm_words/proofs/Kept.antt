@@ -26,7 +26,7 @@ use Rattle.mm_schedule.specs.declared.header.Header.{Header}
 use Rattle.mm_words.specs.Commands.{IsGenerated, SpellsCommand, generated_words, header_words}
 use Rattle.mm_words.specs.Forms.{IsMatched, is_refused}
 use Rattle.mm_words.specs.declared.command.Command.{Command}
-use Rattle.mm_words.specs.declared.command.Command.TheVariants.{Init, Run, Checkpoint, Power, Replay, Check, Gen, Bulk, Receipts, Help}
+use Rattle.mm_words.specs.declared.command.Command.TheVariants.{Init, Run, Checkpoint, Power, Replay, Check, Gen, Bulk, Slots, Receipts, Transfer, Help}
 use Rattle.mm_words.specs.declared.command.Generated.{Generated}
 
 -- `clap` reads the word as a value
@@ -128,6 +128,8 @@ are_kept Replay words spells matched = kept_as words _ spells.spelled (alone_kep
 are_kept Check words spells matched = kept_as words _ spells.spelled (alone_kept (codes "check") refl)
 are_kept (Gen it) words spells matched = kept_as words _ spells.spelled (generated_kept (codes "gen") it refl spells.allowed)
 are_kept (Bulk it) words spells matched = kept_as words _ spells.spelled (generated_kept (codes "bulk") it refl spells.allowed)
+are_kept Slots words spells matched = kept_as words _ spells.spelled (alone_kept (codes "slots") refl)
 are_kept (Receipts key) words spells matched =
     let given = spells.spelled in kept_as words _ given.2 (receipts_kept given.0 key given.1)
+are_kept Transfer words spells matched = kept_as words _ spells.spelled (alone_kept (codes "transfer") refl)
 are_kept Help words spells matched = absurd matched

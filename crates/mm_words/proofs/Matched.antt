@@ -23,10 +23,10 @@ use Rattle.mm_words.specs.App.{the_app}
 use Rattle.mm_words.specs.Commands.{IsGenerated, SpellsCommand, generated_words, header_words}
 use Rattle.mm_words.specs.Forms.{IsMatched, command_in, generated_in, header_in, key_found}
 use Rattle.mm_words.specs.declared.command.Command.{Command}
-use Rattle.mm_words.specs.declared.command.Command.TheVariants.{Init, Run, Checkpoint, Power, Replay, Check, Gen, Bulk, Receipts, Help}
+use Rattle.mm_words.specs.declared.command.Command.TheVariants.{Init, Run, Checkpoint, Power, Replay, Check, Gen, Bulk, Slots, Receipts, Transfer, Help}
 use Rattle.mm_words.specs.declared.command.Generated.{Generated}
 use Rattle.mm_words.proofs.Kept.{IsPlainWord, key_kept, name_kept, number_kept, plain_word, variant_kept}
-use Rattle.mm_words.proofs.Taken.{Given, IsTaken, alone, bulk_taken, check_taken, checkpoint_taken, gen_taken, generating, given_in, init_taken, power_taken, receipts_taken, replay_taken, run_taken, with_header, with_key}
+use Rattle.mm_words.proofs.Taken.{Given, IsTaken, alone, bulk_taken, check_taken, checkpoint_taken, gen_taken, generating, given_in, init_taken, power_taken, receipts_taken, replay_taken, run_taken, slots_taken, transfer_taken, with_header, with_key}
 
 pub variant-read : (variant : Variant) → variant_at (variant_text variant) ≡ Some variant
 variant-read Basic = refl
@@ -161,6 +161,22 @@ check_brings = record {
   matched = λ name found same. rw (ap (λ (g : Given). g.name) same) refl;
 }
 
+slots_brings : Brings Slots (codes "slots" ∷ [])
+unfolding command_in
+slots_brings = record {
+  given = alone (codes "slots");
+  is = slots_taken;
+  matched = λ name found same. rw (ap (λ (g : Given). g.name) same) refl;
+}
+
+transfer_brings : Brings Transfer (codes "transfer" ∷ [])
+unfolding command_in
+transfer_brings = record {
+  given = alone (codes "transfer");
+  is = transfer_taken;
+  matched = λ name found same. rw (ap (λ (g : Given). g.name) same) refl;
+}
+
 number_plain : (it : Generated) → IsGenerated it → IsPlainWord (decimal it.number)
 number_plain it allowed = plain_word (decimal it.number) (number_kept it.number allowed.number)
 
@@ -211,8 +227,10 @@ brings Replay words spells matched = brings_as Replay words _ spells.spelled rep
 brings Check words spells matched = brings_as Check words _ spells.spelled check_brings
 brings (Gen it) words spells matched = brings_as (Gen it) words _ spells.spelled (gen_brings it spells.allowed)
 brings (Bulk it) words spells matched = brings_as (Bulk it) words _ spells.spelled (bulk_brings it spells.allowed)
+brings Slots words spells matched = brings_as Slots words _ spells.spelled slots_brings
 brings (Receipts key) words spells matched =
     let given = spells.spelled in brings_as (Receipts key) words _ given.2 (receipts_brings given.0 key given.1)
+brings Transfer words spells matched = brings_as Transfer words _ spells.spelled transfer_brings
 brings Help words spells matched = absurd matched
 
 pub is_taken : (command : Command) (words : List (List ℕ)) → SpellsCommand command words → IsMatched command → takes the_app words ≡ true

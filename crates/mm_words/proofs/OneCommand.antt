@@ -14,7 +14,7 @@ use Rattle.mm_schedule.specs.Words.{◌>>=◌}
 use Rattle.mm_schedule.specs.declared.header.Header.{Header}
 use Rattle.mm_words.specs.Commands.{IsGenerated, SpellsCommand}
 use Rattle.mm_words.specs.declared.command.Command.{Command}
-use Rattle.mm_words.specs.declared.command.Command.TheVariants.{Init, Run, Checkpoint, Power, Replay, Check, Gen, Bulk, Receipts, Help}
+use Rattle.mm_words.specs.declared.command.Command.TheVariants.{Init, Run, Checkpoint, Power, Replay, Check, Gen, Bulk, Slots, Receipts, Transfer, Help}
 use Rattle.mm_words.specs.declared.command.Generated.{Generated}
 use Rattle.mm_words.proofs.Matched.{name-read, variant-read}
 
@@ -33,6 +33,8 @@ alone_by word =
     else if bytes_eq word (codes "power") then Power
     else if bytes_eq word (codes "replay") then Replay
     else if bytes_eq word (codes "check") then Check
+    else if bytes_eq word (codes "slots") then Slots
+    else if bytes_eq word (codes "transfer") then Transfer
     else Help
 
 -- the command of words that spell one
@@ -67,7 +69,9 @@ command-again Replay words spells = ap command_by spells.spelled
 command-again Check words spells = ap command_by spells.spelled
 command-again (Gen it) words spells = ap command_by spells.spelled ∙ rw (generated-again it spells.allowed) refl
 command-again (Bulk it) words spells = ap command_by spells.spelled ∙ rw (generated-again it spells.allowed) refl
+command-again Slots words spells = ap command_by spells.spelled
 command-again (Receipts key) words spells = let given = spells.spelled in ap command_by given.2 ∙ rw given.1 refl
+command-again Transfer words spells = ap command_by spells.spelled
 command-again Help words spells = ap command_by spells.spelled
 
 pub one_command : (words : List (List ℕ)) (command other : Command) → SpellsCommand command words → SpellsCommand other words → command ≡ other

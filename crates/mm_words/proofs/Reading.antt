@@ -13,7 +13,7 @@ use Rattle.mm_module.specs.Values.{value_at}
 use Rattle.mm_words.specs.Commands.{AreReceiptsWords, AreWordsOf, SpellsCommand}
 use Rattle.mm_words.specs.Forms.{IsMatched, is_refused}
 use Rattle.mm_words.specs.declared.command.Command.{Command}
-use Rattle.mm_words.specs.declared.command.Command.TheVariants.{Init, Run, Checkpoint, Power, Replay, Check, Gen, Bulk, Receipts, Help}
+use Rattle.mm_words.specs.declared.command.Command.TheVariants.{Init, Run, Checkpoint, Power, Replay, Check, Gen, Bulk, Slots, Receipts, Transfer, Help}
 use Rattle.mm_words.proofs.Kept.{are_kept}
 
 pub same_words : (words others : List (List ℕ)) → pointwise bytes_eq words others ≡ true → words ≡ others
@@ -71,7 +71,9 @@ no_help words Replay spells is = tt
 no_help words Check spells is = tt
 no_help words (Gen it) spells is = tt
 no_help words (Bulk it) spells is = tt
+no_help words Slots spells is = tt
 no_help words (Receipts key) spells is = tt
+no_help words Transfer spells is = tt
 no_help words Help spells is = other_words words (codes "--help" ∷ []) is spells.spelled
 
 -- words that are refused spell none

@@ -91,6 +91,14 @@ bulk_taken n c v m one two three four = record {
   met = rw (one.dashes, one.long, one.short, two.dashes, two.long, two.short, three.dashes, three.long, three.short, four.dashes, four.long, four.short) refl;
 }
 
+pub slots_taken : IsTaken (codes "slots" ∷ []) (alone (codes "slots"))
+unfolding clap_on_literals
+slots_taken = record { taken = refl; met = refl }
+
+pub transfer_taken : IsTaken (codes "transfer" ∷ []) (alone (codes "transfer"))
+unfolding clap_on_literals
+transfer_taken = record { taken = refl; met = refl }
+
 pub receipts_taken : (k : Text) → IsPlainWord k → IsTaken (codes "receipts" ∷ k ∷ []) (with_key (codes "receipts") k)
 unfolding clap_on_literals
 receipts_taken k one = record {

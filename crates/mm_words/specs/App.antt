@@ -47,7 +47,9 @@ with_host_forms app =
 
 abbrev pub the_app : App
 the_app =
-    with_subcommand (with_subcommand (with_subcommand (with_subcommand (with_subcommand (with_host_forms top_app)
+    with_subcommand (with_subcommand (with_subcommand (with_subcommand (with_subcommand (with_subcommand (with_subcommand
+    (with_host_forms top_app)
     (new_app (codes "replay")).top) (new_app (codes "check")).top)
     (generating_app (codes "gen")).top) (generating_app (codes "bulk")).top)
-    (key_app (codes "receipts")).top
+    (new_app (codes "slots")).top) (key_app (codes "receipts")).top)
+    (new_app (codes "transfer")).top

@@ -8,7 +8,7 @@ use Rattle.mm_modules.specs.Modules.{name_of}
 use Rattle.mm_schedule.specs.Headers.{variant_text}
 use Rattle.mm_schedule.specs.declared.header.Header.{Header}
 use Rattle.mm_words.specs.declared.command.Command.{Command}
-use Rattle.mm_words.specs.declared.command.Command.TheVariants.{Init, Run, Checkpoint, Power, Replay, Check, Gen, Bulk, Receipts, Help}
+use Rattle.mm_words.specs.declared.command.Command.TheVariants.{Init, Run, Checkpoint, Power, Replay, Check, Gen, Bulk, Slots, Receipts, Transfer, Help}
 use Rattle.mm_words.specs.declared.command.Generated.{Generated}
 
 -- a variant and a module
@@ -33,7 +33,9 @@ AreWordsOf Replay words = words ≡ codes "replay" ∷ []
 AreWordsOf Check words = words ≡ codes "check" ∷ []
 AreWordsOf (Gen it) words = words ≡ codes "gen" ∷ generated_words it
 AreWordsOf (Bulk it) words = words ≡ codes "bulk" ∷ generated_words it
+AreWordsOf Slots words = words ≡ codes "slots" ∷ []
 AreWordsOf (Receipts key) words = AreReceiptsWords key words
+AreWordsOf Transfer words = words ≡ codes "transfer" ∷ []
 AreWordsOf Help words = words ≡ codes "--help" ∷ []
 
 -- a number of 64 bits, and at most 20,000 events
@@ -51,7 +53,9 @@ IsInBounds Replay = Unit {0}
 IsInBounds Check = Unit {0}
 IsInBounds (Gen it) = IsGenerated it
 IsInBounds (Bulk it) = IsGenerated it
+IsInBounds Slots = Unit {0}
 IsInBounds (Receipts key) = Unit {0}
+IsInBounds Transfer = Unit {0}
 IsInBounds Help = Unit {0}
 
 -- the words spell the command
@@ -70,6 +74,8 @@ help_text =
     ∷ codes "memoir check"
     ∷ codes "memoir gen NUMBER COUNT VARIANT MODULE"
     ∷ codes "memoir bulk NUMBER COUNT VARIANT MODULE"
+    ∷ codes "memoir slots"
     ∷ codes "memoir receipts KEY"
+    ∷ codes "memoir transfer"
     ∷ codes "VARIANT is basic or opt"
     ∷ codes "MODULE is counter, limiter, quota, ledger, dispenser, receipt-counter, receipt-limiter or receipt-quota" ∷ [])

@@ -11,7 +11,7 @@ use Rattle.mm_schedule.specs.Headers.{variant_at}
 use Rattle.mm_schedule.specs.Words.{◌>>=◌}
 use Rattle.mm_schedule.specs.declared.header.Header.{Header}
 use Rattle.mm_words.specs.declared.command.Command.{Command}
-use Rattle.mm_words.specs.declared.command.Command.TheVariants.{Init, Run, Checkpoint, Power, Replay, Check, Gen, Bulk, Receipts, Help}
+use Rattle.mm_words.specs.declared.command.Command.TheVariants.{Init, Run, Checkpoint, Power, Replay, Check, Gen, Bulk, Slots, Receipts, Transfer, Help}
 use Rattle.mm_words.specs.declared.command.Generated.{Generated}
 use Rattle.mm_words.specs.declared.fault.WordsFault.{WordsFault}
 use Rattle.mm_words.specs.declared.fault.WordsFault.TheVariants as fault
@@ -59,7 +59,9 @@ command_in name found =
     else if bytes_eq name (codes "check") then Some Check
     else if bytes_eq name (codes "gen") then (generated_in found >>= λ generated. Some (Gen generated))
     else if bytes_eq name (codes "bulk") then (generated_in found >>= λ generated. Some (Bulk generated))
+    else if bytes_eq name (codes "slots") then Some Slots
     else if bytes_eq name (codes "receipts") then (key_found found >>= λ key. Some (Receipts key))
+    else if bytes_eq name (codes "transfer") then Some Transfer
     else None
 
 -- the command has a subcommand
@@ -72,7 +74,9 @@ IsMatched Replay = Unit {0}
 IsMatched Check = Unit {0}
 IsMatched (Gen it) = Unit {0}
 IsMatched (Bulk it) = Unit {0}
+IsMatched Slots = Unit {0}
 IsMatched (Receipts key) = Unit {0}
+IsMatched Transfer = Unit {0}
 IsMatched Help = ⊥
 
 -- this command comes, or memory was wanting

@@ -16,7 +16,9 @@ pub fn command_line<'a>(alloc: Global) -> Result<Command<'a>, AllocError>
         .subcommand(bare(alloc, "check"))?
         .subcommand(generating(alloc, "gen")?)?
         .subcommand(generating(alloc, "bulk")?)?
-        .subcommand(with_key(alloc, "receipts")?)
+        .subcommand(bare(alloc, "slots"))?
+        .subcommand(with_key(alloc, "receipts")?)?
+        .subcommand(bare(alloc, "transfer"))
 }
 
 /// The forms that run the module on the platform.

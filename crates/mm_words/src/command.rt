@@ -39,8 +39,12 @@ pub enum Command {
     Gen(Generated),
     /// `bulk NUMBER COUNT VARIANT MODULE`
     Bulk(Generated),
+    /// `slots`
+    Slots,
     /// `receipts KEY`, where KEY is 64 hexadecimal digits.
     Receipts { key: [u8; 32] },
+    /// `transfer`
+    Transfer,
     /// `--help`
     Help,
 }
@@ -59,7 +63,9 @@ impl Command {
             Command::Check => is_alone(words, "check"),
             Command::Gen(generated) => are_generated_words(words, "gen", generated),
             Command::Bulk(generated) => are_generated_words(words, "bulk", generated),
+            Command::Slots => is_alone(words, "slots"),
             Command::Receipts { key } => are_receipts_words(words, key),
+            Command::Transfer => is_alone(words, "transfer"),
             Command::Help => is_alone(words, "--help"),
         }
     }

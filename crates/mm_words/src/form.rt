@@ -37,10 +37,12 @@ pub fn command_in(name: &str, matches: &ArgMatches<'_>) -> Option<Command>
             let generated = generated_in(matches)?;
             Some(Command::Bulk(generated))
         }
+        "slots" => Some(Command::Slots),
         "receipts" => {
             let key = key_in(matches)?;
             Some(Command::Receipts { key })
         }
+        "transfer" => Some(Command::Transfer),
         _ => None,
     }
 }

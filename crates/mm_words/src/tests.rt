@@ -17,7 +17,9 @@ replay
 check
 gen 18446744073709551615 20000 opt ledger
 bulk 18446744073709551615 20000 opt ledger
+slots
 receipts KEY
+transfer
 --help
 ";
 
@@ -27,6 +29,8 @@ const OTHERS: &str = "
 help
 -v
 replay x
+slots 1
+transfer basic counter
 --help replay
 init basic
 init tpm counter

@@ -25,5 +25,11 @@ returns-in-Gen c = tells_command _ _ _ c.in-Gen.is (tells_words _ _ _ c.are_gene
 pub returns-in-Bulk : goal.returns-in-Bulk
 returns-in-Bulk c = tells_command _ _ _ c.in-Bulk.is (tells_words _ _ _ c.are_generated_words-in-Bulk.ensures)
 
+pub returns-in-Slots : goal.returns-in-Slots
+returns-in-Slots c = tells_command _ _ _ c.in-Slots.is (tells_words _ _ _ c.is_alone-in-Slots.ensures)
+
+pub returns-in-Transfer : goal.returns-in-Transfer
+returns-in-Transfer c = tells_command _ _ _ c.in-Transfer.is (tells_words _ _ _ c.is_alone-in-Transfer.ensures)
+
 pub returns-in-Help : goal.returns-in-Help
 returns-in-Help c = tells_command _ _ _ c.in-Help.is (tells_words _ _ _ c.is_alone-in-Help.ensures)
