@@ -36,7 +36,7 @@ use Rattle.mm_seal.specs.declared.cell.Cell.{Cell as Held}
 use Rattle.mm_seal.specs.declared.cell.CellFault.{CellFault}
 use Rattle.mm_seal.specs.declared.cell.CellFault.TheVariants as unheld
 use Rattle.mm_words.specs.declared.command.Command.{Command}
-use Rattle.mm_words.specs.declared.command.Command.TheVariants.{Init, Run, Checkpoint, Power, Replay, Check, Gen, Bulk, Receipts, Help}
+use Rattle.mm_words.specs.declared.command.Command.TheVariants.{Init, Run, Checkpoint, Power, Replay, Check, Gen, Bulk, Slots, Receipts, Transfer, Help}
 use Rattle.mm_app.specs.Blame.{BlamesOutput, BlamesSource, tells_platform_fault, tells_read_fault, tells_store_fault}
 use Rattle.mm_app.specs.Bulk.{bulk_told}
 use Rattle.mm_app.specs.Checkpoint.{checkpoint_told}
@@ -413,7 +413,9 @@ source_of Replay old new status r t = r
 source_of Check old new status r t = r
 source_of (Gen it) old new status r t = r
 source_of (Bulk it) old new status r t = r
+source_of Slots old new status r t = r
 source_of (Receipts key) old new status r t = r
+source_of Transfer old new status r t = r
 source_of Help old new status r t = r
 
 same_standing : (old new : Outside) → new.standing ≡ old.standing → new.standing.faults ≡ old.standing.faults
@@ -482,10 +484,20 @@ done_blamed Replay old new status f d = record {
   store = unblamed _ _ _ (ap tells_store_fault d.replayed.ends ∙ played_store d.replayed.answer) (same_kept old new (f.kept (λ h. h)));
   source = source_played d.replayed.answer status _ _ d.replayed.ends d.replayed.read;
 }
+done_blamed Slots old new status f d = record {
+  platform = unblamed _ _ _ (ap tells_platform_fault d.played.ends ∙ played_platform d.played.answer) (same_standing old new (f.standing (λ h. h)));
+  store = unblamed _ _ _ (ap tells_store_fault d.played.ends ∙ played_store d.played.answer) (same_kept old new (f.kept (λ h. h)));
+  source = source_played d.played.answer status _ _ d.played.ends d.played.read;
+}
 done_blamed (Receipts key) old new status f d = record {
   platform = unblamed _ _ _ (ap tells_platform_fault d.checked.ends ∙ played_platform d.checked.answer) (same_standing old new (f.standing (λ h. h)));
   store = unblamed _ _ _ (ap tells_store_fault d.checked.ends ∙ played_store d.checked.answer) (same_kept old new (f.kept (λ h. h)));
   source = source_played d.checked.answer status _ _ d.checked.ends d.checked.read;
+}
+done_blamed Transfer old new status f d = record {
+  platform = unblamed _ _ _ (ap tells_platform_fault d.played.ends ∙ played_platform d.played.answer) (same_standing old new (f.standing (λ h. h)));
+  store = unblamed _ _ _ (ap tells_store_fault d.played.ends ∙ played_store d.played.answer) (same_kept old new (f.kept (λ h. h)));
+  source = source_played d.played.answer status _ _ d.played.ends d.played.read;
 }
 done_blamed Power old new status f d =
     let a = told_alike (power_told d.fault) _ _ _ _ status d.tells in
@@ -533,7 +545,9 @@ output_done (Gen it) old new status d = output_given old new _ status d
 output_done Help old new status d = output_given old new _ status d
 output_done (Bulk it) old new status d = output_told (bulk_told it.count d.1.answer) _ _ _ _ status (bulk_no_write it.count d.1.answer) d.1.tells
 output_done Replay old new status d = output_played d.replayed.answer status d.middle new.received _ _ _ d.replayed.wrote d.replayed.ends d.stops
+output_done Slots old new status d = output_played d.played.answer status d.middle new.received _ _ _ d.played.wrote d.played.ends d.stops
 output_done (Receipts key) old new status d = output_played d.checked.answer status d.middle new.received _ _ _ d.checked.wrote d.checked.ends d.stops
+output_done Transfer old new status d = output_played d.played.answer status d.middle new.received _ _ _ d.played.wrote d.played.ends d.stops
 output_done Power old new status d = output_told (power_told d.fault) _ _ _ _ status (power_no_write d.fault) d.tells
 output_done Checkpoint old new status d = output_told (checkpoint_told d.answer) _ _ _ _ status (checkpoint_no_write d.answer) d.tells
 

@@ -45,7 +45,7 @@ use Rattle.mm_store.specs.declared.fault.StoreFault.{StoreFault}
 use Rattle.mm_store.specs.declared.fault.StoreFault.TheVariants as unstored
 use Rattle.mm_store.specs.Kept.{StoreStanding}
 use Rattle.mm_words.specs.declared.command.Command.{Command}
-use Rattle.mm_words.specs.declared.command.Command.TheVariants.{Init, Run, Checkpoint, Power, Gen, Help, Replay, Check, Bulk, Receipts}
+use Rattle.mm_words.specs.declared.command.Command.TheVariants.{Init, Run, Checkpoint, Power, Gen, Help, Replay, Check, Bulk, Slots, Receipts, Transfer}
 use Rattle.mm_app.specs.Checkpoint.{checkpoint_told}
 use Rattle.mm_app.specs.Commands.{Does, DoesOrLacks}
 use Rattle.mm_app.specs.Completeness.{IsDoneOrFailed, CanStart, CanClose, CanRun, CanBeDone, ShowsPower}
@@ -308,7 +308,9 @@ does_end Help old new status can d = written_ends d.given.result status d.given.
 does_end Replay old new status can d = absurd can
 does_end Check old new status can d = absurd can
 does_end (Bulk it) old new status can d = absurd can
+does_end Slots old new status can d = absurd can
 does_end (Receipts key) old new status can d = absurd can
+does_end Transfer old new status can d = absurd can
 
 pub may_be_done : (command : Command) (old new : Outside) (status : Status) → CanBeDone command old new → DoesOrLacks command old new status → IsDoneOrFailed status
 may_be_done command old new status can d = elim d [

@@ -1,5 +1,9 @@
 pub mod Blame
 pub mod Completing
 pub mod Ending
+pub mod Fronts
+pub mod Interleaving
+pub mod Moving
 pub mod OneRun
+pub mod Played
 pub mod Sending

@@ -1,12 +1,11 @@
 -- The headline drawn from a replay and its stop line.
-use Rattle.std.proofs.Common.{◌≡◌, ◌∙◌, ℕ, ◌==◌, Bool, true, false, cond, List, [], ◌∷◌, ◌++◌, length, Option, Result, Ok, Err, refl, sym, ap, subst, append-nil, append_assoc, inl, inr, ◌⊎◌}
+use Rattle.std.proofs.Common.{◌≡◌, ◌∙◌, ℕ, List, [], ◌++◌, length, Option, Result, Ok, Err, refl, sym, ap, subst, append-nil, append_assoc, inl, inr, ◌⊎◌}
 use Rattle.std.proofs.KnownBytes.{Appends-trans, Consumes-nil}
-use Rattle.mm_base.specs.Input.{lines_of, onto_first}
+use Rattle.mm_base.specs.Input.{lines_of}
 use Rattle.mm_base.specs.Streams.{Sends}
 use Rattle.mm_base.specs.declared.fault.WriteFault as write
 use Rattle.mm_base.specs.declared.replay_fault.ReplayFault.{ReplayFault}
 use Rattle.mm_base.specs.declared.replay_fault.ReplayFault.TheVariants as fault
-use Rattle.mm_play.specs.Plays.{ForWhole}
 use Rattle.mm_play.specs.Takes.{IsFrontOf}
 use Rattle.mm_play.specs.Tells.{AnswersFirst, anywhere, before_line}
 use Rattle.mm_replay.specs.declared.report.Report.{Report}
@@ -24,34 +23,7 @@ use Rattle.mm_app.specs.Outside.{Outside}
 use Rattle.mm_app.specs.Status.{status_of, stop_line}
 use Rattle.mm_app.specs.declared.status.Status.{Status}
 use Rattle.mm_app.specs.declared.status.Status.TheVariants.{Done, WriteFault}
-
--- lines in front stay so, whatever comes before the first or behind the last
-onto_front : (byte : ℕ) (lines rest : List (List ℕ)) → (more : List (List ℕ)) × (onto_first (byte ∷ []) (lines ++ rest) ≡ onto_first (byte ∷ []) lines ++ more)
-onto_front byte [] rest = (onto_first (byte ∷ []) rest, refl)
-onto_front byte (line ∷ lines) rest = (rest, refl)
-
--- the lines of a front are the first ones
-front_lines_by : (is_break : Bool) (byte : ℕ) (lines rest : List (List ℕ))
-    → (more : List (List ℕ)) × (cond is_break ([] ∷ (lines ++ rest)) (onto_first (byte ∷ []) (lines ++ rest)) ≡ cond is_break ([] ∷ lines) (onto_first (byte ∷ []) lines) ++ more)
-front_lines_by true byte lines rest = (rest, refl)
-front_lines_by false byte lines rest = onto_front byte lines rest
-
-front_lines : (front rest : List ℕ) → (more : List (List ℕ)) × (lines_of (front ++ rest) ≡ lines_of front ++ more)
-front_lines [] rest = (lines_of rest, refl)
-front_lines (byte ∷ front) rest =
-    let later = front_lines front rest in
-    let here = front_lines_by (byte == 10) byte (lines_of front) later.0 in
-    (here.0, ap (λ (ls : List (List ℕ)). cond (byte == 10) ([] ∷ ls) (onto_first (byte ∷ []) ls)) later.1 ∙ here.1)
-
--- what holds of each whole input holds of the bytes taken
-for_taken : (left : Option (List ℕ)) (taken : List ℕ) (holds : List ℕ → Type 0) → ForWhole left taken holds → holds taken
-for_taken left taken holds (inl each) = subst holds (append-nil taken) (each [])
-for_taken left taken holds (inr ended) = ended.1
-
--- of nothing to be sent nothing goes out
-sent_none : (sent unsent : List ℕ) → [] ≡ sent ++ unsent → sent ≡ []
-sent_none [] unsent h = refl
-sent_none (byte ∷ sent) unsent h = cc
+use Rattle.mm_app.proofs.Fronts.{for_taken, front_lines, undone, unsent_after}
 
 -- what is written behind the replies to these events
 abbrev behind : {lines : List (List ℕ)} {written : List ℕ} {ends : ℕ → ℕ → List ℕ} → AnswersEvents header_at lines written ends → List ℕ
@@ -99,9 +71,6 @@ stopped_behind lines rest all written stop unsent status is (inr answers) parts 
     (λ text told. (unsent, ap (λ (w : List ℕ). (w ++ stop) ++ unsent) (told ∙ append-nil text) ∙ append_assoc text stop unsent ∙ ap (λ (s : List ℕ). text ++ s) (sym parts)))
     (λ text told done. absurd (undone done)))
 
-undone : {A : Type 0} → (let s : Status = WriteFault in s ≡ Done) → A
-undone h = let no : ⊥ = cc in absurd no
-
 -- a front of what was answered went out, and no stop line
 cut_short : (lines rest all : List (List ℕ)) (written sent : List ℕ) → all ≡ lines ++ rest → IsFrontOf sent written → AnswersLines header_at lines written
     → IsUnbegun sent WriteFault ⊎ TellsOneRun all sent WriteFault
@@ -131,9 +100,6 @@ at_first taken sent stop unsent status first parts undone =
 
 abbrev WhatIsOut : List ℕ → List ℕ → Status → Type 0
 WhatIsOut taken sent status = IsUnbegun sent status ⊎ TellsOneRun (lines_of taken) sent status
-
-unsent_after : (sent stop unsent : List ℕ) → [] ≡ stop ++ unsent → sent ++ stop ≡ sent
-unsent_after sent stop unsent h = ap (λ (s : List ℕ). sent ++ s) (sent_none stop unsent h) ∙ append-nil sent
 
 -- what a replay whose output failed says of its input
 abbrev WritesFront : List ℕ → List ℕ → Type 0

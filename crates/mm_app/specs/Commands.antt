@@ -3,7 +3,7 @@ use Rattle.std.specs.Prelude.{◌⊎◌, ℕ, List}
 use Rattle.mm_gen.specs.Schedules.{schedule_text}
 use Rattle.mm_words.specs.Commands.{SpellsCommand, help_text}
 use Rattle.mm_words.specs.declared.command.Command.{Command}
-use Rattle.mm_words.specs.declared.command.Command.TheVariants.{Init, Run, Checkpoint, Power, Replay, Check, Gen, Bulk, Receipts, Help}
+use Rattle.mm_words.specs.declared.command.Command.TheVariants.{Init, Run, Checkpoint, Power, Replay, Check, Gen, Bulk, Slots, Receipts, Transfer, Help}
 use Rattle.mm_host.specs.Init.{devices}
 use Rattle.mm_app.specs.Bulk.{RunsInBulk}
 use Rattle.mm_app.specs.Checking.{ChecksRunAndStops}
@@ -13,8 +13,10 @@ use Rattle.mm_app.specs.Power.{LosesPower}
 use Rattle.mm_app.specs.Receipts.{ChecksReceiptsAndStops}
 use Rattle.mm_app.specs.Replaying.{ReplaysAndStops}
 use Rattle.mm_app.specs.Running.{RunsInstance}
+use Rattle.mm_app.specs.Slots.{PlaysSlotsAndStops}
 use Rattle.mm_app.specs.Starting.{StartsInstance}
 use Rattle.mm_app.specs.Telling.{EndsAtOnce, GivesText}
+use Rattle.mm_app.specs.Transfer.{PlaysTransferAndStops}
 use Rattle.mm_app.specs.declared.status.Status.{Status}
 use Rattle.mm_app.specs.declared.status.Status.TheVariants.{Memory}
 
@@ -36,8 +38,12 @@ Does Check old new status =
     ChecksRunAndStops old.left new.left old.received new.received old.reads new.reads old.writes new.writes status
 Does (Gen it) old new status = GivesText (schedule_text it.number it.count it.header) old new status
 Does (Bulk it) old new status = IsStill old new × RunsInBulk it old.received new.received old.writes new.writes status
+Does Slots old new status =
+    PlaysSlotsAndStops old.left new.left old.received new.received old.reads new.reads old.writes new.writes status
 Does (Receipts key) old new status =
     ChecksReceiptsAndStops key old.left new.left old.received new.received old.reads new.reads old.writes new.writes status
+Does Transfer old new status =
+    PlaysTransferAndStops old.left new.left old.received new.received old.reads new.reads old.writes new.writes status
 Does Help old new status = GivesText help_text old new status
 
 -- The command was done, or memory was wanting before it.
@@ -71,7 +77,9 @@ abbrev pub ReadsInput : Command → Type 0
 ReadsInput Run = Unit {0}
 ReadsInput Replay = Unit {0}
 ReadsInput Check = Unit {0}
+ReadsInput Slots = Unit {0}
 ReadsInput (Receipts key) = Unit {0}
+ReadsInput Transfer = Unit {0}
 ReadsInput _ = ⊥
 
 -- the commands that take from the entropy

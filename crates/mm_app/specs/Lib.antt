@@ -6,10 +6,13 @@ pub mod Commands
 pub mod Completeness
 pub mod Headline
 pub mod Outside
+pub mod Played
 pub mod Power
 pub mod Receipts
 pub mod Replaying
 pub mod Running
+pub mod Slots
 pub mod Starting
 pub mod Status
 pub mod Telling
+pub mod Transfer

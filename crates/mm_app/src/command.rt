@@ -7,16 +7,20 @@ ghost use Rattle.mm_play.specs.Plays.{IsBlamed};
 ghost use Rattle.mm_receipts.specs.Checking.{Checking, first_checking, receipts_answer, receipts_closing};
 ghost use Rattle.mm_replay.specs.Schedule.{ReplayStage, AtHeader, schedule_answer, schedule_closing};
 ghost use Rattle.mm_schedule.specs.Headers.{header_at};
+ghost use Rattle.mm_slots.specs.Stage.{SlotsStage, AtFirst, slots_answer, slots_closing};
+ghost use Rattle.mm_transfer.specs.Stage as moved;
 ghost use Rattle.mm_words.specs.Commands.{IsInBounds, SpellsCommand};
 ghost use Rattle.mm_words.specs.declared.command.Command.{Command as Told};
-ghost use Rattle.mm_words.specs.declared.command.Command.TheVariants.{Check, Receipts, Replay};
+ghost use Rattle.mm_words.specs.declared.command.Command.TheVariants.{Check, Receipts, Replay, Slots, Transfer};
 ghost use Rattle.mm_app.specs.Blame.{BlamesOutput, BlamesSource, tells_platform_fault, tells_store_fault};
 ghost use Rattle.mm_app.specs.Commands.{DoesOrLacks, ReadsInput, SpellNo, SpellNone, TakesEntropy, UsesPlatform, UsesStore};
 ghost use Rattle.mm_app.specs.Completeness.{CanBeDone, IsDoneOrFailed};
 ghost use Rattle.mm_app.specs.Headline.{ReplaysOneRun};
 ghost use Rattle.mm_app.specs.Outside.{outside};
+ghost use Rattle.mm_app.specs.Slots.{InterleavesRuns};
 ghost use Rattle.mm_app.specs.Status.{EndsUnrefused};
 ghost use Rattle.mm_app.specs.Telling.{IsRefused};
+ghost use Rattle.mm_app.specs.Transfer.{MovesOneRun};
 ghost use Rattle.mm_app.specs.declared.status.Status.TheVariants.{Usage};
 
 use crate::bulk::run_in_bulk;
@@ -27,9 +31,11 @@ use crate::receipts::check_receipts;
 use crate::replay::replay_and_stop;
 use crate::run::run_instance;
 use crate::schedule::write_schedule;
+use crate::slots::play_slots;
 use crate::start::start_instance;
 use crate::status::Status;
 use crate::telling::{stopped, written};
+use crate::transfer::play_transfer;
 use mm_base::{Sink, Source};
 use mm_platform::Platform;
 use mm_store::Store;
@@ -67,6 +73,14 @@ fn done<P: Platform, T: Store, S: Source, E: Source, K: Sink>(
         → (run_of (checked.check_answer header_at) checked.check_closing checked.AtHeader
         bytes).outcome ≡ Ok next
         → EndsUnrefused result }
+    ensures slots { command.now ≡ Slots → (bytes : List ℕ) → (next : SlotsStage)
+        → S.left input.old ≡ Some bytes
+        → (run_of slots_answer slots_closing AtFirst bytes).outcome ≡ Ok next
+        → EndsUnrefused result }
+    ensures transfer { command.now ≡ Transfer → (bytes : List ℕ) → (next : moved.TransferStage)
+        → S.left input.old ≡ Some bytes
+        → (run_of moved.transfer_answer moved.transfer_closing moved.AtHeader bytes).outcome ≡ Ok next
+        → EndsUnrefused result }
     ensures usage { result ≡ Usage → ⊥ }
     ensures platform { (UsesPlatform command.now → ⊥) → platform.new ≡ platform.old }
     ensures store { (UsesStore command.now → ⊥) → store.new ≡ store.old }
@@ -77,7 +91,9 @@ fn done<P: Platform, T: Store, S: Source, E: Source, K: Sink>(
         Command::Replay => replay_and_stop(alloc, input, out),
         Command::Gen(it) => write_schedule(alloc, it, out),
         Command::Bulk(it) => run_in_bulk(alloc, it, out),
+        Command::Slots => play_slots(alloc, input, out),
         Command::Receipts { key } => check_receipts(alloc, key, input, out),
+        Command::Transfer => play_transfer(alloc, input, out),
         Command::Checkpoint => close_segment(platform, out),
         Command::Power => lose_power(platform, out),
         Command::Help => written(help_text(), out),
@@ -90,10 +106,12 @@ fn done<P: Platform, T: Store, S: Source, E: Source, K: Sink>(
 /// Does what the words after the program's name say, writes the stop line of any other status than `Done` and
 /// `WriteFault`, and answers the status. `replay` replays the schedule that the input gives, `gen NUMBER COUNT VARIANT
 /// MODULE` writes a schedule made from a number, `bulk` with the same words runs it and tells what came of it in five
-/// lines, `check` decides the premises of the schedule that the input gives and compares recorded replies, `receipts KEY`
-/// checks the receipts that the input gives, `checkpoint` closes the platform's open segment, `init VARIANT MODULE` starts
-/// an instance on a blank platform, `run` serves the lines of the input by the instance, `power` lets the platform lose
-/// its power and get it back, and `--help` alone lists the forms of words.
+/// lines, `slots` plays the lines that the input gives for several modules on one platform, `transfer` plays those of two
+/// platforms between which a module moves, `check` decides the premises
+/// of the schedule that the input gives and compares recorded replies, `receipts KEY` checks the receipts that the input
+/// gives, `checkpoint` closes the platform's open segment, `init VARIANT MODULE` starts an instance on a blank platform,
+/// `run` serves the lines of the input by the instance, `power` lets the platform lose its power and get it back, and
+/// `--help` alone lists the forms of words.
 ///
 /// Where the stop line can't be written the status stays that of the first cause.
 pub fn memoir<P: Platform, T: Store, S: Source, E: Source, K: Sink>(
@@ -133,6 +151,18 @@ pub fn memoir<P: Platform, T: Store, S: Source, E: Source, K: Sink>(
         bytes).outcome ≡ Ok next
         → EndsUnrefused result }
 
+    // Nor are lines of slots within the grammar and the limits.
+    ensures slots { SpellsCommand Slots (map (λ s. s.now) words.now)
+        → (bytes : List ℕ) → (next : SlotsStage) → S.left input.old ≡ Some bytes
+        → (run_of slots_answer slots_closing AtFirst bytes).outcome ≡ Ok next
+        → EndsUnrefused result }
+
+    // Nor is a schedule of two platforms within the grammar and the limits.
+    ensures transfer { SpellsCommand Transfer (map (λ s. s.now) words.now)
+        → (bytes : List ℕ) → (next : moved.TransferStage) → S.left input.old ≡ Some bytes
+        → (run_of moved.transfer_answer moved.transfer_closing moved.AtHeader bytes).outcome ≡ Ok next
+        → EndsUnrefused result }
+
     // Nor is a command of the host, where what the objects tell allows it.
     ensures host { let old = outside (P.standing platform.old) (T.kept store.old) (S.left input.old)
         (S.faults input.old) (E.left entropy.old) (E.faults entropy.old) (K.received out.old)
@@ -146,6 +176,16 @@ pub fn memoir<P: Platform, T: Store, S: Source, E: Source, K: Sink>(
     // The headline: what is written for a schedule is one run of the module on one list of requests.
     ensures headline { SpellsCommand Replay (map (λ s. s.now) words.now)
         → ReplaysOneRun (S.left input.old) (S.left input.new) (K.received out.old)
+        (K.received out.new) result }
+
+    // What is written for slots is one run of each slot's module on a list of its own.
+    ensures interleaved { SpellsCommand Slots (map (λ s. s.now) words.now)
+        → InterleavesRuns (S.left input.old) (S.left input.new) (K.received out.old)
+        (K.received out.new) result }
+
+    // What is written for a module that moves is one run of it, on one list of requests.
+    ensures one_transfer { SpellsCommand Transfer (map (λ s. s.now) words.now)
+        → MovesOneRun (S.left input.old) (S.left input.new) (K.received out.old)
         (K.received out.new) result }
 
     // Usage comes exactly where the words spell no command, but for want of memory.
@@ -165,7 +205,7 @@ pub fn memoir<P: Platform, T: Store, S: Source, E: Source, K: Sink>(
     // A count of faults rose exactly where the status blames it; the output's too where its stop line was cut short.
     ensures device { IsBlamed (tells_platform_fault result) (P.standing platform.old).faults
         (P.standing platform.new).faults }
-    ensures slots { IsBlamed (tells_store_fault result) (T.kept store.old).faults
+    ensures disk { IsBlamed (tells_store_fault result) (T.kept store.old).faults
         (T.kept store.new).faults }
     ensures source { let old = outside (P.standing platform.old) (T.kept store.old)
         (S.left input.old) (S.faults input.old) (E.left entropy.old) (E.faults entropy.old)

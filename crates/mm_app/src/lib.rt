@@ -10,11 +10,13 @@ mod receipts;
 mod replay;
 mod run;
 mod schedule;
+mod slots;
 mod start;
 mod status;
 mod stop;
 mod streams;
 mod telling;
+mod transfer;
 
 pub use command::memoir;
 pub use status::Status;

@@ -2,7 +2,7 @@ use Rattle.std.proofs.Common.{ap, refl, subst, sym}
 use Rattle.mm_base.specs.Streams.{Sends}
 use Rattle.mm_play.specs.Plays.{IsBlamed}
 use Rattle.mm_words.specs.declared.command.Command.{Command}
-use Rattle.mm_words.specs.declared.command.Command.TheVariants.{Check, Receipts, Replay}
+use Rattle.mm_words.specs.declared.command.Command.TheVariants.{Check, Receipts, Replay, Slots, Transfer}
 use Rattle.mm_words.proofs.OneCommand.{one_command}
 use Rattle.mm_app.specs.Blame.{BlamesSource, tells_platform_fault, tells_store_fault}
 use Rattle.mm_app.specs.Commands.{DoesOrLacks}
@@ -12,6 +12,8 @@ use Rattle.mm_app.specs.Status.{EndsUnrefused, stop_line}
 use Rattle.mm_app.specs.declared.status.Status.{Status}
 use Rattle.mm_app.proofs.Blame.{Frames, blamed, memory_alike, no_memory, no_usage, output_blamed, output_stopped, stopped_blamed}
 use Rattle.mm_app.proofs.Completing.{may_be_done}
+use Rattle.mm_app.proofs.Interleaving.{interleaved_by, lacks_interleaved}
+use Rattle.mm_app.proofs.Moving.{lacks_moving, moved_by}
 use Rattle.mm_app.proofs.OneRun.{headline_of, lacks_one_run}
 use Rattle.mm_app.proofs.command.memoir.Goals as goal
 
@@ -53,8 +55,8 @@ returns-in-Ok-clause-device g c =
     } in
     (blamed c.in-Ok.command old new c.done.result frames c.done.ensures.does).platform
 
-pub returns-in-Ok-clause-slots : goal.returns-in-Ok-clause-slots
-returns-in-Ok-clause-slots g c =
+pub returns-in-Ok-clause-disk : goal.returns-in-Ok-clause-disk
+returns-in-Ok-clause-disk g c =
     let old = outside (g.P.Device.standing c.args.platform.now) (g.T.Store.kept c.args.store.now) (g.S.Source.left c.args.input.now) (g.S.Source.faults c.args.input.now)
     (g.E.Source.left c.args.entropy.now) (g.E.Source.faults c.args.entropy.now) (g.K.Sink.received c.args.out.now) (g.K.Sink.faults c.args.out.now) in
     let new = outside (g.P.Device.standing c.done.new.platform) (g.T.Store.kept c.done.new.store) (g.S.Source.left c.done.new.input) (g.S.Source.faults c.done.new.input)
@@ -124,8 +126,8 @@ pub returns-in-Err-Usage-clause-device : goal.returns-in-Err-Usage-clause-device
 returns-in-Err-Usage-clause-device g c =
     subst (λ (s : Status). IsBlamed (tells_platform_fault s) (g.P.Device.standing c.args.platform.now).faults (g.P.Device.standing c.args.platform.now).faults) (sym c.stopped.ensures.status) refl
 
-pub returns-in-Err-Usage-clause-slots : goal.returns-in-Err-Usage-clause-slots
-returns-in-Err-Usage-clause-slots g c =
+pub returns-in-Err-Usage-clause-disk : goal.returns-in-Err-Usage-clause-disk
+returns-in-Err-Usage-clause-disk g c =
     subst (λ (s : Status). IsBlamed (tells_store_fault s) (g.T.Store.kept c.args.store.now).faults (g.T.Store.kept c.args.store.now).faults) (sym c.stopped.ensures.status) refl
 
 pub returns-in-Err-Usage-clause-wrote : goal.returns-in-Err-Usage-clause-wrote
@@ -135,8 +137,8 @@ pub returns-in-Err-Memory-clause-device : goal.returns-in-Err-Memory-clause-devi
 returns-in-Err-Memory-clause-device g c =
     subst (λ (s : Status). IsBlamed (tells_platform_fault s) (g.P.Device.standing c.args.platform.now).faults (g.P.Device.standing c.args.platform.now).faults) (sym c.stopped-in-Err-Memory.ensures.status) refl
 
-pub returns-in-Err-Memory-clause-slots : goal.returns-in-Err-Memory-clause-slots
-returns-in-Err-Memory-clause-slots g c =
+pub returns-in-Err-Memory-clause-disk : goal.returns-in-Err-Memory-clause-disk
+returns-in-Err-Memory-clause-disk g c =
     subst (λ (s : Status). IsBlamed (tells_store_fault s) (g.T.Store.kept c.args.store.now).faults (g.T.Store.kept c.args.store.now).faults) (sym c.stopped-in-Err-Memory.ensures.status) refl
 
 pub returns-in-Err-Memory-clause-wrote : goal.returns-in-Err-Memory-clause-wrote
@@ -172,3 +174,55 @@ returns-in-Err-Usage-clause-host g c command spells can = absurd (c.in-Err-Usage
 
 pub returns-in-Err-Memory-clause-host : goal.returns-in-Err-Memory-clause-host
 returns-in-Err-Memory-clause-host g c command spells can = subst IsDoneOrFailed (sym c.stopped-in-Err-Memory.ensures.status) tt
+
+pub returns-in-Ok-clause-slots : goal.returns-in-Ok-clause-slots
+returns-in-Ok-clause-slots g c spells = c.done.ensures.slots (one_command _ c.in-Ok.command Slots c.in-Ok.ensures.ok spells)
+
+pub returns-in-Err-Usage-clause-slots : goal.returns-in-Err-Usage-clause-slots
+returns-in-Err-Usage-clause-slots g c spells bytes next left run = absurd (c.in-Err-Usage.ensures.usage (rw c.in-Err-Usage.field-0-is refl) Slots spells)
+
+pub returns-in-Err-Memory-clause-slots : goal.returns-in-Err-Memory-clause-slots
+returns-in-Err-Memory-clause-slots g c spells bytes next left run = subst EndsUnrefused (sym c.stopped-in-Err-Memory.ensures.status) tt
+
+pub returns-in-Ok-clause-interleaved : goal.returns-in-Ok-clause-interleaved
+returns-in-Ok-clause-interleaved g c spells =
+    let old = outside (g.P.Device.standing c.args.platform.now) (g.T.Store.kept c.args.store.now) (g.S.Source.left c.args.input.now) (g.S.Source.faults c.args.input.now)
+    (g.E.Source.left c.args.entropy.now) (g.E.Source.faults c.args.entropy.now) (g.K.Sink.received c.args.out.now) (g.K.Sink.faults c.args.out.now) in
+    let new = outside (g.P.Device.standing c.done.new.platform) (g.T.Store.kept c.done.new.store) (g.S.Source.left c.done.new.input) (g.S.Source.faults c.done.new.input)
+    (g.E.Source.left c.done.new.entropy) (g.E.Source.faults c.done.new.entropy) (g.K.Sink.received c.done.new.out) (g.K.Sink.faults c.done.new.out) in
+    interleaved_by old new c.done.result
+    (subst (λ (it : Command). DoesOrLacks it old new c.done.result)
+    (one_command _ c.in-Ok.command Slots c.in-Ok.ensures.ok spells) c.done.ensures.does)
+
+pub returns-in-Err-Usage-clause-interleaved : goal.returns-in-Err-Usage-clause-interleaved
+returns-in-Err-Usage-clause-interleaved g c spells = absurd (c.in-Err-Usage.ensures.usage (rw c.in-Err-Usage.field-0-is refl) Slots spells)
+
+pub returns-in-Err-Memory-clause-interleaved : goal.returns-in-Err-Memory-clause-interleaved
+returns-in-Err-Memory-clause-interleaved g c spells =
+    lacks_interleaved _ _ _ _ _ c.stopped-in-Err-Memory.ensures.status c.stopped-in-Err-Memory.ensures.told.stops.sends
+
+pub returns-in-Ok-clause-transfer : goal.returns-in-Ok-clause-transfer
+returns-in-Ok-clause-transfer g c spells = c.done.ensures.transfer (one_command _ c.in-Ok.command Transfer c.in-Ok.ensures.ok spells)
+
+pub returns-in-Err-Usage-clause-transfer : goal.returns-in-Err-Usage-clause-transfer
+returns-in-Err-Usage-clause-transfer g c spells bytes next left run = absurd (c.in-Err-Usage.ensures.usage (rw c.in-Err-Usage.field-0-is refl) Transfer spells)
+
+pub returns-in-Err-Memory-clause-transfer : goal.returns-in-Err-Memory-clause-transfer
+returns-in-Err-Memory-clause-transfer g c spells bytes next left run = subst EndsUnrefused (sym c.stopped-in-Err-Memory.ensures.status) tt
+
+pub returns-in-Ok-clause-one_transfer : goal.returns-in-Ok-clause-one_transfer
+returns-in-Ok-clause-one_transfer g c spells =
+    let old = outside (g.P.Device.standing c.args.platform.now) (g.T.Store.kept c.args.store.now) (g.S.Source.left c.args.input.now) (g.S.Source.faults c.args.input.now)
+    (g.E.Source.left c.args.entropy.now) (g.E.Source.faults c.args.entropy.now) (g.K.Sink.received c.args.out.now) (g.K.Sink.faults c.args.out.now) in
+    let new = outside (g.P.Device.standing c.done.new.platform) (g.T.Store.kept c.done.new.store) (g.S.Source.left c.done.new.input) (g.S.Source.faults c.done.new.input)
+    (g.E.Source.left c.done.new.entropy) (g.E.Source.faults c.done.new.entropy) (g.K.Sink.received c.done.new.out) (g.K.Sink.faults c.done.new.out) in
+    moved_by old new c.done.result
+    (subst (λ (it : Command). DoesOrLacks it old new c.done.result)
+    (one_command _ c.in-Ok.command Transfer c.in-Ok.ensures.ok spells) c.done.ensures.does)
+
+pub returns-in-Err-Usage-clause-one_transfer : goal.returns-in-Err-Usage-clause-one_transfer
+returns-in-Err-Usage-clause-one_transfer g c spells = absurd (c.in-Err-Usage.ensures.usage (rw c.in-Err-Usage.field-0-is refl) Transfer spells)
+
+pub returns-in-Err-Memory-clause-one_transfer : goal.returns-in-Err-Memory-clause-one_transfer
+returns-in-Err-Memory-clause-one_transfer g c spells =
+    lacks_moving _ _ _ _ _ c.stopped-in-Err-Memory.ensures.status c.stopped-in-Err-Memory.ensures.told.stops.sends
