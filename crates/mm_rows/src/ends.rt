@@ -3,11 +3,13 @@
 ghost use Rattle.std.specs.Prelude.{None};
 
 use crate::run::{
-    ROOM, Told, check_all, command, replay_over, replies_of, schedule_of, sound, writes,
+    ROOM, Streams, Told, check_all, command, replies_of, run_over, schedule_of, sound, writes,
     writes_over,
 };
 use crate::schedules::{LIMITER, QUOTA};
 use crate::segments::KEPT;
+use crate::slots::SIDE_BY_SIDE;
+use crate::transfer::MOVED;
 use mm_base::{Failed as Refused, MemSink, Memory, Source};
 use mm_platform::MemPlatform;
 use mm_store::MemStore;
@@ -122,7 +124,24 @@ fn other_words_are_refused(rt: HostRuntime) -> Result<(), Fail> {
     Ok(())
 }
 
-// What is tried on a schedule that has a reply for each event.
+// Lines that a command plays: its word, the lines, what is written for them, and how many lines stand before the first
+// event.
+#[derive(Clone, Copy)]
+struct Played<'a> {
+    word: &'a str,
+    lines: &'a [u8],
+    replies: &'a [u8],
+    heads: usize,
+}
+
+impl Played<'_> {
+    // Plays the first of its lines over such streams.
+    fn told(&self, alloc: Global, lines: &[u8], streams: &Streams<'_>) -> Result<Told, Memory> {
+        run_over(alloc, &[self.word], lines, streams)
+    }
+}
+
+// What is tried on lines that have a reply for each event.
 #[derive(Clone, Copy)]
 enum Trial {
     Pieces,
@@ -140,63 +159,62 @@ struct Failed {
 fn tried_on(
     rt: &impl Abort,
     alloc: Global,
-    schedule: &[u8],
-    replies: &[u8],
+    played: &Played<'_>,
     trial: Trial,
     failed: &mut Failed,
 ) -> Result<(), Fail> {
     match trial {
-        Trial::Pieces => check_pieces(rt, alloc, schedule, replies),
-        Trial::CutOff => check_cuts(rt, alloc, schedule, replies),
-        Trial::Failing => fails_in_turn(alloc, schedule, replies, failed),
+        Trial::Pieces => check_pieces(rt, alloc, played),
+        Trial::CutOff => check_cuts(rt, alloc, played),
+        Trial::Failing => fails_in_turn(alloc, played, failed),
     }
 }
 
 fn tried(
     rt: &impl Abort,
     alloc: Global,
+    word: &str,
+    heads: usize,
     table: &str,
     trial: Trial,
     failed: &mut Failed,
 ) -> Result<(), Fail> {
-    let schedule = schedule_of(alloc, table)?;
+    let lines = schedule_of(alloc, table)?;
     let replies = replies_of(alloc, table)?;
-    let replies = replies.as_slice();
-    tried_on(rt, alloc, schedule.as_slice(), replies, trial, failed)
+    let played = Played {
+        word,
+        lines: lines.as_slice(),
+        replies: replies.as_slice(),
+        heads,
+    };
+    tried_on(rt, alloc, &played, trial, failed)
 }
 
-// Tries each of the three schedules.
+// Tries each of these lines.
 fn all_tried(rt: &impl Abort, alloc: Global, trial: Trial) -> Result<Failed, Fail> {
     let mut failed = Failed {
         reads: 0,
         writes: 0,
     };
-    tried(rt, alloc, LIMITER, trial, &mut failed)?;
-    tried(rt, alloc, QUOTA, trial, &mut failed)?;
-    tried(rt, alloc, KEPT, trial, &mut failed)?;
+    tried(rt, alloc, "replay", 1, LIMITER, trial, &mut failed)?;
+    tried(rt, alloc, "replay", 1, QUOTA, trial, &mut failed)?;
+    tried(rt, alloc, "replay", 1, KEPT, trial, &mut failed)?;
+    tried(rt, alloc, "slots", 3, SIDE_BY_SIDE, trial, &mut failed)?;
+    tried(rt, alloc, "transfer", 1, MOVED, trial, &mut failed)?;
     Ok(failed)
 }
 
 // Whether an input in pieces of so many bytes makes no difference.
-fn is_same_in(
-    alloc: Global,
-    schedule: &[u8],
-    replies: &[u8],
-    piece: usize,
-) -> Result<bool, Memory> {
+fn is_same_in(alloc: Global, played: &Played<'_>, piece: usize) -> Result<bool, Memory> {
     let mut streams = sound();
     streams.piece = piece;
-    writes_over(alloc, schedule, &streams, replies, 0)
+    let told = played.told(alloc, played.lines, &streams)?;
+    Ok(told.comes_to(played.replies, 0))
 }
 
-fn check_pieces(
-    rt: &impl Abort,
-    alloc: Global,
-    schedule: &[u8],
-    replies: &[u8],
-) -> Result<(), Fail> {
+fn check_pieces(rt: &impl Abort, alloc: Global, played: &Played<'_>) -> Result<(), Fail> {
     for piece in [1, 2, 7, 4096] {
-        assert!(rt; is_same_in(alloc, schedule, replies, piece)?, "{piece}");
+        assert!(rt; is_same_in(alloc, played, piece)?, "{piece}");
     }
     Ok(())
 }
@@ -243,27 +261,25 @@ fn is_cut(
     Ok(told.code == 13 && stops_at(alloc, last, whole.saturating_add(1))?)
 }
 
-// Replays an input that may be cut off, of a schedule with one reply for each event.
-fn is_replayed(alloc: Global, input: &[u8], replies: &[u8]) -> Result<bool, Fail> {
+// Plays the first bytes of lines with one reply for each event.
+fn is_played(alloc: Global, input: &[u8], played: &Played<'_>) -> Result<bool, Fail> {
     let whole = input.iter().filter(|byte| **byte == b'\n').count();
-    let answered = first_lines(replies, whole.saturating_sub(1));
-    let is_whole = input.last() == Some(&b'\n');
-    let told = replay_over(alloc, input, &sound())?;
+    let answered = first_lines(played.replies, whole.saturating_sub(played.heads));
+    let is_whole = whole >= played.heads && input.last() == Some(&b'\n');
+    let told = played.told(alloc, input, &sound())?;
     is_cut(alloc, &told, answered, whole, is_whole)
 }
 
-fn check_cuts(rt: &impl Abort, alloc: Global, schedule: &[u8], replies: &[u8]) -> Result<(), Fail> {
-    for length in 0..schedule.len() {
-        let (input, _) = schedule.split_at(length);
-        assert!(rt; is_replayed(alloc, input, replies)?, "{length}");
+fn check_cuts(rt: &impl Abort, alloc: Global, played: &Played<'_>) -> Result<(), Fail> {
+    for length in 0..played.lines.len() {
+        let (input, _) = played.lines.split_at(length);
+        assert!(rt; is_played(alloc, input, played)?, "{length}");
     }
     Ok(())
 }
 
 #[test]
-fn an_input_that_is_cut_off_is_replayed_to_its_last_whole_line(
-    rt: HostRuntime,
-) -> Result<(), Fail> {
+fn an_input_that_is_cut_off_is_played_to_its_last_whole_line(rt: HostRuntime) -> Result<(), Fail> {
     let _ = all_tried(&rt, rt.alloc(), Trial::CutOff)?;
     Ok(())
 }
@@ -284,70 +300,54 @@ fn is_failed(told: &Told, replies: &[u8], stop: &[u8], code: u8) -> Option<bool>
     if is_right { Some(true) } else { None }
 }
 
-// Replays a schedule whose input fails at a call, and says whether that call was made.
-fn fails_to_read(
-    alloc: Global,
-    call: u64,
-    schedule: &[u8],
-    replies: &[u8],
-) -> Result<Option<bool>, Memory> {
+// Plays lines whose input fails at a call, and says whether that call was made.
+fn fails_to_read(alloc: Global, call: u64, played: &Played<'_>) -> Result<Option<bool>, Memory> {
     let calls = [call];
     let mut streams = sound();
     streams.piece = 7;
     streams.failing_reads = &calls;
-    let told = replay_over(alloc, schedule, &streams)?;
-    Ok(is_failed(&told, replies, b"stop read\n", 3))
+    let told = played.told(alloc, played.lines, &streams)?;
+    Ok(is_failed(&told, played.replies, b"stop read\n", 3))
 }
 
-// Replays a schedule whose output fails at a call, and says whether that call was made.
-fn fails_to_write(
-    alloc: Global,
-    call: u64,
-    schedule: &[u8],
-    replies: &[u8],
-) -> Result<Option<bool>, Memory> {
+// Plays lines whose output fails at a call, and says whether that call was made.
+fn fails_to_write(alloc: Global, call: u64, played: &Played<'_>) -> Result<Option<bool>, Memory> {
     let calls = [call];
     let mut streams = sound();
     // byte by byte, so that each reply is a call of its own
     streams.piece = 1;
     streams.failing_writes = &calls;
-    let told = replay_over(alloc, schedule, &streams)?;
-    Ok(is_failed(&told, replies, b"", 4))
+    let told = played.told(alloc, played.lines, &streams)?;
+    Ok(is_failed(&told, played.replies, b"", 4))
 }
 
-// Replays a schedule whose input fails at a call, and one whose output does, and counts those that were made.
+// Plays lines whose input fails at a call, and again where the output does, and counts the calls that were made.
 fn fails_at(
     alloc: Global,
     call: u64,
-    schedule: &[u8],
-    replies: &[u8],
+    played: &Played<'_>,
     failed: &mut Failed,
 ) -> Result<(), Fail> {
-    let is_read = fails_to_read(alloc, call, schedule, replies)?.ok_or("a stop of the input")?;
-    let is_written = fails_to_write(alloc, call, schedule, replies)?.ok_or("a stop of the output")?;
+    let is_read = fails_to_read(alloc, call, played)?.ok_or("a stop of the input")?;
+    let is_written = fails_to_write(alloc, call, played)?.ok_or("a stop of the output")?;
     failed.reads = failed.reads.saturating_add(u64::from(is_read));
     failed.writes = failed.writes.saturating_add(u64::from(is_written));
     Ok(())
 }
 
 // The same at each call.
-fn fails_in_turn(
-    alloc: Global,
-    schedule: &[u8],
-    replies: &[u8],
-    failed: &mut Failed,
-) -> Result<(), Fail> {
+fn fails_in_turn(alloc: Global, played: &Played<'_>, failed: &mut Failed) -> Result<(), Fail> {
     for call in 1..100 {
-        fails_at(alloc, call, schedule, replies, failed)?;
+        fails_at(alloc, call, played, failed)?;
     }
     Ok(())
 }
 
 #[test]
-fn a_failing_input_or_output_stops_a_replay(rt: HostRuntime) -> Result<(), Fail> {
+fn a_failing_input_or_output_stops_what_is_played(rt: HostRuntime) -> Result<(), Fail> {
     let failed = all_tried(&rt, rt.alloc(), Trial::Failing)?;
-    assert!(&rt; failed.reads > 50 && failed.reads < 100);
-    assert!(&rt; failed.writes > 20 && failed.writes < 100);
+    assert!(&rt; failed.reads > 80 && failed.reads < 140);
+    assert!(&rt; failed.writes > 30 && failed.writes < 140);
     Ok(())
 }
 

@@ -27,6 +27,8 @@ mod schedules;
 #[cfg(test)]
 mod segments;
 #[cfg(test)]
+mod slots;
+#[cfg(test)]
 mod stopped;
 #[cfg(test)]
 mod stops;
@@ -34,3 +36,5 @@ mod stops;
 mod streams;
 #[cfg(test)]
 mod texts;
+#[cfg(test)]
+mod transfer;

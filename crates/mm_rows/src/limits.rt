@@ -2,7 +2,7 @@
 
 ghost use Rattle.std.specs.Prelude.{None};
 
-use crate::run::{ROOM, alone, replay, replay_over, sound, writes};
+use crate::run::{ROOM, alone, replay_over, sound, writes};
 use mm_base::{Bytes, Failed, MemSink, Memory, Source};
 use std::alloc::Global;
 use std::test::Fail;
@@ -11,10 +11,10 @@ const HEADER: &[u8] = b"memoir 1 basic counter\n";
 
 /// A source of some bytes, and then of others so many times.
 #[derive(Drop)]
-struct Repeated<'a> {
-    next: &'a [u8],
-    again: &'a [u8],
-    times: u64,
+pub struct Repeated<'a> {
+    pub next: &'a [u8],
+    pub again: &'a [u8],
+    pub times: u64,
 }
 
 impl Source for Repeated<'_> {
@@ -95,17 +95,18 @@ fn has_lines(content: &[u8], lines: usize, last: &[u8]) -> bool {
     content.ends_with(last) && content.iter().filter(|byte| **byte == b'\n').count() == lines
 }
 
-// Replays an input, and tells whether the exit status, the number of lines written and the last of
-// them are these.
-fn events_come_to(
+/// Does what a word says on an input, and tells whether the exit status, the number of lines written and the last of
+/// them are these.
+pub fn events_come_to(
     alloc: Global,
+    word: &str,
     input: &mut Repeated<'_>,
     lines: usize,
     last: &[u8],
     code: u8,
 ) -> Result<bool, Memory> {
     let mut out = MemSink::new(alloc, ROOM, &[])?;
-    Ok(replay(alloc, input, &mut out) == code && has_lines(out.content(), lines, last))
+    Ok(alone(alloc, word, input, &mut out) == code && has_lines(out.content(), lines, last))
 }
 
 #[test]
@@ -115,7 +116,7 @@ fn a_line_without_an_end_is_not_read_to_it(rt: HostRuntime) -> Result<(), Fail> 
         again: b"aaaaaaaaaaaaaaaa",
         times: u64::MAX,
     };
-    assert!(rt; events_come_to(rt.alloc(), &mut input, 1, b"stop long 2\n", 14)?);
+    assert!(rt; events_come_to(rt.alloc(), "replay", &mut input, 1, b"stop long 2\n", 14)?);
     Ok(())
 }
 
@@ -126,7 +127,7 @@ fn powers_come_to(alloc: Global, times: u64, last: &[u8], code: u8) -> Result<bo
         again: b"power\n",
         times,
     };
-    events_come_to(alloc, &mut input, 20_001, last, code)
+    events_come_to(alloc, "replay", &mut input, 20_001, last, code)
 }
 
 #[test]
@@ -185,7 +186,7 @@ fn accounts_come_to(alloc: Global, header: &str, last: &[u8]) -> Result<bool, Fa
         again: b"",
         times: 0,
     };
-    Ok(events_come_to(alloc, &mut input, 258, last, 0)?)
+    Ok(events_come_to(alloc, "replay", &mut input, 258, last, 0)?)
 }
 
 #[test]
@@ -214,7 +215,7 @@ fn long_lines_come_to_an_end(alloc: Global, schedule: &[u8]) -> Result<bool, Mem
         times: 20_000,
     };
     let last = b"\nok 16200 bad\nstop much\n";
-    events_come_to(alloc, &mut input, 16_201, last, 15)
+    events_come_to(alloc, "replay", &mut input, 16_201, last, 15)
 }
 
 /// Each of the later events keeps 4,105 bytes of its line and 12,628 of its snapshot.

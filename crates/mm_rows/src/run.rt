@@ -2,6 +2,7 @@
 
 ghost use Rattle.std.specs.Prelude.{Some, []};
 
+use crate::slots::comes_in_steps;
 use mm_app::memoir;
 use mm_base::{Bytes, Failed, MemSink, MemSource, Memory, Sink, Source};
 use mm_platform::{MemPlatform, Platform};
@@ -221,19 +222,31 @@ pub fn replies_of(alloc: Global, table: &str) -> Result<Bytes, Memory> {
     marked(alloc, table, "=> ")
 }
 
-// Whether a schedule gets the replies that stand in it.
-fn is_so(alloc: Global, part: &str, code: u8) -> Result<bool, Memory> {
-    let schedule = schedule_of(alloc, part)?;
+/// Whether the lines of a table get the replies that stand in it, by the command of this word.
+pub fn is_told(alloc: Global, word: &str, part: &str, code: u8) -> Result<bool, Memory> {
+    let lines = schedule_of(alloc, part)?;
     let replies = replies_of(alloc, part)?;
-    writes(alloc, schedule.as_slice(), replies.as_slice(), code)
+    let told = run_over(alloc, &[word], lines.as_slice(), &sound())?;
+    Ok(told.comes_to(replies.as_slice(), code))
+}
+
+/// Plays the lines of each part of a table by the command of a word. Empty lines part them.
+pub fn check_all_by(
+    rt: &impl Abort,
+    alloc: Global,
+    word: &str,
+    table: &str,
+    code: u8,
+) -> Result<(), Fail> {
+    for part in table.split("\n\n") {
+        assert!(rt; is_told(alloc, word, part, code)?, "{part}");
+    }
+    Ok(())
 }
 
 /// Replays each schedule of a table with its replies. Empty lines part them.
 pub fn check_all(rt: &impl Abort, alloc: Global, table: &str, code: u8) -> Result<(), Fail> {
-    for part in table.split("\n\n") {
-        assert!(rt; is_so(alloc, part, code)?, "{part}");
-    }
-    Ok(())
+    check_all_by(rt, alloc, "replay", table, code)
 }
 
 /// Lines that stand between marks, each with its LF.
@@ -246,31 +259,59 @@ pub fn lines_between(alloc: Global, text: &str, mark: &str) -> Result<Bytes, Mem
     Ok(lines)
 }
 
-// Puts three texts and an LF together.
-fn joined(alloc: Global, before: &str, text: &str, after: &str) -> Result<Bytes, Memory> {
-    let mut input = Bytes::copy_of(alloc, before.as_bytes())?;
-    input.append(text.as_bytes())?;
-    input.append(after.as_bytes())?;
-    input.push(b'\n')?;
-    Ok(input)
+/// What plays the schedules of a table: a replay; a slot of a platform, whose calls go step by step; or two platforms.
+#[derive(Clone, Copy)]
+pub enum Player {
+    Replay,
+    Slot,
+    Transfer,
 }
 
-// Whether a schedule gets these replies with this text in the place of its star.
-fn is_so_with(alloc: Global, schedule: &str, text: &str, replies: &[u8]) -> Result<bool, Fail> {
-    let (before, after) = schedule.split_once("*").ok_or("a star")?;
-    let input = joined(alloc, before, text, after)?;
-    Ok(writes(alloc, input.as_slice(), replies, 0)?)
+// A schedule with this text in the place of each star.
+fn filled(alloc: Global, schedule: &str, text: &str) -> Result<String, Memory> {
+    let mut lines = String::new(alloc);
+    for (number, part) in schedule.split("*").enumerate() {
+        if number > 0 {
+            lines.push_str(text)?;
+        }
+        lines.push_str(part)?;
+    }
+    lines.push_str("\n")?;
+    Ok(lines)
+}
+
+// Whether these bytes are written for lines of two platforms.
+fn moves_so(alloc: Global, lines: &[u8], replies: &[u8]) -> Result<bool, Memory> {
+    let told = run_over(alloc, &["transfer"], lines, &sound())?;
+    Ok(told.comes_to(replies, 0))
+}
+
+// Whether a schedule gets these replies with this text in the place of each star.
+fn is_so_with(
+    alloc: Global,
+    player: Player,
+    schedule: &str,
+    text: &str,
+    replies: &[u8],
+) -> Result<bool, Fail> {
+    let input = filled(alloc, schedule, text)?;
+    match player {
+        Player::Replay => Ok(writes(alloc, input.as_bytes(), replies, 0)?),
+        Player::Slot => comes_in_steps(alloc, input.as_str(), replies),
+        Player::Transfer => Ok(moves_so(alloc, input.as_bytes(), replies)?),
+    }
 }
 
 // Whether a schedule gets these replies with each of these texts, parted by bars.
 fn is_so_with_all(
     alloc: Global,
+    player: Player,
     schedule: &str,
     texts: &str,
     replies: &[u8],
 ) -> Result<bool, Fail> {
     for text in texts.split("|") {
-        if !is_so_with(alloc, schedule, text, replies)? {
+        if !is_so_with(alloc, player, schedule, text, replies)? {
             return Ok(false);
         }
     }
@@ -278,26 +319,35 @@ fn is_so_with_all(
 }
 
 // Whether a schedule gets what a row says, with each of its texts.
-fn row_is_so(alloc: Global, schedule: &str, row: &str) -> Result<bool, Fail> {
+fn row_is_so(alloc: Global, player: Player, schedule: &str, row: &str) -> Result<bool, Fail> {
     let (texts, replies) = row.split_once(" => ").ok_or("replies")?;
     let replies = lines_between(alloc, replies, " => ")?;
-    is_so_with_all(alloc, schedule, texts, replies.as_slice())
+    is_so_with_all(alloc, player, schedule, texts, replies.as_slice())
 }
 
-// Replays a schedule with each text of such rows, which name behind an arrow what is then written.
-fn check_rows(rt: &impl Abort, alloc: Global, schedule: &str, rows: &str) -> Result<(), Fail> {
+// Plays a schedule with each text of such rows, which name behind an arrow what is then written.
+fn check_rows(
+    rt: &impl Abort,
+    alloc: Global,
+    player: Player,
+    schedule: &str,
+    rows: &str,
+) -> Result<(), Fail> {
     for row in rows.lines() {
-        assert!(rt; row_is_so(alloc, schedule, row)?, "{schedule}: {row}");
+        assert!(rt;
+            row_is_so(alloc, player, schedule, row)?,
+            "{schedule}: {row}"
+        );
     }
     Ok(())
 }
 
-/// Replays each schedule of a table with each text that may stand in the place of its star. Empty lines part the
+/// Plays each schedule of a table with each text that may stand in the place of its stars. Empty lines part the
 /// schedules; the texts stand behind `with`, those with the same replies in one line.
-pub fn check_each(rt: &impl Abort, alloc: Global, table: &str) -> Result<(), Fail> {
+pub fn check_each(rt: &impl Abort, alloc: Global, player: Player, table: &str) -> Result<(), Fail> {
     for part in table.split("\n\n") {
         let (schedule, rows) = part.split_once("\nwith\n").ok_or("rows")?;
-        check_rows(rt, alloc, schedule, rows)?;
+        check_rows(rt, alloc, player, schedule, rows)?;
     }
     Ok(())
 }

@@ -1,10 +1,10 @@
 //! A stop, or an extension by others, at each step of each call.
 
-use crate::run::check_each;
+use crate::run::{Player, check_each};
 use std::test::Fail;
 
 /// What a request of Basic is stopped by, and the same request asked again.
-const BASIC_STOPS: &str = "\
+pub const BASIC_STOPS: &str = "\
 memoir 1 basic counter
 * ask 0 add 5
 ask 0 add 5
@@ -25,7 +25,7 @@ with
 ";
 
 /// A request that opens a segment, the first one and one after a segment that was closed; asked again.
-const OPENINGS: &str = "\
+pub const OPENINGS: &str = "\
 memoir 1 opt counter
 * ask 0 add 5
 ask 0 add 5
@@ -53,7 +53,10 @@ cut 5 => ok 1 1 => checkpointed => cut kept 2 => no lost => end 2 2
 drop 5 => ok 1 1 => checkpointed => drop kept 2 => again 2 6 => end 2 3
 fail 5 done => ok 1 1 => checkpointed => fault kept 2 => again 2 6 => end 2 3
 cut 6 => ok 1 1 => checkpointed => ok 2 6 => again 2 6 => end 2 4
+";
 
+/// A batch that opens a segment, asked again.
+const BATCH_OPENINGS: &str = "\
 memoir 1 opt counter
 * batch 0 add 5\tadd 7
 batch 0 add 5\tadd 7
@@ -66,7 +69,7 @@ fail 5 done => fault kept 2 => again 1 5 => again 2 12 => end 2 2
 ";
 
 /// A request in an open segment, asked again.
-const GOING_ON: &str = "\
+pub const GOING_ON: &str = "\
 memoir 1 opt counter
 ask 0 add 1
 * ask 1 add 1
@@ -83,7 +86,7 @@ cut 4 => ok 1 1 => ok 2 2 => again 2 2 => end 2 4
 ";
 
 /// A checkpoint: of an open segment, without one, and of one that was lost.
-const CHECKPOINTS: &str = "\
+pub const CHECKPOINTS: &str = "\
 memoir 1 opt counter
 ask 0 add 1
 * checkpoint
@@ -132,7 +135,7 @@ cut 3|drop 3|fail 3 done => ok 1 1 => power => no lost => no lost => end 1 2
 ";
 
 /// A repeat: in its open segment, after that was closed, and after it was lost. And offers that are refused.
-const READINGS: &str = "\
+pub const READINGS: &str = "\
 memoir 1 opt counter
 ask 0 add 1
 * ask 0 add 1
@@ -253,23 +256,23 @@ with
 
 #[test]
 fn a_stopped_request_is_asked_again(rt: HostRuntime) -> Result<(), Fail> {
-    for table in [BASIC_STOPS, OPENINGS, GOING_ON] {
-        check_each(&rt, rt.alloc(), table)?;
+    for table in [BASIC_STOPS, OPENINGS, BATCH_OPENINGS, GOING_ON] {
+        check_each(&rt, rt.alloc(), Player::Replay, table)?;
     }
     Ok(())
 }
 
 #[test]
 fn a_stopped_checkpoint_closes_its_segment_or_leaves_it(rt: HostRuntime) -> Result<(), Fail> {
-    check_each(&rt, rt.alloc(), CHECKPOINTS)
+    check_each(&rt, rt.alloc(), Player::Replay, CHECKPOINTS)
 }
 
 #[test]
 fn a_stop_at_a_reading_step_comes_before_what_is_read(rt: HostRuntime) -> Result<(), Fail> {
-    check_each(&rt, rt.alloc(), READINGS)
+    check_each(&rt, rt.alloc(), Player::Replay, READINGS)
 }
 
 #[test]
 fn an_extension_by_others_lets_no_old_snapshot_in(rt: HostRuntime) -> Result<(), Fail> {
-    check_each(&rt, rt.alloc(), MEDDLES)
+    check_each(&rt, rt.alloc(), Player::Replay, MEDDLES)
 }
