@@ -4,7 +4,8 @@ use Rattle.rand_chacha.specs.ChaCha.{ChaCha, key_of, next_word}
 use Rattle.mm_base.specs.Limits.{last_position}
 use Rattle.mm_dispenser.specs.Draws.{word_of, word_text, words_text}
 
-words_text-suc : (seed : List ℕ) (at next more n : ℕ) → more ≡ suc n → next ≡ at + 1 → words_text seed at more ≡ word_text (word_of seed at) ++ words_text seed next n
+words_text-suc : (seed : List ℕ) (at next more n : ℕ) → more ≡ suc n → next ≡ at + 1
+    → words_text seed at more ≡ word_text (word_of seed at) ++ words_text seed next n
 words_text-suc seed at next more n is next_is = rw (is, next_is) refl
 
 -- one word more
@@ -12,14 +13,9 @@ pub drawn-step : (seed text drawn : List ℕ) (place count i : ℕ) → i < coun
     → (text ++ word_text (word_of seed (place + i))) ++ words_text seed (place + (i + 1)) (count - (i + 1)) ≡ drawn
 drawn-step seed text drawn place count i before is =
     append_assoc text (word_text (word_of seed (place + i))) (words_text seed (place + (i + 1)) (count - (i + 1)))
-    ∙ ap (λ (l : List ℕ). text ++ l) (sym (words_text-suc seed (place + i) (place + (i + 1)) (count - i) (count - (i + 1)) (omega arith) (omega arith)))
+    ∙ ap (λ (l : List ℕ). text ++ l)
+    (sym (words_text-suc seed (place + i) (place + (i + 1)) (count - i) (count - (i + 1)) (omega arith) (omega arith)))
     ∙ is
-
--- all words
-pub drawn-end : (seed text drawn : List ℕ) (place count i : ℕ) → i ≡ count → text ++ words_text seed (place + i) (count - i) ≡ drawn → text ≡ drawn
-drawn-end seed text drawn place count i all is =
-    let none : count - i ≡ 0 = omega arith in
-    sym (append-nil text) ∙ ap (λ n. text ++ words_text seed (place + i) n) (sym none) ∙ is
 
 -- the next word of a generator, and its place
 pub record IsNext (seed : List ℕ) (at word : ℕ) (after : ChaCha) : Type 0 where
@@ -30,7 +26,8 @@ pub next-drawn : (before after : ChaCha) (word : ℕ) (seed : List ℕ) (at : �
     → before ≡ record { key = key_of seed; stream = 0; word_pos = at } → IsNext seed at word after
 unfolding word_of
 next-drawn before after word seed at small is stands =
-    let e : (word, after) ≡ next_word 10 (record { key = key_of seed; stream = 0; word_pos = at }) = is ∙ ap (λ (g : ChaCha). next_word 10 g) stands in
+    let e : (word, after) ≡ next_word 10 (record { key = key_of seed; stream = 0; word_pos = at }) = is
+    ∙ ap (λ (g : ChaCha). next_word 10 g) stands in
     let inside : (at + 1) % 2 ^ 68 ≡ at + 1 = omega arith in
     record {
       is = ap (λ (r : ℕ × ChaCha). r.0) e;

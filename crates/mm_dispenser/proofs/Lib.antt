@@ -1,2 +1,1 @@
 pub mod DrawLaws
-pub mod PlaceLaws

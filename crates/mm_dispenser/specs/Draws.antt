@@ -16,7 +16,8 @@ word_text word = 32 ∷ encode_lower (to_be_bytes w32 word)
 -- so many words from a place on
 abbrev pub words_text : List ℕ → ℕ → ℕ → List ℕ
 words_text seed place zero = []
-words_text seed place (suc count) = word_text (word_of seed place) ++ words_text seed (place + 1) count
+words_text seed place (suc count) =
+    word_text (word_of seed place) ++ words_text seed (place + 1) count
 
 -- the place, and so many words from there on
 abbrev pub drawn_text : List ℕ → ℕ → ℕ → List ℕ

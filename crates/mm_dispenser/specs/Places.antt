@@ -13,10 +13,11 @@ pub record PlacesFrom : Type 0 where
 -- a number, and so many words behind it
 abbrev pub places_in : List (List ℕ) → Option PlacesFrom
 places_in [] = None
-places_in (word ∷ words) = option_map (λ (n : ℕ). record { from = n; size = length words }) (decimal_number word)
+places_in (word ∷ words) =
+    option_map (λ (n : ℕ). record { from = n; size = length words }) (decimal_number word)
 
--- The places that an output tells: those from the number on that it begins with, as many as there are words behind.
--- An output that begins with no number tells none.
+-- The places that an output tells: those from the number on that it begins with, as many as there
+-- are words behind. An output that begins with no number tells none.
 abbrev pub places_told : List ℕ → Option PlacesFrom
 places_told output = places_in (words_of output)
 
@@ -26,9 +27,12 @@ places_at outputs i = option_and_then places_told (slice_get outputs i)
 
 -- Of two outputs that tell places, the later one's begin at or behind the end of the earlier one's.
 abbrev pub RisesByPlaces : List (List ℕ) → Type 0
-RisesByPlaces outputs = (i j : ℕ) (p q : PlacesFrom) → i < j → places_at outputs i ≡ Some p → places_at outputs j ≡ Some q
+RisesByPlaces outputs =
+    (i j : ℕ) (p q : PlacesFrom) → i < j → places_at outputs i ≡ Some p
+    → places_at outputs j ≡ Some q
     → p.from + p.size ≤ q.from
 
 -- so it is in every run
 abbrev pub PlacesAreToldOnce : Type 0
-PlacesAreToldOnce = (requests : List (List ℕ)) → RisesByPlaces (outputs_from dispenser dispenser.first requests)
+PlacesAreToldOnce =
+    (requests : List (List ℕ)) → RisesByPlaces (outputs_from dispenser dispenser.first requests)

@@ -25,13 +25,15 @@ drawing_of number = if nat_le 1 number && nat_le number 16 then Some (Draw numbe
 unfoldable pub request_of : List (List ℕ) → Option Request
 request_of (word ∷ argument ∷ []) =
     if bytes_eq word (codes "seed") then option_map (λ seed. Seed seed) (value_at argument)
-    else (if bytes_eq word (codes "draw") then option_and_then drawing_of (decimal_number argument) else None)
+    else (if bytes_eq word (codes "draw") then option_and_then drawing_of (decimal_number argument)
+    else None)
 request_of _ = None
 
 -- what a draw does to a seed and a place: there are 2^48 places
 abbrev pub drawn_at : List ℕ → ℕ → ℕ → State × Says
 drawn_at seed place count =
-    if nat_le (place + count) last_position then (Seeded seed (place + count), says.Words seed place count)
+    if nat_le (place + count) last_position
+    then (Seeded seed (place + count), says.Words seed place count)
     else (Seeded seed place, says.Full)
 
 -- what a request does, and what is said
@@ -66,7 +68,8 @@ placed seed place = if nat_le place last_position then Some (Seeded seed place) 
 
 -- a seed and the 8 bytes of a place
 abbrev pub seeded_of : List ℕ → Option State
-seeded_of bytes = if length bytes == 40 then placed (take 32 bytes) (of_eight_bytes (drop 32 bytes)) else None
+seeded_of bytes =
+    if length bytes == 40 then placed (take 32 bytes) (of_eight_bytes (drop 32 bytes)) else None
 
 -- the state that these bytes spell
 unfoldable pub state_of : List ℕ → Option State
@@ -81,7 +84,8 @@ spelling_of (Seeded seed place) = 1 ∷ (seed ++ eight_bytes place)
 
 -- what a request does to a spelled state
 unfoldable pub stepped : List ℕ → List ℕ → State × Says
-stepped state request = outcome_of (unwrap_or (state_of state) Unset) (request_of (words_of request))
+stepped state request =
+    outcome_of (unwrap_or (state_of state) Unset) (request_of (words_of request))
 
 -- the bytes spell a state
 unfoldable pub is_state : List ℕ → Bool

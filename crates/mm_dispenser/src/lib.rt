@@ -4,6 +4,7 @@
 mod dispenser;
 mod draws;
 pub mod laws;
+mod listed;
 
 pub use dispenser::Dispenser;
 

@@ -49,7 +49,8 @@ stepped : (number count : ℕ) (header : Header) (text key : List ℕ) (place do
     → done < count → place ≤ 4 * done → count - done ≤ turns
     → text ++ lines_joined (take (count - done) (lines_from header key place (done + 1) turns)) ≡ schedule_text number count header
     → shown ≡ length (take (count - done) (turn_lines header (done + 1) (words_at key place)))
-    → Going number count header (text ++ lines_joined (take (count - done) (turn_lines header (done + 1) (words_at key place)))) key (place + 4) (done + shown)
+    → Going number count header (text ++ lines_joined (take (count - done) (turn_lines header (done + 1) (words_at key place)))) key
+    (place + 4) (done + shown)
 stepped number count header text key place done shown zero more drawn enough whole is = absurd (omega arith)
 stepped number count header text key place done shown (suc turns) more drawn enough whole is =
     let lines : List (List ℕ) = turn_lines header (done + 1) (words_at key place) in
@@ -77,6 +78,7 @@ stepped number count header text key place done shown (suc turns) more drawn eno
 pub goes_on : (number count : ℕ) (header : Header) (text key : List ℕ) (place done shown : ℕ)
     → Going number count header text key place done → done < count
     → shown ≡ length (take (count - done) (turn_lines header (done + 1) (words_at key place)))
-    → Going number count header (text ++ lines_joined (take (count - done) (turn_lines header (done + 1) (words_at key place)))) key (place + 4) (done + shown)
+    → Going number count header (text ++ lines_joined (take (count - done) (turn_lines header (done + 1) (words_at key place)))) key
+    (place + 4) (done + shown)
 goes_on number count header text key place done shown going more is =
     stepped number count header text key place done shown going.turns more going.drawn going.enough going.whole is

@@ -1,6 +1,6 @@
 -- Parts of lines: bytes without LF, and at most so many.
-use Rattle.std.proofs.Common.{◌≡◌, ◌≢◌, ◌<◌, ◌≤◌, ◌^◌, ℕ, ◌+◌, ◌/◌, ◌%◌, Bool, true, false, List, [], ◌∷◌, ◌++◌, length, refl, arith}
-use Rattle.std.specs.Prelude.{nat_lt, ◌==◌, not, codes}
+use Rattle.std.proofs.Common.{◌≡◌, ◌≢◌, ◌<◌, ◌≤◌, ◌^◌, ℕ, ◌+◌, Bool, true, false, List, [], ◌∷◌, ◌++◌, length, arith}
+use Rattle.std.specs.Prelude.{◌==◌, not}
 use Rattle.std.specs.Char.{is_ascii_digit}
 use Rattle.std.specs.Fmt.{decimal}
 use Rattle.std.specs.List.{AllByRecursion, list_all}
@@ -11,10 +11,12 @@ use Rattle.std.proofs.lemmas.List.{length-append}
 use Rattle.std.proofs.lemmas.List.Elements.{All-append, All-from_recursion}
 use Rattle.std.proofs.lemmas.Str.Parse.{numerals_by_value, tells_all_ascii_digits}
 use Rattle.mm_base.specs.Input.{IsUnbroken}
+use Rattle.mm_listing.specs.Listing.{is_name_byte}
+use Rattle.mm_module.specs.LineLaws.{All-is_unbroken}
 use Rattle.mm_modules.specs.declared.any.AnyModule.{AnyModule}
-use Rattle.mm_modules.specs.declared.any.AnyModule.TheVariants.{Counter, Limiter, Quota, Ledger, Dispenser, ReceiptCounter, ReceiptLimiter, ReceiptQuota}
-use Rattle.mm_gen.specs.Requests.{account_request, counter_request, limiter_request, dispenser_request, request_chosen}
-use Rattle.mm_gen.proofs.Rows.{in_both}
+use Rattle.mm_modules.specs.Modules.{name_of}
+use Rattle.mm_modules.specs.Modules.{any_is_found, any_is_listed}
+use Rattle.mm_gen.specs.Turns.{request_chosen}
 
 pub record IsPart (size : ℕ) (bytes : List ℕ) : Type 0 where
   pub unbroken : IsUnbroken bytes
@@ -64,55 +66,22 @@ both m n front back first second = record {
 pub wider : (m n : ℕ) (bytes : List ℕ) → IsPart m bytes → m ≤ n → IsPart n bytes
 wider m n bytes part more = record { unbroken = part.unbroken; short = omega (arith, part.short, more) }
 
--- a word and a number
-numbered : (word : List ℕ) (n : ℕ) → list_all is_text word ≡ true → length word ≤ 20 → n < 10 ^ 9 → IsPart 40 (word ++ decimal n)
-numbered word n are short low = both 20 20 word (decimal n) (literal word are short) (number n low)
+named_unbroken : (bytes : List ℕ) → list_all is_name_byte bytes ≡ true → AllByRecursion IsNoBreak bytes
+named_unbroken [] are = tt
+named_unbroken (byte ∷ bytes) are =
+    let first : is_name_byte byte ≡ true = grind (arith, nat_tests) in
+    let rest : list_all is_name_byte bytes ≡ true = grind (arith, nat_tests) in
+    (λ same. let clash : false ≡ true = rw same at first in cc, named_unbroken bytes rest)
 
-counter-part : (choice : ℕ) → IsPart 80 (counter_request choice)
-counter-part choice =
-    in_both (IsPart 80) (choice % 4 == 0) _ _ (wider 20 80 _ (literal (codes "read") refl (omega arith)) (omega arith))
-    (wider 40 80 _ (numbered (codes "add ") (choice / 4 % 1000) refl (omega arith) (omega arith)) (omega arith))
+-- the name of a module
+pub name-part : (it : AnyModule) → IsPart 32 (name_of it)
+name-part it = record {
+  unbroken = All-from_recursion IsNoBreak (name_of it) (named_unbroken (name_of it) (any_is_listed it).named.letters);
+  short = (any_is_found it).short;
+}
 
-limiter-part : (choice : ℕ) → IsPart 80 (limiter_request choice)
-limiter-part choice =
-    in_both (IsPart 80) (choice % 8 == 0) _ _ (wider 20 80 _ (literal (codes "set pw 50") refl (omega arith)) (omega arith))
-    (in_both (IsPart 80) (choice % 8 == 1) _ _ (wider 20 80 _ (literal (codes "left") refl (omega arith)) (omega arith))
-    (in_both (IsPart 80) (choice % 8 == 2) _ _ (wider 20 80 _ (literal (codes "guess pw") refl (omega arith)) (omega arith))
-    (wider 40 80 _ (numbered (codes "guess ") (choice / 8 % 100) refl (omega arith) (omega arith)) (omega arith))))
-
--- a word, the name of an account, and an amount
-moving-part : (word : List ℕ) (choice : ℕ) → list_all is_text word ≡ true → length word ≤ 20
-    → IsPart 80 (word ++ decimal (choice / 8 % 16) ++ 32 ∷ decimal (choice / 128 % 500))
-moving-part word choice are short =
-    both 40 40 (word ++ decimal (choice / 8 % 16)) (32 ∷ decimal (choice / 128 % 500))
-    (numbered word (choice / 8 % 16) are short (omega arith)) (numbered (32 ∷ []) (choice / 128 % 500) refl (omega arith) (omega arith))
-
-account-part : (choice : ℕ) → IsPart 80 (account_request choice)
-account-part choice =
-    in_both (IsPart 80) (choice % 8 == 0) _ _
-    (wider 60 80 _ (both 20 40 (codes "open a") _ (literal (codes "open a") refl (omega arith))
-    (both 20 20 (decimal (choice / 8 % 16)) (codes " 100000") (number (choice / 8 % 16) (omega arith)) (literal (codes " 100000") refl (omega arith)))) (omega arith))
-    (in_both (IsPart 80) (nat_lt (choice % 8) 4) _ _ (moving-part (codes "use a") choice refl (omega arith))
-    (in_both (IsPart 80) (nat_lt (choice % 8) 6) _ _ (moving-part (codes "free a") choice refl (omega arith))
-    (in_both (IsPart 80) (choice % 8 == 6) _ _ (wider 40 80 _ (numbered (codes "left a") (choice / 8 % 16) refl (omega arith) (omega arith)) (omega arith))
-    (wider 20 80 _ (literal (codes "sum") refl (omega arith)) (omega arith)))))
-
--- a literal text of up to 80 bytes
-long_literal : (text : List ℕ) → list_all is_text text ≡ true → length text ≤ 80 → IsPart 80 text
-long_literal text are short = record { unbroken = All-from_recursion IsNoBreak text (unbroken_by_test text are); short = short }
-
-dispenser-part : (choice : ℕ) → IsPart 80 (dispenser_request choice)
-dispenser-part choice =
-    in_both (IsPart 80) (choice % 4 == 0) _ _ (long_literal (codes "seed 0000000000000000000000000000000000000000000000000000000000000000") refl (omega arith))
-    (wider 40 80 _ (numbered (codes "draw ") (choice / 4 % 16 + 1) refl (omega arith) (omega arith)) (omega arith))
-
-pub request-part : (module_asked : AnyModule) (choice : ℕ) → IsPart 80 (request_chosen module_asked choice)
-unfolding request_chosen
-request-part Counter choice = counter-part choice
-request-part Limiter choice = limiter-part choice
-request-part Quota choice = account-part choice
-request-part Ledger choice = account-part choice
-request-part Dispenser choice = dispenser-part choice
-request-part ReceiptCounter choice = counter-part choice
-request-part ReceiptLimiter choice = limiter-part choice
-request-part ReceiptQuota choice = account-part choice
+-- a request of a module
+pub request-part : (it : AnyModule) (choice : ℕ) → IsPart 256 (request_chosen it choice)
+request-part it choice =
+    let asks = (any_is_listed it).asks choice in
+    record { unbroken = All-is_unbroken (request_chosen it choice) asks.unbroken; short = asks.short }

@@ -10,15 +10,13 @@ use Rattle.mm_base.proofs.Input.{lines_of-joined, tail_of-joined}
 use Rattle.mm_base.specs.Limits.{most_events}
 use Rattle.mm_digest.specs.declared.variant.Variant.{Variant}
 use Rattle.mm_digest.specs.declared.variant.Variant.TheVariants.{Basic, Opt}
-use Rattle.mm_modules.specs.declared.any.AnyModule.{AnyModule}
-use Rattle.mm_modules.specs.declared.any.AnyModule.TheVariants.{Counter, Limiter, Quota, Ledger, Dispenser, ReceiptCounter, ReceiptLimiter, ReceiptQuota}
 use Rattle.mm_modules.specs.Modules.{name_of}
 use Rattle.mm_schedule.specs.declared.header.Header.{Header}
 use Rattle.mm_schedule.specs.Headers.{header_text, variant_text}
 use Rattle.mm_gen.specs.Laws.{IsEventLine, IsSchedule}
 use Rattle.mm_gen.specs.Schedules.{lines_from, schedule_lines, seed_from, words_at}
 use Rattle.mm_gen.specs.Turns.{turn_lines}
-use Rattle.mm_gen.proofs.Parts.{IsPart, both, literal}
+use Rattle.mm_gen.proofs.Parts.{IsPart, both, literal, name-part}
 use Rattle.mm_gen.proofs.Rows.{few_lines, some_lines}
 use Rattle.mm_gen.proofs.Spelled.{turn_events}
 
@@ -26,21 +24,12 @@ variant-part : (variant : Variant) → IsPart 20 (variant_text variant)
 variant-part Basic = literal (codes "basic") refl (omega arith)
 variant-part Opt = literal (codes "opt") refl (omega arith)
 
-name-part : (it : AnyModule) → IsPart 20 (name_of it)
-name-part Counter = literal (codes "counter") refl (omega arith)
-name-part Limiter = literal (codes "limiter") refl (omega arith)
-name-part Quota = literal (codes "quota") refl (omega arith)
-name-part Ledger = literal (codes "ledger") refl (omega arith)
-name-part Dispenser = literal (codes "dispenser") refl (omega arith)
-name-part ReceiptCounter = literal (codes "receipt-counter") refl (omega arith)
-name-part ReceiptLimiter = literal (codes "receipt-limiter") refl (omega arith)
-name-part ReceiptQuota = literal (codes "receipt-quota") refl (omega arith)
-
 pub header-unbroken : (header : Header) → IsUnbroken (header_text header)
 header-unbroken header =
-    (both 20 60 (codes "memoir 1 ") (variant_text header.variant ++ 32 ∷ name_of header.module) (literal (codes "memoir 1 ") refl (omega arith))
-    (both 20 40 (variant_text header.variant) (32 ∷ name_of header.module) (variant-part header.variant)
-    (both 20 20 (32 ∷ []) (name_of header.module) (literal (32 ∷ []) refl (omega arith)) (name-part header.module)))).unbroken
+    (both 20 72 (codes "memoir 1 ") (variant_text header.variant ++ 32 ∷ name_of header.module)
+    (literal (codes "memoir 1 ") refl (omega arith))
+    (both 20 52 (variant_text header.variant) (32 ∷ name_of header.module) (variant-part header.variant)
+    (both 20 32 (32 ∷ []) (name_of header.module) (literal (32 ∷ []) refl (omega arith)) (name-part header.module)))).unbroken
 
 -- so many turns have at least as many lines, and each is an event's
 events_from : (header : Header) (key : List ℕ) (place first turns : ℕ) → 0 < first → first + 2 * turns < 10 ^ 9

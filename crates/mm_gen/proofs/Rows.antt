@@ -6,8 +6,7 @@ use Rattle.mm_digest.specs.declared.variant.Variant.{Variant}
 use Rattle.mm_digest.specs.declared.variant.Variant.TheVariants.{Basic, Opt}
 use Rattle.mm_schedule.specs.declared.header.Header.{Header}
 use Rattle.mm_gen.specs.declared.words.Words.{Words}
-use Rattle.mm_gen.specs.Requests.{request_chosen}
-use Rattle.mm_gen.specs.Turns.{ask_text, cut_word, effect_word, row_14, row_15, turn_lines}
+use Rattle.mm_gen.specs.Turns.{ask_text, cut_word, effect_word, request_chosen, row_14, row_15, turn_lines}
 
 -- what holds in both cases
 pub in_both : {A : Type 0} (P : A → Type 0) (b : Bool) (x y : A) → P x → P y → P (if b then x else y)
@@ -40,10 +39,12 @@ are_few header first words =
     let last : List ℕ = ask_text (codes "last") request in
     in_both IsFew (nat_lt (words.row % 16) 9) _ _ (one last)
     (in_both IsFew (words.row % 16 == 9) _ _ (one (ask_text (decimal (words.number % first)) request))
-    (in_both IsFew (words.row % 16 == 10) _ _ (one (ask_text (codes "flip " ++ decimal (words.number % first) ++ 32 ∷ decimal (words.detail % 128)) request))
+    (in_both IsFew (words.row % 16 == 10) _ _
+    (one (ask_text (codes "flip " ++ decimal (words.number % first) ++ 32 ∷ decimal (words.detail % 128)) request))
     (in_both IsFew (words.row % 16 == 11) _ _ (two ((cut_word header.variant ++ decimal (1 + words.number % 5) ++ 32 ∷ []) ++ last) last)
     (in_both IsFew (words.row % 16 == 12) _ _ (two ((codes "drop " ++ decimal (1 + words.number % 5) ++ 32 ∷ []) ++ last) last)
-    (in_both IsFew (words.row % 16 == 13) _ _ (two ((codes "fail " ++ decimal (1 + words.number % 5) ++ effect_word words.detail) ++ last) last)
+    (in_both IsFew (words.row % 16 == 13) _ _
+    (two ((codes "fail " ++ decimal (1 + words.number % 5) ++ effect_word words.detail) ++ last) last)
     (in_both IsFew (words.row % 16 == 14) _ _ (few-14 header.variant) (few-15 header.variant)))))))
 
 -- a turn has a line

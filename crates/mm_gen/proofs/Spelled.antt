@@ -16,8 +16,7 @@ use Rattle.mm_schedule.specs.Events.{Ask, Checkpoint, Power}
 use Rattle.mm_schedule.specs.Spelling.{SpellsNumber, SpellsOffer, SpellsStep, SpellsStop}
 use Rattle.mm_gen.specs.declared.words.Words.{Words}
 use Rattle.mm_gen.specs.Laws.{IsEventLine}
-use Rattle.mm_gen.specs.Requests.{request_chosen}
-use Rattle.mm_gen.specs.Turns.{ask_text, cut_word, pair, row_14, row_15, turn_lines}
+use Rattle.mm_gen.specs.Turns.{ask_text, cut_word, pair, request_chosen, row_14, row_15, turn_lines}
 use Rattle.mm_gen.proofs.Parts.{IsPart, both, literal, number, request-part, wider}
 use Rattle.mm_gen.proofs.Rows.{in_both}
 
@@ -42,10 +41,11 @@ spelled_step : (n : ℕ) → SpellsStep (1 + n % 5) (decimal (1 + n % 5))
 spelled_step n = record { low = omega arith; high = omega arith; digit = refl }
 
 ask_line : (stop : Stop) (ending : List ℕ) (offer : Offer) (from request : List ℕ)
-    → Ends stop ending → Offers offer from → IsPart 80 request → IsEventLine (ending ++ ask_text from request)
+    → Ends stop ending → Offers offer from → IsPart 256 request → IsEventLine (ending ++ ask_text from request)
 ask_line stop ending offer from request ends offers part =
-    let line = both 80 200 ending (ask_text from request) ends.part (both 20 180 (codes "ask ") (from ++ 32 ∷ request) (literal (codes "ask ") refl (omega arith))
-    (both 80 100 from (32 ∷ request) offers.part (both 20 80 (32 ∷ []) request (literal (32 ∷ []) refl (omega arith)) part))) in
+    let line = both 80 376 ending (ask_text from request) ends.part
+    (both 20 356 (codes "ask ") (from ++ 32 ∷ request) (literal (codes "ask ") refl (omega arith))
+    (both 80 276 from (32 ∷ request) offers.part (both 20 256 (32 ∷ []) request (literal (32 ∷ []) refl (omega arith)) part))) in
     record {
       event = Ask [] stop offer (One request);
       spelled = (
@@ -86,7 +86,8 @@ flipped n byte low few = record {
 stop-part : (word behind : List ℕ) (n : ℕ) → IsPart 20 word → IsPart 20 behind → IsPart 80 (word ++ decimal (1 + n % 5) ++ behind)
 stop-part word behind n first second =
     wider 60 80 (word ++ decimal (1 + n % 5) ++ behind)
-    (both 40 20 (word ++ decimal (1 + n % 5)) behind (both 20 20 word (decimal (1 + n % 5)) first (number (1 + n % 5) (omega arith))) second) (omega arith)
+    (both 40 20 (word ++ decimal (1 + n % 5)) behind (both 20 20 word (decimal (1 + n % 5)) first (number (1 + n % 5) (omega arith)))
+    second) (omega arith)
 
 cut : (n : ℕ) → Ends (Cut (1 + n % 5)) (codes "cut " ++ decimal (1 + n % 5) ++ 32 ∷ [])
 cut n = record {
@@ -100,21 +101,26 @@ drop n = record {
   part = stop-part (codes "drop ") (32 ∷ []) n (literal (codes "drop ") refl (omega arith)) (literal (32 ∷ []) refl (omega arith));
 }
 
-fail : (n : ℕ) (done : Bool) → Ends (Fail (1 + n % 5) done) (codes "fail " ++ decimal (1 + n % 5) ++ (if done then codes " done " else codes " undone "))
+fail : (n : ℕ) (done : Bool)
+    → Ends (Fail (1 + n % 5) done) (codes "fail " ++ decimal (1 + n % 5) ++ (if done then codes " done " else codes " undone "))
 fail n true = record {
   spelled = (decimal (1 + n % 5), spelled_step n, refl);
-  part = stop-part (codes "fail ") (codes " done ") n (literal (codes "fail ") refl (omega arith)) (literal (codes " done ") refl (omega arith));
+  part =
+      stop-part (codes "fail ") (codes " done ") n (literal (codes "fail ") refl (omega arith))
+      (literal (codes " done ") refl (omega arith));
 }
 fail n false = record {
   spelled = (decimal (1 + n % 5), spelled_step n, refl);
-  part = stop-part (codes "fail ") (codes " undone ") n (literal (codes "fail ") refl (omega arith)) (literal (codes " undone ") refl (omega arith));
+  part =
+      stop-part (codes "fail ") (codes " undone ") n (literal (codes "fail ") refl (omega arith))
+      (literal (codes " undone ") refl (omega arith));
 }
 
-pairs : (stop : Stop) (ending request : List ℕ) → Ends stop ending → IsPart 80 request → AreEvents (pair ending request)
+pairs : (stop : Stop) (ending request : List ℕ) → Ends stop ending → IsPart 256 request → AreEvents (pair ending request)
 pairs stop ending request ends part =
     (ask_line stop ending Last (codes "last") request ends last part, (ask_line Quiet [] Last (codes "last") request quiet last part, tt))
 
-cut_or_drop : (variant : Variant) (n : ℕ) (request : List ℕ) → IsPart 80 request
+cut_or_drop : (variant : Variant) (n : ℕ) (request : List ℕ) → IsPart 256 request
     → AreEvents (pair (cut_word variant ++ decimal (1 + n % 5) ++ 32 ∷ []) request)
 cut_or_drop Basic n request part = pairs (Cut (1 + n % 5)) _ request (cut n) part
 cut_or_drop Opt n request part = pairs (Drop (1 + n % 5)) _ request (drop n) part
@@ -146,13 +152,18 @@ pub turn_events : (header : Header) (first : ℕ) (words : Words) → 0 < first 
 unfolding turn_lines
 turn_events header first words some low =
     let request : List ℕ = request_chosen header.module words.request in
-    let part : IsPart 80 request = request-part header.module words.request in
+    let part : IsPart 256 request = request-part header.module words.request in
     let snapshot : words.number % first < 10 ^ 9 = omega (arith, mod_below words.number first some, low) in
     in_both AreEvents (nat_lt (words.row % 16) 9) _ _ (ask_line Quiet [] Last (codes "last") request quiet last part, tt)
-    (in_both AreEvents (words.row % 16 == 9) _ _ (ask_line Quiet [] (Number (words.number % first)) _ request quiet (numbered (words.number % first) snapshot) part, tt)
-    (in_both AreEvents (words.row % 16 == 10) _ _
-    (ask_line Quiet [] (Flip (words.number % first) (words.detail % 128)) _ request quiet (flipped (words.number % first) (words.detail % 128) snapshot (omega arith)) part, tt)
+    (in_both AreEvents (words.row % 16 == 9) _ _
+    (ask_line Quiet [] (Number (words.number % first)) _ request quiet (numbered (words.number % first) snapshot) part, tt)
+    (in_both AreEvents (words.row % 16 == 10) _ _ (
+      ask_line Quiet [] (Flip (words.number % first) (words.detail % 128)) _ request quiet
+          (flipped (words.number % first) (words.detail % 128) snapshot (omega arith)) part,
+      tt,
+    )
     (in_both AreEvents (words.row % 16 == 11) _ _ (cut_or_drop header.variant words.number request part)
     (in_both AreEvents (words.row % 16 == 12) _ _ (pairs (Drop (1 + words.number % 5)) _ request (drop words.number) part)
-    (in_both AreEvents (words.row % 16 == 13) _ _ (pairs (Fail (1 + words.number % 5) (words.detail % 2 == 0)) _ request (fail words.number (words.detail % 2 == 0)) part)
+    (in_both AreEvents (words.row % 16 == 13) _ _
+    (pairs (Fail (1 + words.number % 5) (words.detail % 2 == 0)) _ request (fail words.number (words.detail % 2 == 0)) part)
     (in_both AreEvents (words.row % 16 == 14) _ _ (events-14 header.variant) (events-15 header.variant)))))))

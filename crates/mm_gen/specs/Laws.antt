@@ -17,10 +17,12 @@ pub record IsEventLine (line : List ℕ) : Type 0 where
 
 -- the text is read as its header's line and so many lines of events, and nothing behind them
 pub record IsSchedule (number count : ℕ) (header : Header) : Type 0 where
-  pub lines : lines_of (schedule_text number count header) ≡ header_text header ∷ schedule_lines number count header
+  pub lines : lines_of (schedule_text number count header) ≡ header_text header
+      ∷ schedule_lines number count header
   pub ends : tail_of (schedule_text number count header) ≡ []
   pub counted : length (schedule_lines number count header) ≡ count
   pub events : All IsEventLine (schedule_lines number count header)
 
 abbrev pub SchedulesAreRead : Type 0
-SchedulesAreRead = (number count : ℕ) (header : Header) → count ≤ most_events → IsSchedule number count header
+SchedulesAreRead =
+    (number count : ℕ) (header : Header) → count ≤ most_events → IsSchedule number count header

@@ -1,5 +1,4 @@
 pub mod Laws
 pub mod Lines
-pub mod Requests
 pub mod Schedules
 pub mod Turns

@@ -1,4 +1,5 @@
--- Lines of a generated schedule as the code holds them: without the request, which is the same in both lines of a pair.
+-- Lines of a generated schedule as the code holds them: without the request, which is the same in
+-- both lines of a pair.
 use Rattle.std.specs.Prelude.{ℕ, true, false, List, [], ◌∷◌, ◌++◌, codes}
 use Rattle.std.specs.Fmt.{decimal}
 use Rattle.mm_platform.specs.declared.plan.Stop.{Stop}

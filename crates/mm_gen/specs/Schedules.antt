@@ -21,7 +21,8 @@ words_at key place = record {
   request = word_at 10 key 0 (place + 3);
 }
 
--- the lines of so many turns, the first of which draws from this place on and begins with this event line
+-- the lines of so many turns, the first of which draws from this place on and begins with this
+-- event line
 abbrev pub lines_from : Header → List ℕ → ℕ → ℕ → ℕ → List (List ℕ)
 lines_from header key place first zero = []
 lines_from header key place first (suc turns) =
@@ -30,8 +31,10 @@ lines_from header key place first (suc turns) =
 
 -- the first so many event lines: a turn has at least one
 abbrev pub schedule_lines : ℕ → ℕ → Header → List (List ℕ)
-schedule_lines number count header = take count (lines_from header (key_of (seed_from number)) 0 1 count)
+schedule_lines number count header =
+    take count (lines_from header (key_of (seed_from number)) 0 1 count)
 
 -- the schedule: its header line and its event lines
 abbrev pub schedule_text : ℕ → ℕ → Header → List ℕ
-schedule_text number count header = lines_joined (header_text header ∷ schedule_lines number count header)
+schedule_text number count header =
+    lines_joined (header_text header ∷ schedule_lines number count header)

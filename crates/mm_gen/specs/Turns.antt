@@ -3,9 +3,14 @@ use Rattle.std.specs.Prelude.{ℕ, ◌+◌, ◌%◌, ◌==◌, nat_lt, List, [],
 use Rattle.std.specs.Fmt.{decimal}
 use Rattle.mm_digest.specs.declared.variant.Variant.{Variant}
 use Rattle.mm_digest.specs.declared.variant.Variant.TheVariants.{Basic, Opt}
+use Rattle.mm_modules.specs.Modules.{listing_of}
+use Rattle.mm_modules.specs.declared.any.AnyModule.{AnyModule}
 use Rattle.mm_schedule.specs.declared.header.Header.{Header}
 use Rattle.mm_gen.specs.declared.words.Words.{Words}
-use Rattle.mm_gen.specs.Requests.{request_chosen}
+
+-- the request of a module that a number chooses
+abbrev pub request_chosen : AnyModule → ℕ → List ℕ
+request_chosen it choice = (listing_of it).request choice
 
 -- a request is asked of an offer
 abbrev pub ask_text : List ℕ → List ℕ → List ℕ
@@ -32,7 +37,8 @@ abbrev pub row_15 : Variant → List (List ℕ)
 row_15 Basic = codes "power" ∷ []
 row_15 Opt = codes "checkpoint" ∷ []
 
--- the lines of a turn whose first line is the event line with this number, by the turn's row from 0 to 15
+-- the lines of a turn whose first line is the event line with this number, by the turn's row from 0
+-- to 15
 unfoldable pub turn_lines : Header → ℕ → Words → List (List ℕ)
 turn_lines header first words =
     let row = words.row % 16 in
@@ -41,7 +47,8 @@ turn_lines header first words =
     let step = decimal (1 + words.number % 5) in
     if nat_lt row 9 then ask_text (codes "last") request ∷ []
     else if row == 9 then ask_text snapshot request ∷ []
-    else if row == 10 then ask_text (codes "flip " ++ snapshot ++ 32 ∷ decimal (words.detail % 128)) request ∷ []
+    else if row == 10 then ask_text (codes "flip " ++ snapshot ++ 32 ∷ decimal (words.detail % 128))
+    request ∷ []
     else if row == 11 then pair (cut_word header.variant ++ step ++ 32 ∷ []) request
     else if row == 12 then pair (codes "drop " ++ step ++ 32 ∷ []) request
     else if row == 13 then pair (codes "fail " ++ step ++ effect_word words.detail) request

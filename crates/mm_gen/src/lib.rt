@@ -3,7 +3,6 @@
 
 pub mod laws;
 mod line;
-mod request;
 mod schedule;
 #[cfg(test)]
 mod tests;

@@ -3,10 +3,10 @@
 ghost use Rattle.std.specs.Prelude.{◌≡◌, ◌++◌, ◌∷◌, [], OnOk};
 ghost use Rattle.std.specs.Fmt.{decimal};
 ghost use Rattle.mm_gen.specs.Lines.{line_text, snapshot_text, stop_text};
-ghost use Rattle.mm_gen.specs.Requests.{request_chosen};
+ghost use Rattle.mm_gen.specs.Turns.{request_chosen};
 
-use crate::request::put_request;
 use mm_base::{Bytes, Memory, put_decimal};
+use mm_listing::Listed;
 use mm_modules::AnyModule;
 use mm_platform::Stop;
 
@@ -43,7 +43,7 @@ pub fn put_line(into: &mut Bytes, line: &Line, module: AnyModule, choice: u32) -
             into.append(b"ask ")?;
             put_snapshot(into, *snapshot)?;
             into.append(b" ")?;
-            put_request(into, module, choice)?;
+            module.put_request(into, choice)?;
             into.append(b"\n")
         }
         Line::Checkpoint => into.append(b"checkpoint\n"),

@@ -1,2 +1,1 @@
 pub mod ViewLaws
-pub mod GuessLaws

@@ -26,14 +26,15 @@ abbrev pub allowed_by : List (List ℕ) → List (List ℕ) → ℕ
 allowed_by [] outputs = 0
 allowed_by (request ∷ requests) [] = 0
 allowed_by (request ∷ requests) (output ∷ outputs) =
-    if bytes_eq output (codes "set") then tries_in (request_of (words_of request)) else allowed_by requests outputs
+    if bytes_eq output (codes "set") then tries_in (request_of (words_of request))
+    else allowed_by requests outputs
 
 -- so many outputs from this place on, as far as there are any
 abbrev pub stretch : ℕ → ℕ → List (List ℕ) → List (List ℕ)
 stretch from size outputs = take size (drop from outputs)
 
--- Where no output of a stretch is `set` or `open`, at most as many in it are wrong guesses as were allowed: so between
--- two of those outputs, and after the last.
+-- Where no output of a stretch is `set` or `open`, at most as many in it are wrong guesses as were
+-- allowed: so between two of those outputs, and after the last.
 abbrev pub LimitsGuesses : List (List ℕ) → Type 0
 LimitsGuesses requests =
     let outputs = outputs_from limiter limiter.first requests in

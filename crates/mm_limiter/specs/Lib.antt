@@ -2,3 +2,8 @@ pub mod Table
 pub mod Views
 pub mod LimiterLaws
 pub mod Guesses
+pub mod GuessLaws
+pub mod Promise
+pub mod PromiseLaws
+pub mod Requests
+pub mod LimiterListing

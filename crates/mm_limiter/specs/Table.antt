@@ -1,4 +1,5 @@
--- The limiter: a secret that opens, and a number of wrong guesses after which it is locked for good.
+-- The limiter: a secret that opens, and a number of wrong guesses after which it is locked for
+-- good.
 use Rattle.std.specs.Prelude.{ℕ, ◌≤◌, ◌-◌, ◌==◌, ◌&&◌, Bool, nat_le, List, [], ◌∷◌, ◌++◌, length, codes, Option, Some, None, is_some, unwrap_or, option_and_then, if◌then◌else◌}
 use Rattle.std.specs.Fmt.{decimal}
 use Rattle.std.specs.List.{list_all}
@@ -33,11 +34,13 @@ pub data Says : Type 0 where
 -- what a request does, and what is said
 abbrev pub outcome_of : State → Option Request → State × Says
 outcome_of Unset (Some (Guard secret tries)) = (Guarded tries tries secret, IsSet)
-outcome_of (Guarded tries left secret) (Some (Guard other number)) = (Guarded tries left secret, IsTaken)
+outcome_of (Guarded tries left secret) (Some (Guard other number)) =
+    (Guarded tries left secret, IsTaken)
 outcome_of Unset (Some (Guess guess)) = (Unset, IsUnset)
 outcome_of (Guarded tries left secret) (Some (Guess guess)) =
     if left == 0 then (Guarded tries left secret, IsLocked)
-    else (if bytes_eq guess secret then (Guarded tries tries secret, IsOpen) else (Guarded tries (left - 1) secret, IsWrong (left - 1)))
+    else (if bytes_eq guess secret then (Guarded tries tries secret, IsOpen)
+    else (Guarded tries (left - 1) secret, IsWrong (left - 1)))
 outcome_of Unset (Some Left) = (Unset, IsUnset)
 outcome_of (Guarded tries left secret) (Some Left) = (Guarded tries left secret, HasLeft left)
 outcome_of state None = (state, IsBad)
@@ -68,19 +71,22 @@ guard_of secret tries = if is_tries tries then Some (Guard secret tries) else No
 -- the request that these words are: `left`, `guess S` or `set S N`
 unfoldable pub request_of : List (List ℕ) → Option Request
 request_of (word ∷ []) = if bytes_eq word (codes "left") then Some Left else None
-request_of (word ∷ secret ∷ []) = if bytes_eq word (codes "guess") && is_secret secret then Some (Guess secret) else None
+request_of (word ∷ secret ∷ []) =
+    if bytes_eq word (codes "guess") && is_secret secret then Some (Guess secret) else None
 request_of (word ∷ secret ∷ number ∷ []) = if bytes_eq word (codes "set") && is_secret secret
     then option_and_then (guard_of secret) (decimal_number number) else None
 request_of _ = None
 
 -- a guarded state: the guesses left are at most those allowed, and the length is that of a secret
 unfoldable pub is_guard : ℕ → ℕ → ℕ → List ℕ → Bool
-is_guard tries left count secret = is_tries tries && nat_le left tries && count == length secret && is_secret secret
+is_guard tries left count secret =
+    is_tries tries && nat_le left tries && count == length secret && is_secret secret
 
 -- the state that these bytes spell
 unfoldable pub state_of : List ℕ → Option State
 state_of (form ∷ []) = if form == 0 then Some Unset else None
-state_of (form ∷ tries ∷ left ∷ count ∷ secret) = if form == 1 && is_guard tries left count secret then Some (Guarded tries left secret)
+state_of (form ∷ tries ∷ left ∷ count ∷ secret) =
+    if form == 1 && is_guard tries left count secret then Some (Guarded tries left secret)
     else None
 state_of _ = None
 
@@ -96,7 +102,8 @@ IsShortSecret (Guarded tries left secret) = length secret ≤ 64
 
 -- what a request does to a spelled state
 unfoldable pub stepped : List ℕ → List ℕ → State × Says
-stepped state request = outcome_of (unwrap_or (state_of state) Unset) (request_of (words_of request))
+stepped state request =
+    outcome_of (unwrap_or (state_of state) Unset) (request_of (words_of request))
 
 -- the bytes spell a state
 unfoldable pub is_state : List ℕ → Bool

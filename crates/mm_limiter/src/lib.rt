@@ -3,6 +3,7 @@
 
 pub mod laws;
 mod limiter;
+mod listed;
 
 pub use limiter::Limiter;
 

@@ -1,57 +1,93 @@
--- The modules by their names and ids.
-use Rattle.std.specs.Prelude.{ℕ, ◌==◌, List, codes, Option, Some, None, if◌then◌else◌}
+-- The list of modules, with the laws of each, and the module of a name and of an id.
+use Rattle.std.specs.Prelude.{◌≡◌, ℕ, ◌≤◌, ◌==◌, List, [], ◌∷◌, ◌++◌, length, map, Option, Some, codes}
+use Rattle.std.specs.List.{find}
+use Rattle.std.proofs.Common.{refl, arith}
 use Rattle.std.specs.Str.{bytes_eq}
+use Rattle.mm_module.specs.CounterLaws.{counter_is_short}
 use Rattle.mm_module.specs.CounterTable.{counter}
 use Rattle.mm_module.specs.Meaning.{Meaning}
-use Rattle.mm_dispenser.specs.Table.{dispenser}
+use Rattle.mm_listing.specs.CounterListing.{counter_is_listed, counter_listing}
+use Rattle.mm_listing.specs.Listing.{IsListing, Listing}
+use Rattle.mm_dispenser.specs.DispenserListing.{dispenser_is_listed, dispenser_listing}
+use Rattle.mm_limiter.specs.LimiterLaws.{limiter_is_short}
+use Rattle.mm_limiter.specs.LimiterListing.{limiter_is_listed, limiter_listing}
 use Rattle.mm_limiter.specs.Table.{limiter}
-use Rattle.mm_quota.specs.Ids.{small_ledger, wide_ledger}
-use Rattle.mm_receipt.specs.Table.{receipted}
+use Rattle.mm_quota.specs.Ids.{small_ledger, small_ledger_is_short}
+use Rattle.mm_quota.specs.LedgerListings.{ledger_is_listed, ledger_listing, quota_is_listed, quota_listing}
+use Rattle.mm_receipt.specs.ReceiptListing.{receipt_is_listed, receipt_listing}
 use Rattle.mm_modules.specs.declared.any.AnyModule.{AnyModule}
 use Rattle.mm_modules.specs.declared.any.AnyModule.TheVariants.{Counter, Limiter, Quota, Ledger, Dispenser, ReceiptCounter, ReceiptLimiter, ReceiptQuota}
 
+-- what each module brings
+abbrev pub listing_of : AnyModule → Listing
+listing_of Counter = counter_listing
+listing_of Limiter = limiter_listing
+listing_of Quota = quota_listing
+listing_of Ledger = ledger_listing
+listing_of Dispenser = dispenser_listing
+listing_of ReceiptCounter = receipt_listing counter_listing
+listing_of ReceiptLimiter = receipt_listing limiter_listing
+listing_of ReceiptQuota = receipt_listing quota_listing
+
+-- all of them
+abbrev pub all_modules : List AnyModule
+all_modules =
+    Counter ∷ Limiter ∷ Quota ∷ Ledger ∷ Dispenser ∷ ReceiptCounter ∷ ReceiptLimiter ∷ ReceiptQuota
+    ∷ []
+
 -- what each module is
 abbrev pub meaning_of : AnyModule → Meaning
-meaning_of Counter = counter
-meaning_of Limiter = limiter
-meaning_of Quota = small_ledger
-meaning_of Ledger = wide_ledger
-meaning_of Dispenser = dispenser
-meaning_of ReceiptCounter = receipted counter
-meaning_of ReceiptLimiter = receipted limiter
-meaning_of ReceiptQuota = receipted small_ledger
-
--- the module of a name
-abbrev pub module_named : List ℕ → Option AnyModule
-module_named name =
-    if bytes_eq name (codes "counter") then Some Counter
-    else (if bytes_eq name (codes "limiter") then Some Limiter
-    else (if bytes_eq name (codes "quota") then Some Quota
-    else (if bytes_eq name (codes "ledger") then Some Ledger
-    else (if bytes_eq name (codes "dispenser") then Some Dispenser
-    else (if bytes_eq name (codes "receipt-counter") then Some ReceiptCounter
-    else (if bytes_eq name (codes "receipt-limiter") then Some ReceiptLimiter
-    else (if bytes_eq name (codes "receipt-quota") then Some ReceiptQuota else None)))))))
-
--- the module of an id
-abbrev pub module_with : ℕ → Option AnyModule
-module_with id =
-    if id == 1 then Some Counter
-    else (if id == 2 then Some Limiter
-    else (if id == 3 then Some Quota
-    else (if id == 128 then Some Ledger
-    else (if id == 4 then Some Dispenser
-    else (if id == 65 then Some ReceiptCounter
-    else (if id == 66 then Some ReceiptLimiter
-    else (if id == 67 then Some ReceiptQuota else None)))))))
+meaning_of it = (listing_of it).meaning
 
 -- the name of each module
 abbrev pub name_of : AnyModule → List ℕ
-name_of Counter = codes "counter"
-name_of Limiter = codes "limiter"
-name_of Quota = codes "quota"
-name_of Ledger = codes "ledger"
-name_of Dispenser = codes "dispenser"
-name_of ReceiptCounter = codes "receipt-counter"
-name_of ReceiptLimiter = codes "receipt-limiter"
-name_of ReceiptQuota = codes "receipt-quota"
+name_of it = (listing_of it).name
+
+-- the module of a name
+abbrev pub module_named : List ℕ → Option AnyModule
+module_named name = find (λ it. bytes_eq name (name_of it)) all_modules
+
+-- the module of an id
+abbrev pub module_with : ℕ → Option AnyModule
+module_with id = find (λ it. (meaning_of it).id == id) all_modules
+
+-- names as a text lists them: `a, b or c`
+abbrev pub as_choice : List (List ℕ) → List ℕ
+as_choice [] = []
+as_choice (name ∷ []) = name
+as_choice (name ∷ last ∷ []) = name ++ codes " or " ++ last
+as_choice (name ∷ next ∷ after ∷ names) = name ++ codes ", " ++ as_choice (next ∷ after ∷ names)
+
+-- the names of all modules
+abbrev pub names_text : List ℕ
+names_text = as_choice (map name_of all_modules)
+
+-- each listing has its laws
+pub any_is_listed : (it : AnyModule) → IsListing (meaning_of it) (listing_of it)
+any_is_listed Counter = counter_is_listed
+any_is_listed Limiter = limiter_is_listed
+any_is_listed Quota = quota_is_listed
+any_is_listed Ledger = ledger_is_listed
+any_is_listed Dispenser = dispenser_is_listed
+any_is_listed ReceiptCounter =
+    receipt_is_listed counter counter_listing counter_is_listed counter_is_short
+any_is_listed ReceiptLimiter =
+    receipt_is_listed limiter limiter_listing limiter_is_listed limiter_is_short
+any_is_listed ReceiptQuota =
+    receipt_is_listed small_ledger quota_listing quota_is_listed small_ledger_is_short
+
+-- a module is found by its id, and by its name, which has at most 32 bytes
+pub record IsFound (it : AnyModule) : Type 0 where
+  pub by_id : module_with (meaning_of it).id ≡ Some it
+  pub by_name : module_named (name_of it) ≡ Some it
+  pub short : length (name_of it) ≤ 32
+
+pub any_is_found : (it : AnyModule) → IsFound it
+any_is_found Counter = record { by_id = refl; by_name = refl; short = omega arith }
+any_is_found Limiter = record { by_id = refl; by_name = refl; short = omega arith }
+any_is_found Quota = record { by_id = refl; by_name = refl; short = omega arith }
+any_is_found Ledger = record { by_id = refl; by_name = refl; short = omega arith }
+any_is_found Dispenser = record { by_id = refl; by_name = refl; short = omega arith }
+any_is_found ReceiptCounter = record { by_id = refl; by_name = refl; short = omega arith }
+any_is_found ReceiptLimiter = record { by_id = refl; by_name = refl; short = omega arith }
+any_is_found ReceiptQuota = record { by_id = refl; by_name = refl; short = omega arith }

@@ -1,12 +1,15 @@
 //! Any of the modules.
 
-ghost use Rattle.std.specs.Prelude.{◌≡◌, ◌↔◌, IsNone, IfSome};
-ghost use Rattle.mm_modules.specs.Modules.{meaning_of, module_named, module_with, name_of};
+ghost use Rattle.std.specs.Prelude.{◌≡◌, ◌==◌, Some, IfSome, option_map};
+ghost use Rattle.std.specs.List.{find};
+ghost use Rattle.std.specs.Str.{bytes_eq};
+ghost use Rattle.mm_modules.specs.Modules.{any_is_listed, listing_of, meaning_of, module_named, module_with, name_of, names_text};
 ghost use Rattle.mm_modules.specs.ModulesLaws.{any_is_lawful};
 
 use mm_base::{Bytes, Memory};
 use mm_dispenser::Dispenser;
 use mm_limiter::Limiter;
+use mm_listing::Listed;
 use mm_module::{Counter, Module, Stepped};
 use mm_quota::Accounts;
 use mm_receipt::Receipted;
@@ -33,72 +36,69 @@ pub enum AnyModule {
     ReceiptQuota,
 }
 
+/// All modules.
+const MODULES: [AnyModule; 8] = [
+    AnyModule::Counter,
+    AnyModule::Limiter,
+    AnyModule::Quota,
+    AnyModule::Ledger,
+    AnyModule::Dispenser,
+    AnyModule::ReceiptCounter,
+    AnyModule::ReceiptLimiter,
+    AnyModule::ReceiptQuota,
+];
+
+/// The names of all modules, as a text lists them.
+pub fn module_names() -> &'static [u8]
+    ensures { result.now ≡ names_text }
+{
+    b"counter, limiter, quota, ledger, dispenser, receipt-counter, receipt-limiter or receipt-quota"
+}
+
 /// The module of this name, None where no module has it.
 pub fn by_name(name: &[u8]) -> Option<AnyModule>
     ensures module { result ≡ module_named name.now }
     ensures named { IfSome result (λ found. name.now ≡ name_of found) }
+    ensures each { (it : AnyModule) → name.now ≡ name_of it → result ≡ Some it }
 {
-    if name == b"counter".as_slice() {
-        return Some(AnyModule::Counter);
-    }
-    if name == b"limiter".as_slice() {
-        return Some(AnyModule::Limiter);
-    }
-    if name == b"quota".as_slice() {
-        return Some(AnyModule::Quota);
-    }
-    if name == b"ledger".as_slice() {
-        return Some(AnyModule::Ledger);
-    }
-    if name == b"dispenser".as_slice() {
-        return Some(AnyModule::Dispenser);
-    }
-    if name == b"receipt-counter".as_slice() {
-        return Some(AnyModule::ReceiptCounter);
-    }
-    if name == b"receipt-limiter".as_slice() {
-        return Some(AnyModule::ReceiptLimiter);
-    }
-    if name == b"receipt-quota".as_slice() {
-        return Some(AnyModule::ReceiptQuota);
-    }
-    None
+    module_named(name)
+}
+
+fn module_named(name: &[u8]) -> Option<AnyModule>
+    ensures { result ≡ module_named name.now }
+{
+    named_among(&MODULES, name).copied()
+}
+
+/// The first of these modules with this name.
+fn named_among<'a>(modules: &'a [AnyModule], name: &[u8]) -> Option<&'a AnyModule>
+    ensures { option_map (λ it. it.now) result
+        ≡ find (λ it. bytes_eq name.now (name_of it)) modules.now }
+{
+    modules.iter().find(|module| module.is_named(name))
 }
 
 /// The module with this id, None where no module has it.
 pub fn by_id(id: u8) -> Option<AnyModule>
     ensures module { result ≡ module_with id }
     ensures id { IfSome result (λ found. (meaning_of found).id ≡ id) }
+    ensures each { (it : AnyModule) → (meaning_of it).id ≡ id → result ≡ Some it }
 {
-    match id {
-        1 => Some(AnyModule::Counter),
-        2 => Some(AnyModule::Limiter),
-        3 => Some(AnyModule::Quota),
-        128 => Some(AnyModule::Ledger),
-        4 => Some(AnyModule::Dispenser),
-        65 => Some(AnyModule::ReceiptCounter),
-        66 => Some(AnyModule::ReceiptLimiter),
-        67 => Some(AnyModule::ReceiptQuota),
-        _ => None,
-    }
+    module_with(id)
 }
 
-impl AnyModule {
-    /// The module's name, of lower-case letters and hyphens.
-    pub fn name(self) -> &'static [u8]
-        ensures { result.now ≡ name_of self }
-    {
-        match self {
-            AnyModule::Counter => b"counter",
-            AnyModule::Limiter => b"limiter",
-            AnyModule::Quota => b"quota",
-            AnyModule::Ledger => b"ledger",
-            AnyModule::Dispenser => b"dispenser",
-            AnyModule::ReceiptCounter => b"receipt-counter",
-            AnyModule::ReceiptLimiter => b"receipt-limiter",
-            AnyModule::ReceiptQuota => b"receipt-quota",
-        }
-    }
+fn module_with(id: u8) -> Option<AnyModule>
+    ensures { result ≡ module_with id }
+{
+    with_id_among(&MODULES, id).copied()
+}
+
+/// The first of these modules with this id.
+fn with_id_among(modules: &[AnyModule], id: u8) -> Option<&AnyModule>
+    ensures { option_map (λ it. it.now) result
+        ≡ find (λ it. (meaning_of it).id == id) modules.now }
+{
+    modules.iter().find(|module| module.id() == id)
 }
 
 impl Module for AnyModule {
@@ -167,6 +167,60 @@ impl Module for AnyModule {
                 inner: Accounts::<256>,
             }
             .step(alloc, state, request),
+        }
+    }
+}
+
+impl Listed for AnyModule {
+    ghost listing = { listing_of };
+
+    ghost is_listed = { any_is_listed };
+
+    fn is_named(&self, name: &[u8]) -> bool {
+        match self {
+            AnyModule::Counter => Counter.is_named(name),
+            AnyModule::Limiter => Limiter.is_named(name),
+            AnyModule::Quota => Accounts::<256>.is_named(name),
+            AnyModule::Ledger => Accounts::<16384>.is_named(name),
+            AnyModule::Dispenser => Dispenser.is_named(name),
+            AnyModule::ReceiptCounter => Receipted { inner: Counter }.is_named(name),
+            AnyModule::ReceiptLimiter => Receipted { inner: Limiter }.is_named(name),
+            AnyModule::ReceiptQuota => Receipted {
+                inner: Accounts::<256>,
+            }
+            .is_named(name),
+        }
+    }
+
+    fn put_name(&self, into: &mut Bytes) -> Result<(), Memory> {
+        match self {
+            AnyModule::Counter => Counter.put_name(into),
+            AnyModule::Limiter => Limiter.put_name(into),
+            AnyModule::Quota => Accounts::<256>.put_name(into),
+            AnyModule::Ledger => Accounts::<16384>.put_name(into),
+            AnyModule::Dispenser => Dispenser.put_name(into),
+            AnyModule::ReceiptCounter => Receipted { inner: Counter }.put_name(into),
+            AnyModule::ReceiptLimiter => Receipted { inner: Limiter }.put_name(into),
+            AnyModule::ReceiptQuota => Receipted {
+                inner: Accounts::<256>,
+            }
+            .put_name(into),
+        }
+    }
+
+    fn put_request(&self, into: &mut Bytes, choice: u32) -> Result<(), Memory> {
+        match self {
+            AnyModule::Counter => Counter.put_request(into, choice),
+            AnyModule::Limiter => Limiter.put_request(into, choice),
+            AnyModule::Quota => Accounts::<256>.put_request(into, choice),
+            AnyModule::Ledger => Accounts::<16384>.put_request(into, choice),
+            AnyModule::Dispenser => Dispenser.put_request(into, choice),
+            AnyModule::ReceiptCounter => Receipted { inner: Counter }.put_request(into, choice),
+            AnyModule::ReceiptLimiter => Receipted { inner: Limiter }.put_request(into, choice),
+            AnyModule::ReceiptQuota => Receipted {
+                inner: Accounts::<256>,
+            }
+            .put_request(into, choice),
         }
     }
 }

@@ -3,7 +3,7 @@
 
 mod any;
 
-pub use any::{AnyModule, by_id, by_name};
+pub use any::{AnyModule, by_id, by_name, module_names};
 
 #[cfg(test)]
 mod tests;

@@ -15,14 +15,26 @@ use Rattle.mm_quota.specs.declared.account.Account as declared
 pub IsSpelled-from : (most : ℕ) (bytes : List ℕ) → most < 2 ^ 16 → is_state most bytes ≡ true → IsSpelled bytes
 IsSpelled-from most bytes small is =
     let h = is_state-SpellsLedger most bytes is in
-    record { few = omega (arith, h.ledger.few); good = h.ledger.good; rising = h.ledger.rising; spelled = h.spelled; body = h.body; counted = h.counted; headed = h.headed }
+    record {
+      few = omega (arith, h.ledger.few);
+      good = h.ledger.good;
+      rising = h.ledger.rising;
+      spelled = h.spelled;
+      body = h.body;
+      counted = h.counted;
+      headed = h.headed;
+    }
 
 pub few-from : (most : ℕ) (bytes : List ℕ) → is_state most bytes ≡ true → length (ledger_of bytes) ≤ most
 few-from most bytes is = (is_state-SpellsLedger most bytes is).ledger.few
 
 -- the account that was found
-within-step : (name : List ℕ) (found : Option declared.Account) (named : Option Account) → option_map as_account found ≡ named → FoundOf is_account name named → (account : declared.Account) → found ≡ Some account → (account.used ≤ account.limit) × (account.limit ≤ greatest_limit)
-within-step name found None same is account this = let clash : true ≡ false = sym (ap (λ (f : Option declared.Account). is_some (option_map as_account f)) this) ∙ ap (λ (n : Option Account). is_some n) same in cc
+within-step : (name : List ℕ) (found : Option declared.Account) (named : Option Account) → option_map as_account found ≡ named
+    → FoundOf is_account name named → (account : declared.Account) → found ≡ Some account
+    → (account.used ≤ account.limit) × (account.limit ≤ greatest_limit)
+within-step name found None same is account this =
+    let clash : true ≡ false = sym (ap (λ (f : Option declared.Account). is_some (option_map as_account f)) this)
+    ∙ ap (λ (n : Option Account). is_some n) same in cc
 within-step name found (Some other) same is account this =
     let one : Some (as_account account) ≡ Some other = sym (ap (λ (f : Option declared.Account). option_map as_account f) this) ∙ same in
     let e : as_account account ≡ other = cc in
@@ -31,17 +43,27 @@ within-step name found (Some other) same is account this =
     let limit : account.limit ≡ other.limit = ap (λ (a : Account). a.limit) e in
     (omega (arith, used, limit, kept.within), omega (arith, limit, kept.limited))
 
-pub found-within : (bytes name : List ℕ) (found : Option declared.Account) → IsSpelled bytes → option_map as_account found ≡ account_named name (ledger_of bytes) → (account : declared.Account) → found ≡ Some account → (account.used ≤ account.limit) × (account.limit ≤ greatest_limit)
-found-within bytes name found is same account this = within-step name found (account_named name (ledger_of bytes)) same (account_named-found is_account name (ledger_of bytes) is.good) account this
+pub found-within : (bytes name : List ℕ) (found : Option declared.Account) → IsSpelled bytes
+    → option_map as_account found ≡ account_named name (ledger_of bytes) → (account : declared.Account) → found ≡ Some account
+    → (account.used ≤ account.limit) × (account.limit ≤ greatest_limit)
+found-within bytes name found is same account this =
+    within-step name found (account_named name (ledger_of bytes)) same (account_named-found is_account name (ledger_of bytes) is.good)
+    account this
 
 -- the account that a decision puts
-pub put-is : (most : ℕ) (bytes name : List ℕ) (action : Action) (account : Account) → IsSpelled bytes → is_name name ≡ true → IsAction action → (decision_of (nat_le most (length (ledger_of bytes))) name (account_named name (ledger_of bytes)) action).0 ≡ Some account → IsPut (nat_le most (length (ledger_of bytes))) name (account_named name (ledger_of bytes)) account
+pub put-is : (most : ℕ) (bytes name : List ℕ) (action : Action) (account : Account) → IsSpelled bytes → is_name name ≡ true
+    → IsAction action → (decision_of (nat_le most (length (ledger_of bytes))) name (account_named name (ledger_of bytes)) action).0 ≡ Some
+    account → IsPut (nat_le most (length (ledger_of bytes))) name (account_named name (ledger_of bytes)) account
 put-is most bytes name action account is named acts puts =
-    let d = decision_of-is (nat_le most (length (ledger_of bytes))) name (account_named name (ledger_of bytes)) action named acts (account_named-found is_account name (ledger_of bytes) is.good) in
-    let P : Option Account → Type 0 = λ change. PutIf (nat_le most (length (ledger_of bytes))) name (account_named name (ledger_of bytes)) change in
+    let d = decision_of-is (nat_le most (length (ledger_of bytes))) name (account_named name (ledger_of bytes)) action named acts
+    (account_named-found is_account name (ledger_of bytes) is.good) in
+    let P : Option Account
+    → Type 0 = λ change. PutIf (nat_le most (length (ledger_of bytes))) name (account_named name (ledger_of bytes)) change in
     subst P puts d.change
 
-count-case : (most : ℕ) (accounts : List Account) (account : Account) (there : Bool) → is_some (account_named account.name accounts) ≡ there → rises [] accounts ≡ true → (there ≡ false → nat_le most (length accounts) ≡ false) → most < 2 ^ 16 → (if there then length accounts else min (length accounts + 1) 65535) ≡ length (put account accounts)
+count-case : (most : ℕ) (accounts : List Account) (account : Account) (there : Bool) → is_some (account_named account.name accounts) ≡ there
+    → rises [] accounts ≡ true → (there ≡ false → nat_le most (length accounts) ≡ false) → most < 2 ^ 16
+    → (if there then length accounts else min (length accounts + 1) 65535) ≡ length (put account accounts)
 count-case most accounts account true is rising room small = sym (length-put-there [] account accounts rising is)
 count-case most accounts account false is rising room small =
     let free : length accounts < most = let spare : nat_le most (length accounts) ≡ false = room refl in grind (arith, nat_tests) in
@@ -50,11 +72,18 @@ count-case most accounts account false is rising room small =
     fits ∙ omega arith
 
 -- the bytes with the account at its place are those of the ledger with the account
-pub put-spelled : (most count : ℕ) (bytes name front back : List ℕ) (account : Account) (there : Bool) → most < 2 ^ 16 → IsSpelled bytes → IsPut (nat_le most (length (ledger_of bytes))) name (account_named name (ledger_of bytes)) account → there ≡ is_some (account_named name (ledger_of bytes)) → count ≡ (if there then length (ledger_of bytes) else min (length (ledger_of bytes) + 1) 65535) → ((new : Account) → new.name ≡ name → body_of (put new (ledger_of bytes)) ≡ front ++ (account_bytes new ++ back)) → count_bytes count ++ (front ++ (account_bytes account ++ back)) ≡ spelling_of (put account (ledger_of bytes))
+pub put-spelled : (most count : ℕ) (bytes name front back : List ℕ) (account : Account) (there : Bool) → most < 2 ^ 16 → IsSpelled bytes
+    → IsPut (nat_le most (length (ledger_of bytes))) name (account_named name (ledger_of bytes)) account
+    → there ≡ is_some (account_named name (ledger_of bytes))
+    → count ≡ (if there then length (ledger_of bytes) else min (length (ledger_of bytes) + 1) 65535)
+    → ((new : Account) → new.name ≡ name → body_of (put new (ledger_of bytes)) ≡ front ++ (account_bytes new ++ back))
+    → count_bytes count ++ (front ++ (account_bytes account ++ back)) ≡ spelling_of (put account (ledger_of bytes))
 unfolding spelling_of
 put-spelled most count bytes name front back account there small is puts there_is count_is stands =
-    let found : is_some (account_named account.name (ledger_of bytes)) ≡ there = ap (λ (n : List ℕ). is_some (account_named n (ledger_of bytes))) puts.named ∙ sym there_is in
-    let counted : count ≡ length (put account (ledger_of bytes)) = count_is ∙ count-case most (ledger_of bytes) account there found is.rising (λ absent. puts.room (sym there_is ∙ absent)) small in
+    let found : is_some (account_named account.name (ledger_of bytes)) ≡ there = ap
+    (λ (n : List ℕ). is_some (account_named n (ledger_of bytes))) puts.named ∙ sym there_is in
+    let counted : count ≡ length (put account (ledger_of bytes)) = count_is
+    ∙ count-case most (ledger_of bytes) account there found is.rising (λ absent. puts.room (sym there_is ∙ absent)) small in
     rw (counted, stands account puts.named) refl
 
 pub is_some-as_account : (found : Option declared.Account) → is_some found ≡ is_some (option_map as_account found)
@@ -62,15 +91,23 @@ is_some-as_account None = refl
 is_some-as_account (Some account) = refl
 
 -- a decision on what was counted and found is one on the ledger
-pub decided : (most count : ℕ) (bytes name : List ℕ) (found : Option Account) (action : Action) (decision : Option Account × Says) → decision ≡ decision_of (nat_le most count) name found action → count ≡ length (ledger_of bytes) → found ≡ account_named name (ledger_of bytes) → decision ≡ decision_of (nat_le most (length (ledger_of bytes))) name (account_named name (ledger_of bytes)) action
+pub decided : (most count : ℕ) (bytes name : List ℕ) (found : Option Account) (action : Action) (decision : Option Account × Says)
+    → decision ≡ decision_of (nat_le most count) name found action → count ≡ length (ledger_of bytes)
+    → found ≡ account_named name (ledger_of bytes)
+    → decision ≡ decision_of (nat_le most (length (ledger_of bytes))) name (account_named name (ledger_of bytes)) action
 decided most count bytes name found action decision is count_is found_is =
-    is ∙ ap (λ (n : ℕ). decision_of (nat_le most n) name found action) count_is ∙ ap (λ (f : Option Account). decision_of (nat_le most (length (ledger_of bytes))) name f action) found_is
+    is ∙ ap (λ (n : ℕ). decision_of (nat_le most n) name found action) count_is
+    ∙ ap (λ (f : Option Account). decision_of (nat_le most (length (ledger_of bytes))) name f action) found_is
 
 -- what was read of a request
-pub asked-named : (words : List (List ℕ)) (name : List ℕ) (action : Action) → request_of words ≡ Some (On name action) → (is_name name ≡ true) × IsAction action
+pub asked-named : (words : List (List ℕ)) (name : List ℕ) (action : Action) → request_of words ≡ Some (On name action)
+    → (is_name name ≡ true) × IsAction action
 asked-named words name action is = subst (λ (r : Option Request). IsQuotaRequest r) is (request_of-IsQuotaRequest words)
 
 -- what a step gives, where it gives the state of the table
-pub IfOk-others : {X E : Type 0} (r : Result X E) (view : X → List ℕ) (most : ℕ) (state request : List ℕ) → most < 2 ^ 16 → is_state most state ≡ true → IfOk r (λ x. view x ≡ spelling_of (stepped most state request).0) → IfOk r (λ x. OthersStay state request (view x))
-IfOk-others (Ok x) view most state request small is same = subst (λ (s : List ℕ). OthersStay state request s) (sym same) (others_stay most state request small is)
+pub IfOk-others : {X E : Type 0} (r : Result X E) (view : X → List ℕ) (most : ℕ) (state request : List ℕ) → most < 2 ^ 16
+    → is_state most state ≡ true → IfOk r (λ x. view x ≡ spelling_of (stepped most state request).0)
+    → IfOk r (λ x. OthersStay state request (view x))
+IfOk-others (Ok x) view most state request small is same =
+    subst (λ (s : List ℕ). OthersStay state request s) (sym same) (others_stay most state request small is)
 IfOk-others (Err e) view most state request small is same = tt

@@ -25,9 +25,13 @@ and-swap true true c d = refl
 and-swap true false c d = sym (and-false c)
 and-swap false b c d = refl
 
-pub follow-front : (previous : List ℕ) (account : Account) (accounts : Option (List Account)) → follow previous (option_map (λ others. account ∷ others) accounts) ≡ (is_account account && (is_lt (order_of previous account.name) && follow account.name accounts))
-follow-front previous account None = sym (ap (λ b. is_account account && b) (and-false (is_lt (order_of previous account.name))) ∙ and-false (is_account account))
-follow-front previous account (Some accounts) = and-swap (is_account account) (list_all is_account accounts) (is_lt (order_of previous account.name)) (rises account.name accounts)
+pub follow-front : (previous : List ℕ) (account : Account) (accounts : Option (List Account))
+    → follow previous (option_map (λ others. account ∷ others) accounts) ≡ (is_account account
+    && (is_lt (order_of previous account.name) && follow account.name accounts))
+follow-front previous account None =
+    sym (ap (λ b. is_account account && b) (and-false (is_lt (order_of previous account.name))) ∙ and-false (is_account account))
+follow-front previous account (Some accounts) =
+    and-swap (is_account account) (list_all is_account accounts) (is_lt (order_of previous account.name)) (rises account.name accounts)
 
 -- a sum that goes on
 pub record Summing (bytes rest : List ℕ) (count number total : ℕ) : Type 0 where
@@ -37,24 +41,29 @@ pub record Summing (bytes rest : List ℕ) (count number total : ℕ) : Type 0 w
   pub spelled : rest ≡ body_of todo
   pub summed : total + total_used todo ≡ total_used (ledger_of bytes)
 
-pub Summing-begins : (bytes body : List ℕ) (count : ℕ) → IsSpelled bytes → body ≡ drop 2 bytes → count ≡ length (ledger_of bytes) → Summing bytes body count 0 0
-Summing-begins bytes body count is body_is count_is = record { todo = ledger_of bytes; counted = omega arith; good = is.good; spelled = body_is ∙ is.body; summed = omega arith }
-
 -- what the next account gives
 abbrev pub NextSum : List ℕ → ℕ → ℕ → ℕ → Option (Account × List ℕ) → Type 0
 NextSum bytes count number total None = ⊥
-NextSum bytes count number total (Some front) = (total + front.0.used ≤ total_used (ledger_of bytes)) × Summing bytes front.1 count (number + 1) (total + front.0.used)
+NextSum bytes count number total (Some front) =
+    (total + front.0.used ≤ total_used (ledger_of bytes)) × Summing bytes front.1 count (number + 1) (total + front.0.used)
 
-next-sum : (bytes rest : List ℕ) (count number total : ℕ) (todo : List Account) → length todo + number ≡ count → list_all is_account todo ≡ true → rest ≡ body_of todo → total + total_used todo ≡ total_used (ledger_of bytes) → number < count → NextSum bytes count number total (account_at rest)
+next-sum : (bytes rest : List ℕ) (count number total : ℕ) (todo : List Account) → length todo + number ≡ count
+    → list_all is_account todo ≡ true → rest ≡ body_of todo → total + total_used todo ≡ total_used (ledger_of bytes) → number < count
+    → NextSum bytes count number total (account_at rest)
 next-sum bytes rest count number total [] counted good spelled summed going = absurd (omega arith)
 next-sum bytes rest count number total (account ∷ others) counted good spelled summed going =
     let w = and-true (is_account account) (list_all is_account others) good in
-    let front : account_at rest ≡ Some (account, body_of others) = ap (λ (b : List ℕ). account_at b) spelled ∙ account_at-account_bytes account (body_of others) w.0 in
-    let next : NextSum bytes count number total (Some (account, body_of others)) = (omega arith, record { todo = others; counted = omega arith; good = w.1; spelled = refl; summed = omega arith }) in
+    let front : account_at rest ≡ Some (account, body_of others) = ap (λ (b : List ℕ). account_at b) spelled
+    ∙ account_at-account_bytes account (body_of others) w.0 in
+    let next : NextSum bytes count number total
+    (Some (account, body_of others)) =
+    (omega arith, record { todo = others; counted = omega arith; good = w.1; spelled = refl; summed = omega arith }) in
     subst (λ (f : Option (Account × List ℕ)). NextSum bytes count number total f) (sym front) next
 
-pub Summing-next : (bytes rest : List ℕ) (count number total : ℕ) → Summing bytes rest count number total → number < count → NextSum bytes count number total (account_at rest)
-Summing-next bytes rest count number total is going = next-sum bytes rest count number total is.todo is.counted is.good is.spelled is.summed going
+pub Summing-next : (bytes rest : List ℕ) (count number total : ℕ) → Summing bytes rest count number total → number < count
+    → NextSum bytes count number total (account_at rest)
+Summing-next bytes rest count number total is going =
+    next-sum bytes rest count number total is.todo is.counted is.good is.spelled is.summed going
 
 total_used-small : (accounts : List Account) → list_all is_account accounts ≡ true → total_used accounts ≤ greatest_limit * length accounts
 total_used-small [] all = omega arith
@@ -66,13 +75,6 @@ total_used-small (account ∷ accounts) all =
 -- the sum has 64 bits
 pub IsSpelled-sum : (bytes : List ℕ) → IsSpelled bytes → total_used (ledger_of bytes) < 2 ^ 64
 IsSpelled-sum bytes is = omega (arith, total_used-small (ledger_of bytes) is.good, is.few)
-
-none-left : (todo : List Account) (count number : ℕ) → length todo + number ≡ count → count ≤ number → todo ≡ []
-none-left [] count number counted done = refl
-none-left (account ∷ others) count number counted done = absurd (omega arith)
-
-pub Summing-ends : (bytes rest : List ℕ) (count number total : ℕ) → Summing bytes rest count number total → count ≤ number → total ≡ total_used (ledger_of bytes)
-Summing-ends bytes rest count number total is done = omega (arith, ap total_used (none-left is.todo count number is.counted done), is.summed)
 
 -- a search that goes on: every account so far comes before the name
 pub record Finding (bytes name body rest : List ℕ) (count number : ℕ) : Type 0 where
@@ -88,16 +90,34 @@ pub record Finding (bytes name body rest : List ℕ) (count number : ℕ) : Type
   pub named : account_named name (ledger_of bytes) ≡ account_named name todo
   pub puts : (new : Account) → new.name ≡ name → body_of (put new (ledger_of bytes)) ≡ front ++ body_of (put new todo)
 
-pub Finding-begins : (bytes name body : List ℕ) (count : ℕ) → IsSpelled bytes → body ≡ drop 2 bytes → count ≡ length (ledger_of bytes) → Finding bytes name body body count 0
-Finding-begins bytes name body count is body_is count_is = record { todo = ledger_of bytes; front = []; previous = []; counted = omega arith; good = is.good; rising = is.rising; spelled = body_is ∙ is.body; whole = refl; fits = omega arith; named = refl; puts = λ new is_named. refl }
+pub Finding-begins : (bytes name body : List ℕ) (count : ℕ) → IsSpelled bytes → body ≡ drop 2 bytes → count ≡ length (ledger_of bytes)
+    → Finding bytes name body body count 0
+Finding-begins bytes name body count is body_is count_is =
+    record {
+      todo = ledger_of bytes;
+      front = [];
+      previous = [];
+      counted = omega arith;
+      good = is.good;
+      rising = is.rising;
+      spelled = body_is
+          ∙ is.body;
+      whole = refl;
+      fits = omega arith;
+      named = refl;
+      puts = λ new is_named. refl;
+    }
 
 -- what is put stands between the bytes in front of the rest and these bytes
 abbrev pub Stands : List ℕ → List ℕ → List ℕ → List ℕ → List ℕ → Type 0
-Stands bytes name body rest back = (new : Account) → new.name ≡ name → body_of (put new (ledger_of bytes)) ≡ take (length body - length rest) body ++ (account_bytes new ++ back)
+Stands bytes name body rest back =
+    (new : Account) → new.name ≡ name → body_of (put new (ledger_of bytes)) ≡ take (length body - length rest) body
+    ++ (account_bytes new ++ back)
 
 pub record NextPlace (bytes name body rest : List ℕ) (count number : ℕ) (account : Account) (others : List ℕ) : Type 0 where
   pub greater : order_of name account.name ≡ Greater → Finding bytes name body others count (number + 1)
-  pub equal : order_of name account.name ≡ Equal → (account_named name (ledger_of bytes) ≡ Some account) × Stands bytes name body rest others
+  pub equal : order_of name account.name ≡ Equal → (account_named name (ledger_of bytes) ≡ Some account)
+      × Stands bytes name body rest others
   pub less : order_of name account.name ≡ Less → (account_named name (ledger_of bytes) ≡ None) × Stands bytes name body rest rest
 
 abbrev pub NextOf : List ℕ → List ℕ → List ℕ → List ℕ → ℕ → ℕ → Option (Account × List ℕ) → Type 0
@@ -110,22 +130,32 @@ in-front body front rest whole =
     let n : length body - length rest ≡ length front = omega (arith, ap (λ (b : List ℕ). length b) whole, length-append front rest) in
     rw (n, whole) (take-append_seam front rest)
 
-put-order : (new account : Account) (accounts : List Account) (order : Ordering) → order_of new.name account.name ≡ order → put new (account ∷ accounts) ≡ match_ordering order (new ∷ account ∷ accounts) (new ∷ accounts) (account ∷ put new accounts)
+put-order : (new account : Account) (accounts : List Account) (order : Ordering) → order_of new.name account.name ≡ order
+    → put new (account ∷ accounts) ≡ match_ordering order (new ∷ account ∷ accounts) (new ∷ accounts) (account ∷ put new accounts)
 put-order new account accounts order is = rw is refl
 
-put-by : (new account : Account) (accounts : List Account) (name : List ℕ) (order : Ordering) → new.name ≡ name → order_of name account.name ≡ order → put new (account ∷ accounts) ≡ match_ordering order (new ∷ account ∷ accounts) (new ∷ accounts) (account ∷ put new accounts)
-put-by new account accounts name order named is = put-order new account accounts order (ap (λ (n : List ℕ). order_of n account.name) named ∙ is)
+put-by : (new account : Account) (accounts : List Account) (name : List ℕ) (order : Ordering) → new.name ≡ name
+    → order_of name account.name ≡ order
+    → put new (account ∷ accounts) ≡ match_ordering order (new ∷ account ∷ accounts) (new ∷ accounts) (account ∷ put new accounts)
+put-by new account accounts name order named is =
+    put-order new account accounts order (ap (λ (n : List ℕ). order_of n account.name) named ∙ is)
 
 -- what the next account gives, of the accounts that are left
 module _ (bytes name body rest : List ℕ) (count number : ℕ) (front previous : List ℕ) where
-  next-place : (todo : List Account) → length todo + number ≡ count → list_all is_account todo ≡ true → rises previous todo ≡ true → rest ≡ body_of todo → body ≡ front ++ rest → length rest ≤ length body → account_named name (ledger_of bytes) ≡ account_named name todo → ((new : Account) → new.name ≡ name → body_of (put new (ledger_of bytes)) ≡ front ++ body_of (put new todo)) → number < count → NextOf bytes name body rest count number (account_at rest)
+  next-place : (todo : List Account) → length todo + number ≡ count → list_all is_account todo ≡ true → rises previous todo ≡ true
+      → rest ≡ body_of todo → body ≡ front ++ rest → length rest ≤ length body
+      → account_named name (ledger_of bytes) ≡ account_named name todo
+      → ((new : Account) → new.name ≡ name → body_of (put new (ledger_of bytes)) ≡ front ++ body_of (put new todo)) → number < count
+      → NextOf bytes name body rest count number (account_at rest)
   next-place [] counted good rising spelled whole fits named puts going = absurd (omega arith)
   next-place (account ∷ others) counted good rising spelled whole fits named puts going =
       let w = and-true (is_account account) (list_all is_account others) good in
       let r = and-true (is_lt (order_of previous account.name)) (rises account.name others) rising in
-      let read : account_at rest ≡ Some (account, body_of others) = ap (λ (b : List ℕ). account_at b) spelled ∙ account_at-account_bytes account (body_of others) w.0 in
+      let read : account_at rest ≡ Some (account, body_of others) = ap (λ (b : List ℕ). account_at b) spelled
+      ∙ account_at-account_bytes account (body_of others) w.0 in
       let head : take (length body - length rest) body ≡ front = in-front body front rest whole in
-      let split : body ≡ (front ++ account_bytes account) ++ body_of others = whole ∙ ap (λ (b : List ℕ). front ++ b) spelled ∙ sym (append_assoc front (account_bytes account) (body_of others)) in
+      let split : body ≡ (front ++ account_bytes account) ++ body_of others = whole ∙ ap (λ (b : List ℕ). front ++ b) spelled
+      ∙ sym (append_assoc front (account_bytes account) (body_of others)) in
       let next : NextPlace bytes name body rest count number account (body_of others) = record {
         greater = λ order. record {
           todo = others;
@@ -138,64 +168,77 @@ module _ (bytes name body rest : List ℕ) (count number : ℕ) (front previous 
           whole = split;
           fits = omega (arith, ap (λ (b : List ℕ). length b) split, length-append (front ++ account_bytes account) (body_of others));
           named = named ∙ account_named-other name account others (bytes_eq-order name account.name Greater order);
-          puts = λ new is_named. puts new is_named ∙ ap (λ (all : List Account). front ++ body_of all) (put-by new account others name Greater is_named order) ∙ sym (append_assoc front (account_bytes account) (body_of (put new others)));
+          puts =
+              λ new is_named. puts new is_named
+              ∙ ap (λ (all : List Account). front ++ body_of all) (put-by new account others name Greater is_named order)
+              ∙ sym (append_assoc front (account_bytes account) (body_of (put new others)));
         };
         equal = λ order. (
           named ∙ account_named-this name account others (bytes_eq-order name account.name Equal order),
-          λ new is_named. puts new is_named ∙ ap (λ (all : List Account). front ++ body_of all) (put-by new account others name Equal is_named order) ∙ ap (λ (f : List ℕ). f ++ (account_bytes new ++ body_of others)) (sym head),
+          λ new is_named. puts new is_named
+              ∙ ap (λ (all : List Account). front ++ body_of all) (put-by new account others name Equal is_named order)
+              ∙ ap (λ (f : List ℕ). f ++ (account_bytes new ++ body_of others)) (sym head),
         );
         less = λ order. (
-          named ∙ account_named-other name account others (bytes_eq-order name account.name Less order) ∙ account_named-absent name account.name others order r.1,
-          λ new is_named. puts new is_named ∙ ap (λ (all : List Account). front ++ body_of all) (put-by new account others name Less is_named order) ∙ ap (λ (f : List ℕ). f ++ (account_bytes new ++ body_of (account ∷ others))) (sym head) ∙ ap (λ (b : List ℕ). take (length body - length rest) body ++ (account_bytes new ++ b)) (sym spelled),
+          named ∙ account_named-other name account others (bytes_eq-order name account.name Less order)
+              ∙ account_named-absent name account.name others order r.1,
+          λ new is_named. puts new is_named
+              ∙ ap (λ (all : List Account). front ++ body_of all) (put-by new account others name Less is_named order)
+              ∙ ap (λ (f : List ℕ). f ++ (account_bytes new ++ body_of (account ∷ others))) (sym head)
+              ∙ ap (λ (b : List ℕ). take (length body - length rest) body ++ (account_bytes new ++ b)) (sym spelled),
         );
       } in
       subst (λ (f : Option (Account × List ℕ)). NextOf bytes name body rest count number f) (sym read) next
 
-pub Finding-next : (bytes name body rest : List ℕ) (count number : ℕ) → Finding bytes name body rest count number → number < count → NextOf bytes name body rest count number (account_at rest)
-Finding-next bytes name body rest count number is going = next-place bytes name body rest count number is.front is.previous is.todo is.counted is.good is.rising is.spelled is.whole is.fits is.named is.puts going
-
--- where every account comes before the name, there is none of it, and it stands at the end
-pub record EndPlace (bytes name body rest : List ℕ) : Type 0 where
-  pub absent : account_named name (ledger_of bytes) ≡ None
-  pub stands : Stands bytes name body rest rest
-
-pub Finding-ends : (bytes name body rest : List ℕ) (count number : ℕ) → Finding bytes name body rest count number → count ≤ number → EndPlace bytes name body rest
-Finding-ends bytes name body rest count number is done =
-    let none = none-left is.todo count number is.counted done in
-    let head : take (length body - length rest) body ≡ is.front = in-front body is.front rest is.whole in
-    let end : rest ≡ [] = is.spelled ∙ ap body_of none in
-    record {
-      absent = is.named ∙ ap (λ (all : List Account). account_named name all) none;
-      stands = λ new is_named. is.puts new is_named ∙ ap (λ (all : List Account). is.front ++ body_of (put new all)) none ∙ ap (λ (f : List ℕ). f ++ (account_bytes new ++ [])) (sym head) ∙ ap (λ (b : List ℕ). take (length body - length rest) body ++ (account_bytes new ++ b)) (sym end);
-    }
+pub Finding-next : (bytes name body rest : List ℕ) (count number : ℕ) → Finding bytes name body rest count number → number < count
+    → NextOf bytes name body rest count number (account_at rest)
+Finding-next bytes name body rest count number is going =
+    next-place bytes name body rest count number is.front is.previous is.todo is.counted is.good is.rising is.spelled is.whole is.fits
+    is.named is.puts going
 
 -- one account more of a body
-pub accounts_from-suc : (count number : ℕ) (rest : List ℕ) → number < count → accounts_from (count - number) rest ≡ option_and_then (λ (f : Account × List ℕ). option_map (λ accounts. f.0 ∷ accounts) (accounts_from (count - (number + 1)) f.1)) (account_at rest)
+pub accounts_from-suc : (count number : ℕ) (rest : List ℕ) → number < count
+    → accounts_from (count - number) rest ≡ option_and_then
+    (λ (f : Account × List ℕ). option_map (λ accounts. f.0 ∷ accounts) (accounts_from (count - (number + 1)) f.1)) (account_at rest)
 accounts_from-suc count number rest going = let n : count - number ≡ suc (count - (number + 1)) = omega arith in rw n refl
 
 -- the same, of what was read at the front of the rest
-pub Summing-given : (bytes rest : List ℕ) (count number total : ℕ) (front : Option (Account × List ℕ)) → Summing bytes rest count number total → number < count → front ≡ account_at rest → NextSum bytes count number total front
-Summing-given bytes rest count number total front is going read = subst (λ (f : Option (Account × List ℕ)). NextSum bytes count number total f) (sym read) (Summing-next bytes rest count number total is going)
+pub Summing-given : (bytes rest : List ℕ) (count number total : ℕ) (front : Option (Account × List ℕ))
+    → Summing bytes rest count number total → number < count → front ≡ account_at rest → NextSum bytes count number total front
+Summing-given bytes rest count number total front is going read =
+    subst (λ (f : Option (Account × List ℕ)). NextSum bytes count number total f) (sym read)
+    (Summing-next bytes rest count number total is going)
 
-pub Finding-given : (bytes name body rest : List ℕ) (count number : ℕ) (front : Option (Account × List ℕ)) → Finding bytes name body rest count number → number < count → front ≡ account_at rest → NextOf bytes name body rest count number front
-Finding-given bytes name body rest count number front is going read = subst (λ (f : Option (Account × List ℕ)). NextOf bytes name body rest count number f) (sym read) (Finding-next bytes name body rest count number is going)
+pub Finding-given : (bytes name body rest : List ℕ) (count number : ℕ) (front : Option (Account × List ℕ))
+    → Finding bytes name body rest count number → number < count → front ≡ account_at rest → NextOf bytes name body rest count number front
+Finding-given bytes name body rest count number front is going read =
+    subst (λ (f : Option (Account × List ℕ)). NextOf bytes name body rest count number f) (sym read)
+    (Finding-next bytes name body rest count number is going)
 
 -- the rest follows, where a formed account of a later name stands in front of it
-pub follow-next : (previous rest : List ℕ) (count number : ℕ) (front : Account × List ℕ) → number < count → Some front ≡ account_at rest → true ≡ is_account front.0 → true ≡ is_lt (order_of previous front.0.name) → follow previous (accounts_from (count - number) rest) ≡ follow front.0.name (accounts_from (count - (number + 1)) front.1)
+pub follow-next : (previous rest : List ℕ) (count number : ℕ) (front : Account × List ℕ) → number < count → Some front ≡ account_at rest
+    → true ≡ is_account front.0 → true ≡ is_lt (order_of previous front.0.name)
+    → follow previous (accounts_from (count - number) rest) ≡ follow front.0.name (accounts_from (count - (number + 1)) front.1)
 follow-next previous rest count number front going read formed later =
-    ap (λ (a : Option (List Account)). follow previous a) (accounts_from-suc count number rest going ∙ ap (λ (f : Option (Account × List ℕ)). option_and_then (λ (g : Account × List ℕ). option_map (λ accounts. g.0 ∷ accounts) (accounts_from (count - (number + 1)) g.1)) f) (sym read)) ∙
+    ap (λ (a : Option (List Account)). follow previous a) (accounts_from-suc count number rest going
+    ∙ ap (λ (f : Option (Account × List ℕ)). option_and_then
+    (λ (g : Account × List ℕ). option_map (λ accounts. g.0 ∷ accounts) (accounts_from (count - (number + 1)) g.1)) f) (sym read)) ∙
     follow-front previous front.0 (accounts_from (count - (number + 1)) front.1) ∙
-    ap (λ (b : Bool). b && (is_lt (order_of previous front.0.name) && follow front.0.name (accounts_from (count - (number + 1)) front.1))) (sym formed) ∙
+    ap (λ (b : Bool). b && (is_lt (order_of previous front.0.name) && follow front.0.name (accounts_from (count - (number + 1)) front.1)))
+    (sym formed) ∙
     ap (λ (b : Bool). b && follow front.0.name (accounts_from (count - (number + 1)) front.1)) (sym later)
 
 and-assoc : (a b c : Bool) → ((a && b) && c) ≡ (a && (b && c))
 and-assoc true b c = refl
 and-assoc false b c = refl
 
-holds-follow : (most count : ℕ) (body : List ℕ) (accounts : Option (List Account)) → ReadsBody count body accounts → holds_ledger most accounts ≡ (nat_le count most && follow [] accounts)
+holds-follow : (most count : ℕ) (body : List ℕ) (accounts : Option (List Account)) → ReadsBody count body accounts
+    → holds_ledger most accounts ≡ (nat_le count most && follow [] accounts)
 unfolding is_ledger
 holds-follow most count body None reads = sym (and-false (nat_le count most))
-holds-follow most count body (Some accounts) reads = and-assoc (nat_le (length accounts) most) (list_all is_account accounts) (rises [] accounts) ∙ ap (λ (n : ℕ). nat_le n most && (list_all is_account accounts && rises [] accounts)) reads.counted
+holds-follow most count body (Some accounts) reads =
+    and-assoc (nat_le (length accounts) most) (list_all is_account accounts) (rises [] accounts)
+    ∙ ap (λ (n : ℕ). nat_le n most && (list_all is_account accounts && rises [] accounts)) reads.counted
 
 accounts_of-short : (bytes : List ℕ) → length bytes < 2 → accounts_of bytes ≡ None
 unfolding accounts_of
@@ -211,16 +254,24 @@ unfolding is_state
 is_state-short most bytes short = rw (accounts_of-short bytes short) (and-false (are_bytes bytes))
 
 -- bytes with a count that the ledger allows are a state, where their accounts follow
-pub is_state-long : (most : ℕ) (bytes : List ℕ) → 2 ≤ length bytes → are_bytes bytes ≡ true → is_state most bytes ≡ (nat_le (of_count_bytes (take 2 bytes)) most && follow [] (accounts_from (of_count_bytes (take 2 bytes)) (drop 2 bytes)))
+pub is_state-long : (most : ℕ) (bytes : List ℕ) → 2 ≤ length bytes → are_bytes bytes ≡ true
+    → is_state most bytes ≡ (nat_le (of_count_bytes (take 2 bytes)) most
+    && follow [] (accounts_from (of_count_bytes (take 2 bytes)) (drop 2 bytes)))
 unfolding is_state
-is_state-long most bytes long is = rw (is, accounts_of-long bytes long) (holds-follow most (of_count_bytes (take 2 bytes)) (drop 2 bytes) _ (accounts_from-reads (of_count_bytes (take 2 bytes)) (drop 2 bytes) (are_bytes-drop 2 bytes is)))
+is_state-long most bytes long is =
+    rw (is, accounts_of-long bytes long)
+    (holds-follow most (of_count_bytes (take 2 bytes)) (drop 2 bytes) _
+    (accounts_from-reads (of_count_bytes (take 2 bytes)) (drop 2 bytes) (are_bytes-drop 2 bytes is)))
 
-pub state-within : (most count : ℕ) (bytes body : List ℕ) → 2 ≤ length bytes → are_bytes bytes ≡ true → count ≡ of_count_bytes (take 2 bytes) → body ≡ drop 2 bytes → count ≤ most → follow [] (accounts_from count body) ≡ is_state most bytes
+pub state-within : (most count : ℕ) (bytes body : List ℕ) → 2 ≤ length bytes → are_bytes bytes ≡ true
+    → count ≡ of_count_bytes (take 2 bytes) → body ≡ drop 2 bytes → count ≤ most
+    → follow [] (accounts_from count body) ≡ is_state most bytes
 state-within most count bytes body long is count_is body_is few =
     let flag : nat_le count most ≡ true = grind (arith, nat_tests) in
     sym (is_state-long most bytes long is ∙ rw (← count_is, ← body_is, flag) refl)
 
-pub state-beyond : (most count : ℕ) (bytes : List ℕ) → 2 ≤ length bytes → are_bytes bytes ≡ true → count ≡ of_count_bytes (take 2 bytes) → most < count → nat_le count most ≡ is_state most bytes
+pub state-beyond : (most count : ℕ) (bytes : List ℕ) → 2 ≤ length bytes → are_bytes bytes ≡ true → count ≡ of_count_bytes (take 2 bytes)
+    → most < count → nat_le count most ≡ is_state most bytes
 state-beyond most count bytes long is count_is many =
     let flag : nat_le count most ≡ false = grind (arith, nat_tests) in
     flag ∙ sym (is_state-long most bytes long is ∙ rw (← count_is, flag) refl)

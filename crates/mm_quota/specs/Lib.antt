@@ -7,3 +7,5 @@ pub mod Spelled
 pub mod Places
 pub mod Ids
 pub mod OthersStay
+pub mod Requests
+pub mod LedgerListings

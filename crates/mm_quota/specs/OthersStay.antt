@@ -17,29 +17,36 @@ name_in None = None
 
 -- every other account is in both states the same, or in neither
 abbrev pub OthersStay : List ℕ → List ℕ → List ℕ → Type 0
-OthersStay state request after = (name : List ℕ) → name_in (request_of (words_of request)) ≢ Some name
+OthersStay state request after =
+    (name : List ℕ) → name_in (request_of (words_of request)) ≢ Some name
     → account_named name (ledger_of after) ≡ account_named name (ledger_of state)
 
-differ : (name other : List ℕ) (flag : Bool) → bytes_eq name other ≡ flag → (other ≡ name → ⊥) → flag ≡ false
+differ : (name other : List ℕ) (flag : Bool) → bytes_eq name other ≡ flag → (other ≡ name → ⊥)
+    → flag ≡ false
 differ name other true is apart = absurd (apart (sym ((bytes_eq-Decides name other).0 is)))
 differ name other false is apart = refl
 
-settled-others : (full : Bool) (wanted name : List ℕ) (accounts : List Account) (change : Option Account)
+settled-others : (full : Bool) (wanted name : List ℕ) (accounts : List Account)
+    (change : Option Account)
     → PutIf full wanted (account_named wanted accounts) change → (wanted ≡ name → ⊥)
     → account_named name (settled accounts change) ≡ account_named name accounts
 settled-others full wanted name accounts None is apart = refl
 settled-others full wanted name accounts (Some account) is apart =
     account_named-put-other name account accounts
-    (differ name account.name (bytes_eq name account.name) refl (λ same. apart (sym is.named ∙ same)))
+    (differ name account.name (bytes_eq name account.name) refl
+    (λ same. apart (sym is.named ∙ same)))
 
-outcome-others : (most : ℕ) (accounts : List Account) (request : Option Request) (name : List ℕ) → IsLedger most accounts
+outcome-others : (most : ℕ) (accounts : List Account) (request : Option Request) (name : List ℕ)
+    → IsLedger most accounts
     → IsQuotaRequest request → name_in request ≢ Some name
     → account_named name (outcome_of most accounts request).0 ≡ account_named name accounts
 outcome-others most accounts (Some Sum) name ledger asked apart = refl
 outcome-others most accounts (Some (On wanted action)) name ledger asked apart =
-    let d = decision_of-is (nat_le most (length accounts)) wanted (account_named wanted accounts) action asked.0 asked.1
+    let d = decision_of-is (nat_le most (length accounts)) wanted (account_named wanted accounts)
+    action asked.0 asked.1
     (account_named-found is_account wanted accounts ledger.good) in
-    settled-others (nat_le most (length accounts)) wanted name accounts _ d.change (λ same. apart (ap (λ (n : List ℕ). Some n) same))
+    settled-others (nat_le most (length accounts)) wanted name accounts _ d.change
+    (λ same. apart (ap (λ (n : List ℕ). Some n) same))
 outcome-others most accounts None name ledger asked apart = refl
 
 pub others_stay : (most : ℕ) (state request : List ℕ) → most < 2 ^ 16 → is_state most state ≡ true
@@ -47,7 +54,9 @@ pub others_stay : (most : ℕ) (state request : List ℕ) → most < 2 ^ 16 → 
 others_stay most state request small is = λ name apart.
     let h = is_state-SpellsLedger most state is in
     let o = stepped-IsOutcome most state request small is in
-    ap (λ (accounts : List Account). account_named name accounts) (ledger_of-spelling_of most (stepped most state request).0 small o.state)
+    ap (λ (accounts : List Account). account_named name accounts)
+    (ledger_of-spelling_of most (stepped most state request).0 small o.state)
     ∙
-    unfold stepped in outcome-others most (ledger_of state) (request_of (words_of request)) name h.ledger
+    unfold stepped in outcome-others most (ledger_of state) (request_of (words_of request)) name
+    h.ledger
     (request_of-IsQuotaRequest (words_of request)) apart

@@ -53,21 +53,23 @@ order_of name other = slice_cmp nat_cmp name other
 -- the account of this name
 abbrev pub account_named : List ℕ → List Account → Option Account
 account_named name [] = None
-account_named name (account ∷ accounts) = if bytes_eq name account.name then Some account else account_named name accounts
+account_named name (account ∷ accounts) =
+    if bytes_eq name account.name then Some account else account_named name accounts
 
 -- the accounts, with this one at its place in the order, instead of the one with its name
 abbrev pub put : Account → List Account → List Account
 put new [] = new ∷ []
 put new (account ∷ accounts) =
-    match_ordering (order_of new.name account.name) (new ∷ account ∷ accounts) (new ∷ accounts) (account ∷ put new accounts)
+    match_ordering (order_of new.name account.name) (new ∷ account ∷ accounts) (new ∷ accounts)
+    (account ∷ put new accounts)
 
 -- what is used of all accounts
 abbrev pub total_used : List Account → ℕ
 total_used [] = 0
 total_used (account ∷ accounts) = account.used + total_used accounts
 
--- The account that an action puts, where it puts one, and what is said: from whether the ledger is full, and the
--- account of the name, where there is one.
+-- The account that an action puts, where it puts one, and what is said: from whether the ledger is
+-- full, and the account of the name, where there is one.
 abbrev pub decision_of : Bool → List ℕ → Option Account → Action → Option Account × Says
 decision_of full name (Some account) (Open limit) = (None, IsThere)
 decision_of full name None (Open limit) = if full then (None, IsFull)
@@ -79,7 +81,12 @@ decision_of full name (Some account) (Use number) =
     else (None, IsOver (account.limit - account.used))
 decision_of full name None (Free number) = (None, IsNone)
 decision_of full name (Some account) (Free number) =
-    if nat_le number account.used then (Some (record account { used = account.used - number }), IsUsed (account.used - number))
+    if nat_le number account.used
+    then (
+      Some (record account { used = account.used - number }),
+      IsUsed
+          (account.used - number),
+    )
     else (None, IsUnder account.used)
 decision_of full name None Left = (None, IsNone)
 decision_of full name (Some account) Left = (None, HasLeft (account.limit - account.used))
@@ -93,7 +100,8 @@ settled accounts (Some account) = put account accounts
 abbrev pub outcome_of : ℕ → List Account → Option Request → List Account × Says
 outcome_of most accounts (Some Sum) = (accounts, HasSum (total_used accounts))
 outcome_of most accounts (Some (On name action)) =
-    let decision = decision_of (nat_le most (length accounts)) name (account_named name accounts) action in
+    let decision = decision_of (nat_le most (length accounts)) name (account_named name accounts)
+    action in
     (settled accounts decision.0, decision.1)
 outcome_of most accounts None = (accounts, IsBad)
 
@@ -129,17 +137,21 @@ action_of word number =
     else (if bytes_eq word (codes "use") then Some (Use number)
     else (if bytes_eq word (codes "free") then Some (Free number) else None))
 
--- the request that these words are: `sum`, `left NAME`, or `open`, `use` or `free` with a name and a number
+-- the request that these words are: `sum`, `left NAME`, or `open`, `use` or `free` with a name and
+-- a number
 unfoldable pub request_of : List (List ℕ) → Option Request
 request_of (word ∷ []) = if bytes_eq word (codes "sum") then Some Sum else None
-request_of (word ∷ name ∷ []) = if bytes_eq word (codes "left") && is_name name then Some (On name Left) else None
+request_of (word ∷ name ∷ []) =
+    if bytes_eq word (codes "left") && is_name name then Some (On name Left) else None
 request_of (word ∷ name ∷ number ∷ []) = if is_name name
-    then option_map (λ action. On name action) (option_and_then (action_of word) (decimal_number number)) else None
+    then option_map (λ action. On name action)
+    (option_and_then (action_of word) (decimal_number number)) else None
 request_of _ = None
 
 -- an account of a ledger: its name is one, its limit may be one, and at most that is used
 unfoldable pub is_account : Account → Bool
-is_account account = is_name account.name && nat_le account.limit greatest_limit && nat_le account.used account.limit
+is_account account =
+    is_name account.name && nat_le account.limit greatest_limit && nat_le account.used account.limit
 
 -- the names rise strictly from this one on
 abbrev pub rises : List ℕ → List Account → Bool
@@ -148,7 +160,8 @@ rises name (account ∷ accounts) = is_lt (order_of name account.name) && rises 
 
 -- a ledger of at most so many accounts
 unfoldable pub is_ledger : ℕ → List Account → Bool
-is_ledger most accounts = nat_le (length accounts) most && list_all is_account accounts && rises [] accounts
+is_ledger most accounts =
+    nat_le (length accounts) most && list_all is_account accounts && rises [] accounts
 
 -- a count in 2 bytes, the greatest first
 unfoldable pub count_bytes : ℕ → List ℕ
@@ -160,7 +173,8 @@ of_count_bytes bytes = from_be_bytes w16 bytes
 
 -- the bytes of an account: the length of its name, the name, the limit and what is used
 unfoldable pub account_bytes : Account → List ℕ
-account_bytes account = length account.name ∷ (account.name ++ (eight_bytes account.limit ++ eight_bytes account.used))
+account_bytes account =
+    length account.name ∷ (account.name ++ (eight_bytes account.limit ++ eight_bytes account.used))
 
 -- the bytes of accounts in a row
 abbrev pub body_of : List Account → List ℕ
@@ -194,12 +208,15 @@ account_at (count ∷ bytes) = account_after count bytes
 abbrev pub accounts_from : ℕ → List ℕ → Option (List Account)
 accounts_from zero bytes = if length bytes == 0 then Some [] else None
 accounts_from (suc count) bytes =
-    option_and_then (λ (front : Account × List ℕ). option_map (λ accounts. front.0 ∷ accounts) (accounts_from count front.1))
+    option_and_then (λ (front : Account × List ℕ). option_map (λ accounts. front.0 ∷ accounts)
+    (accounts_from count front.1))
     (account_at bytes)
 
 -- the accounts that these bytes spell
 unfoldable pub accounts_of : List ℕ → Option (List Account)
-accounts_of bytes = if nat_le 2 (length bytes) then accounts_from (of_count_bytes (take 2 bytes)) (drop 2 bytes) else None
+accounts_of bytes =
+    if nat_le 2 (length bytes) then accounts_from (of_count_bytes (take 2 bytes)) (drop 2 bytes)
+    else None
 
 -- these are the accounts of a ledger
 abbrev pub holds_ledger : ℕ → Option (List Account) → Bool

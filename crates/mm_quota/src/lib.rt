@@ -2,6 +2,7 @@
 #![tactic(auto)]
 
 mod account;
+mod listed;
 mod place;
 mod quota;
 mod request;

@@ -23,12 +23,14 @@ pub spelled-then : (inner : Meaning) (bytes : List ℕ) (answer : Bool) (kept : 
 unfolding is_state
 spelled-then inner bytes answer kept all front is read =
     is ∙ ap (λ (k : ReceiptState). inner.is_spelled k.inner) read
-    ∙ sym (ap (λ b. b && (is_front bytes && inner.is_spelled (receipt_state_in bytes).inner)) all ∙ ap (λ b. b && inner.is_spelled (receipt_state_in bytes).inner) front)
+    ∙ sym (ap (λ b. b && (is_front bytes && inner.is_spelled (receipt_state_in bytes).inner)) all
+    ∙ ap (λ b. b && inner.is_spelled (receipt_state_in bytes).inner) front)
 
 pub spelled-else : (inner : Meaning) (bytes : List ℕ) → are_bytes bytes ≡ true → is_front bytes ≡ false → is_state inner bytes ≡ false
 unfolding is_state
 spelled-else inner bytes all front =
-    ap (λ b. b && (is_front bytes && inner.is_spelled (receipt_state_in bytes).inner)) all ∙ ap (λ b. b && inner.is_spelled (receipt_state_in bytes).inner) front
+    ap (λ b. b && (is_front bytes && inner.is_spelled (receipt_state_in bytes).inner)) all
+    ∙ ap (λ b. b && inner.is_spelled (receipt_state_in bytes).inner) front
 
 spelled-at : (inner : Meaning) (bytes : List ℕ) → IsTrue (is_state inner bytes) → SpellsKept inner bytes
 spelled-at inner bytes is = SpellsKept-from inner bytes (is-true (is_state inner bytes) is)
@@ -38,12 +40,16 @@ pub long-at : (inner : Meaning) (bytes : List ℕ) → IsTrue (is_state inner by
 long-at inner bytes is = (spelled-at inner bytes is).long
 
 -- where the count isn't the last, there is room for one more
-pub room-at : (inner : Meaning) (bytes : List ℕ) (kept : ReceiptState) → IsTrue (is_state inner bytes) → kept ≡ receipt_state_in bytes → kept.count ≢ last_position → kept.count < last_position
+pub room-at : (inner : Meaning) (bytes : List ℕ) (kept : ReceiptState) → IsTrue (is_state inner bytes) → kept ≡ receipt_state_in bytes
+    → kept.count ≢ last_position → kept.count < last_position
 room-at inner bytes kept is read other =
-    let few : kept.count ≤ last_position = subst (λ (k : ReceiptState). k.count ≤ last_position) (sym read) (kept_of-IsKept inner bytes (spelled-at inner bytes is)).few in
+    let few : kept.count ≤ last_position = subst (λ (k : ReceiptState). k.count ≤ last_position) (sym read)
+    (kept_of-IsKept inner bytes (spelled-at inner bytes is)).few in
     omega (arith, few, other)
 
 -- the state inside is spelled
-pub inside-at : (inner : Meaning) (bytes : List ℕ) (kept : ReceiptState) → IsTrue (is_state inner bytes) → kept ≡ receipt_state_in bytes → IsTrue (inner.is_spelled kept.inner)
+pub inside-at : (inner : Meaning) (bytes : List ℕ) (kept : ReceiptState) → IsTrue (is_state inner bytes) → kept ≡ receipt_state_in bytes
+    → IsTrue (inner.is_spelled kept.inner)
 inside-at inner bytes kept is read =
-    subst (λ (k : ReceiptState). IsTrue (inner.is_spelled k.inner)) (sym read) (let e = (spelled-at inner bytes is).spelled in search (rules, e))
+    subst (λ (k : ReceiptState). IsTrue (inner.is_spelled k.inner)) (sym read)
+    (let e = (spelled-at inner bytes is).spelled in search (rules, e))

@@ -19,7 +19,8 @@ use Rattle.mm_receipt.specs.Tagged.{IsTaggedBy, IsTagged, IsCounted, ReceiptsAre
 
 length-receipt_front : (position size : ℕ) → length (receipt_front position size) ≡ 16
 unfolding receipt_front
-length-receipt_front position size = omega (arith, length-append (eight_bytes position) (four_bytes size), length-eight_bytes position, length-four_bytes size)
+length-receipt_front position size =
+    omega (arith, length-append (eight_bytes position) (four_bytes size), length-eight_bytes position, length-four_bytes size)
 
 record SameFront (position size other others : ℕ) : Type 0 where
   positions : position ≡ other
@@ -30,7 +31,8 @@ receipt_front-injective : (position size other others : ℕ) → position < 2 ^ 
 unfolding receipt_front
 receipt_front-injective position size other others one two three four is =
     let behind : eight_bytes position ++ four_bytes size ≡ eight_bytes other ++ four_bytes others = ap (λ (l : List ℕ). drop 4 l) is in
-    let parts = append-injective (eight_bytes position) (eight_bytes other) (four_bytes size) (four_bytes others) (length-eight_bytes position ∙ sym (length-eight_bytes other)) behind in
+    let parts = append-injective (eight_bytes position) (eight_bytes other) (four_bytes size) (four_bytes others)
+    (length-eight_bytes position ∙ sym (length-eight_bytes other)) behind in
     record { positions = eight_bytes-injective position other one two parts.0; sizes = four_bytes-injective size others three four parts.1 }
 
 -- a message tells its parts
@@ -39,11 +41,13 @@ record SameMessage (position : ℕ) (request said : List ℕ) (other : ℕ) (ask
   requests : request ≡ asked
   outputs : said ≡ told
 
-receipt_message-injective : (position : ℕ) (request said : List ℕ) (other : ℕ) (asked told : List ℕ) → position < 2 ^ 64 → other < 2 ^ 64 → length request < 2 ^ 32 → length asked < 2 ^ 32
+receipt_message-injective : (position : ℕ) (request said : List ℕ) (other : ℕ) (asked told : List ℕ) → position < 2 ^ 64 → other < 2 ^ 64
+    → length request < 2 ^ 32 → length asked < 2 ^ 32
     → receipt_message position request said ≡ receipt_message other asked told → SameMessage position request said other asked told
 unfolding receipt_message
 receipt_message-injective position request said other asked told one two three four is =
-    let halves = append-injective (receipt_front position (length request)) (receipt_front other (length asked)) (request ++ said) (asked ++ told)
+    let halves = append-injective (receipt_front position (length request)) (receipt_front other (length asked)) (request ++ said)
+    (asked ++ told)
     (length-receipt_front position (length request) ∙ sym (length-receipt_front other (length asked))) is in
     let front = receipt_front-injective position (length request) other (length asked) one two three four halves.0 in
     let rest = append-injective request asked said told front.sizes halves.1 in
@@ -56,25 +60,31 @@ both : (a b : Bool) → (a && b) ≡ true → (a ≡ true) × (b ≡ true)
 both true b is = (refl, is)
 both false b is = cc
 
-same_digits : (a b : List ℕ) (flag : Bool) → bytes_eq a b ≡ flag → (let r : Result (Unit {0}) NotReceipt = if flag then Ok tt else Err Tag in r ≡ Ok tt) → a ≡ b
+same_digits : (a b : List ℕ) (flag : Bool) → bytes_eq a b ≡ flag
+    → (let r : Result (Unit {0}) NotReceipt = if flag then Ok tt else Err Tag in r ≡ Ok tt) → a ≡ b
 same_digits a b true is accepted = grind (arith, bytes_eq-Decides)
 same_digits a b false is accepted = absurd (not_ok Tag accepted)
 
 space-is : (space : ℕ) → (space == 32) ≡ true → space ≡ 32
 space-is space is = grind (arith, nat_tests)
 
-formed-receipt : (key : List ℕ) (position : ℕ) (request digits said : List ℕ) (space : ℕ) (formed : Bool) → (space == 32 && list_all is_lower_digit digits) ≡ formed
-    → verified_by key position request (if formed then Some (digits, said) else None) ≡ Ok tt → digits ++ space ∷ said ≡ receipt_of key position request said
+formed-receipt : (key : List ℕ) (position : ℕ) (request digits said : List ℕ) (space : ℕ) (formed : Bool)
+    → (space == 32 && list_all is_lower_digit digits) ≡ formed
+    → verified_by key position request (if formed then Some (digits, said) else None) ≡ Ok tt
+    → digits ++ space ∷ said ≡ receipt_of key position request said
 formed-receipt key position request digits said space true is accepted =
     let e : space ≡ 32 = space-is space (both (space == 32) (list_all is_lower_digit digits) is).0 in
-    let same : digits ≡ digits_of key position request said = same_digits digits (digits_of key position request said) (bytes_eq digits (digits_of key position request said)) refl accepted in
+    let same : digits ≡ digits_of key position request said = same_digits digits (digits_of key position request said)
+    (bytes_eq digits (digits_of key position request said)) refl accepted in
     ap (λ (l : List ℕ). l ++ space ∷ said) same ∙ ap (λ n. digits_of key position request said ++ n ∷ said) e
 formed-receipt key position request digits said space false is accepted = absurd (not_ok Form accepted)
 
-parts-receipt : (key : List ℕ) (position : ℕ) (request digits rest : List ℕ) → verified_by key position request (parts_by digits rest) ≡ Ok tt
+parts-receipt : (key : List ℕ) (position : ℕ) (request digits rest : List ℕ)
+    → verified_by key position request (parts_by digits rest) ≡ Ok tt
     → digits ++ rest ≡ receipt_of key position request (drop 1 rest)
 parts-receipt key position request digits [] accepted = absurd (not_ok Form accepted)
-parts-receipt key position request digits (space ∷ said) accepted = formed-receipt key position request digits said space (space == 32 && list_all is_lower_digit digits) refl accepted
+parts-receipt key position request digits (space ∷ said) accepted =
+    formed-receipt key position request digits said space (space == 32 && list_all is_lower_digit digits) refl accepted
 
 drop-suc : (n : ℕ) (xs : List ℕ) → drop (suc n) xs ≡ drop 1 (drop n xs)
 drop-suc zero xs = refl
@@ -82,7 +92,8 @@ drop-suc (suc n) [] = refl
 drop-suc (suc n) (x ∷ xs) = drop-suc n xs
 
 -- an output that is accepted is the receipt of what stands behind its digits
-accepted-receipt : (key : List ℕ) (position : ℕ) (request output : List ℕ) → verified key position request output ≡ Ok tt → output ≡ receipt_of key position request (drop 65 output)
+accepted-receipt : (key : List ℕ) (position : ℕ) (request output : List ℕ) → verified key position request output ≡ Ok tt
+    → output ≡ receipt_of key position request (drop 65 output)
 accepted-receipt key position request output accepted =
     sym (take-append-drop 64 output) ∙ parts-receipt key position request (take 64 output) (drop 64 output) accepted
     ∙ ap (λ (l : List ℕ). receipt_of key position request l) (sym (drop-suc 64 output))
@@ -92,23 +103,29 @@ abbrev outputs_by : Meaning → ReceiptState → List (List ℕ) → List (List 
 outputs_by inner kept [] = []
 outputs_by inner kept (request ∷ requests) = (outcome_of inner kept request).1 ∷ outputs_by inner (outcome_of inner kept request).0 requests
 
-outputs-same : (inner : Meaning) (kept : ReceiptState) (requests : List (List ℕ)) → IsKept kept → outputs_from (receipted inner) (spelling_of kept) requests ≡ outputs_by inner kept requests
+outputs-same : (inner : Meaning) (kept : ReceiptState) (requests : List (List ℕ)) → IsKept kept
+    → outputs_from (receipted inner) (spelling_of kept) requests ≡ outputs_by inner kept requests
 outputs-same inner kept [] good = refl
 outputs-same inner kept (request ∷ requests) good =
-    let e : outcome_of inner (receipt_state_in (spelling_of kept)) request ≡ outcome_of inner kept request = ap (λ (k : ReceiptState). outcome_of inner k request) (kept_of-spelling_of kept good) in
+    let e : outcome_of inner (receipt_state_in (spelling_of kept)) request ≡ outcome_of inner kept request = ap
+    (λ (k : ReceiptState). outcome_of inner k request) (kept_of-spelling_of kept good) in
     ap (λ (o : ReceiptState × List ℕ). o.1 ∷ outputs_from (receipted inner) (spelling_of o.0) requests) e
-    ∙ ap (λ (l : List (List ℕ)). (outcome_of inner kept request).1 ∷ l) (outputs-same inner (outcome_of inner kept request).0 requests (outcome_of-IsKept inner kept request good))
+    ∙ ap (λ (l : List (List ℕ)). (outcome_of inner kept request).1 ∷ l)
+    (outputs-same inner (outcome_of inner kept request).0 requests (outcome_of-IsKept inner kept request good))
 
 -- a tagged request is told its receipt
-tagged-said : (inner : Meaning) (key : List ℕ) (kept : ReceiptState) (request : List ℕ) (full : Bool) → (kept.count == last_position) ≡ full → kept.count ≢ last_position → kept.key ≡ Some key
-    → (let o : ReceiptState × List ℕ = if full then (kept, codes "full") else taken inner kept request kept.key in o.1) ≡ receipt_of key (kept.count + 1) request (inner.says kept.inner request)
+tagged-said : (inner : Meaning) (key : List ℕ) (kept : ReceiptState) (request : List ℕ) (full : Bool) → (kept.count == last_position) ≡ full
+    → kept.count ≢ last_position → kept.key ≡ Some key
+    → (let o : ReceiptState × List ℕ = if full then (kept, codes "full") else taken inner kept request kept.key in o.1) ≡ receipt_of key
+    (kept.count + 1) request (inner.says kept.inner request)
 tagged-said inner key kept request true is room keyed = absurd (room (last kept.count is))
   where
     last : (n : ℕ) → (n == last_position) ≡ true → n ≡ last_position
     last n h = grind (arith, nat_tests)
 tagged-said inner key kept request false is room keyed = ap (λ (k : Option (List ℕ)). (taken inner kept request k).1) keyed
 
-taken-count : (inner : Meaning) (kept : ReceiptState) (request : List ℕ) (key : Option (List ℕ)) → (taken inner kept request key).0.count ≡ kept.count + 1
+taken-count : (inner : Meaning) (kept : ReceiptState) (request : List ℕ) (key : Option (List ℕ))
+    → (taken inner kept request key).0.count ≡ kept.count + 1
 taken-count inner kept request None = refl
 taken-count inner kept request (Some key) = refl
 
@@ -125,32 +142,44 @@ counts-by inner kept request true is = inr (last kept.count is, last kept.count 
 counts-by inner kept request false is = inl (taken-count inner kept request kept.key)
 
 -- a request that was tagged, so many requests later
-record WasTagged (inner : Meaning) (kept : ReceiptState) (requests : List (List ℕ)) (key : List ℕ) (position : ℕ) (request said : List ℕ) : Type 0 where
+record WasTagged (inner : Meaning) (kept : ReceiptState) (requests : List (List ℕ)) (key : List ℕ) (position : ℕ)
+    (request said : List ℕ) : Type 0 where
   before : ℕ
   place : position ≡ kept.count + before + 1
   asked : slice_get requests before ≡ Some request
   told : slice_get (outputs_by inner kept requests) before ≡ Some (receipt_of key position request said)
 
-here-tagged : (inner : Meaning) (key : List ℕ) (kept : ReceiptState) (first : List ℕ) (requests : List (List ℕ)) → IsKept kept → IsCounted first
+here-tagged : (inner : Meaning) (key : List ℕ) (kept : ReceiptState) (first : List ℕ) (requests : List (List ℕ)) → IsKept kept
+    → IsCounted first
     → (position : ℕ) (request said : List ℕ) → position ≤ last_position → length request ≤ longest_request
-    → IsTaggedBy inner key kept first (receipt_message position request said) → WasTagged inner kept (first ∷ requests) key position request said
+    → IsTaggedBy inner key kept first (receipt_message position request said)
+    → WasTagged inner kept (first ∷ requests) key position request said
 here-tagged inner key kept first requests good counted position request said near short t =
-    let same = receipt_message-injective position request said (kept.count + 1) first (inner.says kept.inner first) (omega (arith, near)) (omega (arith, good.few)) (omega (arith, short)) counted t.is in
+    let same = receipt_message-injective position request said (kept.count + 1) first (inner.says kept.inner first) (omega (arith, near))
+    (omega (arith, good.few)) (omega (arith, short)) counted t.is in
     let told = tagged-said inner key kept first (kept.count == last_position) refl t.room t.keyed in
     let receipt : receipt_of key (kept.count + 1) first (inner.says kept.inner first) ≡ receipt_of key position request said =
     ap (λ n. receipt_of key n first (inner.says kept.inner first)) (sym same.positions)
     ∙ ap (λ (l : List ℕ). receipt_of key position l (inner.says kept.inner first)) (sym same.requests)
     ∙ ap (λ (l : List ℕ). receipt_of key position request l) (sym same.outputs) in
-    record { before = 0; place = omega (arith, same.positions); asked = ap (λ (l : List ℕ). Some l) (sym same.requests); told = ap (λ (l : List ℕ). Some l) (told ∙ receipt) }
+    record {
+      before = 0;
+      place = omega (arith, same.positions);
+      asked = ap (λ (l : List ℕ). Some l) (sym same.requests);
+      told = ap
+          (λ (l : List ℕ). Some l) (told ∙ receipt);
+    }
 
-later-tagged : (inner : Meaning) (key : List ℕ) (kept : ReceiptState) (first : List ℕ) (requests : List (List ℕ)) (position : ℕ) (request said : List ℕ) → position ≤ last_position
+later-tagged : (inner : Meaning) (key : List ℕ) (kept : ReceiptState) (first : List ℕ) (requests : List (List ℕ)) (position : ℕ)
+    (request said : List ℕ) → position ≤ last_position
     → Counts kept (outcome_of inner kept first).0 → WasTagged inner (outcome_of inner kept first).0 requests key position request said
     → WasTagged inner kept (first ∷ requests) key position request said
 later-tagged inner key kept first requests position request said near (inl up) w =
     record { before = suc w.before; place = omega (arith, w.place, up); asked = w.asked; told = w.told }
 later-tagged inner key kept first requests position request said near (inr full) w = absurd (omega (arith, w.place, full.1, near))
 
-was-tagged : (inner : Meaning) (key : List ℕ) (kept : ReceiptState) (requests : List (List ℕ)) → IsKept kept → AllByRecursion IsCounted requests
+was-tagged : (inner : Meaning) (key : List ℕ) (kept : ReceiptState) (requests : List (List ℕ)) → IsKept kept
+    → AllByRecursion IsCounted requests
     → (position : ℕ) (request said : List ℕ) → position ≤ last_position → length request ≤ longest_request
     → IsTagged inner key kept requests (receipt_message position request said) → WasTagged inner kept requests key position request said
 was-tagged inner key kept [] good counted position request said near short t = absurd t
@@ -158,17 +187,21 @@ was-tagged inner key kept (first ∷ requests) good counted position request sai
     here-tagged inner key kept first requests good counted.0 position request said near short t
 was-tagged inner key kept (first ∷ requests) good counted position request said near short (inr t) =
     later-tagged inner key kept first requests position request said near (counts-by inner kept first (kept.count == last_position) refl)
-    (was-tagged inner key (outcome_of inner kept first).0 requests (outcome_of-IsKept inner kept first good) counted.1 position request said near short t)
+    (was-tagged inner key (outcome_of inner kept first).0 requests (outcome_of-IsKept inner kept first good) counted.1 position request said
+    near short t)
 
 pub receipts-true : ReceiptsAreTrue
 receipts-true inner requests counted key position request output u =
     let said = drop 65 output in
-    let w = was-tagged inner key (first_kept inner) requests (record { few = omega arith; keyed = tt }) counted position request said u.near u.short u.tagged in
+    let w = was-tagged inner key (first_kept inner) requests (record { few = omega arith; keyed = tt }) counted position request said u.near
+    u.short u.tagged in
     record {
       before = w.before;
       place = omega (arith, w.place);
       asked = w.asked;
-      said = ap (λ (l : List (List ℕ)). slice_get l w.before) (outputs-same inner (first_kept inner) requests (record { few = omega arith; keyed = tt }))
+      said =
+          ap (λ (l : List (List ℕ)). slice_get l w.before)
+          (outputs-same inner (first_kept inner) requests (record { few = omega arith; keyed = tt }))
           ∙ w.told ∙ ap (λ (l : List ℕ). Some l) (sym (accepted-receipt key position request output u.accepted));
     }
 

@@ -3,3 +3,4 @@ pub mod Table
 pub mod Views
 pub mod ReceiptedLaws
 pub mod Tagged
+pub mod ReceiptListing

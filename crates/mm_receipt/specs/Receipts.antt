@@ -18,7 +18,8 @@ receipt_message position request said = receipt_front position (length request) 
 
 -- the tag in lower-case digits
 unfoldable pub digits_of : List ℕ → ℕ → List ℕ → List ℕ → List ℕ
-digits_of key position request said = encode_lower (hmac_of key (receipt_message position request said))
+digits_of key position request said =
+    encode_lower (hmac_of key (receipt_message position request said))
 
 -- the receipt: the tag in digits, a space and what was said
 abbrev pub receipt_of : List ℕ → ℕ → List ℕ → List ℕ → List ℕ
@@ -31,15 +32,18 @@ is_lower_digit byte = (nat_le 48 byte && nat_le byte 57) || (nat_le 97 byte && n
 -- digits, with what stands behind a space
 abbrev pub parts_by : List ℕ → List ℕ → Option (List ℕ × List ℕ)
 parts_by digits [] = None
-parts_by digits (space ∷ said) = if space == 32 && list_all is_lower_digit digits then Some (digits, said) else None
+parts_by digits (space ∷ said) =
+    if space == 32 && list_all is_lower_digit digits then Some (digits, said) else None
 
 -- 64 lower-case digits in front, and what stands behind a space
 abbrev pub receipt_parts : List ℕ → Option (List ℕ × List ℕ)
 receipt_parts output = parts_by (take 64 output) (drop 64 output)
 
-abbrev pub verified_by : List ℕ → ℕ → List ℕ → Option (List ℕ × List ℕ) → Result (Unit {0}) NotReceipt
+abbrev pub verified_by : List ℕ → ℕ → List ℕ → Option (List ℕ × List ℕ)
+    → Result (Unit {0}) NotReceipt
 verified_by key position request None = Err Form
-verified_by key position request (Some parts) = if bytes_eq parts.0 (digits_of key position request parts.1) then Ok tt else Err Tag
+verified_by key position request (Some parts) =
+    if bytes_eq parts.0 (digits_of key position request parts.1) then Ok tt else Err Tag
 
 -- whether an output is the receipt of what stands behind its digits
 abbrev pub verified : List ℕ → ℕ → List ℕ → List ℕ → Result (Unit {0}) NotReceipt

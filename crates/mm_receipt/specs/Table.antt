@@ -28,7 +28,8 @@ keyed_text (Some key) = codes "keyed"
 
 -- a request before a key is set
 abbrev pub unkeyed : ReceiptState → Option (List ℕ) → ReceiptState × List ℕ
-unkeyed kept key = (record { count = kept.count + 1; key = key; inner = kept.inner }, keyed_text key)
+unkeyed kept key =
+    (record { count = kept.count + 1; key = key; inner = kept.inner }, keyed_text key)
 
 -- a request under a key
 abbrev pub stamped : Meaning → ReceiptState → List ℕ → List ℕ → ReceiptState × List ℕ
@@ -43,7 +44,8 @@ taken inner kept request (Some key) = stamped inner kept request key
 
 -- what a request does, and what is said: there are 2^48 positions
 abbrev pub outcome_of : Meaning → ReceiptState → List ℕ → ReceiptState × List ℕ
-outcome_of inner kept request = if kept.count == last_position then (kept, codes "full") else taken inner kept request kept.key
+outcome_of inner kept request =
+    if kept.count == last_position then (kept, codes "full") else taken inner kept request kept.key
 
 -- before every request
 abbrev pub first_kept : Meaning → ReceiptState
@@ -69,11 +71,14 @@ is_keyed (form ∷ rest) = form == 1 || (form == 0 && bytes_eq (take 32 rest) (r
 
 -- a count and a key in front
 abbrev pub is_front : List ℕ → Bool
-is_front bytes = nat_le 41 (length bytes) && (nat_le (of_eight_bytes (take 8 bytes)) last_position && is_keyed (drop 8 bytes))
+is_front bytes =
+    nat_le 41 (length bytes)
+    && (nat_le (of_eight_bytes (take 8 bytes)) last_position && is_keyed (drop 8 bytes))
 
 abbrev pub as_receipt_state : ℕ → List ℕ → ReceiptState
 as_receipt_state count [] = record { count = count; key = None; inner = [] }
-as_receipt_state count (form ∷ rest) = record { count = count; key = key_in form (take 32 rest); inner = drop 32 rest }
+as_receipt_state count (form ∷ rest) =
+    record { count = count; key = key_in form (take 32 rest); inner = drop 32 rest }
 
 -- what a state keeps
 unfoldable pub receipt_state_in : List ℕ → ReceiptState
@@ -81,7 +86,8 @@ receipt_state_in bytes = as_receipt_state (of_eight_bytes (take 8 bytes)) (drop 
 
 -- the bytes spell a state
 unfoldable pub is_state : Meaning → List ℕ → Bool
-is_state inner bytes = are_bytes bytes && (is_front bytes && inner.is_spelled (receipt_state_in bytes).inner)
+is_state inner bytes =
+    are_bytes bytes && (is_front bytes && inner.is_spelled (receipt_state_in bytes).inner)
 
 -- the module round another
 abbrev pub receipted : Meaning → Meaning

@@ -2,6 +2,7 @@
 #![tactic(auto)]
 
 pub mod laws;
+mod listed;
 mod receipt;
 mod receipted;
 

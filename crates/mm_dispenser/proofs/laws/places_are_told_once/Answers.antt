@@ -1,4 +1,4 @@
-use Rattle.mm_dispenser.proofs.PlaceLaws.{places-once}
+use Rattle.mm_dispenser.specs.PlaceLaws.{places-once}
 use Rattle.mm_dispenser.proofs.laws.places_are_told_once.Goals as goal
 
 pub returns : goal.returns

@@ -17,13 +17,18 @@ pub told-requires-in-Some-Sum : goal.told-requires-in-Some-Sum
 told-requires-in-Some-Sum c = IsSpelled-from c.args.most c.args.state.now (omega (arith, c.ranges.most.fits)) (search (rules, c.requires))
 
 pub acted-requires-clause-spelled : goal.acted-requires-clause-spelled
-acted-requires-clause-spelled c = IsSpelled-from c.args.most c.args.state.now (omega (arith, c.ranges.most.fits)) (search (rules, c.requires))
+acted-requires-clause-spelled c =
+    IsSpelled-from c.args.most c.args.state.now (omega (arith, c.ranges.most.fits)) (search (rules, c.requires))
 
 pub acted-requires-clause-few : goal.acted-requires-clause-few
 acted-requires-clause-few c = few-from c.args.most c.args.state.now (search (rules, c.requires))
 
 pub acted-requires-clause-named : goal.acted-requires-clause-named
-acted-requires-clause-named c = (asked-named (words_of c.args.request.now) c.in-Some-On.name.now (as_action c.in-Some-On.action) (sym c.in-Some-On.ensures ∙ ap (λ (r : Request). Some (as_request r)) c.in-Some-On.field-0-is)).0
+acted-requires-clause-named c =
+    (asked-named (words_of c.args.request.now) c.in-Some-On.name.now (as_action c.in-Some-On.action)
+    (sym c.in-Some-On.ensures ∙ ap (λ (r : Request). Some (as_request r)) c.in-Some-On.field-0-is)).0
 
 pub acted-requires-clause-action : goal.acted-requires-clause-action
-acted-requires-clause-action c = (asked-named (words_of c.args.request.now) c.in-Some-On.name.now (as_action c.in-Some-On.action) (sym c.in-Some-On.ensures ∙ ap (λ (r : Request). Some (as_request r)) c.in-Some-On.field-0-is)).1
+acted-requires-clause-action c =
+    (asked-named (words_of c.args.request.now) c.in-Some-On.name.now (as_action c.in-Some-On.action)
+    (sym c.in-Some-On.ensures ∙ ap (λ (r : Request). Some (as_request r)) c.in-Some-On.field-0-is)).1

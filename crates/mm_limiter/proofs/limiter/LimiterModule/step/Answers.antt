@@ -11,6 +11,7 @@ pub spelled-requires : goal.spelled-requires
 spelled-requires c =
     short_after c.args.state.now c.args.request.now (search (rules, c.requires.spelled))
     (as_state c.unwrap_or-state.result)
-    (ap as_state c.unwrap_or-state.ensures ∙ as_state-unwrap_or c.read_state.result ∙ ap (λ read. unwrap_or read Unset) c.read_state.ensures)
+    (ap as_state c.unwrap_or-state.ensures ∙ as_state-unwrap_or c.read_state.result
+    ∙ ap (λ read. unwrap_or read Unset) c.read_state.ensures)
     (option_map as_request c.read_request.result) c.read_request.ensures
     _ c.outcome-says.ensures

@@ -13,17 +13,28 @@ unreachable-requires c = Finding-given _ _ _ _ _ _ None c.accounts.invariant c.a
 
 pub returns-in-Equal : goal.returns-in-Equal
 returns-in-Equal c =
-    let next = Finding-given _ _ _ _ _ _ (Some (as_front (c.in-Some.account, c.in-Some.others))) c.accounts.invariant c.accounts-test.true c.in-Some.ensures in
+    let next = Finding-given _ _ _ _ _ _ (Some (as_front (c.in-Some.account, c.in-Some.others))) c.accounts.invariant c.accounts-test.true
+    c.in-Some.ensures in
     let place = next.equal (sym c.in-Equal.ensures) in
-    record { account = sym place.0; puts = λ new named. place.1 new named ∙ ap (λ (front : List ℕ). front ++ (account_bytes new ++ c.in-Some.others.now)) (sym c.front_of.ensures) }
+    record {
+      account = sym place.0;
+      puts = λ new named. place.1 new named
+          ∙ ap (λ (front : List ℕ). front ++ (account_bytes new ++ c.in-Some.others.now)) (sym c.front_of.ensures);
+    }
 
 pub returns-in-Less : goal.returns-in-Less
 returns-in-Less c =
-    let next = Finding-given _ _ _ _ _ _ (Some (as_front (c.in-Some.account, c.in-Some.others))) c.accounts.invariant c.accounts-test.true c.in-Some.ensures in
+    let next = Finding-given _ _ _ _ _ _ (Some (as_front (c.in-Some.account, c.in-Some.others))) c.accounts.invariant c.accounts-test.true
+    c.in-Some.ensures in
     let place = next.less (sym c.in-Less.ensures) in
-    record { account = sym place.0; puts = λ new named. place.1 new named ∙ ap (λ (front : List ℕ). front ++ (account_bytes new ++ c.accounts.rest.now)) (sym c.front_of-in-Less.ensures) }
+    record {
+      account = sym place.0;
+      puts = λ new named. place.1 new named
+          ∙ ap (λ (front : List ℕ). front ++ (account_bytes new ++ c.accounts.rest.now)) (sym c.front_of-in-Less.ensures);
+    }
 
 pub accounts-preserved : goal.accounts-preserved
 accounts-preserved c =
-    let next = Finding-given _ _ _ _ _ _ (Some (as_front (c.in-Some.account, c.in-Some.others))) c.accounts.invariant c.accounts-test.true c.in-Some.ensures in
+    let next = Finding-given _ _ _ _ _ _ (Some (as_front (c.in-Some.account, c.in-Some.others))) c.accounts.invariant c.accounts-test.true
+    c.in-Some.ensures in
     next.greater (sym c.in-Greater.ensures)

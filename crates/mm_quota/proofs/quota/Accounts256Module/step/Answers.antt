@@ -5,4 +5,6 @@ use Rattle.mm_quota.proofs.quota.Accounts256Module.step.Goals as goal
 
 -- the new state is that of the table, where the other accounts stay
 pub returns-clause-others : goal.returns-clause-others
-returns-clause-others c = IfOk-others c.step.result (λ (after : Stepped). after.state) 256 c.args.state.now c.args.request.now (omega arith) (search (rules, c.requires)) c.step.ensures.state
+returns-clause-others c =
+    IfOk-others c.step.result (λ (after : Stepped). after.state) 256 c.args.state.now c.args.request.now (omega arith)
+    (search (rules, c.requires)) c.step.ensures.state

@@ -1,0 +1,33 @@
+-- The dispenser's listing.
+use Rattle.std.specs.Prelude.{ℕ, ◌+◌, ◌/◌, ◌%◌, ◌==◌, codes}
+use Rattle.std.proofs.Common.{refl, arith}
+use Rattle.mm_module.specs.LineLaws.{IsText}
+use Rattle.mm_listing.specs.Listing.{Listing, IsListing}
+use Rattle.mm_listing.specs.RequestLaws.{counted, in_both}
+use Rattle.mm_dispenser.specs.DispenserLaws.{dispenser_is_lawful}
+use Rattle.mm_dispenser.specs.Promise.{KeepsPlacesApart}
+use Rattle.mm_dispenser.specs.PromiseLaws.{keeps-apart}
+use Rattle.mm_dispenser.specs.Requests.{dispenser_request}
+use Rattle.mm_dispenser.specs.Table.{dispenser}
+
+abbrev pub dispenser_listing : Listing
+dispenser_listing = record {
+  name = codes "dispenser";
+  meaning = dispenser;
+  request = dispenser_request;
+  promise = λ requests tellings. KeepsPlacesApart requests tellings;
+}
+
+asks : (choice : ℕ) → IsText 256 (dispenser_request choice)
+asks choice =
+    in_both (IsText 256) (choice % 4 == 0) _ _ (record { short = omega arith; unbroken = refl })
+    (counted (codes "draw ") (choice / 4 % 16 + 1) refl (omega arith) (omega arith))
+
+pub dispenser_is_listed : IsListing dispenser dispenser_listing
+dispenser_is_listed = record {
+  means = refl;
+  lawful = dispenser_is_lawful;
+  named = record { begins = refl; letters = refl; other = refl };
+  asks = asks;
+  keeps = λ requests tellings said. keeps-apart requests tellings said;
+}

@@ -1,0 +1,48 @@
+-- What a module brings to the list of modules.
+use Rattle.std.specs.Prelude.{◌≡◌, ℕ, ◌==◌, ◌&&◌, ◌||◌, Bool, true, false, nat_le, List, [], ◌∷◌, codes}
+use Rattle.std.specs.List.{list_all}
+use Rattle.std.specs.Str.{bytes_eq}
+use Rattle.mm_module.specs.LineLaws.{IsText}
+use Rattle.mm_module.specs.Meaning.{IsLawful, Meaning}
+use Rattle.mm_listing.specs.Tellings.{AreSaid, Telling}
+
+-- A name; the module; the request of a generated schedule that a number chooses; and what the
+-- module promises of the requests that were run and of the lines that tell of them.
+pub record Listing : Type 1 where
+  pub name : List ℕ
+  pub meaning : Meaning
+  pub request : ℕ → List ℕ
+  pub promise : List (List ℕ) → List Telling → Type 0
+
+-- a lower-case letter
+abbrev pub is_letter : ℕ → Bool
+is_letter byte = nat_le 97 byte && nat_le byte 122
+
+-- what names are made of: lower-case letters and hyphens
+abbrev pub is_name_byte : ℕ → Bool
+is_name_byte byte = is_letter byte || byte == 45
+
+abbrev pub begins_with_letter : List ℕ → Bool
+begins_with_letter [] = false
+begins_with_letter (byte ∷ rest) = is_letter byte
+
+-- a name: letters and hyphens, a letter first, and not `help`, which asks for the help
+pub record IsName (name : List ℕ) : Type 0 where
+  pub begins : begins_with_letter name ≡ true
+  pub letters : list_all is_name_byte name ≡ true
+  pub other : bytes_eq name (codes "help") ≡ false
+
+-- The laws of a module's listing. It is of this module, which is lawful, under a name. A generated
+-- request has at most 256 bytes and no LF. Each run keeps the promise, whatever lines tell of it,
+-- if they tell what was said.
+pub record IsListing (meaning : Meaning) (listing : Listing) : Type 0 where
+  pub means : listing.meaning ≡ meaning
+  pub lawful : IsLawful meaning
+  pub named : IsName listing.name
+  pub asks : (choice : ℕ) → IsText 256 (listing.request choice)
+  pub keeps : (requests : List (List ℕ)) (tellings : List Telling)
+      → AreSaid listing.meaning requests tellings → listing.promise requests tellings
+
+-- no promise but the laws of the module
+abbrev pub promises_nothing : List (List ℕ) → List Telling → Type 0
+promises_nothing requests tellings = Unit {0}

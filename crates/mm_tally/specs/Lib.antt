@@ -1,0 +1,5 @@
+pub mod Promise
+pub mod PromiseLaws
+pub mod Table
+pub mod TallyLaws
+pub mod TallyListing

@@ -1,0 +1,35 @@
+-- The tally's listing.
+use Rattle.std.specs.Prelude.{ℕ, ◌%◌, ◌==◌, List, codes, if◌then◌else◌}
+use Rattle.std.proofs.Common.{refl, arith}
+use Rattle.mm_module.specs.LineLaws.{IsText}
+use Rattle.mm_listing.specs.Listing.{Listing, IsListing}
+use Rattle.mm_listing.specs.RequestLaws.{in_both, word}
+use Rattle.mm_tally.specs.Promise.{TellsMarks}
+use Rattle.mm_tally.specs.PromiseLaws.{tells-marks}
+use Rattle.mm_tally.specs.Table.{tally}
+use Rattle.mm_tally.specs.TallyLaws.{tally_is_lawful}
+
+abbrev pub tally_request : ℕ → List ℕ
+tally_request choice = if choice % 4 == 0 then codes "read" else codes "mark"
+
+abbrev pub tally_listing : Listing
+tally_listing = record {
+  name = codes "tally";
+  meaning = tally;
+  request = tally_request;
+  promise = λ requests tellings. TellsMarks requests tellings;
+}
+
+asks : (choice : ℕ) → IsText 256 (tally_request choice)
+asks choice =
+    in_both (IsText 256) (choice % 4 == 0) _ _ (word (codes "read") refl (omega arith))
+    (word (codes "mark") refl (omega arith))
+
+pub tally_is_listed : IsListing tally tally_listing
+tally_is_listed = record {
+  means = refl;
+  lawful = tally_is_lawful;
+  named = record { begins = refl; letters = refl; other = refl };
+  asks = asks;
+  keeps = λ requests tellings said. tells-marks requests tellings said;
+}
