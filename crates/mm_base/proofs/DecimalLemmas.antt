@@ -50,10 +50,12 @@ given_where false value number is = cc
 pub spelled_by_reading : (ds : List ℕ) (number : ℕ) → decimal_number ds ≡ Some number → ds ≡ decimal number
 unfolding decimal_number
 spelled_by_reading ds number is =
-    let given : (is_decimal ds && nat_lt (digits_value 10 ds) (2 ^ 64) ≡ true) × (digits_value 10 ds ≡ number) = given_where _ _ number is in
+    let given : (is_decimal ds && nat_lt (digits_value 10 ds) (2 ^ 64) ≡ true) × (digits_value 10 ds ≡ number) = given_where _ _ number is
+    in
     let form : is_decimal ds ≡ true = grind (arith, common_steps, nat_tests, given.0) in
     let small : digits_value 10 ds < 2 ^ 64 = grind (arith, common_steps, nat_tests, given.0) in
-    sym (decimal-digits_value digits ds (digits_of_decimal ds form) (some_of_decimal ds form) (alone_of_decimal ds form) small) ∙ ap decimal given.1
+    sym (decimal-digits_value digits ds (digits_of_decimal ds form) (some_of_decimal ds form) (alone_of_decimal ds form) small)
+    ∙ ap decimal given.1
 
 alone_of_spelling : (number : ℕ) (ds : List ℕ) → number < 2 ^ 64 → ds ≡ decimal number → get_or ds 0 0 ≡ 48 → length ds ≡ 1
 alone_of_spelling zero ds small is leads = rw (is, decimal_digit 0 (lit< tt)) refl
@@ -76,7 +78,8 @@ unfolding decimal_number
 none_without_form ds form = rw form refl
 
 -- `parse` gives the number
-pub parsed_number : {E : Type 0} (ds : List ℕ) (r : Result ℕ E) → is_decimal ds ≡ true → ParsesUnsigned 64 10 ds r → result_ok r ≡ decimal_number ds
+pub parsed_number : {E : Type 0} (ds : List ℕ) (r : Result ℕ E) → is_decimal ds ≡ true → ParsesUnsigned 64 10 ds r
+    → result_ok r ≡ decimal_number ds
 unfolding decimal_number
 parsed_number {E} ds (Ok number) form parses =
     let parts : ((0 < length ds) × (digits_value 10 ds < 2 ^ 64)) × (number ≡ digits_value 10 ds) =

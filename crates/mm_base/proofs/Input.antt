@@ -9,7 +9,8 @@ use Rattle.mm_base.specs.Input.{IsUnbroken, onto_first, onto_tail, lines_of, tai
 abbrev IsNoBreak : ℕ → Type 0
 IsNoBreak byte = byte ≢ 10
 
-onto_first-cons : (byte : ℕ) (bytes : List ℕ) (lines : List (List ℕ)) → onto_first (byte ∷ []) (onto_first bytes lines) ≡ onto_first (byte ∷ bytes) lines
+onto_first-cons : (byte : ℕ) (bytes : List ℕ) (lines : List (List ℕ))
+    → onto_first (byte ∷ []) (onto_first bytes lines) ≡ onto_first (byte ∷ bytes) lines
 onto_first-cons byte bytes [] = refl
 onto_first-cons byte bytes (line ∷ lines) = refl
 
@@ -30,14 +31,16 @@ onto_tail-nil (line ∷ lines) tail = refl
 pub lines_of-append : (bytes rest : List ℕ) → IsUnbroken bytes → lines_of (bytes ++ rest) ≡ onto_first bytes (lines_of rest)
 lines_of-append [] rest h = sym (onto_first-nil (lines_of rest))
 lines_of-append (byte ∷ bytes) rest h =
-    ap (λ b. cond b ([] ∷ lines_of (bytes ++ rest)) (onto_first (byte ∷ []) (lines_of (bytes ++ rest)))) (ne_eqb byte 10 (All-head IsNoBreak byte bytes h))
+    ap (λ b. cond b ([] ∷ lines_of (bytes ++ rest)) (onto_first (byte ∷ []) (lines_of (bytes ++ rest))))
+    (ne_eqb byte 10 (All-head IsNoBreak byte bytes h))
     ∙ ap (onto_first (byte ∷ [])) (lines_of-append bytes rest (All-tail IsNoBreak byte bytes h))
     ∙ onto_first-cons byte bytes (lines_of rest)
 
 pub tail_of-append : (bytes rest : List ℕ) → IsUnbroken bytes → tail_of (bytes ++ rest) ≡ onto_tail bytes (lines_of rest) (tail_of rest)
 tail_of-append [] rest h = sym (onto_tail-nil (lines_of rest) (tail_of rest))
 tail_of-append (byte ∷ bytes) rest h =
-    ap (λ b. cond b (tail_of (bytes ++ rest)) (onto_tail (byte ∷ []) (lines_of (bytes ++ rest)) (tail_of (bytes ++ rest)))) (ne_eqb byte 10 (All-head IsNoBreak byte bytes h))
+    ap (λ b. cond b (tail_of (bytes ++ rest)) (onto_tail (byte ∷ []) (lines_of (bytes ++ rest)) (tail_of (bytes ++ rest))))
+    (ne_eqb byte 10 (All-head IsNoBreak byte bytes h))
     ∙ ap (λ lines. onto_tail (byte ∷ []) lines (tail_of (bytes ++ rest))) (lines_of-append bytes rest (All-tail IsNoBreak byte bytes h))
     ∙ ap (onto_tail (byte ∷ []) (onto_first bytes (lines_of rest))) (tail_of-append bytes rest (All-tail IsNoBreak byte bytes h))
     ∙ onto_tail-cons byte bytes (lines_of rest) (tail_of rest)
@@ -50,14 +53,16 @@ pub tail_of-line : (line rest : List ℕ) → IsUnbroken line → tail_of (line 
 tail_of-line line rest h = tail_of-append line (10 ∷ rest) h
 
 -- whole lines go first
-pub lines_of-joined : (lines : List (List ℕ)) (rest : List ℕ) → AllByRecursion IsUnbroken lines → lines_of (lines_joined lines ++ rest) ≡ lines ++ lines_of rest
+pub lines_of-joined : (lines : List (List ℕ)) (rest : List ℕ) → AllByRecursion IsUnbroken lines
+    → lines_of (lines_joined lines ++ rest) ≡ lines ++ lines_of rest
 lines_of-joined [] rest h = refl
 lines_of-joined (line ∷ lines) rest h =
     ap lines_of (append_assoc line (10 ∷ lines_joined lines) rest)
     ∙ lines_of-line line (lines_joined lines ++ rest) h.0
     ∙ ap (λ more. line ∷ more) (lines_of-joined lines rest h.1)
 
-pub tail_of-joined : (lines : List (List ℕ)) (rest : List ℕ) → AllByRecursion IsUnbroken lines → tail_of (lines_joined lines ++ rest) ≡ tail_of rest
+pub tail_of-joined : (lines : List (List ℕ)) (rest : List ℕ) → AllByRecursion IsUnbroken lines
+    → tail_of (lines_joined lines ++ rest) ≡ tail_of rest
 tail_of-joined [] rest h = refl
 tail_of-joined (line ∷ lines) rest h =
     ap tail_of (append_assoc line (10 ∷ lines_joined lines) rest)

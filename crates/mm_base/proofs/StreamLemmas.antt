@@ -6,22 +6,12 @@ use Rattle.std.specs.Io.KnownBytes.{Appends, Consumes, Keeps}
 use Rattle.mm_base.specs.declared.fault.WriteFault.{WriteFault}
 use Rattle.mm_base.specs.Streams.{GoesOut, Sends, IsCutShort}
 
-pub Appends-none : (known : Option (List ℕ)) → Appends known known []
-Appends-none None = tt
-Appends-none (Some xs) = sym (append-nil xs)
-
 pub Appends-both : (old mid new : Option (List ℕ)) (xs ys : List ℕ)
     → Appends old mid xs → Appends mid new ys → Appends old new (xs ++ ys)
 Appends-both None mid new xs ys one two = tt
 Appends-both (Some a) None new xs ys one two = absurd one
 Appends-both (Some a) (Some b) None xs ys one two = absurd two
 Appends-both (Some a) (Some b) (Some c) xs ys one two = rw (two, one) (append_assoc a xs ys)
-
-pub Appends-kept : (old mid new : Option (List ℕ)) (xs : List ℕ) → Appends old mid xs → Keeps mid new → Appends old new xs
-Appends-kept None mid new xs one two = tt
-Appends-kept (Some a) None new xs one two = absurd one
-Appends-kept (Some a) (Some b) None xs one two = absurd two
-Appends-kept (Some a) (Some b) (Some c) xs one two = two ∙ one
 
 pub Consumes-none : (known : Option (List ℕ)) → Consumes known known []
 Consumes-none None = tt
@@ -40,25 +30,14 @@ Consumes-kept (Some a) None new xs one two = absurd one
 Consumes-kept (Some a) (Some b) None xs one two = absurd two
 Consumes-kept (Some a) (Some b) (Some c) xs one two = one ∙ ap (λ (r : List ℕ). xs ++ r) (sym two)
 
-pub GoesOut-none : (known : Option (List ℕ)) (bytes : List ℕ) → GoesOut known known bytes bytes
-GoesOut-none known bytes = record { sent = []; parts = refl; appended = Appends-none known }
-
 pub GoesOut-more : (old mid new : Option (List ℕ)) (bytes rest : List ℕ) (count : ℕ)
     → GoesOut old mid bytes rest → Appends mid new (take count rest) → GoesOut old new bytes (drop count rest)
 GoesOut-more old mid new bytes rest count so more = record {
   sent = so.sent ++ take count rest;
-  parts = so.parts ∙ ap (λ (r : List ℕ). so.sent ++ r) (sym (take-append-drop count rest)) ∙ sym (append_assoc so.sent (take count rest) (drop count rest));
+  parts =
+      so.parts ∙ ap (λ (r : List ℕ). so.sent ++ r) (sym (take-append-drop count rest))
+      ∙ sym (append_assoc so.sent (take count rest) (drop count rest));
   appended = Appends-both old mid new so.sent (take count rest) so.appended more;
-}
-
-pub GoesOut-fails : (old mid new : Option (List ℕ)) (bytes rest : List ℕ) (fault : WriteFault)
-    → GoesOut old mid bytes rest → Keeps mid new → Sends old new bytes (Err fault)
-GoesOut-fails old mid new bytes rest fault so kept = record {
-  sent = so.sent;
-  unsent = rest;
-  parts = so.parts;
-  appended = Appends-kept old mid new so.sent so.appended kept;
-  whole = tt;
 }
 
 same_length : (a c before bytes : List ℕ) → Some a ≡ Some before → Some c ≡ Some (before ++ bytes) → length c ≡ length a + length bytes

@@ -11,4 +11,6 @@ is_decimal (d ∷ ds) = if d == 48 then length ds == 0 else list_all is_ascii_di
 
 -- the number that a decimal of at most 64 bits writes
 unfoldable pub decimal_number : List ℕ → Option ℕ
-decimal_number ds = if is_decimal ds && nat_lt (digits_value 10 ds) (2 ^ 64) then Some (digits_value 10 ds) else None
+decimal_number ds =
+    if is_decimal ds && nat_lt (digits_value 10 ds) (2 ^ 64) then Some (digits_value 10 ds)
+    else None

@@ -1,4 +1,5 @@
--- The lines of an input: each ends with LF (byte 10), and what stands after the last LF is the tail.
+-- The lines of an input: each ends with LF (byte 10), and what stands after the last LF is the
+-- tail.
 use Rattle.std.specs.Prelude.{◌≢◌, ℕ, ◌==◌, List, [], ◌∷◌, ◌++◌, All, if◌then◌else◌}
 
 -- no byte is an LF
@@ -18,12 +19,14 @@ onto_tail bytes (line ∷ lines) tail = tail
 -- the whole lines, each without its LF
 abbrev pub lines_of : List ℕ → List (List ℕ)
 lines_of [] = []
-lines_of (byte ∷ rest) = if byte == 10 then [] ∷ lines_of rest else onto_first (byte ∷ []) (lines_of rest)
+lines_of (byte ∷ rest) =
+    if byte == 10 then [] ∷ lines_of rest else onto_first (byte ∷ []) (lines_of rest)
 
 -- what stands after the last LF
 abbrev pub tail_of : List ℕ → List ℕ
 tail_of [] = []
-tail_of (byte ∷ rest) = if byte == 10 then tail_of rest else onto_tail (byte ∷ []) (lines_of rest) (tail_of rest)
+tail_of (byte ∷ rest) =
+    if byte == 10 then tail_of rest else onto_tail (byte ∷ []) (lines_of rest) (tail_of rest)
 
 -- the bytes of these lines, each with its LF
 abbrev pub lines_joined : List (List ℕ) → List ℕ

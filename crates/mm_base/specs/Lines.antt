@@ -26,7 +26,8 @@ Gives left taken (Ok count) = (length taken ≡ count) × (count ≡ 0 → IsAtE
 Gives left taken (Err _) = taken ≡ []
 
 -- a source gave these bytes at Ok, none only at its end, and none otherwise
-pub record Refills (left left' : Option (List ℕ)) (held held' : List ℕ) (result : Result ℕ Failed) : Type 0 where
+pub record Refills (left left' : Option (List ℕ)) (held held' : List ℕ)
+    (result : Result ℕ Failed) : Type 0 where
   pub taken : List ℕ
   pub consumed : Consumes left left' taken
   pub joined : held' ≡ held ++ taken
@@ -68,7 +69,8 @@ FindsLine limit left held (Ok End) = (held ≡ []) × IsAtEnd left
 FindsLine limit left held (Err ReadFault) = MayGrow limit held
 FindsLine limit left held (Err LineLong) = IsLong limit held
 
-pub record Sees (limit : ℕ) (left left' : Option (List ℕ)) (held held' : List ℕ) (result : Result Seen LineFault) : Type 0 where
+pub record Sees (limit : ℕ) (left left' : Option (List ℕ)) (held held' : List ℕ)
+    (result : Result Seen LineFault) : Type 0 where
   pub takes : TakesHeld left left' held [] held'
   pub finds : FindsLine limit left' held' result
 

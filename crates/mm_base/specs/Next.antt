@@ -23,7 +23,8 @@ ReadsNext limit left (Err ReadFault) held = MayGrow limit held
 ReadsNext limit left (Err LineLong) held = IsLong limit held
 
 -- one call: what it takes of the source, and what it answers
-pub record NextLine (limit : ℕ) (left left' : Option (List ℕ)) (held : List ℕ) (result : Result Read LineFault)
+pub record NextLine (limit : ℕ) (left left' : Option (List ℕ)) (held : List ℕ)
+    (result : Result Read LineFault)
     (held' : List ℕ) : Type 0 where
   pub takes : TakesHeld left left' held (said_by result) held'
   pub reads : ReadsNext limit left' result held'

@@ -5,8 +5,8 @@ use Rattle.mm_base.specs.declared.fault.Failed.{Failed}
 use Rattle.mm_base.specs.declared.fault.WriteFault.{WriteFault}
 use Rattle.mm_base.specs.Faults.{counted}
 
--- a source over memory: the bytes left, the most that one call gives, the numbers of the calls that fail, and
--- the calls and faults so far
+-- a source over memory: the bytes left, the most that one call gives, the numbers of the calls that
+-- fail, and the calls and faults so far
 pub record Supply : Type 0 where
   pub left : List ℕ
   pub piece : ℕ
@@ -16,15 +16,16 @@ pub record Supply : Type 0 where
 
 -- a source that no call was made of
 abbrev pub supply_of : List ℕ → List ℕ → ℕ → Supply
-supply_of content failing piece = record { left = content; piece = piece; failing = failing; calls = 0; faults = 0 }
+supply_of content failing piece =
+    record { left = content; piece = piece; failing = failing; calls = 0; faults = 0 }
 
 -- the source after a call with this result
 abbrev pub after_take : Supply → Result ℕ Failed → Supply
 after_take s (Ok count) = record s { left = drop count s.left; calls = counted s.calls }
 after_take s (Err _) = record s { calls = counted s.calls; faults = counted s.faults }
 
--- a sink over memory: the bytes received, the room that is left, the numbers of the calls that fail, and the
--- calls and faults so far
+-- a sink over memory: the bytes received, the room that is left, the numbers of the calls that
+-- fail, and the calls and faults so far
 pub record Intake : Type 0 where
   pub received : List ℕ
   pub room : ℕ
@@ -34,15 +35,23 @@ pub record Intake : Type 0 where
 
 -- a sink that no call was made of
 abbrev pub intake_of : ℕ → List ℕ → Intake
-intake_of room failing = record { received = []; room = room; failing = failing; calls = 0; faults = 0 }
+intake_of room failing =
+    record { received = []; room = room; failing = failing; calls = 0; faults = 0 }
 
 -- the sink after a call with this piece and this result
 abbrev pub after_give : Intake → List ℕ → Result ℕ Failed → Intake
-after_give s piece (Ok count) = record s { received = s.received ++ take count piece; room = s.room - count; calls = counted s.calls }
+after_give s piece (Ok count) =
+    record s {
+      received = s.received ++ take count piece;
+      room = s.room - count;
+      calls = counted
+          s.calls;
+    }
 after_give s piece (Err _) = record s { calls = counted s.calls; faults = counted s.faults }
 
 -- what went out of these bytes: all of them after Ok, and else a prefix
-pub record Sends (received now : Option (List ℕ)) (bytes : List ℕ) (result : Result Unit WriteFault) : Type 0 where
+pub record Sends (received now : Option (List ℕ)) (bytes : List ℕ)
+    (result : Result Unit WriteFault) : Type 0 where
   pub sent : List ℕ
   pub unsent : List ℕ
   pub parts : bytes ≡ sent ++ unsent
@@ -51,7 +60,8 @@ pub record Sends (received now : Option (List ℕ)) (bytes : List ℕ) (result :
 
 -- not all of these bytes went out
 abbrev pub IsCutShort : Option (List ℕ) → Option (List ℕ) → List ℕ → Type 0
-IsCutShort received now bytes = (before : List ℕ) → received ≡ Some before → now ≢ Some (before ++ bytes)
+IsCutShort received now bytes =
+    (before : List ℕ) → received ≡ Some before → now ≢ Some (before ++ bytes)
 
 -- what went out so far of these bytes, with this rest to go
 pub record GoesOut (received now : Option (List ℕ)) (bytes rest : List ℕ) : Type 0 where

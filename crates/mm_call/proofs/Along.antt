@@ -43,7 +43,8 @@ walk_along P g fates n [] h = g.others []
 walk_along P g fates n (Reads ∷ steps) h =
     after_along P Reads (fates n).brings (fates n).ends (walk fates (n + 1) steps) g tt (walk_along P g fates (n + 1) steps h)
 walk_along P g fates n (Changes m ∷ steps) h =
-    after_along P (Changes m) (fates n).brings (fates n).ends (walk fates (n + 1) steps) g (h.0, tt) (walk_along P g fates (n + 1) steps h.1)
+    after_along P (Changes m) (fates n).brings (fates n).ends (walk fates (n + 1) steps) g (h.0, tt)
+    (walk_along P g fates (n + 1) steps h.1)
 walk_along P g fates n (Writes m ∷ steps) h =
     after_along P (Writes m) (fates n).brings (fates n).ends (walk fates (n + 1) steps) g (h.0, tt) (walk_along P g fates (n + 1) steps h.1)
 
@@ -105,7 +106,8 @@ changing_each true false b = tt
 changing_each false false b = tt
 
 -- a call closes no segment
-pub opt_closes : (fates : ℕ → Fate) (flag fresh : Bool) (b : Batch) → closes (walk fates 1 (Reads ∷ Reads ∷ changing flag fresh b)).moves ≡ false
+pub opt_closes : (fates : ℕ → Fate) (flag fresh : Bool) (b : Batch)
+    → closes (walk fates 1 (Reads ∷ Reads ∷ changing flag fresh b)).moves ≡ false
 opt_closes fates flag fresh b =
     walk_along ClosesNone shut_along fates 1 (Reads ∷ Reads ∷ changing flag fresh b) (changing_each flag fresh b)
 
@@ -115,7 +117,8 @@ commit_keeps Opt true y b = refl
 commit_keeps Opt false y b = refl
 
 -- where no segment is closed the closed ones are as before
-pub closed_kept : (i : Instance) (moves : List Move) (y : History) → closes moves ≡ false → (all_made (by_lists i) y moves).closed ≡ y.closed
+pub closed_kept : (i : Instance) (moves : List Move) (y : History) → closes moves ≡ false
+    → (all_made (by_lists i) y moves).closed ≡ y.closed
 closed_kept i [] y e = refl
 closed_kept i (Commit b ∷ moves) y e = closed_kept i moves (moved i y (Commit b)) e ∙ commit_keeps i.variant y.is_open y b
 closed_kept i (Foreign v ∷ moves) y e = closed_kept i moves (moved i y (Foreign v)) e

@@ -9,19 +9,23 @@ use Rattle.mm_seal.specs.Snapshot.{Content}
 use Rattle.mm_seal.specs.declared.snapshot.Place.{Place}
 use Rattle.mm_seal.specs.declared.snapshot.Place.TheVariants.{Basic as InBasic, Opt as InOpt}
 use Rattle.mm_model.specs.Chains.{link, link_message, summary_of}
-use Rattle.mm_model.specs.Instance.{Instance, basic}
+use Rattle.mm_model.specs.Instance.{Instance}
+use Rattle.mm_model.specs.InstanceWords.{basic}
 use Rattle.mm_model.specs.History.{Entry, History, Move, Commit, Foreign, joined}
 use Rattle.mm_model.specs.Steps.{Step, Reads, Writes, ask_steps}
 use Rattle.mm_model.specs.Messages.{IsClear, Within, values_in}
 use Rattle.mm_model.specs.Moves.{Digests}
-use Rattle.mm_model.specs.Places.{digest_of, IsPlaceOf, Names}
+use Rattle.mm_model.specs.Places.{IsPlaceOf, Names}
+use Rattle.mm_model.specs.PlacesWords.{digest_of}
 use Rattle.mm_model.specs.declared.refusal.Refusal.{Refusal}
 use Rattle.mm_model.proofs.Lists.{each_append}
 use Rattle.mm_model.specs.Standing.{IsGenuine}
 use Rattle.mm_call.specs.Levels.{by_lists, by_digests, all_made, Agrees}
-use Rattle.mm_call.specs.Found.{Found, found_at, found_unless_wanting, is_fresh, right_content}
+use Rattle.mm_call.specs.Found.{Found, found_at, right_content}
+use Rattle.mm_call.specs.FoundWords.{found_unless_wanting, is_fresh}
 use Rattle.mm_call.specs.Courses.{End, Done, Fails, Fate, Course, Walked, step_moves, after_step, walk}
-use Rattle.mm_call.specs.Called.{called, called_with}
+use Rattle.mm_call.specs.Called.{called}
+use Rattle.mm_call.specs.CalledWords.{called_with}
 use Rattle.mm_call.specs.Asked.{IsPlain, IsWithin, right_messages}
 use Rattle.mm_call.specs.Laws.{IsSameCall, BasicCallsAgree}
 use Rattle.mm_call.proofs.Moving.{IsBasicMove, agrees-made, plain-made, same_batches, more_batches}
@@ -50,14 +54,16 @@ walk_basic fates flag false b = walk_along AreBasic basic_along fates 1 (ask_ste
 walk_basic fates flag true b = walk_along AreBasic basic_along fates 1 (ask_steps Basic flag true b) ((tt, tt), tt)
 
 -- a plain history has no values that count
-pub plain_outside : (others : List (List ℕ)) (closed : List (List Entry)) (is_open : Bool) (items : List Entry) → closed ≡ [] → is_open ≡ false
+pub plain_outside : (others : List (List ℕ)) (closed : List (List Entry)) (is_open : Bool) (items : List Entry) → closed ≡ []
+    → is_open ≡ false
     → AllByRecursion (Contains others) (values_in (joined closed ++ (if is_open then items else [])))
 plain_outside others closed is_open items none shut =
     let P : List (List Entry) → Type 0 = λ c. AllByRecursion (Contains others) (values_in (joined c ++ (if is_open then items else []))) in
     let Q : Bool → Type 0 = λ o. AllByRecursion (Contains others) (values_in (joined {A = Entry} [] ++ (if o then items else []))) in
     subst P (sym none) (subst Q (sym shut) tt)
 
-place_any : (i : Instance) (y y' : History) (named : List Batch) (place : Place) → IsPlaceOf Basic i y named place → IsPlaceOf Basic i y' named place
+place_any : (i : Instance) (y y' : History) (named : List Batch) (place : Place) → IsPlaceOf Basic i y named place
+    → IsPlaceOf Basic i y' named place
 place_any i y y' named (InBasic s) is = is
 place_any i y y' named (InOpt a e) is = absurd is
 
@@ -92,7 +98,8 @@ end_summary i id y b again digest named walked e fresh repeat (batch one is) who
     ∙ ap (summary_of id) (ap (λ v. v ++ b ∷ []) (fresh (fresh_of again is)) ∙ sym (more_batches i walked.moves y b one))
 
 -- what a call starts from, and what it sees and finds
-record Starts (all others : List (List ℕ)) (asked : List Batch) (i : Instance) (y : History) (d seen : Digests) (b : Batch) (found : Result Found Refusal) : Type 0 where
+record Starts (all others : List (List ℕ)) (asked : List Batch) (i : Instance) (y : History) (d seen : Digests) (b : Batch)
+    (found : Result Found Refusal) : Type 0 where
   agrees : Agrees i y d
   within : IsWithin all others asked i y
   is_asked : Contains asked b
@@ -101,7 +108,8 @@ record Starts (all others : List (List ℕ)) (asked : List Batch) (i : Instance)
   message : (f : Found) → found ≡ Ok f → f.again ≡ false → Contains all (link_message (summary_of i.meaning.id y.batches) b)
 
 -- what is asked of the history after the moves of a walk
-within_after : (meaning : Meaning) (key : List ℕ) (all others : List (List ℕ)) (asked : List Batch) (y : History) (d seen : Digests) (b : Batch)
+within_after : (meaning : Meaning) (key : List ℕ) (all others : List (List ℕ)) (asked : List Batch) (y : History) (d seen : Digests)
+    (b : Batch)
     (walked : Walked) (found : Result Found Refusal) → Starts all others asked (basic meaning key) y d seen b found
     → AreBasic walked.moves → Commits b (is_fresh found) walked
     → IsWithin all others asked (basic meaning key) (all_made (by_lists (basic meaning key)) y walked.moves)
@@ -139,7 +147,8 @@ ends_of meaning key all others asked y d seen b walked found s c = record {
       let p = s.placed_at f is in
       let C : Result Found Refusal → Type 0 = λ x. Commits b (is_fresh x) walked in
       ap (λ v. InBasic (digest_of v))
-      (end_summary (basic meaning key) meaning.id y b f.again seen.digest p.named walked (s.sees ∙ s.agrees.digest) p.fresh p.repeat (subst C is c) whole);
+      (end_summary (basic meaning key) meaning.id y b f.again seen.digest p.named walked (s.sees ∙ s.agrees.digest) p.fresh p.repeat
+      (subst C is c) whole);
 }
 
 walked_same : (meaning : Meaning) (key : List ℕ) (all others : List (List ℕ)) (asked : List Batch) (y sees : History) (d seen : Digests)
@@ -168,14 +177,16 @@ foreign_digest meaning key [] d = refl
 foreign_digest meaning key (v ∷ values) d = foreign_digest meaning key values ((by_digests (basic meaning key)).made d (Foreign v))
 
 -- what the law of Basic needs: nothing of the moves
-pub record IsBasicAsked (all others : List (List ℕ)) (asked : List Batch) (i : Instance) (y : History) (offer : List ℕ) (b : Batch) : Type 0 where
-  pub clear : IsClear all
-  pub within : IsWithin all others asked i y
-  pub is_asked : Contains asked b
-  pub genuine : IsGenuine i y offer
-  pub offered : Within (right_messages i b (right_content i offer)) all
+pub record IsBasicAsked (all others : List (List ℕ)) (asked : List Batch) (i : Instance) (y : History) (offer : List ℕ) (b : Batch) : Type 0
+  where
+    pub clear : IsClear all
+    pub within : IsWithin all others asked i y
+    pub is_asked : Contains asked b
+    pub genuine : IsGenuine i y offer
+    pub offered : Within (right_messages i b (right_content i offer)) all
 
-pub basic_same : (meaning : Meaning) (key : List ℕ) (all others : List (List ℕ)) (asked : List Batch) (y : History) (d : Digests) (course : Course) (offer : List ℕ) (b : Batch)
+pub basic_same : (meaning : Meaning) (key : List ℕ) (all others : List (List ℕ)) (asked : List Batch) (y : History) (d : Digests)
+    (course : Course) (offer : List ℕ) (b : Batch)
     → Agrees (basic meaning key) y d → IsBasicAsked all others asked (basic meaning key) y offer b
     → IsSameCall all others asked (basic meaning key) (called (basic meaning key) (by_lists (basic meaning key)) y course offer b)
     (called (basic meaning key) (by_digests (basic meaning key)) d course offer b)

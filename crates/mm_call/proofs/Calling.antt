@@ -6,14 +6,16 @@ use Rattle.std.proofs.lemmas.Grind.{flat_map-append}
 use Rattle.std.proofs.lemmas.List.{append-nil}
 use Rattle.mm_digest.specs.declared.variant.Variant.TheVariants.{Basic}
 use Rattle.mm_digest.specs.Messages.{start_of}
-use Rattle.mm_module.specs.Meaning.{Meaning, state_from, state_after, outputs_from}
+use Rattle.mm_module.specs.Meaning.{Meaning, state_after, outputs_from}
+use Rattle.mm_module.specs.MeaningWords.{state_from}
 use Rattle.mm_module.specs.Batch.{Batch, members_of, size_of}
 use Rattle.mm_module.proofs.RunLaws.{state_after-append, outputs_from-append, length-outputs_from}
 use Rattle.mm_seal.specs.Snapshot.{Content, sealed_of}
 use Rattle.mm_seal.specs.declared.snapshot.Place.{Place}
 use Rattle.mm_seal.specs.declared.snapshot.Place.TheVariants.{Basic as InBasic, Opt as InOpt}
 use Rattle.mm_model.specs.Chains.{link, link_message, summary_of, trail}
-use Rattle.mm_model.specs.Instance.{Instance, basic}
+use Rattle.mm_model.specs.Instance.{Instance}
+use Rattle.mm_model.specs.InstanceWords.{basic}
 use Rattle.mm_model.specs.History.{History, requests_of, total_of}
 use Rattle.mm_model.specs.Messages.{Within, history_messages, offer_messages}
 use Rattle.mm_model.specs.Places.{IsPlaceOf, issued_place}
@@ -61,11 +63,13 @@ pub said_last : (meaning : Meaning) (batches named : List Batch) (b : Batch) →
 said_last meaning batches named b e =
     let requests : requests_of batches ≡ requests_of named ++ members_of b = ap requests_of e ∙ requests-push named b in
     let outputs : outputs_from meaning meaning.first (requests_of batches)
-    ≡ outputs_from meaning meaning.first (requests_of named) ++ outputs_from meaning (state_after meaning (requests_of named)) (members_of b) =
+    ≡ outputs_from meaning meaning.first (requests_of named) ++ outputs_from meaning (state_after meaning (requests_of named))
+    (members_of b) =
     ap (outputs_from meaning meaning.first) requests ∙ outputs_from-append meaning meaning.first (requests_of named) (members_of b) in
     ap (λ n. drop n (outputs_from meaning meaning.first (requests_of batches))) (before_last batches named b e)
     ∙ ap (drop (total_of named)) outputs
-    ∙ drop-at (total_of named) (outputs_from meaning meaning.first (requests_of named)) _ (sym (length-outputs_from meaning meaning.first (requests_of named)))
+    ∙ drop-at (total_of named) (outputs_from meaning meaning.first (requests_of named)) _
+    (sym (length-outputs_from meaning meaning.first (requests_of named)))
 
 pub answer-lists : (i : Instance) (y : History) (named : List Batch) (b : Batch) (again : Bool) → y.batches ≡ named ++ b ∷ []
     → answer_on i y b again ≡ answer_after i named b (issued_place i.variant y.is_open i y) again
@@ -78,7 +82,8 @@ answer-lists i y named b again e =
       again = again;
       position = total j;
       outputs = said j;
-      snapshot = sealed_of i.key (record { id = i.meaning.id; place = issued_place i.variant y.is_open i y; position = total j; state = state j });
+      snapshot =
+          sealed_of i.key (record { id = i.meaning.id; place = issued_place i.variant y.is_open i y; position = total j; state = state j });
     }
 
 -- the answer by digests, where what is found is the first batches of the history

@@ -6,7 +6,7 @@ use Rattle.mm_digest.specs.declared.variant.Variant.TheVariants.{Opt}
 use Rattle.mm_platform.specs.declared.fault.StepFault.{StepFault}
 use Rattle.mm_module.specs.Meaning.{Meaning}
 use Rattle.mm_module.specs.Batch.{Batch}
-use Rattle.mm_model.specs.Instance.{basic, opt}
+use Rattle.mm_model.specs.InstanceWords.{basic, opt}
 use Rattle.mm_model.specs.History.{Value, History, Move, Foreign, Close}
 use Rattle.mm_model.specs.Life.{life_of, is_lost, is_empty}
 use Rattle.mm_model.specs.Moves.{Digests}
@@ -14,7 +14,8 @@ use Rattle.mm_model.specs.Steps.{Step, Reads, Writes, checkpoint_steps}
 use Rattle.mm_call.specs.Levels.{by_lists, by_digests, all_made, Agrees}
 use Rattle.mm_call.specs.Courses.{End, Done, Fails, Fate, Course, Walked, after_step, walk, closes}
 use Rattle.mm_call.specs.Asked.{IsPlain, IsWithin}
-use Rattle.mm_call.specs.Checkpoints.{Closing, Checkpointed, closing_of, closed_by, checkpointed_by, checkpointed, IsClosedWithin, IsSameCheckpoint, BasicCheckpointsAgree, OptCheckpointsAgree}
+use Rattle.mm_call.specs.Checkpoints.{Closing, Checkpointed, closing_of, checkpointed_by, checkpointed, IsClosedWithin, IsSameCheckpoint, BasicCheckpointsAgree, OptCheckpointsAgree}
+use Rattle.mm_call.specs.CheckpointsWords.{closed_by}
 use Rattle.mm_call.proofs.Moving.{agrees-made, plain-made, committed_in, same_batches}
 use Rattle.mm_call.proofs.Calling.{listed_same}
 use Rattle.mm_call.proofs.OptHolding.{Holds}
@@ -34,7 +35,8 @@ read_moves values (Fails fault made) = refl
 
 -- Basic
 
-pub basic_checkpoint_same : (meaning : Meaning) (key : List ℕ) (all others : List (List ℕ)) (asked : List Batch) (y : History) (d : Digests) (c : Course)
+pub basic_checkpoint_same : (meaning : Meaning) (key : List ℕ) (all others : List (List ℕ)) (asked : List Batch) (y : History) (d : Digests)
+    (c : Course)
     → Agrees (basic meaning key) y d → IsWithin all others asked (basic meaning key) y
     → IsSameCheckpoint all others asked (basic meaning key) (checkpointed (basic meaning key) (by_lists (basic meaning key)) y c)
     (checkpointed (basic meaning key) (by_digests (basic meaning key)) d c)
@@ -60,7 +62,8 @@ basic_checkpoint_same meaning key all others asked y d c agrees within =
     }
 
 pub basic_checkpoints_agree : BasicCheckpointsAgree
-basic_checkpoints_agree meaning key all others asked y d c agrees a = basic_checkpoint_same meaning key all others asked y d c agrees a.within
+basic_checkpoints_agree meaning key all others asked y d c agrees a =
+    basic_checkpoint_same meaning key all others asked y d c agrees a.within
 
 -- Opt
 
@@ -95,7 +98,8 @@ module _ (meaning : Meaning) (key barrier : List ℕ) (all others : List (List �
   ready_close fates z false e held = ready_closing meaning key barrier all others asked fates z e (held refl)
 
   -- a checkpoint that has made its reading steps
-  close_past : (y : History) (d : Digests) (c : Course) (lost : Bool) → y.is_open ≡ true → Holds all others asked (opt meaning key barrier) y d
+  close_past : (y : History) (d : Digests) (c : Course) (lost : Bool) → y.is_open ≡ true
+      → Holds all others asked (opt meaning key barrier) y d
       → (lost ≡ false → is_empty (sight y c).items ≡ false) → Counts meaning key barrier all others asked true y (close_walk c lost).moves
       → Same (checkpointed_by (by_lists (opt meaning key barrier)) y (closing_of Opt true lost) (close_walk c lost))
       (checkpointed_by (by_digests (opt meaning key barrier)) d (closing_of Opt true lost) (close_walk c lost))
@@ -104,7 +108,8 @@ module _ (meaning : Meaning) (key barrier : List ℕ) (all others : List (List �
       let w : Walked = close_walk c lost in
       let third = ready_close c.fates (sight y c) lost e held in
       let ready : Ready all others asked i c.fates 1 (Reads ∷ Reads ∷ closing_steps lost) y = λ o p. third in
-      let fine = walk_fine meaning key barrier all others asked c.fates (Reads ∷ Reads ∷ closing_steps lost) 1 y (own_closing lost) counts.1 ready in
+      let fine = walk_fine meaning key barrier all others asked c.fates (Reads ∷ Reads ∷ closing_steps lost) 1 y (own_closing lost) counts.1
+      ready in
       let end = holds_made meaning key barrier all others asked w.moves y d h fine counts.0 in record {
         ending = refl;
         moves = refl;
@@ -137,14 +142,17 @@ module _ (meaning : Meaning) (key barrier : List ℕ) (all others : List (List �
       let C : List Move → Type 0 = Counts meaning key barrier all others asked true y in
       let rest : Walked = walk c.fates 3 (closing_steps x) in
       let h = holds_open meaning key barrier all others asked y d e agrees a.within in
-      let counts : C (close_walk c x).moves = counts_open meaning key barrier all others asked y (close_walk c x).moves e a.messages a.values in
-      let first : C (two_reads v Done w (c.fates 2).ends rest).moves = subst (λ z. C (two_reads v z w (c.fates 2).ends rest).moves) p counts in
+      let counts : C (close_walk c x).moves = counts_open meaning key barrier all others asked y (close_walk c x).moves e a.messages
+      a.values in
+      let first : C (two_reads v Done w (c.fates 2).ends rest).moves = subst (λ z. C (two_reads v z w (c.fates 2).ends rest).moves) p counts
+      in
       let both : C (two_reads v Done w Done rest).moves = subst (λ z. C (two_reads v Done w z rest).moves) q first in
       let hs = seen_holds meaning key barrier all others asked y d v w rest.moves h both in
       let agree : LostDigests d c ≡ LostLists y c = lost_same meaning key barrier all others asked sees seen a.clear hs in
       let held : LostLists y c ≡ false → is_empty (sight y c).items ≡ false = λ f.
       not_lost (sight y c) (ap (λ x. is_lost (life_of Opt x)) (sym (sight_is i y c)) ∙ f) e in
-      let P : Bool → Type 0 = λ x. Same (checkpointed_by (by_lists i) y (closing_of Opt true (LostLists y c)) (close_walk c (LostLists y c)))
+      let P : Bool → Type 0 = λ x. Same
+      (checkpointed_by (by_lists i) y (closing_of Opt true (LostLists y c)) (close_walk c (LostLists y c)))
       (checkpointed_by (by_digests i) d (closing_of Opt true x) (close_walk c x)) in
       subst P (sym agree) (close_past y d c (LostLists y c) e h held (subst (λ z. C (close_walk c z).moves) (k agree) counts))
 
@@ -162,13 +170,17 @@ module _ (meaning : Meaning) (key barrier : List ℕ) (all others : List (List �
       let lists : close_walk c lost ≡ walked = is (walk c.fates 3 (closing_steps lost)) in
       let digests : close_walk c other ≡ walked = is (walk c.fates 3 (closing_steps other)) in
       let reached : close_walk c x ≡ walked = is (walk c.fates 3 (closing_steps x)) in
-      let counts : C (close_walk c x).moves = counts_open meaning key barrier all others asked y (close_walk c x).moves e a.messages a.values in
+      let counts : C (close_walk c x).moves = counts_open meaning key barrier all others asked y (close_walk c x).moves e a.messages
+      a.values in
       let h = holds_open meaning key barrier all others asked y d e agrees a.within in
       let here : C (map Foreign values) = subst C moves (subst (λ (z : Walked). C z.moves) reached counts) in
-      let fine = foreign_all meaning key barrier all others asked values y (subst (AllByRecursion (Contains others)) (foreign_in-foreign values) here.1) in
+      let fine = foreign_all meaning key barrier all others asked values y
+      (subst (AllByRecursion (Contains others)) (foreign_in-foreign values) here.1) in
       let end = holds_made meaning key barrier all others asked (map Foreign values) y d h fine here.0 in
-      let kept = within_of meaning key barrier all others asked (all_made (by_lists i) y (map Foreign values)) (all_made (by_digests i) d (map Foreign values)) end in
-      let same : Same (checkpointed_by (by_lists i) y (closing_of Opt true lost) walked) (checkpointed_by (by_digests i) d (closing_of Opt true other) walked) = record {
+      let kept = within_of meaning key barrier all others asked (all_made (by_lists i) y (map Foreign values))
+      (all_made (by_digests i) d (map Foreign values)) end in
+      let same : Same (checkpointed_by (by_lists i) y (closing_of Opt true lost) walked)
+      (checkpointed_by (by_digests i) d (closing_of Opt true other) walked) = record {
         ending = stops_same walked.broken (closes walked.moves) fault (closing_of Opt true other) (closing_of Opt true lost) broken;
         moves = refl;
         steps = refl;
@@ -176,8 +188,10 @@ module _ (meaning : Meaning) (key barrier : List ℕ) (all others : List (List �
         agrees = subst (λ m. Agrees i (all_made (by_lists i) y m) (all_made (by_digests i) d m)) (sym moves) end.agrees;
         within = subst (λ m. IsWithin all others asked i (all_made (by_lists i) y m)) (sym moves) kept;
       } in
-      subst (λ x. Same (checkpointed_by (by_lists i) y (closing_of Opt true lost) x) (checkpointed_by (by_digests i) d (closing_of Opt true other) (close_walk c other))) (sym lists)
-      (subst (λ x. Same (checkpointed_by (by_lists i) y (closing_of Opt true lost) walked) (checkpointed_by (by_digests i) d (closing_of Opt true other) x)) (sym digests) same)
+      subst (λ x. Same (checkpointed_by (by_lists i) y (closing_of Opt true lost) x)
+      (checkpointed_by (by_digests i) d (closing_of Opt true other) (close_walk c other))) (sym lists)
+      (subst (λ x. Same (checkpointed_by (by_lists i) y (closing_of Opt true lost) walked)
+      (checkpointed_by (by_digests i) d (closing_of Opt true other) x)) (sym digests) same)
 
   -- with no segment open it reads once
   shut_once : (y : History) (d : Digests) (c : Course) (lost other : Bool) → y.is_open ≡ false → Agrees (opt meaning key barrier) y d
@@ -190,12 +204,15 @@ module _ (meaning : Meaning) (key barrier : List ℕ) (all others : List (List �
       let W : History → Type 0 = IsWithin all others asked i in
       let moves : (walk c.fates 1 (Reads ∷ [])).moves ≡ map Foreign values = read_moves values (c.fates 1).ends in
       let kept : W (all_made (by_lists i) y (map Foreign values)) =
-      subst W (sym (taking_is i values y)) (within_items meaning key barrier all others asked y (y.items ++ map Value values) e within) in record {
+      subst W (sym (taking_is i values y)) (within_items meaning key barrier all others asked y (y.items ++ map Value values) e within)
+      in record {
         ending = refl;
         moves = refl;
         steps = refl;
         writes = refl;
-        agrees = subst (λ m. Agrees i (all_made (by_lists i) y m) (all_made (by_digests i) d m)) (sym moves) (foreign_agrees meaning key barrier values y d agrees);
+        agrees =
+            subst (λ m. Agrees i (all_made (by_lists i) y m) (all_made (by_digests i) d m)) (sym moves)
+            (foreign_agrees meaning key barrier values y d agrees);
         within = subst (λ m. W (all_made (by_lists i) y m)) (sym moves) kept;
       }
 
@@ -204,30 +221,40 @@ module _ (meaning : Meaning) (key barrier : List ℕ) (all others : List (List �
   FlagCall flag y d c =
       (x : Bool) → (LostDigests d c ≡ LostLists y c → x ≡ LostLists y c)
       → Within_ y (walk c.fates 1 (checkpoint_steps Opt flag x)).moves
-      → Same (checkpointed_by (by_lists (opt meaning key barrier)) y (closing_of Opt flag (LostLists y c)) (walk c.fates 1 (checkpoint_steps Opt flag (LostLists y c))))
-      (checkpointed_by (by_digests (opt meaning key barrier)) d (closing_of Opt flag (LostDigests d c)) (walk c.fates 1 (checkpoint_steps Opt flag (LostDigests d c))))
+      → Same (checkpointed_by (by_lists (opt meaning key barrier)) y (closing_of Opt flag (LostLists y c))
+      (walk c.fates 1 (checkpoint_steps Opt flag (LostLists y c))))
+      (checkpointed_by (by_digests (opt meaning key barrier)) d (closing_of Opt flag (LostDigests d c))
+      (walk c.fates 1 (checkpoint_steps Opt flag (LostDigests d c))))
 
-  by_flag : (flag : Bool) (y : History) (d : Digests) (c : Course) → y.is_open ≡ flag → Agrees (opt meaning key barrier) y d → FlagCall flag y d c
+  by_flag : (flag : Bool) (y : History) (d : Digests) (c : Course) → y.is_open ≡ flag → Agrees (opt meaning key barrier) y d
+      → FlagCall flag y d c
   by_flag false y d c e agrees x k a = shut_once y d c (LostLists y c) (LostDigests d c) e agrees a.within
   by_flag true y d c e agrees x k a =
       let i = opt meaning key barrier in
       let lost : Bool = LostLists y c in
       let other : Bool = LostDigests d c in
       let here = subst (λ s. Within_ y (walk c.fates 1 s).moves) (checks x) a in
-      let same : Same (checkpointed_by (by_lists i) y (closing_of Opt true lost) (close_walk c lost)) (checkpointed_by (by_digests i) d (closing_of Opt true other) (close_walk c other)) =
+      let same : Same (checkpointed_by (by_lists i) y (closing_of Opt true lost) (close_walk c lost))
+      (checkpointed_by (by_digests i) d (closing_of Opt true other) (close_walk c other)) =
       elim (reading (c.fates 1).brings (c.fates 2).brings (c.fates 1).ends (c.fates 2).ends) [
         | past p q ↦ open_past y d c e agrees p q x k here
         | cut walked values fault is moves broken ↦ open_cut y d c e agrees walked values fault is moves broken x here
       ] in
-      subst (λ s. Same (checkpointed_by (by_lists i) y (closing_of Opt true lost) (walk c.fates 1 s)) (checkpointed_by (by_digests i) d (closing_of Opt true other) (walk c.fates 1 (checkpoint_steps Opt true other)))) (sym (checks lost))
-      (subst (λ s. Same (checkpointed_by (by_lists i) y (closing_of Opt true lost) (close_walk c lost)) (checkpointed_by (by_digests i) d (closing_of Opt true other) (walk c.fates 1 s))) (sym (checks other)) same)
+      subst (λ s. Same (checkpointed_by (by_lists i) y (closing_of Opt true lost) (walk c.fates 1 s))
+      (checkpointed_by (by_digests i) d (closing_of Opt true other) (walk c.fates 1 (checkpoint_steps Opt true other))))
+      (sym (checks lost))
+      (subst (λ s. Same (checkpointed_by (by_lists i) y (closing_of Opt true lost) (close_walk c lost))
+      (checkpointed_by (by_digests i) d (closing_of Opt true other) (walk c.fates 1 s))) (sym (checks other)) same)
 
 -- the law, by the moves of the steps that follow from what is seen by digests or by lists
-checkpoints_by : (meaning : Meaning) (key barrier : List ℕ) (all others : List (List ℕ)) (asked : List Batch) (y : History) (d : Digests) (c : Course)
+checkpoints_by : (meaning : Meaning) (key barrier : List ℕ) (all others : List (List ℕ)) (asked : List Batch) (y : History) (d : Digests)
+    (c : Course)
     → Agrees (opt meaning key barrier) y d → (x flag : Bool) → flag ≡ y.is_open
-    → (LostDigests meaning key barrier all others asked d c ≡ LostLists meaning key barrier all others asked y c → x ≡ LostLists meaning key barrier all others asked y c)
+    → (LostDigests meaning key barrier all others asked d c ≡ LostLists meaning key barrier all others asked y c
+    → x ≡ LostLists meaning key barrier all others asked y c)
     → IsClosedWithin all others asked (opt meaning key barrier) y (walk c.fates 1 (checkpoint_steps Opt flag x)).moves
-    → IsSameCheckpoint all others asked (opt meaning key barrier) (checkpointed (opt meaning key barrier) (by_lists (opt meaning key barrier)) y c)
+    → IsSameCheckpoint all others asked (opt meaning key barrier)
+    (checkpointed (opt meaning key barrier) (by_lists (opt meaning key barrier)) y c)
     (checkpointed (opt meaning key barrier) (by_digests (opt meaning key barrier)) d c)
 checkpoints_by meaning key barrier all others asked y d c agrees x flag same_flag k a =
     let i = opt meaning key barrier in
@@ -240,13 +267,18 @@ checkpoints_by meaning key barrier all others asked y d c agrees x flag same_fla
 
 pub opt_checkpoints_agree : OptCheckpointsAgree
 opt_checkpoints_agree meaning key barrier all others asked y d c agrees a =
-    checkpoints_by meaning key barrier all others asked y d c agrees (LostDigests meaning key barrier all others asked d c) d.flag agrees.flag (λ e. e) a
+    checkpoints_by meaning key barrier all others asked y d c agrees (LostDigests meaning key barrier all others asked d c) d.flag
+    agrees.flag (λ e. e) a
 
 -- the same, by the moves of the checkpoint by lists
-pub opt_checkpoints_agree_by_lists : (meaning : Meaning) (key barrier : List ℕ) (all others : List (List ℕ)) (asked : List Batch) (y : History) (d : Digests) (c : Course)
+pub opt_checkpoints_agree_by_lists : (meaning : Meaning) (key barrier : List ℕ) (all others : List (List ℕ)) (asked : List Batch)
+    (y : History) (d : Digests) (c : Course)
     → Agrees (opt meaning key barrier) y d
-    → IsClosedWithin all others asked (opt meaning key barrier) y (checkpointed (opt meaning key barrier) (by_lists (opt meaning key barrier)) y c).moves
-    → IsSameCheckpoint all others asked (opt meaning key barrier) (checkpointed (opt meaning key barrier) (by_lists (opt meaning key barrier)) y c)
+    → IsClosedWithin all others asked (opt meaning key barrier) y
+    (checkpointed (opt meaning key barrier) (by_lists (opt meaning key barrier)) y c).moves
+    → IsSameCheckpoint all others asked (opt meaning key barrier)
+    (checkpointed (opt meaning key barrier) (by_lists (opt meaning key barrier)) y c)
     (checkpointed (opt meaning key barrier) (by_digests (opt meaning key barrier)) d c)
 opt_checkpoints_agree_by_lists meaning key barrier all others asked y d c agrees a =
-    checkpoints_by meaning key barrier all others asked y d c agrees (LostLists meaning key barrier all others asked y c) y.is_open refl (λ e. refl) a
+    checkpoints_by meaning key barrier all others asked y d c agrees (LostLists meaning key barrier all others asked y c) y.is_open refl
+    (λ e. refl) a

@@ -24,7 +24,8 @@ register_at : (variant : Variant) (i : Instance) (standing : Standing) (y : Hist
 register_at Basic i standing y r = tt
 register_at Opt i standing y r = r
 
-register_stands : (variant : Variant) (i : Instance) (standing : Standing) (y : History) → RegisterAt variant (register_reads standing) (register_value_of i y)
+register_stands : (variant : Variant) (i : Instance) (standing : Standing) (y : History)
+    → RegisterAt variant (register_reads standing) (register_value_of i y)
     → RegisterStands variant i standing y
 register_stands Basic i standing y r = tt
 register_stands Opt i standing y r = r
@@ -36,7 +37,8 @@ stands_at i standing y s = record { spells = s.spells; cell = s.cell; reads = re
 pub stands_for : (i : Instance) (standing : Standing) (y : History) → StandsAt i standing (digests_of i y) → StandsFor i standing y
 stands_for i standing y s = record { spells = s.spells; cell = s.cell; register = register_stands i.variant i standing y s.reads }
 
-pub continues_by : (i : Instance) → CallsAgree i → (old new : Standing) (course : Course) (offer : List ℕ) (b : Batch) (result : Result BatchAnswer Refusal)
+pub continues_by : (i : Instance) → CallsAgree i
+    → (old new : Standing) (course : Course) (offer : List ℕ) (b : Batch) (result : Result BatchAnswer Refusal)
     → ((d : Digests) → StandsAt i old d → GoesBy i d (called i (by_digests i) d course offer b) old new result)
     → (all others : List (List ℕ)) (asked : List Batch) (y : History) → StandsFor i old y
     → IsAsked all others asked i y (called i (by_digests i) (digests_of i y) course offer b).moves offer b
@@ -47,6 +49,8 @@ continues_by i law old new course offer b result goes all others asked y s a =
     let g = goes d (stands_at i old y s) in
     let o : Called History = called i (by_lists i) y course offer b in record {
       gives = g.gives ∙ ap given_for same.ending;
-      stands = stands_for i new o.state (subst (StandsAt i new) (agrees_is i o.state (called i (by_digests i) d course offer b).state same.agrees) g.stands);
+      stands =
+          stands_for i new o.state
+          (subst (StandsAt i new) (agrees_is i o.state (called i (by_digests i) d course offer b).state same.agrees) g.stands);
       within = same.within;
     }

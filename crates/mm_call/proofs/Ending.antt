@@ -3,7 +3,8 @@ use Rattle.std.proofs.Common.{◌≡◌, ℕ, ◌+◌, ◌-◌, List, [], ◌∷
 use Rattle.std.proofs.lemmas.List.{append-nil}
 use Rattle.std.proofs.lemmas.Grind.{flat_map-append}
 use Rattle.std.proofs.Math.Seq.{drop-append_seam}
-use Rattle.mm_module.specs.Meaning.{Meaning, state_from, state_after, outputs_from}
+use Rattle.mm_module.specs.Meaning.{Meaning, state_after, outputs_from}
+use Rattle.mm_module.specs.MeaningWords.{state_from}
 use Rattle.mm_module.specs.Batch.{Batch, members_of, size_of, normal}
 use Rattle.mm_module.proofs.RunLaws.{state_after-append, outputs_from-append, length-outputs_from}
 use Rattle.mm_module.proofs.BatchLaws.{members_of-normal}
@@ -19,7 +20,9 @@ pub total_with : (named : List Batch) (b : Batch) → total_of named + size_of b
 total_with named b =
     sym (ap (λ (v : List (List ℕ)). length v) (requests_with named b) ∙ length-append (requests_of named) (members_of b))
 
-pub outputs_with : (meaning : Meaning) (named : List Batch) (b : Batch) → outputs_from meaning (state_after meaning (requests_of named)) (members_of b) ≡ drop (total_of (named ++ normal b ∷ []) - size_of b) (outputs_from meaning meaning.first (requests_of (named ++ normal b ∷ [])))
+pub outputs_with : (meaning : Meaning) (named : List Batch) (b : Batch)
+    → outputs_from meaning (state_after meaning (requests_of named)) (members_of b) ≡ drop (total_of (named ++ normal b ∷ []) - size_of b)
+    (outputs_from meaning meaning.first (requests_of (named ++ normal b ∷ [])))
 outputs_with meaning named b =
     let before : List (List ℕ) = outputs_from meaning meaning.first (requests_of named) in
     let last : List (List ℕ) = outputs_from meaning (state_after meaning (requests_of named)) (members_of b) in
@@ -32,7 +35,9 @@ outputs_with meaning named b =
     ∙ ap (λ (n : ℕ). drop n (before ++ last)) counts
     ∙ drop-append_seam before last)
 
-pub state_with : (meaning : Meaning) (named : List Batch) (b : Batch) → state_from meaning (state_after meaning (requests_of named)) (members_of b) ≡ state_after meaning (requests_of (named ++ normal b ∷ []))
+pub state_with : (meaning : Meaning) (named : List Batch) (b : Batch)
+    → state_from meaning (state_after meaning (requests_of named)) (members_of b) ≡ state_after meaning
+    (requests_of (named ++ normal b ∷ []))
 state_with meaning named b =
     sym (ap (λ (v : List (List ℕ)). state_after meaning v) (requests_with named b)
     ∙ state_after-append meaning (requests_of named) (members_of b))

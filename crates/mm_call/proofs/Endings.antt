@@ -11,9 +11,11 @@ use Rattle.mm_model.specs.Places.{issued_place}
 use Rattle.mm_model.specs.declared.refusal.Refusal.{Refusal}
 use Rattle.mm_model.proofs.MovedDigests.{total-push}
 use Rattle.mm_call.specs.Levels.{by_lists, by_digests, all_made, place_then}
-use Rattle.mm_call.specs.Found.{Found, is_fresh}
+use Rattle.mm_call.specs.Found.{Found}
+use Rattle.mm_call.specs.FoundWords.{is_fresh}
 use Rattle.mm_call.specs.Courses.{Walked, commits}
-use Rattle.mm_call.specs.Called.{Answers, Breaks, kept_at, ended_by}
+use Rattle.mm_call.specs.Called.{Answers, Breaks, ended_by}
+use Rattle.mm_call.specs.CalledWords.{kept_at}
 use Rattle.mm_call.proofs.Moving.{committed_in, batches-made, more_batches}
 use Rattle.mm_call.proofs.Walks.{Commits, nothing, batch, commits-none}
 use Rattle.mm_call.proofs.Calling.{answer-lists, answer-digests, ended_batches}
@@ -56,8 +58,10 @@ answers_same : (i : Instance) (y : History) (seen : Digests) (b : Batch) (walked
 answers_same i y seen b walked f ends whole none one s t =
     let p = ends.points f refl in
     let end : History = all_made (by_lists i) y walked.moves in
-    let batches = batches-made i walked.moves y ∙ ended_batches y.batches p.named (committed_in walked.moves) b f.again p.fresh p.repeat none one in
-    answer-digests i p.named b f.again f.offered (place_then i.variant seen.flag f.again i seen b) (issued_place i.variant end.is_open i end)
+    let batches = batches-made i walked.moves y
+    ∙ ended_batches y.batches p.named (committed_in walked.moves) b f.again p.fresh p.repeat none one in
+    answer-digests i p.named b f.again f.offered (place_then i.variant seen.flag f.again i seen b)
+    (issued_place i.variant end.is_open i end)
     p.position p.state (ends.place f refl whole)
     ∙ sym (answer-lists i end p.named b f.again batches)
 
@@ -70,7 +74,8 @@ position_same i y b walked f p fresh one =
     let named = p.position ∙ ap total_of (p.fresh fresh) in
     omega arith
 
-pub ending_same : (i : Instance) (y t : History) (seen s : Digests) (b : Batch) (walked : Walked) (broken : Option StepFault) (found : Result Found Refusal)
+pub ending_same : (i : Instance) (y t : History) (seen s : Digests) (b : Batch) (walked : Walked) (broken : Option StepFault)
+    (found : Result Found Refusal)
     → walked.broken ≡ broken → Ends i y seen b walked found → Commits b (is_fresh found) walked
     → ended_by (by_digests i) seen s b found walked.moves broken
     ≡ ended_by (by_lists i) t (all_made (by_lists i) y walked.moves) b found walked.moves broken

@@ -9,7 +9,8 @@ use Rattle.mm_module.specs.Batch.{Batch, size_of}
 use Rattle.mm_seal.specs.declared.snapshot.PartsFault.{PartsFault}
 use Rattle.mm_seal.specs.declared.snapshot.PartsFault.TheVariants.{Form, Kind}
 use Rattle.mm_seal.specs.Snapshot.{Content, Snapshot, tag_of}
-use Rattle.mm_model.specs.Instance.{Instance, basic}
+use Rattle.mm_model.specs.Instance.{Instance}
+use Rattle.mm_model.specs.InstanceWords.{basic}
 use Rattle.mm_model.specs.History.{History, Entry, requests_of, total_of, joined}
 use Rattle.mm_model.specs.Life.{Live}
 use Rattle.mm_model.specs.Judge.{is_last, judged, judge, verdict_by_digests}
@@ -21,10 +22,12 @@ use Rattle.mm_model.specs.declared.refusal.Refusal.{Refusal}
 use Rattle.mm_model.specs.declared.refusal.Refusal.TheVariants as refusal
 use Rattle.mm_model.proofs.Basic.{basic_is_judged}
 use Rattle.mm_model.proofs.Batches.{at_the_end, before_the_last}
-use Rattle.mm_call.specs.Order.{admitted, weighed, examined}
+use Rattle.mm_call.specs.Order.{admitted, examined}
+use Rattle.mm_call.specs.OrderWords.{weighed}
 use Rattle.mm_call.proofs.Weighing.{weighed_alike}
 use Rattle.mm_seal.specs.Parts.{parts_of}
-use Rattle.mm_call.specs.Found.{content_if_right, right_content, Found, found_with, found_by_verdict, found_at}
+use Rattle.mm_call.specs.Found.{right_content, Found, found_by_verdict, found_at}
+use Rattle.mm_call.specs.FoundWords.{content_if_right, found_with}
 use Rattle.mm_model.specs.Moves.{Digests}
 use Rattle.mm_call.specs.Levels.{by_lists, by_digests, Agrees}
 use Rattle.mm_call.specs.Asked.{IsPlain, right_messages}
@@ -36,7 +39,8 @@ pub record Holds (all : List (List ℕ)) (i : Instance) (y : History) (d : Diges
   pub plain : IsPlain y
   pub listed : Within (history_messages i y) all
 
-no_counting : (barrier : List ℕ) (closed : List (List Entry)) (is_open : Bool) (items : List Entry) (batches : List Batch) → closed ≡ [] → is_open ≡ false
+no_counting : (barrier : List ℕ) (closed : List (List Entry)) (is_open : Bool) (items : List Entry) (batches : List Batch) → closed ≡ []
+    → is_open ≡ false
     → AreNoGuards barrier (values_in (joined closed ++ (if is_open then items else []))) batches
 no_counting barrier closed is_open items batches none shut =
     let P : List (List Entry) → Type 0 = λ c. AreNoGuards barrier (values_in (joined c ++ (if is_open then items else []))) batches in
@@ -83,7 +87,8 @@ right_named meaning key all y bytes b snapshot asking e state tagged =
 found_from_same : (meaning : Meaning) (key : List ℕ) (all : List (List ℕ)) (y : History) (d : Digests) (bytes : List ℕ) (b : Batch)
     (parts : Result Snapshot PartsFault) → parts_of Basic meaning.id bytes ≡ parts
     → Holds all (basic meaning key) y d → Asking all (basic meaning key) y bytes b
-    → found_by_verdict (basic meaning key) (by_digests (basic meaning key)) d b parts ≡ found_by_verdict (basic meaning key) (by_lists (basic meaning key)) y b parts
+    → found_by_verdict (basic meaning key) (by_digests (basic meaning key)) d b parts ≡ found_by_verdict (basic meaning key)
+    (by_lists (basic meaning key)) y b parts
 found_from_same meaning key all y d bytes b (Err Form) e h asking = refl
 found_from_same meaning key all y d bytes b (Err Kind) e h asking = refl
 found_from_same meaning key all y d bytes b (Ok snapshot) e h asking =
@@ -94,10 +99,12 @@ found_from_same meaning key all y d bytes b (Ok snapshot) e h asking =
 
 pub found_same : (meaning : Meaning) (key : List ℕ) (all : List (List ℕ)) (y : History) (d : Digests) (bytes : List ℕ) (b : Batch)
     → Holds all (basic meaning key) y d → Asking all (basic meaning key) y bytes b
-    → found_at (basic meaning key) (by_digests (basic meaning key)) d b bytes ≡ found_at (basic meaning key) (by_lists (basic meaning key)) y b bytes
+    → found_at (basic meaning key) (by_digests (basic meaning key)) d b bytes ≡ found_at (basic meaning key) (by_lists (basic meaning key))
+    y b bytes
 found_same meaning key all y d bytes b h asking =
     let i = basic meaning key in
-    ap (λ f. if f && bytes_eq d.register zero_bytes then Err refusal.Lost else found_by_verdict i (by_digests i) d b (parts_of Basic meaning.id bytes)) h.agrees.flag
+    ap (λ f. if f && bytes_eq d.register zero_bytes then Err refusal.Lost
+    else found_by_verdict i (by_digests i) d b (parts_of Basic meaning.id bytes)) h.agrees.flag
     ∙ found_from_same meaning key all y d bytes b (parts_of Basic meaning.id bytes) refl h asking
 
 -- What is found is at the end of the history, or before its last batch, which is then the one that is asked.
@@ -139,16 +146,20 @@ placed_from meaning key all y bytes b (Err Kind) e asking found is = cc
 placed_from meaning key all y bytes b (Ok snapshot) e asking found is =
     let i = basic meaning key in
     let t = found_with_tells snapshot.content (examined meaning key snapshot b (judge Basic y snapshot.content.position b)) found is in
-    let w = weighed_tells (meaning.is_spelled snapshot.content.state) (bytes_eq snapshot.tag (tag_of key snapshot.content)) _ _ found.again t.1 in
+    let w = weighed_tells (meaning.is_spelled snapshot.content.state) (bytes_eq snapshot.tag (tag_of key snapshot.content)) _ _ found.again
+    t.1 in
     let names = (right_named meaning key all y bytes b snapshot asking e w.0 w.1).0 in
-    let a = admitted_tells (nat_eq snapshot.content.position (total_of y.batches)) (nat_eq (snapshot.content.position + size_of b) (total_of y.batches) && is_last y.batches b) _ found.again w.2 in
+    let a = admitted_tells (nat_eq snapshot.content.position (total_of y.batches))
+    (nat_eq (snapshot.content.position + size_of b) (total_of y.batches) && is_last y.batches b) _ found.again w.2 in
     let P : Content → Type 0 = λ c. IsPlaceOf Basic i y names.named c.place in
     record {
       named = names.named;
       position = ap (λ (c : Content). c.position) t.0 ∙ names.position;
       state = ap (λ (c : Content). c.state) t.0 ∙ names.state;
       place = subst P (sym t.0) names.place;
-      fresh = λ x. (at_the_end y.batches names.named names.rest names.first).0 (ap (λ p. nat_eq p (total_of y.batches)) (sym names.position) ∙ a.0 x);
+      fresh =
+          λ x. (at_the_end y.batches names.named names.rest names.first).0 (ap (λ p. nat_eq p (total_of y.batches)) (sym names.position)
+          ∙ a.0 x);
       repeat = λ x. (before_the_last y.batches names.named names.rest b names.first).0
           (ap (λ p. nat_eq (p + size_of b) (total_of y.batches) && is_last y.batches b) (sym names.position) ∙ a.1 x);
     }
@@ -169,7 +180,8 @@ right_from meaning key all y bytes b (Err Form) e asking found is = cc
 right_from meaning key all y bytes b (Err Kind) e asking found is = cc
 right_from meaning key all y bytes b (Ok snapshot) e asking found is =
     let t = found_with_tells snapshot.content (examined meaning key snapshot b (judge Basic y snapshot.content.position b)) found is in
-    let w = weighed_tells (meaning.is_spelled snapshot.content.state) (bytes_eq snapshot.tag (tag_of key snapshot.content)) _ _ found.again t.1 in
+    let w = weighed_tells (meaning.is_spelled snapshot.content.state) (bytes_eq snapshot.tag (tag_of key snapshot.content)) _ _ found.again
+    t.1 in
     let P : Content → Type 0 = λ c. Within (offer_messages (basic meaning key) c.place b) all in
     subst P (sym t.0) (right_named meaning key all y bytes b snapshot asking e w.0 w.1).1
 

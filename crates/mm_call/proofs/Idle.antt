@@ -8,7 +8,8 @@ use Rattle.mm_digest.specs.declared.variant.Variant.TheVariants.{Opt}
 use Rattle.mm_platform.specs.Standing.{Item, Standing}
 use Rattle.mm_module.specs.Meaning.{Meaning}
 use Rattle.mm_module.specs.Batch.{Batch}
-use Rattle.mm_model.specs.Instance.{Instance, opt}
+use Rattle.mm_model.specs.Instance.{Instance}
+use Rattle.mm_model.specs.InstanceWords.{opt}
 use Rattle.mm_model.specs.History.{Value, History, Move, Foreign}
 use Rattle.mm_model.specs.Messages.{Within}
 use Rattle.mm_model.specs.Moves.{Digests, digests_of}
@@ -17,7 +18,8 @@ use Rattle.mm_model.specs.declared.refusal.Refusal.{Refusal}
 use Rattle.mm_call.specs.Asked.{counted_part, counted_moves, from_reset, moves_messages, foreign_in, IsAsked}
 use Rattle.mm_call.specs.Called.{called, seen_at}
 use Rattle.mm_call.specs.Courses.{End, Done, Fails, Fate, Course, walk}
-use Rattle.mm_call.specs.Found.{Found, found_at, found_unless_wanting, is_fresh}
+use Rattle.mm_call.specs.Found.{Found, found_at}
+use Rattle.mm_call.specs.FoundWords.{found_unless_wanting, is_fresh}
 use Rattle.mm_call.specs.Levels.{by_lists, by_digests}
 use Rattle.mm_call.specs.Premises.{AreAsked, AreShown, IsIdle}
 use Rattle.mm_call.specs.Standing.{shown}
@@ -40,7 +42,11 @@ pub record OnlyForeign (moves : List Move) : Type 0 where
 
 reads_only : (v w : List (List ℕ)) (e f : End) → OnlyForeign (two_reads v e w f finished).moves
 reads_only v w Done Done =
-    record { values = v ++ w; are = ap (λ (ms : List Move). map Foreign v ++ ms) (append-nil (map Foreign w)) ∙ sym (map-append Foreign v w) }
+    record {
+      values = v ++ w;
+      are = ap (λ (ms : List Move). map Foreign v ++ ms) (append-nil (map Foreign w))
+          ∙ sym (map-append Foreign v w);
+    }
 reads_only v w Done (Fails fault made) = record { values = v ++ w; are = sym (map-append Foreign v w) }
 reads_only v w (Fails fault made) f = record { values = v; are = refl }
 
@@ -50,7 +56,8 @@ Walk fates flag fresh b = (walk fates 1 (ask_steps Opt flag fresh b)).moves
 
 walked_only : (fates : ℕ → Fate) (flag fresh : Bool) (b : Batch) → flag ≡ false → fresh ≡ false → OnlyForeign (Walk fates flag fresh b)
 walked_only fates flag fresh b e f =
-    let is : Walk fates flag fresh b ≡ Walk fates false false b = ap (λ (x : Bool). Walk fates x fresh b) e ∙ ap (λ (x : Bool). Walk fates false x b) f in
+    let is : Walk fates flag fresh b ≡ Walk fates false false b = ap (λ (x : Bool). Walk fates x fresh b) e
+    ∙ ap (λ (x : Bool). Walk fates false x b) f in
     subst OnlyForeign (sym is) (reads_only (fates 1).brings (fates 2).brings (fates 1).ends (fates 2).ends)
 
 none_count : (flag : Bool) (moves : List Move) → flag ≡ false → OnlyForeign moves → counted_moves flag moves ≡ []
@@ -63,7 +70,8 @@ never_fresh (Ok found) true f = refl
 
 -- what is found doesn't change by what others put into the register before the reading steps
 found_seen : (meaning : Meaning) (key barrier : List ℕ) (y : History) (c : Course) (offer : List ℕ) (b : Batch) → y.is_open ≡ false
-    → found_at (opt meaning key barrier) (by_lists (opt meaning key barrier)) (seen_at (opt meaning key barrier) (by_lists (opt meaning key barrier)) y c) b offer
+    → found_at (opt meaning key barrier) (by_lists (opt meaning key barrier))
+    (seen_at (opt meaning key barrier) (by_lists (opt meaning key barrier)) y c) b offer
     ≡ found_at (opt meaning key barrier) (by_lists (opt meaning key barrier)) y b offer
 found_seen meaning key barrier y c offer b e =
     let i : Instance = opt meaning key barrier in
@@ -72,7 +80,8 @@ found_seen meaning key barrier y c offer b e =
     ∙ sym (found_lists meaning key barrier y y.items b offer e)
 
 pub idle_moves : (meaning : Meaning) (key barrier : List ℕ) (y : History) (c : Course) (offer : List ℕ) (b : Batch)
-    → IsIdle (opt meaning key barrier) y offer b → OnlyForeign (called (opt meaning key barrier) (by_lists (opt meaning key barrier)) y c offer b).moves
+    → IsIdle (opt meaning key barrier) y offer b
+    → OnlyForeign (called (opt meaning key barrier) (by_lists (opt meaning key barrier)) y c offer b).moves
 idle_moves meaning key barrier y c offer b idle =
     let i : Instance = opt meaning key barrier in
     let at : Result Found Refusal = found_at i (by_lists i) (seen_at i (by_lists i) y c) b offer in
@@ -80,13 +89,17 @@ idle_moves meaning key barrier y c offer b idle =
     walked_only c.fates y.is_open (is_fresh (found_unless_wanting at c.lacks)) b idle.shut (never_fresh at c.lacks not_new)
 
 pub asked_idle : (meaning : Meaning) (key barrier : List ℕ) (all others : List (List ℕ)) (asked : List Batch) (y : History) (c : Course)
-    (offer : List ℕ) (b : Batch) → AreAsked all others asked (opt meaning key barrier) y offer b → IsIdle (opt meaning key barrier) y offer b
-    → IsAsked all others asked (opt meaning key barrier) y (called (opt meaning key barrier) (by_digests (opt meaning key barrier)) (digests_of (opt meaning key barrier) y) c offer b).moves offer b
+    (offer : List ℕ) (b : Batch) → AreAsked all others asked (opt meaning key barrier) y offer b
+    → IsIdle (opt meaning key barrier) y offer b
+    → IsAsked all others asked (opt meaning key barrier) y
+    (called (opt meaning key barrier) (by_digests (opt meaning key barrier)) (digests_of (opt meaning key barrier) y) c offer b).moves
+    offer b
 asked_idle meaning key barrier all others asked y c offer b a idle =
     let i : Instance = opt meaning key barrier in
     let d : Digests = digests_of i y in
     let moves : List Move = (called i (by_lists i) y c offer b).moves in
-    let none : counted_moves y.is_open moves ≡ [] = none_count y.is_open moves idle.shut (idle_moves meaning key barrier y c offer b idle) in
+    let none : counted_moves y.is_open moves ≡ [] = none_count y.is_open moves idle.shut (idle_moves meaning key barrier y c offer b idle)
+    in
     let is_asked : IsAsked all others asked i y moves offer b = asked_by i all others asked y moves offer b a
     (subst (λ (ms : List Move). Within (moves_messages i (counted_part y) ms) all) (sym none) tt)
     (subst (λ (ms : List Move). AllByRecursion (Contains others) (foreign_in ms)) (sym none) tt) in
@@ -101,7 +114,9 @@ idle_again meaning key barrier y after offer b same idle =
     let shut : after.is_open ≡ false = ap (λ (x : History). x.is_open) same ∙ idle.shut in
     record {
       shut = shut;
-      not_new = ap is_fresh (found_lists meaning key barrier after after.items b offer shut ∙ ap (λ (x : History). found_at i (by_lists i) x b offer) same
+      not_new =
+          ap is_fresh (found_lists meaning key barrier after after.items b offer shut
+          ∙ ap (λ (x : History). found_at i (by_lists i) x b offer) same
           ∙ sym (found_lists meaning key barrier y y.items b offer idle.shut)) ∙ idle.not_new;
     }
 
@@ -111,21 +126,29 @@ idle_by i y offer b true fresh e f unless = inl (unless (λ k. let clash : true 
 idle_by i y offer b false true e f unless = inl (unless (λ k. let clash : true ≡ false = sym f ∙ k.not_new in absurd (cc)))
 idle_by i y offer b false false e f unless = inr (record { shut = e; not_new = f })
 
-pub unless_idle : {A : Type 0} (i : Instance) (y : History) (offer : List ℕ) (b : Batch) → ((IsIdle i y offer b → ⊥) → A) → A ⊎ IsIdle i y offer b
+pub unless_idle : {A : Type 0} (i : Instance) (y : History) (offer : List ℕ) (b : Batch) → ((IsIdle i y offer b → ⊥) → A)
+    → A ⊎ IsIdle i y offer b
 unless_idle i y offer b unless = idle_by i y offer b y.is_open (is_fresh (found_at i (by_lists i) y b offer)) refl refl unless
 
 -- what is asked of a call, by what is asked of the items that the register shows, unless the call is idle
 pub asked_for : (meaning : Meaning) (key barrier : List ℕ) (all others : List (List ℕ)) (asked : List Batch) (y : History) (c : Course)
-    (offer : List ℕ) (b : Batch) (old new : Standing) (items more : List Item) → AreAsked all others asked (opt meaning key barrier) y offer b
+    (offer : List ℕ) (b : Batch) (old new : Standing) (items more : List Item)
+    → AreAsked all others asked (opt meaning key barrier) y offer b
     → ((IsIdle (opt meaning key barrier) y offer b → ⊥) → AreShown all others (opt meaning key barrier) y more) → old.items ≡ Some items
-    → new.items ≡ option_map (shown (opt meaning key barrier) (digests_of (opt meaning key barrier) y) (called (opt meaning key barrier) (by_digests (opt meaning key barrier)) (digests_of (opt meaning key barrier) y) c offer b).moves) old.items
+    → new.items ≡ option_map
+    (shown (opt meaning key barrier) (digests_of (opt meaning key barrier) y)
+    (called (opt meaning key barrier) (by_digests (opt meaning key barrier)) (digests_of (opt meaning key barrier) y) c offer b).moves)
+    old.items
     → new.items ≡ Some (standing_items y.is_open items ++ more)
-    → IsAsked all others asked (opt meaning key barrier) y (called (opt meaning key barrier) (by_digests (opt meaning key barrier)) (digests_of (opt meaning key barrier) y) c offer b).moves offer b
+    → IsAsked all others asked (opt meaning key barrier) y
+    (called (opt meaning key barrier) (by_digests (opt meaning key barrier)) (digests_of (opt meaning key barrier) y) c offer b).moves
+    offer b
 asked_for meaning key barrier all others asked y c offer b old new items more a shown_so known goes ends =
     let i : Instance = opt meaning key barrier in
     let d : Digests = digests_of i y in
     elim (unless_idle i y offer b shown_so) [
-      | inl shown_are ↦ asked_of meaning key barrier all others asked y (called i (by_digests i) d c offer b).moves offer b old new items more a shown_are known goes ends
+      | inl shown_are ↦ asked_of meaning key barrier all others asked y (called i (by_digests i) d c offer b).moves offer b old new items
+          more a shown_are known goes ends
           (opt_tied meaning key barrier y d c offer b refl)
       | inr idle ↦ asked_idle meaning key barrier all others asked y c offer b a idle
     ]

@@ -14,8 +14,9 @@ use Rattle.mm_model.specs.declared.answer.BatchAnswer.{BatchAnswer}
 use Rattle.mm_model.specs.declared.refusal.Refusal.{Refusal}
 use Rattle.mm_model.specs.declared.refusal.Refusal.TheVariants.{Memory, Long, Device, Blank, Cell, Lost, Form, Kind, State, Tag, Stale, Full}
 use Rattle.mm_call.specs.Refusals.{fault_of, handed_on}
-use Rattle.mm_call.specs.Courses.{Fails, made_move, commits}
-use Rattle.mm_call.specs.Called.{kept_at}
+use Rattle.mm_call.specs.Courses.{Fails, commits}
+use Rattle.mm_call.specs.CoursesWords.{made_move}
+use Rattle.mm_call.specs.CalledWords.{kept_at}
 use Rattle.mm_call.specs.Ended.{result_of, ended_with, refused_as, committed_as, kept_by, StaysOn}
 use Rattle.mm_call.proofs.Telling.{IsAt}
 
@@ -43,7 +44,8 @@ pub refused_result : (why : Refusal) → result_of (refused_as why) ≡ Err why
 refused_result why = ended_result (fault_of why) why refl
 
 -- what the step that commits gives is handed on
-pub committed_result : (position : Option ℕ) (written : Result BatchAnswer StepFault) → result_of (committed_as position written) ≡ handed_on written
+pub committed_result : (position : Option ℕ) (written : Result BatchAnswer StepFault)
+    → result_of (committed_as position written) ≡ handed_on written
 committed_result position (Ok answer) = refl
 committed_result position (Err fault) = refl
 
@@ -85,15 +87,18 @@ stays_broken (Drop step) n new e = e
 stays_broken (Fail step done) n new e = e
 
 -- the plan goes on to be told
-plan_kept : (act : Act) (old new : Standing) (fault : Option StepFault) (plan : Plan) (at : ℕ) → IsAt old plan at → Goes act old new fault → IsSome new.plan
+plan_kept : (act : Act) (old new : Standing) (fault : Option StepFault) (plan : Plan) (at : ℕ) → IsAt old plan at → Goes act old new fault
+    → IsSome new.plan
 plan_kept act old new fault plan at p g =
     subst (λ (q : Option Plan). IsSome q) (sym (g.plan ∙ ap (λ (q : Option Plan). option_map plan_after q) p.planned)) refl
 
 -- after the last step of a call, by whether it failed
-pub planned_done : (act : Act) (old new : Standing) (plan : Plan) (at : ℕ) → IsAt old plan at → Goes act old new None → StaysOn plan.stop false new × IsSome new.plan
+pub planned_done : (act : Act) (old new : Standing) (plan : Plan) (at : ℕ) → IsAt old plan at → Goes act old new None
+    → StaysOn plan.stop false new × IsSome new.plan
 planned_done act old new plan at p g = (stays_done plan.stop new g.ends.is_on, plan_kept act old new None plan at p g)
 
-pub planned_broken : (act : Act) (old new : Standing) (fault : StepFault) (plan : Plan) (at : ℕ) → IsAt old plan at → Goes act old new (Some fault) → StaysOn plan.stop true new × IsSome new.plan
+pub planned_broken : (act : Act) (old new : Standing) (fault : StepFault) (plan : Plan) (at : ℕ) → IsAt old plan at
+    → Goes act old new (Some fault) → StaysOn plan.stop true new × IsSome new.plan
 planned_broken act old new fault plan at p g =
     let told = g.told (record plan { at = at }) p.planned in (
       stays_broken plan.stop (counted at) new (told.power ∙ ap (λ (on : Bool). will_be_on on (record plan { at = at })) p.is_on),

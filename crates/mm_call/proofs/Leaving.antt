@@ -50,10 +50,12 @@ pub fault_handed : (written : Result BatchAnswer StepFault) → fault_in (handed
 fault_handed (Ok answer) = refl
 fault_handed (Err fault) = refl
 
-pub written_blamed : (written : Result BatchAnswer StepFault) (old new : Standing) → Blames (result_err written) old.faults new.faults → Blames (fault_in (handed_on written)) old.faults new.faults
+pub written_blamed : (written : Result BatchAnswer StepFault) (old new : Standing) → Blames (result_err written) old.faults new.faults
+    → Blames (fault_in (handed_on written)) old.faults new.faults
 written_blamed written old new b = subst (λ (f : Option StepFault). Blames f old.faults new.faults) (sym (fault_handed written)) b
 
 -- the answer to a batch of one is that to its request
-pub wholly : (all : BatchAnswer) (answer : Answer) → answer.again ≡ all.again → answer.position ≡ all.position → all.outputs ≡ answer.output ∷ [] → answer.snapshot ≡ all.snapshot → all ≡ whole answer
+pub wholly : (all : BatchAnswer) (answer : Answer) → answer.again ≡ all.again → answer.position ≡ all.position
+    → all.outputs ≡ answer.output ∷ [] → answer.snapshot ≡ all.snapshot → all ≡ whole answer
 wholly all answer again position outputs snapshot =
     λ i. record { again = sym again i; position = sym position i; outputs = outputs i; snapshot = sym snapshot i }

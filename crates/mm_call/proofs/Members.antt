@@ -3,7 +3,8 @@ use Rattle.std.proofs.Common.{◌≡◌, ℕ, ◌+◌, ◌<◌, List, [], ◌∷
 use Rattle.std.specs.List.{slice_get}
 use Rattle.std.proofs.lemmas.List.{append-nil, drop_all}
 use Rattle.std.proofs.lemmas.Option.{slice_get_within, get_or_from_slice_get}
-use Rattle.mm_module.specs.Meaning.{Meaning, IsLawful, state_from, outputs_from}
+use Rattle.mm_module.specs.Meaning.{Meaning, IsLawful, outputs_from}
+use Rattle.mm_module.specs.MeaningWords.{state_from}
 use Rattle.mm_base.specs.Limits.{limit_of}
 use Rattle.mm_module.proofs.RunLaws.{state_from-is_spelled}
 use Rattle.mm_call.specs.Ran.{RanSome}
@@ -13,11 +14,11 @@ drop_at xs i m e =
     let lt : i < length xs = slice_get_within xs i m e in
     rw (add-one, drop-cons xs i m) (ap (λ (v : List ℕ). v ∷ drop (suc i) xs) (get_or_from_slice_get xs i m m e))
 
-pub ran_none : (meaning : Meaning) (start : List ℕ) (members : List (List ℕ)) → IsTrue (meaning.is_spelled start) → RanSome meaning start members 0 start []
-ran_none meaning start members spelled = record { state_is = refl; outputs_are = refl; spelled = spelled }
-
 -- one member more
-pub ran_more : (meaning : Meaning) → IsLawful meaning → (start : List ℕ) (members : List (List ℕ)) (i : ℕ) (state : List ℕ) (outputs : List (List ℕ)) (m : List ℕ) → RanSome meaning start members i state outputs → slice_get members i ≡ Some m → RanSome meaning start members (i + 1) (meaning.next state m) (outputs ++ meaning.says state m ∷ [])
+pub ran_more : (meaning : Meaning) → IsLawful meaning
+    → (start : List ℕ) (members : List (List ℕ)) (i : ℕ) (state : List ℕ) (outputs : List (List ℕ)) (m : List ℕ)
+    → RanSome meaning start members i state outputs → slice_get members i ≡ Some m
+    → RanSome meaning start members (i + 1) (meaning.next state m) (outputs ++ meaning.says state m ∷ [])
 ran_more meaning lawful start members i state outputs m ran at =
     let d : drop i members ≡ m ∷ drop (i + 1) members = drop_at members i m at in
     record {
@@ -27,24 +28,16 @@ ran_more meaning lawful start members i state outputs m ran at =
       spelled = lawful.goes_on state m ran.spelled;
     }
 
-pub ran_first : (meaning : Meaning) → IsLawful meaning → (start : List ℕ) (members : List (List ℕ)) (m : List ℕ) → IsTrue (meaning.is_spelled start) → slice_get members 0 ≡ Some m → RanSome meaning start members 1 (meaning.next start m) (meaning.says start m ∷ [])
-ran_first meaning lawful start members m spelled at =
-    ran_more meaning lawful start members 0 start [] m (ran_none meaning start members spelled) at
-
 -- one member more, by what its step gave
-pub ran_on : (meaning : Meaning) → IsLawful meaning → (start : List ℕ) (members : List (List ℕ)) (i : ℕ) (state read next said : List ℕ) (outputs longer : List (List ℕ)) (m : List ℕ) → RanSome meaning start members i state outputs → slice_get members i ≡ Some m → read ≡ state → next ≡ meaning.next read m → said ≡ meaning.says read m → longer ≡ outputs ++ said ∷ [] → RanSome meaning start members (i + 1) next longer
+pub ran_on : (meaning : Meaning) → IsLawful meaning
+    → (start : List ℕ) (members : List (List ℕ)) (i : ℕ) (state read next said : List ℕ) (outputs longer : List (List ℕ)) (m : List ℕ)
+    → RanSome meaning start members i state outputs → slice_get members i ≡ Some m → read ≡ state → next ≡ meaning.next read m
+    → said ≡ meaning.says read m → longer ≡ outputs ++ said ∷ [] → RanSome meaning start members (i + 1) next longer
 ran_on meaning lawful start members i state read next said outputs longer m ran at read_is next_is said_is longer_is =
     rw (longer_is, said_is, next_is, read_is) (ran_more meaning lawful start members i state outputs m ran at)
 
--- every member
-pub ran_all : (meaning : Meaning) (start : List ℕ) (members : List (List ℕ)) (i : ℕ) (state : List ℕ) (outputs : List (List ℕ)) → RanSome meaning start members i state outputs → length members ≤ i → (state ≡ state_from meaning start members) × (outputs ≡ outputs_from meaning start members)
-ran_all meaning start members i state outputs ran all =
-    let d : drop i members ≡ [] = drop_all i members all in (
-      sym (ap (λ (v : List (List ℕ)). state_from meaning state v) d) ∙ ran.state_is,
-      sym (append-nil outputs) ∙ sym (ap (λ (v : List (List ℕ)). outputs ++ outputs_from meaning state v) d) ∙ ran.outputs_are,
-    )
-
 -- the state after a batch fits into a snapshot
-pub small_state : (meaning : Meaning) → IsLawful meaning → (start : List ℕ) (members : List (List ℕ)) (state : List ℕ) (id : ℕ) → IsTrue (meaning.is_spelled start) → state ≡ state_from meaning start members → id ≡ meaning.id → length state ≤ limit_of id
+pub small_state : (meaning : Meaning) → IsLawful meaning → (start : List ℕ) (members : List (List ℕ)) (state : List ℕ) (id : ℕ)
+    → IsTrue (meaning.is_spelled start) → state ≡ state_from meaning start members → id ≡ meaning.id → length state ≤ limit_of id
 small_state meaning lawful start members state id spelled state_is id_is =
     rw (state_is, id_is) (lawful.fits (state_from meaning start members) (state_from-is_spelled meaning lawful start members spelled))

@@ -8,8 +8,10 @@ use Rattle.mm_digest.specs.Messages.{zero_bytes, extended_of, start_of}
 use Rattle.mm_module.specs.Meaning.{Meaning}
 use Rattle.mm_module.specs.Batch.{Batch}
 use Rattle.mm_model.specs.Chains.{anchor_of, link, register_of, summary_of}
-use Rattle.mm_model.specs.Instance.{Instance, basic}
-use Rattle.mm_model.specs.History.{History, Value, Move, Commit, Foreign, Placed, Reset, Close, Power, committed, moved, values_of}
+use Rattle.mm_model.specs.Instance.{Instance}
+use Rattle.mm_model.specs.InstanceWords.{basic}
+use Rattle.mm_model.specs.History.{History, Value, Move, Commit, Foreign, Placed, Reset, Close, Power, committed, moved}
+use Rattle.mm_model.specs.HistoryWords.{values_of}
 use Rattle.mm_model.proofs.Batches.{total-append, total-cons}
 use Rattle.mm_model.proofs.Digests.{summary-push, register-push}
 use Rattle.mm_model.proofs.Histories.{values_of-append}
@@ -61,7 +63,8 @@ agrees-moved meaning key y d (Placed b) is a = absurd is
 agrees-moved meaning key y d Reset is a = absurd is
 agrees-moved meaning key y d Close is a = absurd is
 
-pub plain-moved : (meaning : Meaning) (key : List ℕ) (y : History) (m : Move) → IsBasicMove m → IsPlain y → IsPlain (moved (basic meaning key) y m)
+pub plain-moved : (meaning : Meaning) (key : List ℕ) (y : History) (m : Move) → IsBasicMove m → IsPlain y
+    → IsPlain (moved (basic meaning key) y m)
 plain-moved meaning key y (Commit b) is p = record { closed = p.closed; shut = p.shut }
 plain-moved meaning key y (Foreign v) is p = record { closed = p.closed; shut = p.shut }
 plain-moved meaning key y Power is p = record { closed = p.closed; shut = p.shut }
@@ -74,7 +77,8 @@ pub agrees-made : (meaning : Meaning) (key : List ℕ) (moves : List Move) (y : 
     → Agrees (basic meaning key) (all_made (by_lists (basic meaning key)) y moves) (all_made (by_digests (basic meaning key)) d moves)
 agrees-made meaning key [] y d is a = a
 agrees-made meaning key (m ∷ moves) y d is a =
-    agrees-made meaning key moves (moved (basic meaning key) y m) (made (basic meaning key) d m) is.1 (agrees-moved meaning key y d m is.0 a)
+    agrees-made meaning key moves (moved (basic meaning key) y m) (made (basic meaning key) d m) is.1
+    (agrees-moved meaning key y d m is.0 a)
 
 pub plain-made : (meaning : Meaning) (key : List ℕ) (moves : List Move) (y : History) → AllByRecursion IsBasicMove moves
     → IsPlain y → IsPlain (all_made (by_lists (basic meaning key)) y moves)
@@ -93,12 +97,14 @@ committed_in (Close ∷ moves) = committed_in moves
 committed_in (Power ∷ moves) = committed_in moves
 
 -- what a commit adds, in each variant
-pub commit_adds : (variant : Variant) (is_open : Bool) (y : History) (b : Batch) → (committed variant is_open y b).batches ≡ y.batches ++ b ∷ []
+pub commit_adds : (variant : Variant) (is_open : Bool) (y : History) (b : Batch)
+    → (committed variant is_open y b).batches ≡ y.batches ++ b ∷ []
 commit_adds Basic is_open y b = refl
 commit_adds Opt true y b = refl
 commit_adds Opt false y b = refl
 
-pub batches-made : (i : Instance) (moves : List Move) (y : History) → (all_made (by_lists i) y moves).batches ≡ y.batches ++ committed_in moves
+pub batches-made : (i : Instance) (moves : List Move) (y : History) → (all_made (by_lists i) y moves).batches ≡ y.batches
+    ++ committed_in moves
 batches-made i [] y = sym (append-nil y.batches)
 batches-made i (Commit b ∷ moves) y =
     batches-made i moves (moved i y (Commit b)) ∙ ap (λ v. v ++ committed_in moves) (commit_adds i.variant y.is_open y b)
@@ -110,7 +116,8 @@ batches-made i (Close ∷ moves) y = batches-made i moves (moved i y Close)
 batches-made i (Power ∷ moves) y = batches-made i moves (moved i y Power)
 
 -- moves that commit nothing, and moves that commit a batch
-pub same_batches : (i : Instance) (moves : List Move) (y : History) → committed_in moves ≡ [] → (all_made (by_lists i) y moves).batches ≡ y.batches
+pub same_batches : (i : Instance) (moves : List Move) (y : History) → committed_in moves ≡ []
+    → (all_made (by_lists i) y moves).batches ≡ y.batches
 same_batches i moves y none = batches-made i moves y ∙ ap (λ v. y.batches ++ v) none ∙ append-nil y.batches
 
 pub more_batches : (i : Instance) (moves : List Move) (y : History) (b : Batch) → committed_in moves ≡ b ∷ []

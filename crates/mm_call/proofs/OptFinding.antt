@@ -12,8 +12,10 @@ use Rattle.mm_module.specs.Batch.{Batch, size_of}
 use Rattle.mm_seal.specs.declared.snapshot.PartsFault.{PartsFault}
 use Rattle.mm_seal.specs.declared.snapshot.PartsFault.TheVariants.{Form, Kind}
 use Rattle.mm_seal.specs.Snapshot.{Content, Snapshot, tag_of}
-use Rattle.mm_model.specs.Instance.{Instance, opt}
-use Rattle.mm_model.specs.History.{History, requests_of, total_of, cell_digest_of, joined}
+use Rattle.mm_model.specs.Instance.{Instance}
+use Rattle.mm_model.specs.InstanceWords.{opt}
+use Rattle.mm_model.specs.History.{History, requests_of, total_of, joined}
+use Rattle.mm_model.specs.HistoryWords.{cell_digest_of}
 use Rattle.mm_model.specs.Life.{Life, Live, Spoiled, Lost as LostLife, life_by, life_of, is_empty, are_own, has_value, is_lost}
 use Rattle.mm_model.specs.Judge.{is_last, judged, judge, verdict_by_digests}
 use Rattle.mm_model.specs.Places.{IsPlaceOf, Names}
@@ -27,7 +29,8 @@ use Rattle.mm_call.proofs.Weighing.{weighed_alike}
 use Rattle.mm_seal.specs.Parts.{parts_of}
 use Rattle.mm_model.specs.Moves.{Digests}
 use Rattle.mm_call.specs.Levels.{by_lists, by_digests}
-use Rattle.mm_call.specs.Found.{Found, found_with, found_by_verdict, found_at}
+use Rattle.mm_call.specs.Found.{Found, found_by_verdict, found_at}
+use Rattle.mm_call.specs.FoundWords.{found_with}
 use Rattle.mm_call.specs.Asked.{right_messages}
 use Rattle.mm_call.proofs.Reading.{is_right}
 use Rattle.mm_call.proofs.Finding.{Asking, right_is, weighed_tells, found_with_tells, admitted_tells}
@@ -57,7 +60,8 @@ pub record IsApart (all others : List (List ℕ)) (asked : List Batch) (barrier 
   pub clear : IsClear all
   pub apart : AreNoGuards barrier others asked
 
-verdict_same : (meaning : Meaning) (key barrier : List ℕ) (all others : List (List ℕ)) (asked : List Batch) (y : History) (d : Digests) (offered : Content) (b : Batch)
+verdict_same : (meaning : Meaning) (key barrier : List ℕ) (all others : List (List ℕ)) (asked : List Batch) (y : History) (d : Digests)
+    (offered : Content) (b : Batch)
     → IsApart all others asked barrier → Holds all others asked (opt meaning key barrier) y d → Contains asked b
     → Within (offer_messages (opt meaning key barrier) offered.place b) all → Names (opt meaning key barrier) y offered
     → (by_digests (opt meaning key barrier)).verdict d offered b ≡ (by_lists (opt meaning key barrier)).verdict y offered b
@@ -74,7 +78,8 @@ verdict_same meaning key barrier all others asked y d offered b c h is_asked cal
       foreign = no_guards barrier others (values_in (counting y)) asked (b ∷ y.batches) c.apart h.outside (is_asked, h.batches);
     }) names
 
-right_named : (meaning : Meaning) (key barrier : List ℕ) (all : List (List ℕ)) (y : History) (bytes : List ℕ) (b : Batch) (snapshot : Snapshot)
+right_named : (meaning : Meaning) (key barrier : List ℕ) (all : List (List ℕ)) (y : History) (bytes : List ℕ) (b : Batch)
+    (snapshot : Snapshot)
     → Asking all (opt meaning key barrier) y bytes b → parts_of Opt meaning.id bytes ≡ Ok snapshot
     → meaning.is_spelled snapshot.content.state ≡ true → bytes_eq snapshot.tag (tag_of key snapshot.content) ≡ true
     → Names (opt meaning key barrier) y snapshot.content × Within (offer_messages (opt meaning key barrier) snapshot.content.place b) all
@@ -84,10 +89,12 @@ right_named meaning key barrier all y bytes b snapshot asking e state tagged =
     let P : Option Content → Type 0 = λ c. Within (right_messages i b c) all in
     (asking.genuine snapshot.content (is_right i bytes snapshot e state tagged), subst P right asking.listed)
 
-found_from_same : (meaning : Meaning) (key barrier : List ℕ) (all others : List (List ℕ)) (asked : List Batch) (y : History) (d : Digests) (bytes : List ℕ) (b : Batch)
+found_from_same : (meaning : Meaning) (key barrier : List ℕ) (all others : List (List ℕ)) (asked : List Batch) (y : History) (d : Digests)
+    (bytes : List ℕ) (b : Batch)
     (parts : Result Snapshot PartsFault) → parts_of Opt meaning.id bytes ≡ parts → IsApart all others asked barrier → Contains asked b
     → Holds all others asked (opt meaning key barrier) y d → Asking all (opt meaning key barrier) y bytes b
-    → found_by_verdict (opt meaning key barrier) (by_digests (opt meaning key barrier)) d b parts ≡ found_by_verdict (opt meaning key barrier) (by_lists (opt meaning key barrier)) y b parts
+    → found_by_verdict (opt meaning key barrier) (by_digests (opt meaning key barrier)) d b parts ≡ found_by_verdict
+    (opt meaning key barrier) (by_lists (opt meaning key barrier)) y b parts
 found_from_same meaning key barrier all others asked y d bytes b (Err Form) e c is_asked h asking = refl
 found_from_same meaning key barrier all others asked y d bytes b (Err Kind) e c is_asked h asking = refl
 found_from_same meaning key barrier all others asked y d bytes b (Ok snapshot) e c is_asked h asking =
@@ -105,13 +112,16 @@ lost_same meaning key barrier all others asked y d c h =
     ∙ ap (λ r. y.is_open && bytes_eq r zero_bytes) h.agrees.register
     ∙ lost_is_zero meaning key barrier y all c h.listed
 
-pub found_same : (meaning : Meaning) (key barrier : List ℕ) (all others : List (List ℕ)) (asked : List Batch) (y : History) (d : Digests) (bytes : List ℕ) (b : Batch)
+pub found_same : (meaning : Meaning) (key barrier : List ℕ) (all others : List (List ℕ)) (asked : List Batch) (y : History) (d : Digests)
+    (bytes : List ℕ) (b : Batch)
     → IsApart all others asked barrier → Contains asked b
     → Holds all others asked (opt meaning key barrier) y d → Asking all (opt meaning key barrier) y bytes b
-    → found_at (opt meaning key barrier) (by_digests (opt meaning key barrier)) d b bytes ≡ found_at (opt meaning key barrier) (by_lists (opt meaning key barrier)) y b bytes
+    → found_at (opt meaning key barrier) (by_digests (opt meaning key barrier)) d b bytes ≡ found_at (opt meaning key barrier)
+    (by_lists (opt meaning key barrier)) y b bytes
 found_same meaning key barrier all others asked y d bytes b c is_asked h asking =
     let i = opt meaning key barrier in
-    ap (λ f. if f then Err refusal.Lost else found_by_verdict i (by_digests i) d b (parts_of Opt meaning.id bytes)) (lost_same meaning key barrier all others asked y d c.clear h)
+    ap (λ f. if f then Err refusal.Lost else found_by_verdict i (by_digests i) d b (parts_of Opt meaning.id bytes))
+    (lost_same meaning key barrier all others asked y d c.clear h)
     ∙ ap (λ x. if is_lost (life_of Opt y) then Err refusal.Lost else x)
     (found_from_same meaning key barrier all others asked y d bytes b (parts_of Opt meaning.id bytes) refl c is_asked h asking)
 
@@ -140,7 +150,8 @@ placed_from meaning key barrier all y bytes b (Err Kind) e asking found is = cc
 placed_from meaning key barrier all y bytes b (Ok snapshot) e asking found is =
     let i = opt meaning key barrier in
     let t = found_with_tells snapshot.content (examined meaning key snapshot b (judge Opt y snapshot.content.position b)) found is in
-    let w = weighed_tells (meaning.is_spelled snapshot.content.state) (bytes_eq snapshot.tag (tag_of key snapshot.content)) _ _ found.again t.1 in
+    let w = weighed_tells (meaning.is_spelled snapshot.content.state) (bytes_eq snapshot.tag (tag_of key snapshot.content)) _ _ found.again
+    t.1 in
     let right = right_named meaning key barrier all y bytes b snapshot asking e w.0 w.1 in
     let names = right.0 in
     let here = nat_eq snapshot.content.position (total_of y.batches) in
@@ -158,13 +169,16 @@ placed_from meaning key barrier all y bytes b (Ok snapshot) e asking found is =
       place = subst P (sym t.0) names.place;
       listed = subst Q (sym t.0) right.1;
       live = live;
-      fresh = λ x. (at_the_end y.batches names.named names.rest names.first).0 (ap (λ p. nat_eq p (total_of y.batches)) (sym names.position) ∙ a.0 x);
+      fresh =
+          λ x. (at_the_end y.batches names.named names.rest names.first).0 (ap (λ p. nat_eq p (total_of y.batches)) (sym names.position)
+          ∙ a.0 x);
       repeat = λ x. (before_the_last y.batches names.named names.rest b names.first).0
           (ap (λ p. nat_eq (p + size_of b) (total_of y.batches) && is_last y.batches b) (sym names.position) ∙ a.1 x);
     }
 
 -- where power was lost nothing is found
-pub unless_lost : (lost : Bool) (found : Result Found Refusal) (f : Found) → (if lost then Err refusal.Lost else found) ≡ Ok f → found ≡ Ok f
+pub unless_lost : (lost : Bool) (found : Result Found Refusal) (f : Found) → (if lost then Err refusal.Lost else found) ≡ Ok f
+    → found ≡ Ok f
 unless_lost true found f e = cc
 unless_lost false found f e = e
 
@@ -202,7 +216,8 @@ live_from meaning key barrier y b (Err Form) found is = cc
 live_from meaning key barrier y b (Err Kind) found is = cc
 live_from meaning key barrier y b (Ok snapshot) found is =
     let t = found_with_tells snapshot.content (examined meaning key snapshot b (judge Opt y snapshot.content.position b)) found is in
-    let w = weighed_tells (meaning.is_spelled snapshot.content.state) (bytes_eq snapshot.tag (tag_of key snapshot.content)) _ _ found.again t.1 in
+    let w = weighed_tells (meaning.is_spelled snapshot.content.state) (bytes_eq snapshot.tag (tag_of key snapshot.content)) _ _ found.again
+    t.1 in
     let here = nat_eq snapshot.content.position (total_of y.batches) in
     let again = nat_eq (snapshot.content.position + size_of b) (total_of y.batches) && is_last y.batches b in
     let fits = nat_le (snapshot.content.position + size_of b) last_position in

@@ -6,10 +6,12 @@ use Rattle.mm_digest.specs.Messages.{extended_message}
 use Rattle.mm_module.specs.Meaning.{Meaning}
 use Rattle.mm_module.specs.Batch.{Batch}
 use Rattle.mm_model.specs.Chains.{guard}
-use Rattle.mm_model.specs.Instance.{Instance, opt}
+use Rattle.mm_model.specs.Instance.{Instance}
+use Rattle.mm_model.specs.InstanceWords.{opt}
 use Rattle.mm_model.specs.History.{Value, History, Move, Commit, Foreign, Placed, Reset, Close, Power, moved, committed, register_value_of}
 use Rattle.mm_model.specs.Sound.{IsSound}
-use Rattle.mm_model.specs.Messages.{Within, history_messages, moving_messages, move_messages}
+use Rattle.mm_model.specs.Messages.{Within, history_messages, moving_messages}
+use Rattle.mm_model.specs.MessagesWords.{move_messages}
 use Rattle.mm_model.specs.Moves.{IsAllowed, MayMove, Digests, digests_of, made, IsOutside, Brings}
 use Rattle.mm_model.proofs.Listing.{items_grow}
 use Rattle.mm_model.proofs.Moves.{sound_moved}
@@ -30,7 +32,8 @@ is_agrees i y d e = record {
   count = ap (λ (x : Digests). x.count) e;
 }
 
-pub opt_agrees_moved : (meaning : Meaning) (key barrier : List ℕ) (y : History) (d : Digests) (m : Move) → MayMove (opt meaning key barrier) y m
+pub opt_agrees_moved : (meaning : Meaning) (key barrier : List ℕ) (y : History) (d : Digests) (m : Move)
+    → MayMove (opt meaning key barrier) y m
     → Agrees (opt meaning key barrier) y d
     → Agrees (opt meaning key barrier) (moved (opt meaning key barrier) y m) (made (opt meaning key barrier) d m)
 opt_agrees_moved meaning key barrier y d m may a =
@@ -62,7 +65,8 @@ pub record Holds (all others : List (List ℕ)) (asked : List Batch) (i : Instan
   pub listed : Within (history_messages i y) all
   pub batches : AllByRecursion (Contains asked) y.batches
 
-listing_committed : (meaning : Meaning) (key barrier : List ℕ) (all : List (List ℕ)) (y : History) (b : Batch) (flag : Bool) → y.is_open ≡ flag
+listing_committed : (meaning : Meaning) (key barrier : List ℕ) (all : List (List ℕ)) (y : History) (b : Batch) (flag : Bool)
+    → y.is_open ≡ flag
     → IsSound y → IsAllowed Opt flag (opt meaning key barrier) y (Commit b) → Commits all barrier y b
     → Within (moving_messages Opt flag (opt meaning key barrier) y (Commit b)) all → Listing all (opt meaning key barrier) y
     → Listing all (opt meaning key barrier) (committed Opt flag y b)
@@ -90,7 +94,8 @@ placed_message_of : (meaning : Meaning) (key barrier : List ℕ) (all : List (Li
 placed_message_of meaning key barrier all y true b w = w.0
 placed_message_of meaning key barrier all y false b w = w.0
 
-listing_moved : (meaning : Meaning) (key barrier : List ℕ) (all : List (List ℕ)) (others : List (List ℕ)) (asked : List Batch) (y : History) (m : Move)
+listing_moved : (meaning : Meaning) (key barrier : List ℕ) (all : List (List ℕ)) (others : List (List ℕ)) (asked : List Batch) (y : History)
+    (m : Move)
     → IsSound y → IsFine all others asked (opt meaning key barrier) y m
     → Within (move_messages (opt meaning key barrier) y m) all → Listing all (opt meaning key barrier) y
     → Listing all (opt meaning key barrier) (moved (opt meaning key barrier) y m)
@@ -109,7 +114,8 @@ listing_moved meaning key barrier all others asked y (Placed b) sound fine messa
   guards = l.guards;
   runs = l.runs;
   closed = l.closed;
-  items = items_grow barrier all y.items (Value (guard barrier b)) l.items (placed_message_of meaning key barrier all y y.is_open b message);
+  items =
+      items_grow barrier all y.items (Value (guard barrier b)) l.items (placed_message_of meaning key barrier all y y.is_open b message);
   closings = l.closings;
 }
 listing_moved meaning key barrier all others asked y Reset sound fine message l = record {
@@ -143,7 +149,8 @@ batches_moved meaning key barrier all asked y Reset is h = h
 batches_moved meaning key barrier all asked y Close is h = h
 batches_moved meaning key barrier all asked y Power is h = h
 
-pub holds_moved : (meaning : Meaning) (key barrier : List ℕ) (all others : List (List ℕ)) (asked : List Batch) (y : History) (d : Digests) (m : Move)
+pub holds_moved : (meaning : Meaning) (key barrier : List ℕ) (all others : List (List ℕ)) (asked : List Batch) (y : History) (d : Digests)
+    (m : Move)
     → Holds all others asked (opt meaning key barrier) y d → IsFine all others asked (opt meaning key barrier) y m
     → Within (move_messages (opt meaning key barrier) y m) all
     → Holds all others asked (opt meaning key barrier) (moved (opt meaning key barrier) y m) (made (opt meaning key barrier) d m)
@@ -161,7 +168,8 @@ pub foreign_may : (i : Instance) (y : History) (flag : Bool) (v : List ℕ) → 
 foreign_may i y true v = tt
 foreign_may i y false v = tt
 
-foreign_brings : (others : List (List ℕ)) (y : History) (flag : Bool) (v : List ℕ) → Contains others v → Brings Opt flag others y (Foreign v)
+foreign_brings : (others : List (List ℕ)) (y : History) (flag : Bool) (v : List ℕ) → Contains others v
+    → Brings Opt flag others y (Foreign v)
 foreign_brings others y true v c = c
 foreign_brings others y false v c = c
 

@@ -9,11 +9,13 @@ use Rattle.mm_platform.specs.declared.fault.StepFault.{StepFault}
 use Rattle.mm_module.specs.Meaning.{Meaning}
 use Rattle.mm_module.specs.Batch.{Batch}
 use Rattle.mm_seal.specs.Snapshot.{Content}
-use Rattle.mm_model.specs.Instance.{Instance, opt}
+use Rattle.mm_model.specs.Instance.{Instance}
+use Rattle.mm_model.specs.InstanceWords.{opt}
 use Rattle.mm_model.specs.History.{Value, History, Move, Foreign, Reset, moved}
 use Rattle.mm_model.specs.Life.{are_own}
 use Rattle.mm_model.specs.Steps.{Step, Reads, ask_steps}
-use Rattle.mm_model.specs.Messages.{Within, moving_messages, move_messages}
+use Rattle.mm_model.specs.Messages.{Within, moving_messages}
+use Rattle.mm_model.specs.MessagesWords.{move_messages}
 use Rattle.mm_model.specs.Moves.{Digests}
 use Rattle.mm_model.specs.Places.{Names, issued_place}
 use Rattle.mm_model.specs.Standing.{IsGenuine}
@@ -23,9 +25,11 @@ use Rattle.mm_model.proofs.Lists.{each_left, each_right}
 use Rattle.mm_model.proofs.Named.{opt_names}
 use Rattle.mm_model.proofs.Moves.{sound_moved}
 use Rattle.mm_call.specs.Levels.{Level, by_lists, by_digests, all_made, Agrees}
-use Rattle.mm_call.specs.Found.{Found, found_at, found_unless_wanting, is_fresh}
+use Rattle.mm_call.specs.Found.{Found, found_at}
+use Rattle.mm_call.specs.FoundWords.{found_unless_wanting, is_fresh}
 use Rattle.mm_call.specs.Courses.{Done, Fate, Course, Walked, walk}
-use Rattle.mm_call.specs.Called.{Called, called, Breaks, kept_at, ended_by, called_by}
+use Rattle.mm_call.specs.Called.{Called, called, Breaks, ended_by, called_by}
+use Rattle.mm_call.specs.CalledWords.{kept_at}
 use Rattle.mm_call.specs.Asked.{counted_part, counted_moves, from_reset, moves_messages, foreign_in, IsWithin, IsAsked}
 use Rattle.mm_call.specs.Laws.{IsSameCall, OptCallsAgree}
 use Rattle.mm_call.proofs.Moving.{committed_in}
@@ -46,7 +50,8 @@ fresh_is true = refl
 fresh_is false = refl
 
 -- a call that is broken off before it commits
-broken_ending : {S : Type 0} (level : Level S) (seen s : S) (b : Batch) (found : Result Found Refusal) (moves : List Move) (broken : Option StepFault) (fault : StepFault)
+broken_ending : {S : Type 0} (level : Level S) (seen s : S) (b : Batch) (found : Result Found Refusal) (moves : List Move)
+    (broken : Option StepFault) (fault : StepFault)
     → broken ≡ Some fault → committed_in moves ≡ [] → ended_by level seen s b found moves broken ≡ Breaks fault None
 broken_ending level seen s b (Err why) moves broken fault e none =
     ap (λ x. ended_by level seen s b (Err why) moves x) e ∙ ap (λ k. Breaks fault (kept_at k 0)) (commits-none moves none)
@@ -55,15 +60,18 @@ broken_ending level seen s b (Ok f) moves broken fault e none =
     ∙ ap (λ k. Breaks fault (kept_at k (level.answer f.again seen s f.offered b).position)) (commits-none moves none)
 
 -- the messages of first moves
-messages_front : (i : Instance) (all : List (List ℕ)) (xs ys : List Move) (y : History) → Within (moves_messages i y (xs ++ ys)) all → Within (moves_messages i y xs) all
+messages_front : (i : Instance) (all : List (List ℕ)) (xs ys : List Move) (y : History) → Within (moves_messages i y (xs ++ ys)) all
+    → Within (moves_messages i y xs) all
 messages_front i all xs ys y w =
     let P : List (List ℕ) → Type 0 = λ v. Within v all in
-    each_left (Contains all) (moves_messages i y xs) (moves_messages i (all_made (by_lists i) y xs) ys) (subst P (messages-made i xs ys y) w)
+    each_left (Contains all) (moves_messages i y xs) (moves_messages i (all_made (by_lists i) y xs) ys)
+    (subst P (messages-made i xs ys y) w)
 
 seen_split : (xs ys zs : List Move) → (xs ++ (ys ++ [])) ++ zs ≡ xs ++ (ys ++ zs)
 seen_split xs ys zs = append_assoc xs (ys ++ []) zs ∙ ap (λ v. xs ++ v) (append_assoc ys [] zs)
 
-pub reset_messages : (meaning : Meaning) (key barrier : List ℕ) (y : History) (flag : Bool) → moving_messages Opt flag (opt meaning key barrier) y Reset ≡ []
+pub reset_messages : (meaning : Meaning) (key barrier : List ℕ) (y : History) (flag : Bool)
+    → moving_messages Opt flag (opt meaning key barrier) y Reset ≡ []
 reset_messages meaning key barrier y true = refl
 reset_messages meaning key barrier y false = refl
 
@@ -74,7 +82,8 @@ genuine_bare meaning key barrier y offer e sound g =
     λ content right. opt_names meaning key barrier y Reset content sound (reset_may meaning key barrier y e) (g content right)
 
 pub names_foreign : (meaning : Meaning) (key barrier : List ℕ) (values : List (List ℕ)) (y : History) (content : Content) → IsSound y
-    → Names (opt meaning key barrier) y content → Names (opt meaning key barrier) (all_made (by_lists (opt meaning key barrier)) y (map Foreign values)) content
+    → Names (opt meaning key barrier) y content
+    → Names (opt meaning key barrier) (all_made (by_lists (opt meaning key barrier)) y (map Foreign values)) content
 names_foreign meaning key barrier [] y content sound n = n
 names_foreign meaning key barrier (v ∷ values) y content sound n =
     let may = foreign_may (opt meaning key barrier) y y.is_open v in
@@ -96,12 +105,14 @@ own_opening : (b : Batch) → AreOwn (opening b)
 own_opening b = (refl, (refl, tt))
 
 sound_taking : (meaning : Meaning) (key barrier : List ℕ) (values : List (List ℕ)) (y : History) → IsSound y → IsSound (taking y values)
-sound_taking meaning key barrier values y sound = subst IsSound (taking_is (opt meaning key barrier) values y) (sound_foreign meaning key barrier values y sound)
+sound_taking meaning key barrier values y sound =
+    subst IsSound (taking_is (opt meaning key barrier) values y) (sound_foreign meaning key barrier values y sound)
 
 names_taking : (meaning : Meaning) (key barrier : List ℕ) (values : List (List ℕ)) (y : History) (content : Content) → IsSound y
     → Names (opt meaning key barrier) y content → Names (opt meaning key barrier) (taking y values) content
 names_taking meaning key barrier values y content sound n =
-    subst (λ x. Names (opt meaning key barrier) x content) (taking_is (opt meaning key barrier) values y) (names_foreign meaning key barrier values y content sound n)
+    subst (λ x. Names (opt meaning key barrier) x content) (taking_is (opt meaning key barrier) values y)
+    (names_foreign meaning key barrier values y content sound n)
 
 -- the moves that come before the last reading step
 abbrev pub before : Course → List Move
@@ -112,20 +123,26 @@ abbrev pub sight : History → Course → History
 sight y c = taking (taking y (c.fates 1).brings) (c.fates 2).brings
 
 pub sight_is : (i : Instance) (y : History) (c : Course) → all_made (by_lists i) y (before c) ≡ sight y c
-sight_is i y c = foreign_made i (c.fates 1).brings (map Foreign (c.fates 2).brings ++ []) y ∙ foreign_made i (c.fates 2).brings [] (taking y (c.fates 1).brings)
+sight_is i y c =
+    foreign_made i (c.fates 1).brings (map Foreign (c.fates 2).brings ++ []) y
+    ∙ foreign_made i (c.fates 2).brings [] (taking y (c.fates 1).brings)
 
-pub sight_agrees : (meaning : Meaning) (key barrier : List ℕ) (y : History) (d : Digests) (c : Course) → Agrees (opt meaning key barrier) y d
+pub sight_agrees : (meaning : Meaning) (key barrier : List ℕ) (y : History) (d : Digests) (c : Course)
+    → Agrees (opt meaning key barrier) y d
     → Agrees (opt meaning key barrier) (sight y c) (all_made (by_digests (opt meaning key barrier)) d (before c))
 sight_agrees meaning key barrier y d c a =
     let i = opt meaning key barrier in
     let v = (c.fates 1).brings in
     let w = (c.fates 2).brings in
     let first = foreign_agrees meaning key barrier v y d a in
-    let both = foreign_agrees meaning key barrier w (all_made (by_lists i) y (map Foreign v)) (all_made (by_digests i) d (map Foreign v)) first in
+    let both = foreign_agrees meaning key barrier w (all_made (by_lists i) y (map Foreign v)) (all_made (by_digests i) d (map Foreign v))
+    first in
     let lists : all_made (by_lists i) (all_made (by_lists i) y (map Foreign v)) (map Foreign w) ≡ sight y c =
     taking_is i w (all_made (by_lists i) y (map Foreign v)) ∙ ap (λ x. taking x w) (taking_is i v y) in
-    let digests : all_made (by_digests i) (all_made (by_digests i) d (map Foreign v)) (map Foreign w) ≡ all_made (by_digests i) d (before c) =
-    sym (made-append (by_digests i) (map Foreign v) (map Foreign w) d) ∙ ap (λ m. all_made (by_digests i) d (map Foreign v ++ m)) (sym (append-nil (map Foreign w))) in
+    let digests : all_made (by_digests i) (all_made (by_digests i) d (map Foreign v)) (map Foreign w) ≡ all_made (by_digests i) d
+    (before c) =
+    sym (made-append (by_digests i) (map Foreign v) (map Foreign w) d)
+    ∙ ap (λ m. all_made (by_digests i) d (map Foreign v ++ m)) (sym (append-nil (map Foreign w))) in
     subst (λ x. Agrees i (sight y c) x) digests
     (subst (λ x. Agrees i x (all_made (by_digests i) (all_made (by_digests i) d (map Foreign v)) (map Foreign w))) lists both)
 
@@ -134,7 +151,8 @@ abbrev pub steps_walk : Course → Bool → Result Found Refusal → Batch → W
 steps_walk c flag found b = walk c.fates 1 (Reads ∷ Reads ∷ changing flag (is_fresh found) b)
 
 -- what is known at the end of a call, by what it found at a history with the same batches
-ends_of : (meaning : Meaning) (key barrier : List ℕ) (all : List (List ℕ)) (y z : History) (d : Digests) (c : Course) (b : Batch) (flag : Bool) (found : Result Found Refusal)
+ends_of : (meaning : Meaning) (key barrier : List ℕ) (all : List (List ℕ)) (y z : History) (d : Digests) (c : Course) (b : Batch)
+    (flag : Bool) (found : Result Found Refusal)
     → y.is_open ≡ flag → z.batches ≡ y.batches → ((f : Found) → found ≡ Ok f → Placed all (opt meaning key barrier) z b f)
     → ((f : Found) → found ≡ Ok f → flag ≡ true → are_own (sight y c).items y.current ≡ true)
     → Agrees (opt meaning key barrier) (sight y c) d
@@ -143,7 +161,14 @@ ends_of meaning key barrier all y z d c b flag found open_is same placed_at own 
     let i = opt meaning key barrier in
     let E : Bool → History = λ fresh. path_end i c.fates 3 (changing flag fresh b) (sight y c) in record {
       points = λ f is. let p = placed_at f is in
-          record { named = p.named; position = p.position; state = p.state; fresh = λ x. p.fresh x ∙ same; repeat = λ x. p.repeat x ∙ same };
+          record {
+            named = p.named;
+            position = p.position;
+            state = p.state;
+            fresh = λ x. p.fresh x ∙ same;
+            repeat = λ x. p.repeat x
+                ∙ same;
+          };
       place = λ f is whole.
           let path = path_is i c.fates (Reads ∷ Reads ∷ changing flag (is_fresh found) b) 1 y whole in
           end_place meaning key barrier c.fates (sight y c) d b flag f.again open_is (own f is) agrees
@@ -153,17 +178,22 @@ ends_of meaning key barrier all y z d c b flag found open_is same placed_at own 
 
 module _ (meaning : Meaning) (key barrier : List ℕ) (all others : List (List ℕ)) (asked : List Batch) where
   -- a call that is cut off at a reading step
-  cut_call : (y sees : History) (d seen : Digests) (b : Batch) (found other : Result Found Refusal) (walked : Walked) (values : List (List ℕ)) (fault : StepFault)
+  cut_call : (y sees : History) (d seen : Digests) (b : Batch) (found other : Result Found Refusal) (walked : Walked)
+      (values : List (List ℕ)) (fault : StepFault)
       → walked.moves ≡ map Foreign values → walked.broken ≡ Some fault
-      → Agrees (opt meaning key barrier) (all_made (by_lists (opt meaning key barrier)) y (map Foreign values)) (all_made (by_digests (opt meaning key barrier)) d (map Foreign values))
+      → Agrees (opt meaning key barrier) (all_made (by_lists (opt meaning key barrier)) y (map Foreign values))
+      (all_made (by_digests (opt meaning key barrier)) d (map Foreign values))
       → IsWithin all others asked (opt meaning key barrier) (all_made (by_lists (opt meaning key barrier)) y (map Foreign values))
       → IsSameCall all others asked (opt meaning key barrier)
-      (called_by (by_lists (opt meaning key barrier)) y sees b found walked) (called_by (by_digests (opt meaning key barrier)) d seen b other walked)
+      (called_by (by_lists (opt meaning key barrier)) y sees b found walked)
+      (called_by (by_digests (opt meaning key barrier)) d seen b other walked)
   cut_call y sees d seen b found other walked values fault moves broken agrees within =
       let i = opt meaning key barrier in
       let none : committed_in walked.moves ≡ [] = ap committed_in moves ∙ committed-foreign values in record {
-        ending = broken_ending (by_digests i) seen (all_made (by_digests i) d walked.moves) b other walked.moves walked.broken fault broken none
-            ∙ sym (broken_ending (by_lists i) sees (all_made (by_lists i) y walked.moves) b found walked.moves walked.broken fault broken none);
+        ending =
+            broken_ending (by_digests i) seen (all_made (by_digests i) d walked.moves) b other walked.moves walked.broken fault broken none
+            ∙ sym (broken_ending (by_lists i) sees (all_made (by_lists i) y walked.moves) b found walked.moves walked.broken fault broken
+            none);
         moves = refl;
         steps = refl;
         writes = refl;
@@ -201,7 +231,8 @@ module _ (meaning : Meaning) (key barrier : List ℕ) (all others : List (List �
   -- inside a segment
 
   -- what others put in before the last reading step was put in by moves that may be made, and their messages are listed
-  pub seen_holds : (y : History) (d : Digests) (v w : List (List ℕ)) (rest : List Move) → Holds all others asked (opt meaning key barrier) y d
+  pub seen_holds : (y : History) (d : Digests) (v w : List (List ℕ)) (rest : List Move)
+      → Holds all others asked (opt meaning key barrier) y d
       → Counts true y (map Foreign v ++ (map Foreign w ++ rest))
       → Holds all others asked (opt meaning key barrier)
       (all_made (by_lists (opt meaning key barrier)) y (map Foreign v ++ (map Foreign w ++ [])))
@@ -214,7 +245,8 @@ module _ (meaning : Meaning) (key barrier : List ℕ) (all others : List (List �
       (foreign_then meaning key barrier all others asked w [] (taking y v) p.0 tt) in
       let M : List Move → Type 0 = λ m. Within (moves_messages i y m) all in
       holds_made meaning key barrier all others asked (map Foreign v ++ (map Foreign w ++ [])) y d h fine
-      (messages_front i all (map Foreign v ++ (map Foreign w ++ [])) rest y (subst M (sym (seen_split (map Foreign v) (map Foreign w) rest)) c.0))
+      (messages_front i all (map Foreign v ++ (map Foreign w ++ [])) rest y
+      (subst M (sym (seen_split (map Foreign v) (map Foreign w) rest)) c.0))
 
   -- a new batch is due, and the history is live
   due_of : (z : History) (b : Batch) (found : Result Found Refusal) → IsSound z → Contains asked b
@@ -240,12 +272,15 @@ module _ (meaning : Meaning) (key barrier : List ℕ) (all others : List (List �
       let w : Walked = steps_walk c true found b in
       let ends = ends_of meaning key barrier all y (sight y c) seen c b true found e refl placed_at
       (λ f is x. (lives (sight y c) (placed_at f is).live).own e) agrees in
-      let third = ready_third meaning key barrier all others asked c.fates (sight y c) b true (is_fresh found) e (due_of (sight y c) b found sound is_asked placed_at) in
+      let third = ready_third meaning key barrier all others asked c.fates (sight y c) b true (is_fresh found) e
+      (due_of (sight y c) b found sound is_asked placed_at) in
       let ready : Ready all others asked i c.fates 1 (Reads ∷ Reads ∷ changing true (is_fresh found) b) y = λ o p. third in
       let fine = walk_fine meaning key barrier all others asked c.fates (Reads ∷ Reads ∷ changing true (is_fresh found) b) 1 y
       (own_inside (is_fresh found) b) counts.1 ready in
       let end = holds_made meaning key barrier all others asked w.moves y d h fine counts.0 in record {
-        ending = ending_same i y sees seen (all_made (by_digests i) d w.moves) b w w.broken found refl ends (opt_commits c.fates true (is_fresh found) b);
+        ending =
+            ending_same i y sees seen (all_made (by_digests i) d w.moves) b w w.broken found refl ends
+            (opt_commits c.fates true (is_fresh found) b);
         moves = refl;
         steps = refl;
         writes = refl;
@@ -255,28 +290,38 @@ module _ (meaning : Meaning) (key barrier : List ℕ) (all others : List (List �
 
   -- what a call sees and finds, by lists and by digests
   abbrev Lists : History → Course → List ℕ → Batch → Result Found Refusal
-  Lists y c offer b = found_at (opt meaning key barrier) (by_lists (opt meaning key barrier)) (all_made (by_lists (opt meaning key barrier)) y (before c)) b offer
+  Lists y c offer b =
+      found_at (opt meaning key barrier) (by_lists (opt meaning key barrier)) (all_made (by_lists (opt meaning key barrier)) y (before c)) b
+      offer
 
   abbrev ByDigests : Digests → Course → List ℕ → Batch → Result Found Refusal
-  ByDigests d c offer b = found_at (opt meaning key barrier) (by_digests (opt meaning key barrier)) (all_made (by_digests (opt meaning key barrier)) d (before c)) b offer
+  ByDigests d c offer b =
+      found_at (opt meaning key barrier) (by_digests (opt meaning key barrier))
+      (all_made (by_digests (opt meaning key barrier)) d (before c)) b offer
 
   abbrev ListsCall : Bool → History → Course → List ℕ → Batch → Called History
   ListsCall flag y c offer b =
       let found = found_unless_wanting (Lists y c offer b) c.lacks in
-      called_by (by_lists (opt meaning key barrier)) y (all_made (by_lists (opt meaning key barrier)) y (before c)) b found (steps_walk c flag found b)
+      called_by (by_lists (opt meaning key barrier)) y (all_made (by_lists (opt meaning key barrier)) y (before c)) b found
+      (steps_walk c flag found b)
 
   abbrev DigestsCall : Bool → Digests → Course → List ℕ → Batch → Called Digests
   DigestsCall flag d c offer b =
       let found = found_unless_wanting (ByDigests d c offer b) c.lacks in
-      called_by (by_digests (opt meaning key barrier)) d (all_made (by_digests (opt meaning key barrier)) d (before c)) b found (steps_walk c flag found b)
+      called_by (by_digests (opt meaning key barrier)) d (all_made (by_digests (opt meaning key barrier)) d (before c)) b found
+      (steps_walk c flag found b)
 
-  apart_of : (y : History) (moves : List Move) (offer : List ℕ) (b : Batch) → IsAsked all others asked (opt meaning key barrier) y moves offer b
+  apart_of : (y : History) (moves : List Move) (offer : List ℕ) (b : Batch)
+      → IsAsked all others asked (opt meaning key barrier) y moves offer b
       → IsApart all others asked barrier
   apart_of y moves offer b a = record { clear = a.clear; apart = a.apart }
 
-  inside_same : (y : History) (d : Digests) (c : Course) (offer : List ℕ) (b : Batch) → y.is_open ≡ true → Agrees (opt meaning key barrier) y d
+  inside_same : (y : History) (d : Digests) (c : Course) (offer : List ℕ) (b : Batch) → y.is_open ≡ true
+      → Agrees (opt meaning key barrier) y d
       → (c.fates 1).ends ≡ Done → (c.fates 2).ends ≡ Done
-      → (x : Result Found Refusal) → (found_unless_wanting (ByDigests d c offer b) c.lacks ≡ found_unless_wanting (Lists y c offer b) c.lacks → x ≡ found_unless_wanting (Lists y c offer b) c.lacks)
+      → (x : Result Found Refusal)
+      → (found_unless_wanting (ByDigests d c offer b) c.lacks ≡ found_unless_wanting (Lists y c offer b) c.lacks
+      → x ≡ found_unless_wanting (Lists y c offer b) c.lacks)
       → IsAsked all others asked (opt meaning key barrier) y (steps_walk c true x b).moves offer b
       → IsSameCall all others asked (opt meaning key barrier) (ListsCall true y c offer b) (DigestsCall true d c offer b)
   inside_same y d c offer b e agrees p q x k a =
@@ -290,8 +335,10 @@ module _ (meaning : Meaning) (key barrier : List ℕ) (all others : List (List �
       let rest : Walked = walk c.fates 3 (changing true (is_fresh x) b) in
       let h = holds_open meaning key barrier all others asked y d e agrees a.within in
       let counts : Counts true y (steps_walk c true x b).moves = inside_counts y (steps_walk c true x b).moves offer b e a in
-      let first : Counts true y (two_reads v Done w (c.fates 2).ends rest).moves = subst (λ z. Counts true y (two_reads v z w (c.fates 2).ends rest).moves) p counts in
-      let both : Counts true y (two_reads v Done w Done rest).moves = subst (λ z. Counts true y (two_reads v Done w z rest).moves) q first in
+      let first : Counts true y (two_reads v Done w (c.fates 2).ends rest).moves = subst
+      (λ z. Counts true y (two_reads v z w (c.fates 2).ends rest).moves) p counts in
+      let both : Counts true y (two_reads v Done w Done rest).moves = subst (λ z. Counts true y (two_reads v Done w z rest).moves) q first
+      in
       let hs = seen_holds y d v w rest.moves h both in
       let sound : IsSound (sight y c) = sound_taking meaning key barrier w (taking y v) (sound_taking meaning key barrier v y h.sound) in
       let named : IsGenuine i (sight y c) offer = λ content right.
@@ -305,18 +352,22 @@ module _ (meaning : Meaning) (key barrier : List ℕ) (all others : List (List �
       let agree : other ≡ found = ap (λ x. found_unless_wanting x c.lacks)
       (found_same meaning key barrier all others asked sees seen offer b (apart_of y _ offer b a) a.is_asked hs asking) in
       let placed_at : (f : Found) → found ≡ Ok f → Placed all i (sight y c) b f = λ f is.
-      subst (λ x. Placed all i x b f) (sight_is i y c) (placed meaning key barrier all sees offer b asking f (unlacked (Lists y c offer b) c.lacks f is)) in
+      subst (λ x. Placed all i x b f) (sight_is i y c)
+      (placed meaning key barrier all sees offer b asking f (unlacked (Lists y c offer b) c.lacks f is)) in
       let P : Result Found Refusal → Type 0 = λ x. IsSameCall all others asked i
       (called_by (by_lists i) y sees b found (steps_walk c true found b)) (called_by (by_digests i) d seen b x (steps_walk c true x b)) in
       subst P (sym agree)
       (inside_past y sees d seen c b found e h a.is_asked (sight_agrees meaning key barrier y d c agrees) sound placed_at
       (subst (λ z. Counts true y (steps_walk c true z b).moves) (k agree) counts))
 
-  inside_cut : (y : History) (d : Digests) (c : Course) (offer : List ℕ) (b : Batch) → y.is_open ≡ true → Agrees (opt meaning key barrier) y d
+  inside_cut : (y : History) (d : Digests) (c : Course) (offer : List ℕ) (b : Batch) → y.is_open ≡ true
+      → Agrees (opt meaning key barrier) y d
       → (walked : Walked) (values : List (List ℕ)) (fault : StepFault)
       → ((rest : Walked) → two_reads (c.fates 1).brings (c.fates 1).ends (c.fates 2).brings (c.fates 2).ends rest ≡ walked)
       → walked.moves ≡ map Foreign values → walked.broken ≡ Some fault
-      → (x : Result Found Refusal) → (found_unless_wanting (ByDigests d c offer b) c.lacks ≡ found_unless_wanting (Lists y c offer b) c.lacks → x ≡ found_unless_wanting (Lists y c offer b) c.lacks)
+      → (x : Result Found Refusal)
+      → (found_unless_wanting (ByDigests d c offer b) c.lacks ≡ found_unless_wanting (Lists y c offer b) c.lacks
+      → x ≡ found_unless_wanting (Lists y c offer b) c.lacks)
       → IsAsked all others asked (opt meaning key barrier) y (steps_walk c true x b).moves offer b
       → IsSameCall all others asked (opt meaning key barrier) (ListsCall true y c offer b) (DigestsCall true d c offer b)
   inside_cut y d c offer b e agrees walked values fault is moves broken x k a =
@@ -330,16 +381,23 @@ module _ (meaning : Meaning) (key barrier : List ℕ) (all others : List (List �
       let counts : Counts true y (steps_walk c true x b).moves = inside_counts y (steps_walk c true x b).moves offer b e a in
       let reached : steps_walk c true x b ≡ walked = is (walk c.fates 3 (changing true (is_fresh x) b)) in
       let h = holds_open meaning key barrier all others asked y d e agrees a.within in
-      let here : Counts true y (map Foreign values) = subst (Counts true y) moves (subst (λ (z : Walked). Counts true y z.moves) reached counts) in
-      let fine = foreign_all meaning key barrier all others asked values y (subst (AllByRecursion (Contains others)) (foreign_in-foreign values) here.1) in
+      let here : Counts true y (map Foreign values) = subst (Counts true y) moves
+      (subst (λ (z : Walked). Counts true y z.moves) reached counts) in
+      let fine = foreign_all meaning key barrier all others asked values y
+      (subst (AllByRecursion (Contains others)) (foreign_in-foreign values) here.1) in
       let end = holds_made meaning key barrier all others asked (map Foreign values) y d h fine here.0 in
       let same = cut_call y sees d seen b found other walked values fault moves broken end.agrees
-      (within_of meaning key barrier all others asked (all_made (by_lists i) y (map Foreign values)) (all_made (by_digests i) d (map Foreign values)) end) in
-      subst (λ x. IsSameCall all others asked i (called_by (by_lists i) y sees b found x) (called_by (by_digests i) d seen b other (steps_walk c true other b))) (sym lists)
-      (subst (λ x. IsSameCall all others asked i (called_by (by_lists i) y sees b found walked) (called_by (by_digests i) d seen b other x)) (sym digests) same)
+      (within_of meaning key barrier all others asked (all_made (by_lists i) y (map Foreign values))
+      (all_made (by_digests i) d (map Foreign values)) end) in
+      subst (λ x. IsSameCall all others asked i (called_by (by_lists i) y sees b found x)
+      (called_by (by_digests i) d seen b other (steps_walk c true other b))) (sym lists)
+      (subst (λ x. IsSameCall all others asked i (called_by (by_lists i) y sees b found walked) (called_by (by_digests i) d seen b other x))
+      (sym digests) same)
 
   inside : (y : History) (d : Digests) (c : Course) (offer : List ℕ) (b : Batch) → y.is_open ≡ true → Agrees (opt meaning key barrier) y d
-      → (x : Result Found Refusal) → (found_unless_wanting (ByDigests d c offer b) c.lacks ≡ found_unless_wanting (Lists y c offer b) c.lacks → x ≡ found_unless_wanting (Lists y c offer b) c.lacks)
+      → (x : Result Found Refusal)
+      → (found_unless_wanting (ByDigests d c offer b) c.lacks ≡ found_unless_wanting (Lists y c offer b) c.lacks
+      → x ≡ found_unless_wanting (Lists y c offer b) c.lacks)
       → IsAsked all others asked (opt meaning key barrier) y (steps_walk c true x b).moves offer b
       → IsSameCall all others asked (opt meaning key barrier) (ListsCall true y c offer b) (DigestsCall true d c offer b)
   inside y d c offer b e agrees x k a =
@@ -354,7 +412,8 @@ module _ (meaning : Meaning) (key barrier : List ℕ) (all others : List (List �
   shut_after : (y : History) (d : Digests) (fates : ℕ → Fate) (b : Batch) (fresh : Bool) (moves : List Move) → y.is_open ≡ false
       → Agrees (opt meaning key barrier) y d → IsWithin all others asked (opt meaning key barrier) y
       → (fresh ≡ true → IsDue all asked barrier (bare y) b × IsLive (bare y)) → Shape fates fresh b moves → Counts false (bare y) moves
-      → Agrees (opt meaning key barrier) (all_made (by_lists (opt meaning key barrier)) y moves) (all_made (by_digests (opt meaning key barrier)) d moves)
+      → Agrees (opt meaning key barrier) (all_made (by_lists (opt meaning key barrier)) y moves)
+      (all_made (by_digests (opt meaning key barrier)) d moves)
       × IsWithin all others asked (opt meaning key barrier) (all_made (by_lists (opt meaning key barrier)) y moves)
   shut_after y d fates b fresh moves e agrees within due (still values is) counts =
       let i = opt meaning key barrier in
@@ -388,11 +447,14 @@ module _ (meaning : Meaning) (key barrier : List ℕ) (all others : List (List �
         subst (λ x. Agrees i x (all_made (by_digests i) d moves)) (sym lists)
             (subst (λ x. Agrees i (all_made (by_lists i) (bare y) rest) x) (sym digests) end.agrees),
         subst (IsWithin all others asked i) (sym lists)
-            (within_of meaning key barrier all others asked (all_made (by_lists i) (bare y) rest) (all_made (by_digests i) (bare_digests d) rest) end),
+            (within_of meaning key barrier all others asked (all_made (by_lists i) (bare y) rest)
+            (all_made (by_digests i) (bare_digests d) rest) end),
       )
 
   shut : (y : History) (d : Digests) (c : Course) (offer : List ℕ) (b : Batch) → y.is_open ≡ false → Agrees (opt meaning key barrier) y d
-      → (x : Result Found Refusal) → (found_unless_wanting (ByDigests d c offer b) c.lacks ≡ found_unless_wanting (Lists y c offer b) c.lacks → x ≡ found_unless_wanting (Lists y c offer b) c.lacks)
+      → (x : Result Found Refusal)
+      → (found_unless_wanting (ByDigests d c offer b) c.lacks ≡ found_unless_wanting (Lists y c offer b) c.lacks
+      → x ≡ found_unless_wanting (Lists y c offer b) c.lacks)
       → IsAsked all others asked (opt meaning key barrier) y (steps_walk c false x b).moves offer b
       → IsSameCall all others asked (opt meaning key barrier) (ListsCall false y c offer b) (DigestsCall false d c offer b)
   shut y d c offer b e agrees x k a =
@@ -418,18 +480,23 @@ module _ (meaning : Meaning) (key barrier : List ℕ) (all others : List (List �
       let digests : ByDigests d c offer b ≡ found_at i (by_digests i) (bare_digests d) b offer =
       ap (λ x. found_at i (by_digests i) x b offer) seen_is ∙ found_digests meaning key barrier d register b offer (agrees.flag ∙ e) in
       let agree : other ≡ found = ap (λ x. found_unless_wanting x c.lacks)
-      (digests ∙ found_same meaning key barrier all others asked (bare y) (bare_digests d) offer b (apart_of y _ offer b a) a.is_asked h asking ∙ sym lists) in
+      (digests ∙ found_same meaning key barrier all others asked (bare y) (bare_digests d) offer b (apart_of y _ offer b a) a.is_asked h
+      asking ∙ sym lists) in
       let placed_at : (f : Found) → found ≡ Ok f → Placed all i (bare y) b f = λ f is.
       placed meaning key barrier all (bare y) offer b asking f (sym lists ∙ unlacked (Lists y c offer b) c.lacks f is) in
       let walked : Walked = steps_walk c false found b in
       let counts : Counts false (bare y) walked.moves =
-      subst (λ z. Counts false (bare y) (steps_walk c false z b).moves) (k agree) (shut_counts y (steps_walk c false x b).moves offer b e a) in
+      subst (λ z. Counts false (bare y) (steps_walk c false z b).moves) (k agree) (shut_counts y (steps_walk c false x b).moves offer b e a)
+      in
       let after = shut_after y d c.fates b (is_fresh found) walked.moves e agrees a.within
       (due_of (bare y) b found h.sound a.is_asked placed_at) (shape c.fates (is_fresh found) b) counts in
       let ends = ends_of meaning key barrier all y (bare y) seen c b false found e refl placed_at
       (λ f is x. cc) (sight_agrees meaning key barrier y d c agrees) in
-      let same : IsSameCall all others asked i (called_by (by_lists i) y sees b found walked) (called_by (by_digests i) d seen b found walked) = record {
-        ending = ending_same i y sees seen (all_made (by_digests i) d walked.moves) b walked walked.broken found refl ends (opt_commits c.fates false (is_fresh found) b);
+      let same : IsSameCall all others asked i (called_by (by_lists i) y sees b found walked)
+      (called_by (by_digests i) d seen b found walked) = record {
+        ending =
+            ending_same i y sees seen (all_made (by_digests i) d walked.moves) b walked walked.broken found refl ends
+            (opt_commits c.fates false (is_fresh found) b);
         moves = refl;
         steps = refl;
         writes = refl;
@@ -440,20 +507,26 @@ module _ (meaning : Meaning) (key barrier : List ℕ) (all others : List (List �
       (called_by (by_lists i) y sees b found walked) (called_by (by_digests i) d seen b x (steps_walk c false x b)) in
       subst P (sym agree) same
 
-  by_flag : (flag : Bool) (y : History) (d : Digests) (c : Course) (offer : List ℕ) (b : Batch) → y.is_open ≡ flag → Agrees (opt meaning key barrier) y d
-      → (x : Result Found Refusal) → (found_unless_wanting (ByDigests d c offer b) c.lacks ≡ found_unless_wanting (Lists y c offer b) c.lacks → x ≡ found_unless_wanting (Lists y c offer b) c.lacks)
+  by_flag : (flag : Bool) (y : History) (d : Digests) (c : Course) (offer : List ℕ) (b : Batch) → y.is_open ≡ flag
+      → Agrees (opt meaning key barrier) y d
+      → (x : Result Found Refusal)
+      → (found_unless_wanting (ByDigests d c offer b) c.lacks ≡ found_unless_wanting (Lists y c offer b) c.lacks
+      → x ≡ found_unless_wanting (Lists y c offer b) c.lacks)
       → IsAsked all others asked (opt meaning key barrier) y (steps_walk c flag x b).moves offer b
       → IsSameCall all others asked (opt meaning key barrier) (ListsCall flag y c offer b) (DigestsCall flag d c offer b)
   by_flag true y d c offer b e agrees x k a = inside y d c offer b e agrees x k a
   by_flag false y d c offer b e agrees x k a = shut y d c offer b e agrees x k a
 
 -- the law, by the moves of the steps that follow from what is found by digests or by lists
-agree_by : (meaning : Meaning) (key barrier : List ℕ) (all others : List (List ℕ)) (asked : List Batch) (y : History) (d : Digests) (c : Course) (offer : List ℕ) (b : Batch)
+agree_by : (meaning : Meaning) (key barrier : List ℕ) (all others : List (List ℕ)) (asked : List Batch) (y : History) (d : Digests)
+    (c : Course) (offer : List ℕ) (b : Batch)
     → Agrees (opt meaning key barrier) y d → (x : Result Found Refusal) (flag : Bool) → flag ≡ y.is_open
-    → (found_unless_wanting (ByDigests meaning key barrier all others asked d c offer b) c.lacks ≡ found_unless_wanting (Lists meaning key barrier all others asked y c offer b) c.lacks
+    → (found_unless_wanting (ByDigests meaning key barrier all others asked d c offer b) c.lacks ≡ found_unless_wanting
+    (Lists meaning key barrier all others asked y c offer b) c.lacks
     → x ≡ found_unless_wanting (Lists meaning key barrier all others asked y c offer b) c.lacks)
     → IsAsked all others asked (opt meaning key barrier) y (walk c.fates 1 (ask_steps Opt flag (is_fresh x) b)).moves offer b
-    → IsSameCall all others asked (opt meaning key barrier) (called (opt meaning key barrier) (by_lists (opt meaning key barrier)) y c offer b)
+    → IsSameCall all others asked (opt meaning key barrier)
+    (called (opt meaning key barrier) (by_lists (opt meaning key barrier)) y c offer b)
     (called (opt meaning key barrier) (by_digests (opt meaning key barrier)) d c offer b)
 agree_by meaning key barrier all others asked y d c offer b agrees x flag same_flag k a =
     let i = opt meaning key barrier in
@@ -463,22 +536,30 @@ agree_by meaning key barrier all others asked y d c offer b agrees x flag same_f
     let other : Result Found Refusal = found_unless_wanting (found_at i (by_digests i) seen b offer) c.lacks in
     let Listed : List Step → Called History = λ steps. called_by (by_lists i) y sees b found (walk c.fates 1 steps) in
     let Digested : List Step → Called Digests = λ steps. called_by (by_digests i) d seen b other (walk c.fates 1 steps) in
-    let to : (f : Bool) (z : Result Found Refusal) → f ≡ y.is_open → ask_steps Opt f (is_fresh z) b ≡ Reads ∷ Reads ∷ changing y.is_open (is_fresh z) b =
+    let to : (f : Bool) (z : Result Found Refusal) → f ≡ y.is_open → ask_steps Opt f (is_fresh z) b ≡ Reads ∷ Reads
+    ∷ changing y.is_open (is_fresh z) b =
     λ f z e. asks f (is_fresh z) b ∙ ap (λ g. Reads ∷ Reads ∷ changing g (is_fresh z) b) e in
     let same = by_flag meaning key barrier all others asked y.is_open y d c offer b refl agrees x k
     (subst (λ s. IsAsked all others asked i y (walk c.fates 1 s).moves offer b) (to flag x same_flag) a) in
-    subst (λ s. IsSameCall all others asked i (Listed s) (Digested (ask_steps Opt d.flag (is_fresh other) b))) (sym (to y.is_open found refl))
-    (subst (λ s. IsSameCall all others asked i (Listed (Reads ∷ Reads ∷ changing y.is_open (is_fresh found) b)) (Digested s)) (sym (to d.flag other agrees.flag)) same)
+    subst (λ s. IsSameCall all others asked i (Listed s) (Digested (ask_steps Opt d.flag (is_fresh other) b)))
+    (sym (to y.is_open found refl))
+    (subst (λ s. IsSameCall all others asked i (Listed (Reads ∷ Reads ∷ changing y.is_open (is_fresh found) b)) (Digested s))
+    (sym (to d.flag other agrees.flag)) same)
 
 pub opt_calls_agree : OptCallsAgree
 opt_calls_agree meaning key barrier all others asked y d c offer b agrees a =
-    agree_by meaning key barrier all others asked y d c offer b agrees (found_unless_wanting (ByDigests meaning key barrier all others asked d c offer b) c.lacks) d.flag agrees.flag (λ e. e) a
+    agree_by meaning key barrier all others asked y d c offer b agrees
+    (found_unless_wanting (ByDigests meaning key barrier all others asked d c offer b) c.lacks) d.flag agrees.flag (λ e. e) a
 
 -- the same, by the moves of the call by lists
-pub opt_calls_agree_by_lists : (meaning : Meaning) (key barrier : List ℕ) (all others : List (List ℕ)) (asked : List Batch) (y : History) (d : Digests) (c : Course) (offer : List ℕ) (b : Batch)
+pub opt_calls_agree_by_lists : (meaning : Meaning) (key barrier : List ℕ) (all others : List (List ℕ)) (asked : List Batch) (y : History)
+    (d : Digests) (c : Course) (offer : List ℕ) (b : Batch)
     → Agrees (opt meaning key barrier) y d
-    → IsAsked all others asked (opt meaning key barrier) y (called (opt meaning key barrier) (by_lists (opt meaning key barrier)) y c offer b).moves offer b
-    → IsSameCall all others asked (opt meaning key barrier) (called (opt meaning key barrier) (by_lists (opt meaning key barrier)) y c offer b)
+    → IsAsked all others asked (opt meaning key barrier) y
+    (called (opt meaning key barrier) (by_lists (opt meaning key barrier)) y c offer b).moves offer b
+    → IsSameCall all others asked (opt meaning key barrier)
+    (called (opt meaning key barrier) (by_lists (opt meaning key barrier)) y c offer b)
     (called (opt meaning key barrier) (by_digests (opt meaning key barrier)) d c offer b)
 opt_calls_agree_by_lists meaning key barrier all others asked y d c offer b agrees a =
-    agree_by meaning key barrier all others asked y d c offer b agrees (found_unless_wanting (Lists meaning key barrier all others asked y c offer b) c.lacks) y.is_open refl (λ e. refl) a
+    agree_by meaning key barrier all others asked y d c offer b agrees
+    (found_unless_wanting (Lists meaning key barrier all others asked y c offer b) c.lacks) y.is_open refl (λ e. refl) a

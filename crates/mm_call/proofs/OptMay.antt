@@ -5,15 +5,18 @@ use Rattle.mm_digest.specs.declared.variant.Variant.TheVariants.{Opt}
 use Rattle.mm_digest.specs.Messages.{extended_message}
 use Rattle.mm_module.specs.Meaning.{Meaning}
 use Rattle.mm_module.specs.Batch.{Batch}
-use Rattle.mm_model.specs.Chains.{guard, guard_message, register_of, own_values}
+use Rattle.mm_model.specs.Chains.{guard, guard_message, register_of}
+use Rattle.mm_model.specs.ChainsWords.{own_values}
 use Rattle.mm_model.specs.History.{History, Move, moved}
-use Rattle.mm_model.specs.Instance.{Instance, opt}
+use Rattle.mm_model.specs.Instance.{Instance}
+use Rattle.mm_model.specs.InstanceWords.{opt}
 use Rattle.mm_model.specs.Moves.{MayMove}
 use Rattle.mm_model.specs.Steps.{Step, Reads, ask_steps}
 use Rattle.mm_model.proofs.Lists.{each_self}
 use Rattle.mm_call.specs.Asked.{foreign_in}
 use Rattle.mm_call.specs.Courses.{Course, walk}
-use Rattle.mm_call.specs.Found.{found_at, found_unless_wanting, is_fresh}
+use Rattle.mm_call.specs.Found.{found_at}
+use Rattle.mm_call.specs.FoundWords.{found_unless_wanting, is_fresh}
 use Rattle.mm_call.specs.Levels.{by_lists, all_made}
 use Rattle.mm_call.proofs.BasicLaw.{unlacked}
 use Rattle.mm_call.proofs.Endings.{fresh_found}
@@ -60,7 +63,8 @@ ask_may meaning key barrier y c bytes b =
         commits = record { guards = first_in (guard_message barrier b) (run ∷ []); run = second_in (guard_message barrier b) run [] };
         asked_for = first_in b [];
       },
-      subst IsLive (sight_is i y c) (live_found meaning key barrier seen b bytes f.0 (unlacked (found_at i (by_lists i) seen b bytes) c.lacks f.0 f.1)),
+      subst IsLive (sight_is i y c)
+          (live_found meaning key barrier seen b bytes f.0 (unlacked (found_at i (by_lists i) seen b bytes) c.lacks f.0 f.1)),
     )) in
     let ready : Ready all others (b ∷ []) i c.fates 1 (Reads ∷ Reads ∷ changing y.is_open (is_fresh found) b) y = λ o p. third in
     may_of all others (b ∷ []) i (M steps) y

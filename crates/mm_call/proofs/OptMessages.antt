@@ -7,9 +7,12 @@ use Rattle.mm_digest.specs.declared.variant.Variant.TheVariants.{Opt}
 use Rattle.mm_digest.specs.Messages.{zero_bytes, start_message, start_of, extended_message, anchored_message}
 use Rattle.mm_module.specs.Meaning.{Meaning}
 use Rattle.mm_module.specs.Batch.{Batch}
-use Rattle.mm_model.specs.Chains.{trail, guard_message, closing_message, guard, register_of, anchor_of, own_values}
-use Rattle.mm_model.specs.Instance.{Instance, opt}
-use Rattle.mm_model.specs.History.{Entry, Own, Value, History, joined, value_of, values_of, renamed, register_value_of, cell_digest_of}
+use Rattle.mm_model.specs.Chains.{trail, guard_message, closing_message, guard, register_of, anchor_of}
+use Rattle.mm_model.specs.ChainsWords.{own_values}
+use Rattle.mm_model.specs.Instance.{Instance}
+use Rattle.mm_model.specs.InstanceWords.{opt}
+use Rattle.mm_model.specs.History.{Entry, Own, Value, History, joined, value_of, renamed, register_value_of}
+use Rattle.mm_model.specs.HistoryWords.{values_of, cell_digest_of}
 use Rattle.mm_model.specs.Sound.{IsSound, IsClean, batches_in}
 use Rattle.mm_model.specs.Moves.{IsOpening}
 use Rattle.mm_model.specs.Messages.{Within, closed_runs, runs_of, register_trail, history_messages}
@@ -92,9 +95,6 @@ runs_split y bs e =
     ap (λ v. closed_runs y.closed v ++ y.current ∷ [])
     (ap (λ v. take (length v - length y.current) v) e ∙ taken bs y.current)
 
-take_part : (n : ℕ) (xs ys : List Batch) → n ≤ length xs → take n (xs ++ ys) ≡ take n xs
-take_part n xs ys h = take-append-le n xs ys h
-
 closed_runs_push : (closed : List (List Entry)) (segment : List Entry) (bs cs : List Batch) → length bs ≡ length (joined closed)
     → closed_runs (closed ++ segment ∷ []) (bs ++ cs) ≡ closed_runs closed bs ++ cs ∷ []
 closed_runs_push [] segment [] cs e = refl
@@ -116,7 +116,8 @@ closed_runs_push (s ∷ t ∷ closed) segment bs cs e =
 
 -- lists with one more at the end
 trails_parts : (barrier : List ℕ) (all : List (List ℕ)) (runs : List (List Batch)) (run : List Batch)
-    → Within (run_trails barrier (runs ++ run ∷ [])) all → Within (run_trails barrier runs) all × Within (register_trail (own_values barrier run)) all
+    → Within (run_trails barrier (runs ++ run ∷ [])) all → Within (run_trails barrier runs) all
+    × Within (register_trail (own_values barrier run)) all
 trails_parts barrier all runs run h =
     let C : List ℕ → Type 0 = Contains all in
     let f : List Batch → List (List ℕ) = λ r. register_trail (own_values barrier r) in
@@ -126,7 +127,8 @@ trails_parts barrier all runs run h =
     )
 
 trails_join : (barrier : List ℕ) (all : List (List ℕ)) (runs : List (List Batch)) (run : List Batch)
-    → Within (run_trails barrier runs) all → Within (register_trail (own_values barrier run)) all → Within (run_trails barrier (runs ++ run ∷ [])) all
+    → Within (run_trails barrier runs) all → Within (register_trail (own_values barrier run)) all
+    → Within (run_trails barrier (runs ++ run ∷ [])) all
 trails_join barrier all runs run a b =
     let C : List ℕ → Type 0 = Contains all in
     let f : List Batch → List (List ℕ) = λ r. register_trail (own_values barrier r) in
@@ -148,14 +150,16 @@ closings_push : (barrier : List ℕ) (id : ℕ) (all : List (List ℕ)) (closed 
     → Within (trail closing_message (start_of Opt id) (map (values_of barrier) (closed ++ items ∷ []))) all
 unfolding register_of anchor_of
 closings_push barrier id all closed items h c =
-    subst (λ (v : List (List (List ℕ))). Within (trail closing_message (start_of Opt id) v) all) (sym (map-append (values_of barrier) closed (items ∷ [])))
+    subst (λ (v : List (List (List ℕ))). Within (trail closing_message (start_of Opt id) v) all)
+    (sym (map-append (values_of barrier) closed (items ∷ [])))
     (trail_push closing_message (start_of Opt id) (map (values_of barrier) closed) (values_of barrier items) all h c)
 
 renamed-values : (barrier : List ℕ) (items front : List Entry) (b : Batch) → items ≡ front ++ Value (guard barrier b) ∷ []
     → values_of barrier (renamed items b) ≡ values_of barrier items
 renamed-values barrier items front b e =
     ap (λ v. values_of barrier (renamed v b)) e ∙ ap (values_of barrier) (renamed-push front (Value (guard barrier b)) b)
-    ∙ values_of-append barrier front (Own b ∷ []) ∙ sym (values_of-append barrier front (Value (guard barrier b) ∷ [])) ∙ ap (values_of barrier) (sym e)
+    ∙ values_of-append barrier front (Own b ∷ []) ∙ sym (values_of-append barrier front (Value (guard barrier b) ∷ []))
+    ∙ ap (values_of barrier) (sym e)
 
 -- an open history is clean
 pub clean_open : (y : History) → IsSound y → y.is_open ≡ true → IsClean y
@@ -173,7 +177,8 @@ pub record Commits (all : List (List ℕ)) (barrier : List ℕ) (y : History) (b
 pub listed_open : (meaning : Meaning) (key barrier : List ℕ) (all : List (List ℕ)) (y : History) (b : Batch) → IsSound y → y.is_open ≡ true
     → Commits all barrier y b → Contains all (extended_message (register_value_of (opt meaning key barrier) y) (guard barrier b))
     → Listing all (opt meaning key barrier) y
-    → Listing all (opt meaning key barrier) (record y { batches = y.batches ++ b ∷ []; current = y.current ++ b ∷ []; items = y.items ++ Own b ∷ [] })
+    → Listing all (opt meaning key barrier)
+    (record y { batches = y.batches ++ b ∷ []; current = y.current ++ b ∷ []; items = y.items ++ Own b ∷ [] })
 listed_open meaning key barrier all y b sound is_open commits message l =
     let y' : History = record y { batches = y.batches ++ b ∷ []; current = y.current ++ b ∷ []; items = y.items ++ Own b ∷ [] } in
     let bs = batches_in (joined y.closed) in
@@ -185,16 +190,19 @@ listed_open meaning key barrier all y b sound is_open commits message l =
       starts = l.starts;
       guards = guards_grow barrier all y.batches b l.guards commits.guards;
       runs = subst W (sym (runs_split y' bs whole'))
-          (trails_join barrier all (closed_runs y.closed bs) (y.current ++ b ∷ []) parts.0 (run_grows barrier all y.current b parts.1 commits.run));
+          (trails_join barrier all (closed_runs y.closed bs) (y.current ++ b ∷ []) parts.0
+          (run_grows barrier all y.current b parts.1 commits.run));
       closed = l.closed;
       items = items_grow barrier all y.items (Own b) l.items message;
       closings = l.closings;
     }
 
-pub listed_opening : (meaning : Meaning) (key barrier : List ℕ) (all : List (List ℕ)) (y : History) (b : Batch) → IsSound y → y.is_open ≡ false
+pub listed_opening : (meaning : Meaning) (key barrier : List ℕ) (all : List (List ℕ)) (y : History) (b : Batch) → IsSound y
+    → y.is_open ≡ false
     → IsOpening (opt meaning key barrier) y b → Commits all barrier y b
     → Listing all (opt meaning key barrier) y
-    → Listing all (opt meaning key barrier) (record y { batches = y.batches ++ b ∷ []; current = b ∷ []; is_open = true; items = renamed y.items b })
+    → Listing all (opt meaning key barrier)
+    (record y { batches = y.batches ++ b ∷ []; current = b ∷ []; is_open = true; items = renamed y.items b })
 listed_opening meaning key barrier all y b sound shut o commits l =
     let y' : History = record y { batches = y.batches ++ b ∷ []; current = b ∷ []; is_open = true; items = renamed y.items b } in
     let none = shut_current y sound shut in

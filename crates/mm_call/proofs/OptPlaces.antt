@@ -6,12 +6,14 @@ use Rattle.mm_digest.specs.Messages.{zero_bytes, extended_of}
 use Rattle.mm_module.specs.Meaning.{Meaning}
 use Rattle.mm_module.specs.Batch.{Batch}
 use Rattle.mm_seal.specs.declared.snapshot.Place.TheVariants.{Opt as InOpt}
-use Rattle.mm_model.specs.Chains.{guard, register_of, own_values}
-use Rattle.mm_model.specs.Instance.{opt}
+use Rattle.mm_model.specs.Chains.{guard, register_of}
+use Rattle.mm_model.specs.ChainsWords.{own_values}
+use Rattle.mm_model.specs.InstanceWords.{opt}
 use Rattle.mm_model.specs.History.{History, Commit, Placed as PlacedMove, Reset, moved, committed}
 use Rattle.mm_model.specs.Life.{are_own}
 use Rattle.mm_model.specs.Moves.{Digests}
-use Rattle.mm_model.specs.Places.{digest_of, issued_place}
+use Rattle.mm_model.specs.Places.{issued_place}
+use Rattle.mm_model.specs.PlacesWords.{digest_of}
 use Rattle.mm_model.proofs.Digests.{register-push}
 use Rattle.mm_model.proofs.Histories.{own_values-append, values_of-own}
 use Rattle.mm_model.proofs.Forms.{reads_zero}

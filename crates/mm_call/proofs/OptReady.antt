@@ -10,8 +10,9 @@ use Rattle.mm_module.specs.Meaning.{Meaning}
 use Rattle.mm_module.specs.Batch.{Batch}
 use Rattle.mm_seal.specs.declared.snapshot.Place.{Place}
 use Rattle.mm_seal.specs.declared.snapshot.Place.TheVariants.{Basic as InBasic, Opt as InOpt}
-use Rattle.mm_model.specs.Chains.{guard, register_of, own_values}
-use Rattle.mm_model.specs.Instance.{opt}
+use Rattle.mm_model.specs.Chains.{guard, register_of}
+use Rattle.mm_model.specs.ChainsWords.{own_values}
+use Rattle.mm_model.specs.InstanceWords.{opt}
 use Rattle.mm_model.specs.History.{Entry, Own, Value, History, Move, Commit, Placed as PlacedMove, Reset, Close, moved, renamed, joined}
 use Rattle.mm_model.specs.Life.{is_empty, has_value}
 use Rattle.mm_model.specs.Sound.{IsSound, batches_in}
@@ -55,7 +56,8 @@ extension_at meaning key barrier y named a e sound is_open whole (at_anchor c) =
     let some = not_empty y.current (open_current y sound is_open) in
     let total = ap length clean.batches ∙ length-append (batches_in (joined y.closed)) y.current in
     let closed = length-batches_in (joined y.closed) clean.clean in
-    let split = ap (λ v. length (joined v)) c.split ∙ ap length (joined-append c.before c.later) ∙ length-append (joined c.before) (joined c.later) in
+    let split = ap (λ v. length (joined v)) c.split ∙ ap length (joined-append c.before c.later)
+    ∙ length-append (joined c.before) (joined c.later) in
     let counted = sym (ap length whole) ∙ c.counted in
     absurd (omega arith)
 extension_at meaning key barrier y named a e sound is_open whole (in_closed c) =
@@ -74,14 +76,17 @@ extension_at meaning key barrier y named a e sound is_open whole (in_closed c) =
     ]
 
 -- what a batch lists that is asked at the end of the history
-commits_in : (meaning : Meaning) (key barrier : List ℕ) (all : List (List ℕ)) (y : History) (b : Batch) (named : List Batch) (place : Place) (flag : Bool)
+commits_in : (meaning : Meaning) (key barrier : List ℕ) (all : List (List ℕ)) (y : History) (b : Batch) (named : List Batch) (place : Place)
+    (flag : Bool)
     → y.is_open ≡ flag → IsSound y → named ≡ y.batches → IsPlaceOf Opt (opt meaning key barrier) y named place
     → Within (offer_messages (opt meaning key barrier) place b) all → Commits all barrier y b
 commits_in meaning key barrier all y b named (InBasic s) flag f sound whole is listed = absurd is
 commits_in meaning key barrier all y b named (InOpt a e) true f sound whole is listed =
     let v = guard barrier b in record {
       guards = listed.0;
-      run = subst (λ (x : List ℕ). Contains all (extended_message x v)) (extension_at meaning key barrier y named a.bytes e.bytes sound f whole is) listed.1.0;
+      run =
+          subst (λ (x : List ℕ). Contains all (extended_message x v))
+          (extension_at meaning key barrier y named a.bytes e.bytes sound f whole is) listed.1.0;
     }
 commits_in meaning key barrier all y b named (InOpt a e) false f sound whole is listed =
     let v = guard barrier b in
@@ -114,7 +119,8 @@ pub record IsDue (all : List (List ℕ)) (asked : List Batch) (barrier : List �
   pub asked_for : Contains asked b
 
 -- inside a segment the third step commits the batch
-pub ready_inside : (meaning : Meaning) (key barrier : List ℕ) (all others : List (List ℕ)) (asked : List Batch) (fates : ℕ → Fate) (y : History) (b : Batch)
+pub ready_inside : (meaning : Meaning) (key barrier : List ℕ) (all others : List (List ℕ)) (asked : List Batch) (fates : ℕ → Fate)
+    (y : History) (b : Batch)
     → y.is_open ≡ true → is_empty y.items ≡ false → IsDue all asked barrier y b
     → Ready all others asked (opt meaning key barrier) fates 3 (Changes (Commit b) ∷ []) y
 ready_inside meaning key barrier all others asked fates y b is_open held is outside =
@@ -131,7 +137,8 @@ ready_inside meaning key barrier all others asked fates y b is_open held is outs
     )
 
 -- after a reset the fourth step places the batch, and the fifth commits it
-pub ready_opening : (meaning : Meaning) (key barrier : List ℕ) (all others : List (List ℕ)) (asked : List Batch) (fates : ℕ → Fate) (y : History) (b : Batch)
+pub ready_opening : (meaning : Meaning) (key barrier : List ℕ) (all others : List (List ℕ)) (asked : List Batch) (fates : ℕ → Fate)
+    (y : History) (b : Batch)
     → y.is_open ≡ false → y.items ≡ [] → has_value (joined y.closed) ≡ false → IsDue all asked barrier y b
     → Ready all others asked (opt meaning key barrier) fates 4 (Changes (PlacedMove b) ∷ Writes (Commit b) ∷ []) y
 ready_opening meaning key barrier all others asked fates y b shut bare clean is outside =
@@ -142,7 +149,8 @@ ready_opening meaning key barrier all others asked fates y b shut bare clean is 
     let items : last.items ≡ values ++ Value (guard barrier b) ∷ [] = ap (λ v. (v ++ values) ++ Value (guard barrier b) ∷ []) bare in
     let opening : IsOpening i last b = record { clean = clean; front = values; items = items; others = no_batches (fates 4).brings } in
     let named : values_in (renamed last.items b) ≡ (fates 4).brings =
-    ap (λ v. values_in (renamed v b)) items ∙ ap values_in (renamed-push values (Value (guard barrier b)) b) ∙ values_then (fates 4).brings b in
+    ap (λ v. values_in (renamed v b)) items ∙ ap values_in (renamed-push values (Value (guard barrier b)) b)
+    ∙ values_then (fates 4).brings b in
     let P : Move → History → Bool → Type 0 = λ m x f. IsAllowed Opt f i x m in
     let Q : Move → History → Bool → Type 0 = λ m x f. Brings Opt f others x m in
     let O : List (List ℕ) → Type 0 = λ v. AllByRecursion (Contains others) v in (
@@ -158,7 +166,8 @@ ready_opening meaning key barrier all others asked fates y b shut bare clean is 
     )
 
 -- the steps of a call behind its reading steps are ready
-pub ready_third : (meaning : Meaning) (key barrier : List ℕ) (all others : List (List ℕ)) (asked : List Batch) (fates : ℕ → Fate) (y : History) (b : Batch)
+pub ready_third : (meaning : Meaning) (key barrier : List ℕ) (all others : List (List ℕ)) (asked : List Batch) (fates : ℕ → Fate)
+    (y : History) (b : Batch)
     (flag fresh : Bool) → y.is_open ≡ flag → (fresh ≡ true → IsDue all asked barrier y b × IsLive y)
     → Ready all others asked (opt meaning key barrier) fates 3 (changing flag fresh b) y
 ready_third meaning key barrier all others asked fates y b true false e due = tt
@@ -175,7 +184,8 @@ ready_third meaning key barrier all others asked fates y b false true e due = λ
     )
 
 -- a checkpoint's third step closes the segment
-pub ready_closing : (meaning : Meaning) (key barrier : List ℕ) (all others : List (List ℕ)) (asked : List Batch) (fates : ℕ → Fate) (y : History)
+pub ready_closing : (meaning : Meaning) (key barrier : List ℕ) (all others : List (List ℕ)) (asked : List Batch) (fates : ℕ → Fate)
+    (y : History)
     → y.is_open ≡ true → is_empty y.items ≡ false → Ready all others asked (opt meaning key barrier) fates 3 (Writes Close ∷ []) y
 ready_closing meaning key barrier all others asked fates y is_open held =
     let i = opt meaning key barrier in

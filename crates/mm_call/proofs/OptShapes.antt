@@ -23,7 +23,8 @@ pub data Reading (values later : List (List ℕ)) (ends last : End) : Type 0 whe
 pub reading : (values later : List (List ℕ)) (ends last : End) → Reading values later ends last
 reading values later Done Done = past refl refl
 reading values later Done (Fails fault made) =
-    cut (two_reads values Done later (Fails fault made) finished) (values ++ later) fault (λ rest. refl) (sym (map-append Foreign values later)) refl
+    cut (two_reads values Done later (Fails fault made) finished) (values ++ later) fault (λ rest. refl)
+    (sym (map-append Foreign values later)) refl
 reading values later (Fails fault made) last =
     cut (two_reads values (Fails fault made) later last finished) values fault (λ rest. refl) refl refl
 
@@ -59,7 +60,8 @@ shape_changing : (fates : ℕ → Fate) (fresh : Bool) (b : Batch) → Shape fat
 shape_changing fates false b = still [] refl
 shape_changing fates true b = shape_reset fates b (fates 3).brings (fates 3).ends
 
-pub shape : (fates : ℕ → Fate) (fresh : Bool) (b : Batch) → Shape fates fresh b (walk fates 1 (Reads ∷ Reads ∷ changing false fresh b)).moves
+pub shape : (fates : ℕ → Fate) (fresh : Bool) (b : Batch)
+    → Shape fates fresh b (walk fates 1 (Reads ∷ Reads ∷ changing false fresh b)).moves
 shape fates fresh b =
     shape_reads fates fresh b (fates 1).brings (fates 1).ends (walk fates 2 (Reads ∷ changing false fresh b))
     (shape_reads fates fresh b (fates 2).brings (fates 2).ends (walk fates 3 (changing false fresh b))

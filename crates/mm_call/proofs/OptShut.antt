@@ -6,7 +6,8 @@ use Rattle.mm_digest.specs.declared.variant.Variant.TheVariants.{Opt}
 use Rattle.mm_digest.specs.Messages.{zero_bytes, extended_of}
 use Rattle.mm_module.specs.Meaning.{Meaning}
 use Rattle.mm_module.specs.Batch.{Batch, size_of}
-use Rattle.mm_model.specs.Instance.{Instance, opt}
+use Rattle.mm_model.specs.Instance.{Instance}
+use Rattle.mm_model.specs.InstanceWords.{opt}
 use Rattle.mm_model.specs.History.{Entry, History, Move, Foreign, Reset, moved, joined, total_of}
 use Rattle.mm_model.specs.Life.{Life, life_by, life_of, is_empty, are_own, has_value, is_lost}
 use Rattle.mm_model.specs.Judge.{judged, is_last}
@@ -58,13 +59,15 @@ found_alive i y life b offer =
     } in
     if is_lost life then Err refusal.Lost else found_by_verdict i level y b (parts_of i.variant i.meaning.id offer)
 
-pub found_lists : (meaning : Meaning) (key barrier : List ℕ) (y : History) (items : List Entry) (b : Batch) (offer : List ℕ) → y.is_open ≡ false
+pub found_lists : (meaning : Meaning) (key barrier : List ℕ) (y : History) (items : List Entry) (b : Batch) (offer : List ℕ)
+    → y.is_open ≡ false
     → found_at (opt meaning key barrier) (by_lists (opt meaning key barrier)) (record y { items = items }) b offer
     ≡ found_at (opt meaning key barrier) (by_lists (opt meaning key barrier)) (bare y) b offer
 found_lists meaning key barrier y items b offer e =
     ap (λ life. found_alive (opt meaning key barrier) y life b offer) (life_bare y items e)
 
-pub found_digests : (meaning : Meaning) (key barrier : List ℕ) (d : Digests) (register : List ℕ) (b : Batch) (offer : List ℕ) → d.flag ≡ false
+pub found_digests : (meaning : Meaning) (key barrier : List ℕ) (d : Digests) (register : List ℕ) (b : Batch) (offer : List ℕ)
+    → d.flag ≡ false
     → found_at (opt meaning key barrier) (by_digests (opt meaning key barrier)) (record d { register = register }) b offer
     ≡ found_at (opt meaning key barrier) (by_digests (opt meaning key barrier)) (bare_digests d) b offer
 found_digests meaning key barrier d register b offer e =
@@ -74,7 +77,8 @@ found_digests meaning key barrier d register b offer e =
 
 -- what others put into the register, by digests
 pub foreign_digests : (i : Instance) (values : List (List ℕ)) (moves : List Move) (d : Digests)
-    → all_made (by_digests i) d (map Foreign values ++ moves) ≡ all_made (by_digests i) (record d { register = fold extended_of d.register values }) moves
+    → all_made (by_digests i) d (map Foreign values ++ moves) ≡ all_made (by_digests i)
+    (record d { register = fold extended_of d.register values }) moves
 foreign_digests i [] moves d = refl
 foreign_digests i (v ∷ values) moves d = foreign_digests i values moves (made i d (Foreign v))
 
@@ -82,8 +86,10 @@ pub foreign_reset : (i : Instance) (values : List (List ℕ)) (moves : List Move
     → all_made (by_digests i) d (map Foreign values ++ Reset ∷ moves) ≡ all_made (by_digests i) (bare_digests d) moves
 foreign_reset i values moves d = foreign_digests i values (Reset ∷ moves) d
 
-pub foreign_agrees : (meaning : Meaning) (key barrier : List ℕ) (values : List (List ℕ)) (y : History) (d : Digests) → Agrees (opt meaning key barrier) y d
-    → Agrees (opt meaning key barrier) (all_made (by_lists (opt meaning key barrier)) y (map Foreign values)) (all_made (by_digests (opt meaning key barrier)) d (map Foreign values))
+pub foreign_agrees : (meaning : Meaning) (key barrier : List ℕ) (values : List (List ℕ)) (y : History) (d : Digests)
+    → Agrees (opt meaning key barrier) y d
+    → Agrees (opt meaning key barrier) (all_made (by_lists (opt meaning key barrier)) y (map Foreign values))
+    (all_made (by_digests (opt meaning key barrier)) d (map Foreign values))
 foreign_agrees meaning key barrier [] y d a = a
 foreign_agrees meaning key barrier (v ∷ values) y d a =
     let i = opt meaning key barrier in
@@ -100,7 +106,8 @@ reset_brings others y true = tt
 reset_brings others y false = tt
 
 -- the messages of a history with other items
-pub listed_bare : (meaning : Meaning) (key barrier : List ℕ) (all : List (List ℕ)) (y : History) → Within (history_messages (opt meaning key barrier) y) all
+pub listed_bare : (meaning : Meaning) (key barrier : List ℕ) (all : List (List ℕ)) (y : History)
+    → Within (history_messages (opt meaning key barrier) y) all
     → Within (history_messages (opt meaning key barrier) (bare y)) all
 listed_bare meaning key barrier all y h =
     let l = listing_of meaning key barrier all y h in
@@ -149,7 +156,8 @@ module _ (meaning : Meaning) (key barrier : List ℕ) (all others : List (List �
   }
 
 -- the items of a history with no segment open don't matter
-outside_items : (others : List (List ℕ)) (y : History) (items : List Entry) → y.is_open ≡ false → IsOutside others y → IsOutside others (record y { items = items })
+outside_items : (others : List (List ℕ)) (y : History) (items : List Entry) → y.is_open ≡ false → IsOutside others y
+    → IsOutside others (record y { items = items })
 outside_items others y items e h =
     let P : Bool → List Entry → Type 0 = λ f xs. AllByRecursion (Contains others) (values_in (joined y.closed ++ (if f then xs else []))) in
     let shut : P false y.items = subst (λ f. P f y.items) e h in
@@ -162,12 +170,22 @@ sound_shut y items e sound = record {
   filled = sound.filled;
   history = elim sound.history [
     | inl c ↦ inl (record { clean = c.clean; batches = c.batches })
-    | inr m ↦ inr (record { before = m.before; last = m.last; rest = m.rest; split = m.split; clean = m.clean; marred = m.marred; shut = m.shut; batches = m.batches })
+    | inr m ↦ inr (record {
+      before = m.before;
+      last = m.last;
+      rest = m.rest;
+      split = m.split;
+      clean = m.clean;
+      marred = m.marred;
+      shut = m.shut;
+      batches = m.batches;
+    })
   ];
   register = λ is_open. let clash = sym e ∙ is_open in absurd (cc);
 }
 
-pub within_items : (meaning : Meaning) (key barrier : List ℕ) (all others : List (List ℕ)) (asked : List Batch) (y : History) (items : List Entry)
+pub within_items : (meaning : Meaning) (key barrier : List ℕ) (all others : List (List ℕ)) (asked : List Batch) (y : History)
+    (items : List Entry)
     → y.is_open ≡ false → IsWithin all others asked (opt meaning key barrier) y
     → IsWithin all others asked (opt meaning key barrier) (record y { items = items })
 within_items meaning key barrier all others asked y items e w =

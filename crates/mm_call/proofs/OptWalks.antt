@@ -4,9 +4,11 @@ use Rattle.std.specs.List.{AllByRecursion, Contains}
 use Rattle.mm_digest.specs.declared.variant.Variant.TheVariants.{Opt}
 use Rattle.mm_module.specs.Meaning.{Meaning}
 use Rattle.mm_module.specs.Batch.{Batch}
-use Rattle.mm_model.specs.Instance.{Instance, opt}
+use Rattle.mm_model.specs.Instance.{Instance}
+use Rattle.mm_model.specs.InstanceWords.{opt}
 use Rattle.mm_model.specs.History.{History, Move, Foreign, moved}
-use Rattle.mm_model.specs.Messages.{Within, move_messages}
+use Rattle.mm_model.specs.Messages.{Within}
+use Rattle.mm_model.specs.MessagesWords.{move_messages}
 use Rattle.mm_model.specs.Moves.{Digests, made}
 use Rattle.mm_model.specs.Steps.{Step, Reads, Changes, Writes, ask_steps, checkpoint_steps}
 use Rattle.mm_model.proofs.Lists.{each_left, each_right}
@@ -39,7 +41,8 @@ Ready all others asked i fates n (Changes m ∷ steps) y =
     × Ready all others asked i fates (n + 1) steps (moved i (taking y (fates n).brings) m)
 Ready all others asked i fates n (Writes m ∷ steps) y =
     IsFine all others asked i y m
-    × (AllByRecursion (Contains others) (fates n).brings → Ready all others asked i fates (n + 1) steps (taking (moved i y m) (fates n).brings))
+    × (AllByRecursion (Contains others) (fates n).brings
+    → Ready all others asked i fates (n + 1) steps (taking (moved i y m) (fates n).brings))
 
 -- the history at the end of a call that isn't broken off
 abbrev pub path_end : Instance → (ℕ → Fate) → ℕ → List Step → History → History
@@ -91,7 +94,8 @@ module _ (meaning : Meaning) (key barrier : List ℕ) (all others : List (List �
       let i = opt meaning key barrier in
       let C : List ℕ → Type 0 = Contains all in
       holds_made moves (moved i y m) (made i d m)
-      (holds_moved meaning key barrier all others asked y d m h fine.0 (each_left C (move_messages i y m) (moves_messages i (moved i y m) moves) messages))
+      (holds_moved meaning key barrier all others asked y d m h fine.0
+      (each_left C (move_messages i y m) (moves_messages i (moved i y m) moves) messages))
       fine.1 (each_right C (move_messages i y m) (moves_messages i (moved i y m) moves) messages)
 
   pub foreign_all : (values : List (List ℕ)) (y : History) → AllByRecursion (Contains others) values
@@ -124,7 +128,8 @@ module _ (meaning : Meaning) (key barrier : List ℕ) (all others : List (List �
       (each_left (Contains others) values (foreign_in moves) w, each_right (Contains others) values (foreign_in moves) w)
 
   reads_fine : (values : List (List ℕ)) (ends : End) (rest : Walked) (y : History) → Outside (after_step Reads values ends rest).moves
-      → (AllByRecursion (Contains others) values → Outside rest.moves → AllFine all others asked (opt meaning key barrier) (taking y values) rest.moves)
+      → (AllByRecursion (Contains others) values → Outside rest.moves
+      → AllFine all others asked (opt meaning key barrier) (taking y values) rest.moves)
       → AllFine all others asked (opt meaning key barrier) y (after_step Reads values ends rest).moves
   reads_fine values Done rest y outside later =
       let o = front_outside values rest.moves outside in
@@ -135,13 +140,15 @@ module _ (meaning : Meaning) (key barrier : List ℕ) (all others : List (List �
   changes_fine : (values : List (List ℕ)) (ends : End) (m : Move) (rest : Walked) (y : History) → foreign_in (m ∷ []) ≡ []
       → Outside (after_step (Changes m) values ends rest).moves
       → (AllByRecursion (Contains others) values → IsFine all others asked (opt meaning key barrier) (taking y values) m
-      × (Outside rest.moves → AllFine all others asked (opt meaning key barrier) (moved (opt meaning key barrier) (taking y values) m) rest.moves))
+      × (Outside rest.moves
+      → AllFine all others asked (opt meaning key barrier) (moved (opt meaning key barrier) (taking y values) m) rest.moves))
       → AllFine all others asked (opt meaning key barrier) y (after_step (Changes m) values ends rest).moves
   changes_fine values Done m rest y own outside h =
       let i = opt meaning key barrier in
       let P : List Move → Type 0 = λ v. AllFine all others asked i y v in
       let o = front_outside values (m ∷ rest.moves) (subst Outside (append_assoc (map Foreign values) (m ∷ []) rest.moves) outside) in
-      let later = subst (AllByRecursion (Contains others)) (foreign_in-append (m ∷ []) rest.moves ∙ ap (λ w. w ++ foreign_in rest.moves) own) o.1 in
+      let later = subst (AllByRecursion (Contains others)) (foreign_in-append (m ∷ []) rest.moves
+      ∙ ap (λ w. w ++ foreign_in rest.moves) own) o.1 in
       subst P (sym (append_assoc (map Foreign values) (m ∷ []) rest.moves))
       (foreign_then values (m ∷ rest.moves) y o.0 ((h o.0).0, (h o.0).1 later))
   changes_fine values (Fails fault true) m rest y own outside h =
@@ -196,8 +203,10 @@ walk_fine meaning key barrier all others asked fates (Changes m ∷ steps) n y o
     changes_fine meaning key barrier all others asked (fates n).brings (fates n).ends m (walk fates (n + 1) steps) y own.0 outside
     (λ o. (
       (ready o).0,
-      λ later. walk_fine meaning key barrier all others asked fates steps (n + 1) (moved (opt meaning key barrier) (taking y (fates n).brings) m) own.1 later (ready o).1,
+      λ later. walk_fine meaning key barrier all others asked fates steps (n + 1)
+          (moved (opt meaning key barrier) (taking y (fates n).brings) m) own.1 later (ready o).1,
     ))
 walk_fine meaning key barrier all others asked fates (Writes m ∷ steps) n y own outside ready =
     writes_fine meaning key barrier all others asked (fates n).brings (fates n).ends m (walk fates (n + 1) steps) y own.0 outside ready.0
-    (λ o later. walk_fine meaning key barrier all others asked fates steps (n + 1) (taking (moved (opt meaning key barrier) y m) (fates n).brings) own.1 later (ready.1 o))
+    (λ o later. walk_fine meaning key barrier all others asked fates steps (n + 1)
+    (taking (moved (opt meaning key barrier) y m) (fates n).brings) own.1 later (ready.1 o))

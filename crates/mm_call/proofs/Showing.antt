@@ -8,7 +8,8 @@ use Rattle.mm_platform.specs.Standing.{Item, Standing, item_values}
 use Rattle.mm_module.specs.Meaning.{Meaning}
 use Rattle.mm_module.specs.Batch.{Batch}
 use Rattle.mm_model.specs.Chains.{trail}
-use Rattle.mm_model.specs.Instance.{Instance, opt}
+use Rattle.mm_model.specs.Instance.{Instance}
+use Rattle.mm_model.specs.InstanceWords.{opt}
 use Rattle.mm_model.specs.History.{History, Move, register_value_of}
 use Rattle.mm_model.specs.Messages.{Within}
 use Rattle.mm_model.specs.Moves.{Digests, digests_of}
@@ -21,15 +22,18 @@ pub same_rest : (front more other : List Item) → front ++ more ≡ front ++ ot
 same_rest [] more other e = e
 same_rest (item ∷ front) more other e = same_rest front more other (cc)
 
-pub shown_same : (items : Option (List Item)) (f : List Item → List Item) (xs front more other : List Item) → items ≡ Some xs → f xs ≡ front ++ other → option_map f items ≡ Some (front ++ more) → other ≡ more
+pub shown_same : (items : Option (List Item)) (f : List Item → List Item) (xs front more other : List Item) → items ≡ Some xs
+    → f xs ≡ front ++ other → option_map f items ≡ Some (front ++ more) → other ≡ more
 shown_same None f xs front more other e g h = cc
 shown_same (Some ys) f xs front more other e g h =
     let same : ys ≡ xs = cc in
     let there : f ys ≡ front ++ more = cc in
     same_rest front other more (sym g ∙ ap f (sym same) ∙ there)
 
-pub asked_by : (i : Instance) (all others : List (List ℕ)) (asked : List Batch) (y : History) (moves : List Move) (offer : List ℕ) (b : Batch) → AreAsked all others asked i y offer b
-    → Within (moves_messages i (counted_part y) (counted_moves y.is_open moves)) all → AllByRecursion (Contains others) (foreign_in (counted_moves y.is_open moves))
+pub asked_by : (i : Instance) (all others : List (List ℕ)) (asked : List Batch) (y : History) (moves : List Move) (offer : List ℕ)
+    (b : Batch) → AreAsked all others asked i y offer b
+    → Within (moves_messages i (counted_part y) (counted_moves y.is_open moves)) all
+    → AllByRecursion (Contains others) (foreign_in (counted_moves y.is_open moves))
     → IsAsked all others asked i y moves offer b
 asked_by i all others asked y moves offer b a messages values = record {
   clear = a.clear;
@@ -42,13 +46,22 @@ asked_by i all others asked y moves offer b a messages values = record {
   values = values;
 }
 
-pub asked_of : (meaning : Meaning) (key barrier : List ℕ) (all others : List (List ℕ)) (asked : List Batch) (y : History) (moves : List Move) (offer : List ℕ) (b : Batch) (old new : Standing) (items more : List Item) → AreAsked all others asked (opt meaning key barrier) y offer b → AreShown all others (opt meaning key barrier) y more → old.items ≡ Some items
-    → new.items ≡ option_map (shown (opt meaning key barrier) (digests_of (opt meaning key barrier) y) moves) old.items → new.items ≡ Some (standing_items y.is_open items ++ more) → Tied (opt meaning key barrier) y (digests_of (opt meaning key barrier) y) moves → IsAsked all others asked (opt meaning key barrier) y moves offer b
+pub asked_of : (meaning : Meaning) (key barrier : List ℕ) (all others : List (List ℕ)) (asked : List Batch) (y : History)
+    (moves : List Move) (offer : List ℕ) (b : Batch) (old new : Standing) (items more : List Item)
+    → AreAsked all others asked (opt meaning key barrier) y offer b → AreShown all others (opt meaning key barrier) y more
+    → old.items ≡ Some items
+    → new.items ≡ option_map (shown (opt meaning key barrier) (digests_of (opt meaning key barrier) y) moves) old.items
+    → new.items ≡ Some (standing_items y.is_open items ++ more)
+    → Tied (opt meaning key barrier) y (digests_of (opt meaning key barrier) y) moves
+    → IsAsked all others asked (opt meaning key barrier) y moves offer b
 asked_of meaning key barrier all others asked y moves offer b old new items more a s known goes ends (shows other tied shown_is) =
     let i : Instance = opt meaning key barrier in
-    let same : other ≡ more = shown_same old.items (shown i (digests_of i y) moves) items (standing_items y.is_open items) more other known (shown_is items) (sym goes ∙ ends) in
+    let same : other ≡ more = shown_same old.items (shown i (digests_of i y) moves) items (standing_items y.is_open items) more other known
+    (shown_is items) (sym goes ∙ ends) in
     asked_by i all others asked y moves offer b a
-    (subst (λ (ms : List (List ℕ)). Within ms all) (sym (tied.messages ∙ ap (λ (x : List Item). trail extended_message (register_value_of i (counted_part y)) (item_values x)) same)) s.messages)
+    (subst (λ (ms : List (List ℕ)). Within ms all)
+    (sym (tied.messages ∙ ap (λ (x : List Item). trail extended_message (register_value_of i (counted_part y)) (item_values x)) same))
+    s.messages)
     (subst (λ (vs : List (List ℕ)). AllByRecursion (Contains others) vs) (sym (tied.values ∙ ap foreign_items same)) s.values)
 asked_of meaning key barrier all others asked y moves offer b old new items more a s known goes ends (nothing is) =
     let i : Instance = opt meaning key barrier in
@@ -69,5 +82,7 @@ counts_open i y d moves e (nothing is) =
     record {
       more = [];
       tied = record { messages = ap (moves_messages i (counted_part y)) is; values = ap foreign_in is };
-      are = λ items. ap (λ (ms : List Move). shown i d ms items) empty ∙ sym (append-nil items) ∙ ap (λ (f : Bool). standing_items f items ++ []) (sym e);
+      are =
+          λ items. ap (λ (ms : List Move). shown i d ms items) empty ∙ sym (append-nil items)
+          ∙ ap (λ (f : Bool). standing_items f items ++ []) (sym e);
     }

@@ -6,7 +6,8 @@ use Rattle.std.specs.Option.{option_map}
 use Rattle.std.proofs.lemmas.Bool.Decides.{nat_tests}
 use Rattle.mm_base.specs.Faults.{counted}
 use Rattle.mm_platform.specs.declared.fault.StepFault.{StepFault}
-use Rattle.mm_platform.specs.Standing.{Plan, Standing, plan_after, due}
+use Rattle.mm_platform.specs.Standing.{Plan, Standing, plan_after}
+use Rattle.mm_platform.specs.StandingWords.{due}
 use Rattle.mm_platform.specs.Steps.{Act, Goes, will_answer, will_be_made, will_bring, fault_at, is_made_at}
 use Rattle.mm_platform.specs.Told.{next_plan}
 use Rattle.mm_platform.proofs.Stepping.{known_plan}
@@ -14,13 +15,16 @@ use Rattle.mm_model.specs.Instance.{Instance}
 use Rattle.mm_model.specs.Moves.{Digests}
 use Rattle.mm_model.specs.Steps.{Step}
 use Rattle.mm_call.specs.Levels.{all_made, by_digests}
-use Rattle.mm_call.specs.Courses.{Fate, step_moves, end_of, planned, AreTold}
+use Rattle.mm_call.specs.Courses.{Fate, step_moves, planned, AreTold}
+use Rattle.mm_call.specs.CoursesWords.{end_of}
 use Rattle.mm_call.specs.Trails.{MakesStep, Stepped, Trail}
 
 -- Trails
 
 -- a device step as a step of a walk, with no room made behind it
-pub stepped : (i : Instance) (d : Digests) (act : Act) (step : Step) (old new : Standing) (fault : Option StepFault) → (g : Goes act old new fault) → MakesStep i d act step → Stepped i d (record { brings = g.others; ends = end_of fault g.is_made }) step old new fault
+pub stepped : (i : Instance) (d : Digests) (act : Act) (step : Step) (old new : Standing) (fault : Option StepFault)
+    → (g : Goes act old new fault) → MakesStep i d act step
+    → Stepped i d (record { brings = g.others; ends = end_of fault g.is_made }) step old new fault
 stepped i d act step old new fault g makes = record {
   act = act;
   after = new;
@@ -31,13 +35,18 @@ stepped i d act step old new fault g makes = record {
   room = refl;
 }
 
-pub trail_on : (i : Instance) (d : Digests) (fates : ℕ → Fate) (n : ℕ) (step : Step) (steps : List Step) (old middle new : Standing) (fault : Option StepFault) → Stepped i d (fates n) step old middle None → Trail i (all_made (by_digests i) d (step_moves step true (fates n).brings)) fates (n + 1) steps middle new fault → Trail i d fates n (step ∷ steps) old new fault
+pub trail_on : (i : Instance) (d : Digests) (fates : ℕ → Fate) (n : ℕ) (step : Step) (steps : List Step) (old middle new : Standing)
+    (fault : Option StepFault) → Stepped i d (fates n) step old middle None
+    → Trail i (all_made (by_digests i) d (step_moves step true (fates n).brings)) fates (n + 1) steps middle new fault
+    → Trail i d fates n (step ∷ steps) old new fault
 trail_on i d fates n step steps old middle new fault s t = (middle, None, s, t)
 
-pub trail_fails : (i : Instance) (d : Digests) (fates : ℕ → Fate) (n : ℕ) (step : Step) (steps : List Step) (old new : Standing) (fault : StepFault) → Stepped i d (fates n) step old new (Some fault) → Trail i d fates n (step ∷ steps) old new (Some fault)
+pub trail_fails : (i : Instance) (d : Digests) (fates : ℕ → Fate) (n : ℕ) (step : Step) (steps : List Step) (old new : Standing)
+    (fault : StepFault) → Stepped i d (fates n) step old new (Some fault) → Trail i d fates n (step ∷ steps) old new (Some fault)
 trail_fails i d fates n step steps old new fault s = (new, Some fault, s, (refl, refl))
 
-pub trail_last : (i : Instance) (d : Digests) (fates : ℕ → Fate) (n : ℕ) (step : Step) (old new : Standing) (fault : Option StepFault) → Stepped i d (fates n) step old new fault → Trail i d fates n (step ∷ []) old new fault
+pub trail_last : (i : Instance) (d : Digests) (fates : ℕ → Fate) (n : ℕ) (step : Step) (old new : Standing) (fault : Option StepFault)
+    → Stepped i d (fates n) step old new fault → Trail i d fates n (step ∷ []) old new fault
 trail_last i d fates n step old new None s = (new, None, s, (refl, refl))
 trail_last i d fates n step old new (Some fault) s = (new, Some fault, s, (refl, refl))
 
@@ -53,7 +62,8 @@ abbrev pub AreMet : List Fate → ℕ → Plan → Type 0
 AreMet [] k plan = Unit {0}
 AreMet (fate ∷ fates) k plan = (fate ≡ planned plan k) × AreMet fates (k + 1) plan
 
-chosen : (here : Bool) (fate later : Fate) (n k : ℕ) (plan : Plan) → (here ≡ true → n ≡ k) → fate ≡ planned plan k → later ≡ planned plan n → (if here then fate else later) ≡ planned plan n
+chosen : (here : Bool) (fate later : Fate) (n k : ℕ) (plan : Plan) → (here ≡ true → n ≡ k) → fate ≡ planned plan k → later ≡ planned plan n
+    → (if here then fate else later) ≡ planned plan n
 chosen true fate later n k plan h e l = e ∙ ap (λ (m : ℕ). planned plan m) (sym (h refl))
 chosen false fate later n k plan h e l = l
 
@@ -62,10 +72,13 @@ eq_tells n k e = grind (arith, nat_tests)
 
 met_told : (fates : List Fate) (k : ℕ) (plan : Plan) (n : ℕ) → AreMet fates k plan → met fates k plan n ≡ planned plan n
 met_told [] k plan n a = refl
-met_told (fate ∷ fates) k plan n a = chosen (n == k) fate (met fates (k + 1) plan n) n k plan (eq_tells n k) a.0 (met_told fates (k + 1) plan n a.1)
+met_told (fate ∷ fates) k plan n a =
+    chosen (n == k) fate (met fates (k + 1) plan n) n k plan (eq_tells n k) a.0 (met_told fates (k + 1) plan n a.1)
 
 -- the plan that a platform tells is the one that its course takes
-pub told_by : (old : Standing) (fates : List Fate) → ((plan : Plan) → old.is_on ≡ true → old.plan ≡ Some plan → plan.at ≡ 0 → AreMet fates 1 plan) → AreTold old (met fates 1 (next_plan old))
+pub told_by : (old : Standing) (fates : List Fate)
+    → ((plan : Plan) → old.is_on ≡ true → old.plan ≡ Some plan → plan.at ≡ 0 → AreMet fates 1 plan)
+    → AreTold old (met fates 1 (next_plan old))
 told_by old fates h = λ (plan : Plan) (on : old.is_on ≡ true) (known : old.plan ≡ Some plan) (at : plan.at ≡ 0) (n : ℕ).
     ap (λ (p : Plan). met fates 1 p n) (known_plan old plan known) ∙ met_told fates 1 plan n (h plan on known at)
 
@@ -78,18 +91,26 @@ pub begins_at : (old : Standing) (plan : Plan) → old.is_on ≡ true → old.pl
 begins_at old plan on known at = record { is_on = on; planned = known ∙ ap (λ (n : ℕ). Some (record plan { at = n })) at }
 
 -- a step goes as the plan says of its number
-pub met_at : (act : Act) (old new : Standing) (fault : Option StepFault) (plan : Plan) (at : ℕ) → IsAt old plan at → (g : Goes act old new fault) → record { brings = g.others; ends = end_of fault g.is_made } ≡ planned plan (counted at)
+pub met_at : (act : Act) (old new : Standing) (fault : Option StepFault) (plan : Plan) (at : ℕ) → IsAt old plan at
+    → (g : Goes act old new fault) → record { brings = g.others; ends = end_of fault g.is_made } ≡ planned plan (counted at)
 met_at act old new fault plan at p g =
     let told = g.told (record plan { at = at }) p.planned in
-    let answers : fault ≡ fault_at plan.stop (counted at) = told.answers ∙ ap (λ (on : Bool). will_answer on (record plan { at = at })) p.is_on in
-    let is_made : g.is_made ≡ is_made_at plan.stop (counted at) = told.makes ∙ ap (λ (on : Bool). will_be_made on (record plan { at = at })) p.is_on in
-    let brings : g.others ≡ due (counted at) plan.meddles = told.brings ∙ ap (λ (on : Bool). will_bring on (record plan { at = at })) p.is_on in
+    let answers : fault ≡ fault_at plan.stop (counted at) = told.answers
+    ∙ ap (λ (on : Bool). will_answer on (record plan { at = at })) p.is_on in
+    let is_made : g.is_made ≡ is_made_at plan.stop (counted at) = told.makes
+    ∙ ap (λ (on : Bool). will_be_made on (record plan { at = at })) p.is_on in
+    let brings : g.others ≡ due (counted at) plan.meddles = told.brings
+    ∙ ap (λ (on : Bool). will_bring on (record plan { at = at })) p.is_on in
     λ j. record { brings = brings j; ends = end_of (answers j) (is_made j) }
 
 -- after a step that was done one more is over
-pub then_at : (act : Act) (old new : Standing) (plan : Plan) (at : ℕ) → IsAt old plan at → Goes act old new None → IsAt new plan (counted at)
-then_at act old new plan at p g = record { is_on = g.ends.is_on; planned = g.plan ∙ ap (λ (q : Option Plan). option_map plan_after q) p.planned }
+pub then_at : (act : Act) (old new : Standing) (plan : Plan) (at : ℕ) → IsAt old plan at → Goes act old new None
+    → IsAt new plan (counted at)
+then_at act old new plan at p g =
+    record { is_on = g.ends.is_on; planned = g.plan ∙ ap (λ (q : Option Plan). option_map plan_after q) p.planned }
 
 -- room changes nothing of this
-pub room_at : (after new : Standing) (plan : Plan) (at : ℕ) → new ≡ record after { spare = new.spare } → IsAt after plan at → IsAt new plan at
-room_at after new plan at e p = record { is_on = ap (λ (s : Standing). s.is_on) e ∙ p.is_on; planned = ap (λ (s : Standing). s.plan) e ∙ p.planned }
+pub room_at : (after new : Standing) (plan : Plan) (at : ℕ) → new ≡ record after { spare = new.spare } → IsAt after plan at
+    → IsAt new plan at
+room_at after new plan at e p =
+    record { is_on = ap (λ (s : Standing). s.is_on) e ∙ p.is_on; planned = ap (λ (s : Standing). s.plan) e ∙ p.planned }

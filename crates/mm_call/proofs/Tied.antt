@@ -8,16 +8,20 @@ use Rattle.mm_platform.specs.Standing.{Item, own_item, foreign_item, item_values
 use Rattle.mm_module.specs.Meaning.{Meaning}
 use Rattle.mm_module.specs.Batch.{Batch}
 use Rattle.mm_model.specs.Chains.{after, trail, guard, register_of}
-use Rattle.mm_model.specs.Instance.{Instance, opt}
-use Rattle.mm_model.specs.History.{Entry, Own, Value, History, Move, Commit, Foreign, Placed, Reset, moved, committed, register_value_of, values_of as entry_values}
-use Rattle.mm_model.specs.Messages.{moving_messages, move_messages}
+use Rattle.mm_model.specs.Instance.{Instance}
+use Rattle.mm_model.specs.InstanceWords.{opt}
+use Rattle.mm_model.specs.History.{Entry, Own, Value, History, Move, Commit, Foreign, Placed, Reset, moved, committed, register_value_of}
+use Rattle.mm_model.specs.HistoryWords.{values_of as entry_values}
+use Rattle.mm_model.specs.Messages.{moving_messages}
+use Rattle.mm_model.specs.MessagesWords.{move_messages}
 use Rattle.mm_model.specs.Moves.{Digests, made, committing}
 use Rattle.mm_model.specs.Steps.{Reads, Changes, Writes}
 use Rattle.mm_model.proofs.Chains.{after-append, trail-append}
 use Rattle.mm_model.proofs.Histories.{values_of-append}
 use Rattle.mm_model.proofs.MovedDigests.{values_renamed}
 use Rattle.mm_call.specs.Levels.{by_lists, by_digests, all_made}
-use Rattle.mm_call.specs.Found.{found_at, found_unless_wanting, is_fresh}
+use Rattle.mm_call.specs.Found.{found_at}
+use Rattle.mm_call.specs.FoundWords.{found_unless_wanting, is_fresh}
 use Rattle.mm_call.specs.Courses.{End, Done, Fails, Fate, Walked, after_step, walk}
 use Rattle.mm_call.specs.Called.{seen_at}
 use Rattle.mm_call.specs.Standing.{shown, shown_by}
@@ -31,10 +35,11 @@ use Rattle.mm_call.proofs.OptLaw.{reset_messages}
 
 pub foreign_of-append : (xs ys : List Item) → foreign_items (xs ++ ys) ≡ foreign_items xs ++ foreign_items ys
 foreign_of-append [] ys = refl
-foreign_of-append (x ∷ xs) ys = item_then x.own x.value (foreign_items xs) (foreign_items ys) (foreign_items (xs ++ ys)) (foreign_of-append xs ys) where
-  item_then : (own : Bool) (v : List ℕ) (a b c : List (List ℕ)) → c ≡ a ++ b → (if own then c else v ∷ c) ≡ (if own then a else v ∷ a) ++ b
-  item_then true v a b c e = e
-  item_then false v a b c e = ap (λ w. v ∷ w) e
+foreign_of-append (x ∷ xs) ys =
+    item_then x.own x.value (foreign_items xs) (foreign_items ys) (foreign_items (xs ++ ys)) (foreign_of-append xs ys) where
+      item_then : (own : Bool) (v : List ℕ) (a b c : List (List ℕ)) → c ≡ a ++ b → (if own then c else v ∷ c) ≡ (if own then a else v ∷ a) ++ b
+      item_then true v a b c e = e
+      item_then false v a b c e = ap (λ w. v ∷ w) e
 
 -- Moves push these items into the register: they are shown behind what was there, and their messages are hashed one after
 -- another from the register's value on.
@@ -57,10 +62,15 @@ pushes_then i y d xs ys more later p q =
     let lists : all_made (by_lists i) y (xs ++ ys) ≡ all_made (by_lists i) z ys = made-append (by_lists i) xs ys y in
     record {
       messages = messages-made i xs ys y ∙ ap (λ v. v ++ moves_messages i z ys) p.messages
-          ∙ ap (λ v. trail extended_message r (item_values more) ++ v) (q.messages ∙ ap (λ s. trail extended_message s (item_values later)) p.register)
+          ∙ ap (λ v. trail extended_message r (item_values more) ++ v) (q.messages
+          ∙ ap (λ s. trail extended_message s (item_values later)) p.register)
           ∙ sym (trail-append extended_message r (item_values more) (item_values later)) ∙ ap (trail extended_message r) (sym split);
-      values = foreign_in-append xs ys ∙ ap (λ v. v ++ foreign_in ys) p.values ∙ ap (λ v. foreign_items more ++ v) q.values ∙ sym (foreign_of-append more later);
-      shown_are = λ items. shown-append i d xs ys items ∙ q.shown_are (shown i d xs items) ∙ ap (λ v. v ++ later) (p.shown_are items) ∙ append_assoc items more later;
+      values =
+          foreign_in-append xs ys ∙ ap (λ v. v ++ foreign_in ys) p.values ∙ ap (λ v. foreign_items more ++ v) q.values
+          ∙ sym (foreign_of-append more later);
+      shown_are =
+          λ items. shown-append i d xs ys items ∙ q.shown_are (shown i d xs items) ∙ ap (λ v. v ++ later) (p.shown_are items)
+          ∙ append_assoc items more later;
       register = ap (register_value_of i) lists ∙ q.register ∙ ap (λ s. after extended_message s (item_values later)) p.register
           ∙ sym (after-append extended_message r (item_values more) (item_values later)) ∙ ap (after extended_message r) (sym split);
       flag = ap (λ (x : Digests). x.flag) (all_made-append i d xs ys) ∙ q.flag ∙ ap (λ (x : History). x.is_open) (sym lists);
@@ -76,16 +86,19 @@ register_then barrier items e v is =
 
 module _ (meaning : Meaning) (key barrier : List ℕ) where
   pub foreign_messages : (y : History) (flag : Bool) (v : List ℕ)
-      → moving_messages Opt flag (opt meaning key barrier) y (Foreign v) ≡ extended_message (register_value_of (opt meaning key barrier) y) v ∷ []
+      → moving_messages Opt flag (opt meaning key barrier) y (Foreign v) ≡ extended_message (register_value_of (opt meaning key barrier) y)
+      v ∷ []
   foreign_messages y true v = refl
   foreign_messages y false v = refl
 
   placed_messages : (y : History) (flag : Bool) (b : Batch)
-      → moving_messages Opt flag (opt meaning key barrier) y (Placed b) ≡ extended_message (register_value_of (opt meaning key barrier) y) (guard barrier b) ∷ []
+      → moving_messages Opt flag (opt meaning key barrier) y (Placed b) ≡ extended_message (register_value_of (opt meaning key barrier) y)
+      (guard barrier b) ∷ []
   placed_messages y true b = refl
   placed_messages y false b = refl
 
-  pushes_value : (y : History) (d : Digests) (v : List ℕ) → d.flag ≡ y.is_open → Pushes (opt meaning key barrier) y d (Foreign v ∷ []) (foreign_item v ∷ [])
+  pushes_value : (y : History) (d : Digests) (v : List ℕ) → d.flag ≡ y.is_open
+      → Pushes (opt meaning key barrier) y d (Foreign v ∷ []) (foreign_item v ∷ [])
   pushes_value y d v e = record {
     messages = append-nil (move_messages (opt meaning key barrier) y (Foreign v)) ∙ foreign_messages y y.is_open v;
     values = refl;
@@ -152,37 +165,46 @@ module _ (meaning : Meaning) (key barrier : List ℕ) where
   values_pushed values y d e = record { more = map foreign_item values; pushes = pushes_values values y d e }
 
   pushed_then : (y : History) (d : Digests) (xs ys : List Move) → (p : Pushed y d xs)
-      → Pushed (all_made (by_lists (opt meaning key barrier)) y xs) (all_made (by_digests (opt meaning key barrier)) d xs) ys → Pushed y d (xs ++ ys)
-  pushed_then y d xs ys p q = record { more = p.more ++ q.more; pushes = pushes_then (opt meaning key barrier) y d xs ys p.more q.more p.pushes q.pushes }
+      → Pushed (all_made (by_lists (opt meaning key barrier)) y xs) (all_made (by_digests (opt meaning key barrier)) d xs) ys
+      → Pushed y d (xs ++ ys)
+  pushed_then y d xs ys p q =
+      record { more = p.more ++ q.more; pushes = pushes_then (opt meaning key barrier) y d xs ys p.more q.more p.pushes q.pushes }
 
-  still_open : (values : List (List ℕ)) (y : History) → (all_made (by_lists (opt meaning key barrier)) y (map Foreign values)).is_open ≡ y.is_open
+  still_open : (values : List (List ℕ)) (y : History)
+      → (all_made (by_lists (opt meaning key barrier)) y (map Foreign values)).is_open ≡ y.is_open
   still_open [] y = refl
   still_open (v ∷ values) y = still_open values (moved (opt meaning key barrier) y (Foreign v))
 
-  still_flag : (values : List (List ℕ)) (d : Digests) → (all_made (by_digests (opt meaning key barrier)) d (map Foreign values)).flag ≡ d.flag
+  still_flag : (values : List (List ℕ)) (d : Digests)
+      → (all_made (by_digests (opt meaning key barrier)) d (map Foreign values)).flag ≡ d.flag
   still_flag [] d = refl
   still_flag (v ∷ values) d = still_flag values (made (opt meaning key barrier) d (Foreign v))
 
   -- a reading step, and what follows
   reads_pushed : (values : List (List ℕ)) (ends : End) (rest : Walked) (y : History) (d : Digests) → d.flag ≡ y.is_open
-      → Pushed (all_made (by_lists (opt meaning key barrier)) y (map Foreign values)) (all_made (by_digests (opt meaning key barrier)) d (map Foreign values)) rest.moves
+      → Pushed (all_made (by_lists (opt meaning key barrier)) y (map Foreign values))
+      (all_made (by_digests (opt meaning key barrier)) d (map Foreign values)) rest.moves
       → Pushed y d (after_step Reads values ends rest).moves
   reads_pushed values Done rest y d e p = pushed_then y d (map Foreign values) rest.moves (values_pushed values y d e) p
   reads_pushed values (Fails fault made) rest y d e p = values_pushed values y d e
 
   -- the step that commits inside a segment
-  commit_made : (values : List (List ℕ)) (b : Batch) (y : History) (d : Digests) → d.flag ≡ true → y.is_open ≡ true → Pushed y d (map Foreign values ++ Commit b ∷ [])
+  commit_made : (values : List (List ℕ)) (b : Batch) (y : History) (d : Digests) → d.flag ≡ true → y.is_open ≡ true
+      → Pushed y d (map Foreign values ++ Commit b ∷ [])
   commit_made values b y d f e =
       let i = opt meaning key barrier in
       pushed_then y d (map Foreign values) (Commit b ∷ []) (values_pushed values y d (f ∙ sym e))
       (record {
         more = own_item (guard barrier b) ∷ [];
-        pushes = pushes_commit (all_made (by_lists i) y (map Foreign values)) (all_made (by_digests i) d (map Foreign values)) b (still_flag values d ∙ f) (still_open values y ∙ e);
+        pushes =
+            pushes_commit (all_made (by_lists i) y (map Foreign values)) (all_made (by_digests i) d (map Foreign values)) b
+            (still_flag values d ∙ f) (still_open values y ∙ e);
       })
 
   commit_pushed : (values : List (List ℕ)) (ends : End) (b : Batch) (y : History) (d : Digests) → d.flag ≡ true → y.is_open ≡ true
       → Pushed y d (after_step (Changes (Commit b)) values ends finished).moves
-  commit_pushed values Done b y d f e = subst (Pushed y d) (sym (append-nil (map Foreign values ++ Commit b ∷ []))) (commit_made values b y d f e)
+  commit_pushed values Done b y d f e =
+      subst (Pushed y d) (sym (append-nil (map Foreign values ++ Commit b ∷ []))) (commit_made values b y d f e)
   commit_pushed values (Fails fault true) b y d f e = commit_made values b y d f e
   commit_pushed values (Fails fault false) b y d f e =
       subst (Pushed y d) (sym (append-nil (map Foreign values))) (values_pushed values y d (f ∙ sym e))
@@ -205,15 +227,18 @@ module _ (meaning : Meaning) (key barrier : List ℕ) where
       let e1 = still_open v y ∙ e in
       reads_pushed v (fates 1).ends (walk fates 2 (Reads ∷ changing true fresh b)) y d (f ∙ sym e)
       (reads_pushed w (fates 2).ends (walk fates 3 (changing true fresh b)) y1 d1 (f1 ∙ sym e1)
-      (third_pushed fates fresh b (all_made (by_lists i) y1 (map Foreign w)) (all_made (by_digests i) d1 (map Foreign w)) (still_flag w d1 ∙ f1) (still_open w y1 ∙ e1)))
+      (third_pushed fates fresh b (all_made (by_lists i) y1 (map Foreign w)) (all_made (by_digests i) d1 (map Foreign w))
+      (still_flag w d1 ∙ f1) (still_open w y1 ∙ e1)))
 
   -- the placing step and the write that opens a segment, by how they end
-  write_made : (values : List (List ℕ)) (b : Batch) (y : History) (d : Digests) → d.flag ≡ false → y.is_open ≡ false → Pushed y d (Placed b ∷ Commit b ∷ map Foreign values)
+  write_made : (values : List (List ℕ)) (b : Batch) (y : History) (d : Digests) → d.flag ≡ false → y.is_open ≡ false
+      → Pushed y d (Placed b ∷ Commit b ∷ map Foreign values)
   write_made values b y d f e =
       let i = opt meaning key barrier in
       let p = pushes_opening y d b f e in
       pushed_then y d (Placed b ∷ Commit b ∷ []) (map Foreign values) (record { more = own_item (guard barrier b) ∷ []; pushes = p })
-      (values_pushed values (all_made (by_lists i) y (Placed b ∷ Commit b ∷ [])) (all_made (by_digests i) d (Placed b ∷ Commit b ∷ [])) p.flag)
+      (values_pushed values (all_made (by_lists i) y (Placed b ∷ Commit b ∷ [])) (all_made (by_digests i) d (Placed b ∷ Commit b ∷ []))
+      p.flag)
 
   write_pushed : (values : List (List ℕ)) (ends : End) (b : Batch) (y : History) (d : Digests) → d.flag ≡ false → y.is_open ≡ false
       → Pushed y d (Placed b ∷ (after_step (Writes (Commit b)) values ends finished).moves)
@@ -226,20 +251,26 @@ module _ (meaning : Meaning) (key barrier : List ℕ) where
       pushed_then y d (Placed b ∷ []) (map Foreign values) (record { more = own_item (guard barrier b) ∷ []; pushes = p })
       (values_pushed values (moved i y (Placed b)) (made i d (Placed b)) p.flag)
 
-  placing_pushed : (values : List (List ℕ)) (ends : End) (later : List (List ℕ)) (last : End) (b : Batch) (y : History) (d : Digests) → d.flag ≡ false → y.is_open ≡ false
+  placing_pushed : (values : List (List ℕ)) (ends : End) (later : List (List ℕ)) (last : End) (b : Batch) (y : History) (d : Digests)
+      → d.flag ≡ false → y.is_open ≡ false
       → Pushed y d (after_step (Changes (Placed b)) values ends (after_step (Writes (Commit b)) later last finished)).moves
   placing_pushed values Done later last b y d f e =
       let i = opt meaning key barrier in
       let rest : List Move = (after_step (Writes (Commit b)) later last finished).moves in
       subst (Pushed y d) (sym (append_assoc (map Foreign values) (Placed b ∷ []) rest))
       (pushed_then y d (map Foreign values) (Placed b ∷ rest) (values_pushed values y d (f ∙ sym e))
-      (write_pushed later last b (all_made (by_lists i) y (map Foreign values)) (all_made (by_digests i) d (map Foreign values)) (still_flag values d ∙ f) (still_open values y ∙ e)))
+      (write_pushed later last b (all_made (by_lists i) y (map Foreign values)) (all_made (by_digests i) d (map Foreign values))
+      (still_flag values d ∙ f) (still_open values y ∙ e)))
   placing_pushed values (Fails fault true) later last b y d f e =
       let i = opt meaning key barrier in
       let y1 : History = all_made (by_lists i) y (map Foreign values) in
       let d1 : Digests = all_made (by_digests i) d (map Foreign values) in
       pushed_then y d (map Foreign values) (Placed b ∷ []) (values_pushed values y d (f ∙ sym e))
-      (record { more = own_item (guard barrier b) ∷ []; pushes = pushes_placed y1 d1 b (still_flag values d ∙ f ∙ sym (still_open values y ∙ e)) })
+      (record {
+        more = own_item (guard barrier b) ∷ [];
+        pushes = pushes_placed y1 d1 b
+            (still_flag values d ∙ f ∙ sym (still_open values y ∙ e));
+      })
   placing_pushed values (Fails fault false) later last b y d f e =
       subst (Pushed y d) (sym (append-nil (map Foreign values))) (values_pushed values y d (f ∙ sym e))
 
@@ -249,11 +280,13 @@ module _ (meaning : Meaning) (key barrier : List ℕ) where
   rest_pushed fates b y d rest f e is =
       subst (Pushed y d) (sym is) (placing_pushed (fates 4).brings (fates 4).ends (fates 5).brings (fates 5).ends b y d f e)
 
-  inside_tied : (y : History) (d : Digests) (moves : List Move) → y.is_open ≡ true → Pushed y d moves → Tied (opt meaning key barrier) y d moves
+  inside_tied : (y : History) (d : Digests) (moves : List Move) → y.is_open ≡ true → Pushed y d moves
+      → Tied (opt meaning key barrier) y d moves
   inside_tied y d moves e p =
       let i = opt meaning key barrier in
       let M : Bool → List (List ℕ) = λ g. moves_messages i (record y { items = if g then y.items else [] }) (counted_moves g moves) in
-      let T : Bool → List (List ℕ) = λ g. trail extended_message (register_value_of i (record y { items = if g then y.items else [] })) (item_values p.more) in
+      let T : Bool → List (List ℕ) = λ g. trail extended_message (register_value_of i (record y { items = if g then y.items else [] }))
+      (item_values p.more) in
       shows p.more
       (record {
         messages = ap M e ∙ p.pushes.messages ∙ ap T (sym e);
@@ -261,7 +294,8 @@ module _ (meaning : Meaning) (key barrier : List ℕ) where
       })
       (λ items. p.pushes.shown_are items ∙ ap (λ g. standing_items g items ++ p.more) (sym e))
 
-  still_bare : (values : List (List ℕ)) (d : Digests) → bare_digests (all_made (by_digests (opt meaning key barrier)) d (map Foreign values)) ≡ bare_digests d
+  still_bare : (values : List (List ℕ)) (d : Digests)
+      → bare_digests (all_made (by_digests (opt meaning key barrier)) d (map Foreign values)) ≡ bare_digests d
   still_bare [] d = refl
   still_bare (v ∷ values) d = still_bare values (made (opt meaning key barrier) d (Foreign v))
 
@@ -272,29 +306,36 @@ module _ (meaning : Meaning) (key barrier : List ℕ) where
       let moves : List Move = map Foreign values ++ Reset ∷ rest in
       let begins : from_reset moves ≡ Reset ∷ rest = from_reset-foreign values (Reset ∷ rest) in
       let M : Bool → List (List ℕ) = λ g. moves_messages i (record y { items = if g then y.items else [] }) (counted_moves g moves) in
-      let T : Bool → List (List ℕ) = λ g. trail extended_message (register_value_of i (record y { items = if g then y.items else [] })) (item_values p.more) in
+      let T : Bool → List (List ℕ) = λ g. trail extended_message (register_value_of i (record y { items = if g then y.items else [] }))
+      (item_values p.more) in
       let quiet : move_messages i (bare y) Reset ≡ [] = reset_messages meaning key barrier (bare y) y.is_open in
       shows p.more
       (record {
-        messages = ap M e ∙ ap (moves_messages i (bare y)) begins ∙ ap (λ w. w ++ moves_messages i (bare y) rest) quiet ∙ p.pushes.messages ∙ ap T (sym e);
+        messages =
+            ap M e ∙ ap (moves_messages i (bare y)) begins ∙ ap (λ w. w ++ moves_messages i (bare y) rest) quiet ∙ p.pushes.messages
+            ∙ ap T (sym e);
         values = ap (λ g. foreign_in (counted_moves g moves)) e ∙ ap foreign_in begins ∙ p.pushes.values;
       })
       (λ items. shown-append i d (map Foreign values) (Reset ∷ rest) items
       ∙ ap (λ (x : Digests). shown i (bare_digests x) rest []) (still_bare values d)
       ∙ p.pushes.shown_are [] ∙ ap (λ g. standing_items g items ++ p.more) (sym e))
 
-  none_tied : (y : History) (d : Digests) (values : List (List ℕ)) → y.is_open ≡ false → Tied (opt meaning key barrier) y d (map Foreign values)
+  none_tied : (y : History) (d : Digests) (values : List (List ℕ)) → y.is_open ≡ false
+      → Tied (opt meaning key barrier) y d (map Foreign values)
   none_tied y d values e =
-      let none : from_reset (map Foreign values) ≡ [] = ap from_reset (sym (append-nil (map Foreign values))) ∙ from_reset-foreign values [] in
+      let none : from_reset (map Foreign values) ≡ [] = ap from_reset (sym (append-nil (map Foreign values)))
+      ∙ from_reset-foreign values [] in
       nothing (ap (λ g. counted_moves g (map Foreign values)) e ∙ none)
 
-  shut_tied : (y : History) (d : Digests) (fates : ℕ → Fate) (fresh : Bool) (b : Batch) (moves : List Move) → d.flag ≡ false → y.is_open ≡ false
+  shut_tied : (y : History) (d : Digests) (fates : ℕ → Fate) (fresh : Bool) (b : Batch) (moves : List Move) → d.flag ≡ false
+      → y.is_open ≡ false
       → Shape fates fresh b moves → Tied (opt meaning key barrier) y d moves
   shut_tied y d fates fresh b moves f e (still values is) = subst (Tied (opt meaning key barrier) y d) (sym is) (none_tied y d values e)
   shut_tied y d fates fresh b moves f e (reset values rest is k) =
       let i = opt meaning key barrier in
       let p : Pushed (bare y) (bare_digests d) rest = elim k [
-        | inl none ↦ subst (Pushed (bare y) (bare_digests d)) (sym none) (record { more = []; pushes = pushes_none i (bare y) (bare_digests d) (f ∙ sym e) })
+        | inl none ↦ subst (Pushed (bare y) (bare_digests d)) (sym none)
+            (record { more = []; pushes = pushes_none i (bare y) (bare_digests d) (f ∙ sym e) })
         | inr more ↦ rest_pushed fates b (bare y) (bare_digests d) rest f e more.1
       ] in
       subst (Tied i y d) (sym is) (reset_tied y d values rest e p)

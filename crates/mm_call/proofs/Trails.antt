@@ -27,7 +27,8 @@ abbrev pub reads_of : Option (List Item) → Option (List ℕ)
 reads_of items = option_map (λ xs. register_after (item_values xs)) items
 
 -- where the register is read, its value goes on
-reads_then : (variant : Variant) (before now : Option (List ℕ)) (r s : List ℕ) → (before ≡ Some r → now ≡ Some s) → RegisterAt variant before r → RegisterAt variant now s
+reads_then : (variant : Variant) (before now : Option (List ℕ)) (r s : List ℕ) → (before ≡ Some r → now ≡ Some s)
+    → RegisterAt variant before r → RegisterAt variant now s
 reads_then Basic before now r s h e = tt
 reads_then Opt before now r s h e = h e
 
@@ -35,12 +36,14 @@ pub foreign_values : (values : List (List ℕ)) → item_values (map foreign_ite
 foreign_values [] = refl
 foreign_values (v ∷ values) = ap (λ (vs : List (List ℕ)). v ∷ vs) (foreign_values values)
 
-read_more : (xs more : List Item) → register_after (item_values (xs ++ more)) ≡ fold extended_of (register_after (item_values xs)) (item_values more)
+read_more : (xs more : List Item)
+    → register_after (item_values (xs ++ more)) ≡ fold extended_of (register_after (item_values xs)) (item_values more)
 read_more xs more =
     ap (λ (vs : List (List ℕ)). register_after vs) (map-append (λ (item : Item). item.value) xs more)
     ∙ fold-append extended_of zero_bytes (item_values xs) (item_values more)
 
-pub reads_beside : (items : Option (List Item)) (values : List (List ℕ)) (r : List ℕ) → reads_of items ≡ Some r → reads_of (beside values items) ≡ Some (fold extended_of r values)
+pub reads_beside : (items : Option (List Item)) (values : List (List ℕ)) (r : List ℕ) → reads_of items ≡ Some r
+    → reads_of (beside values items) ≡ Some (fold extended_of r values)
 reads_beside None values r e = cc
 reads_beside (Some xs) values r e =
     let f : register_after (item_values xs) ≡ r = cc in
@@ -48,7 +51,8 @@ reads_beside (Some xs) values r e =
     ∙ ap (λ (vs : List (List ℕ)). fold extended_of (register_after (item_values xs)) vs) (foreign_values values)
     ∙ ap (λ (s : List ℕ). fold extended_of s values) f)
 
-reads_after : (act : Act) (items : Option (List Item)) (r : List ℕ) → reads_of items ≡ Some r → reads_of (items_after act true items) ≡ Some (register_by act r)
+reads_after : (act : Act) (items : Option (List Item)) (r : List ℕ) → reads_of items ≡ Some r
+    → reads_of (items_after act true items) ≡ Some (register_by act r)
 reads_after ResetRegister None r e = cc
 reads_after ResetRegister (Some xs) r e = refl
 reads_after (ExtendRegister value) None r e = cc
@@ -77,21 +81,25 @@ items_of ReadRegister (Some xs) = refl
 abbrev pub with_register : Digests → List ℕ → Digests
 with_register d register = record d { register = register }
 
-pub foreign_made : (i : Instance) (d : Digests) (values : List (List ℕ)) → all_made (by_digests i) d (map Foreign values) ≡ with_register d (fold extended_of d.register values)
+pub foreign_made : (i : Instance) (d : Digests) (values : List (List ℕ))
+    → all_made (by_digests i) d (map Foreign values) ≡ with_register d (fold extended_of d.register values)
 foreign_made i d [] = refl
 foreign_made i d (v ∷ values) = foreign_made i (with_register d (extended_of d.register v)) values
 
-foreign_shown : (i : Instance) (d : Digests) (values : List (List ℕ)) (items : List Item) → shown i d (map Foreign values) items ≡ items ++ map foreign_item values
+foreign_shown : (i : Instance) (d : Digests) (values : List (List ℕ)) (items : List Item)
+    → shown i d (map Foreign values) items ≡ items ++ map foreign_item values
 foreign_shown i d [] items = sym (append-nil items)
 foreign_shown i d (v ∷ values) items =
     foreign_shown i (with_register d (extended_of d.register v)) values (items ++ foreign_item v ∷ [])
     ∙ append_assoc items (foreign_item v ∷ []) (map foreign_item values)
 
-pub all_made-append : (i : Instance) (d : Digests) (xs ys : List Move) → all_made (by_digests i) d (xs ++ ys) ≡ all_made (by_digests i) (all_made (by_digests i) d xs) ys
+pub all_made-append : (i : Instance) (d : Digests) (xs ys : List Move)
+    → all_made (by_digests i) d (xs ++ ys) ≡ all_made (by_digests i) (all_made (by_digests i) d xs) ys
 all_made-append i d [] ys = refl
 all_made-append i d (m ∷ xs) ys = all_made-append i (made i d m) xs ys
 
-pub shown-append : (i : Instance) (d : Digests) (xs ys : List Move) (items : List Item) → shown i d (xs ++ ys) items ≡ shown i (all_made (by_digests i) d xs) ys (shown i d xs items)
+pub shown-append : (i : Instance) (d : Digests) (xs ys : List Move) (items : List Item)
+    → shown i d (xs ++ ys) items ≡ shown i (all_made (by_digests i) d xs) ys (shown i d xs items)
 shown-append i d [] ys items = refl
 shown-append i d (m ∷ xs) ys items = shown-append i (made i d m) xs ys (shown_by i.variant d.flag i m items)
 
@@ -106,18 +114,22 @@ abbrev at_cell : Instance → Option (List ℕ) → Digests → Type 0
 at_cell i cell d = cell ≡ Some (cell_spelling (cell_at i d))
 
 -- from the cell and the items
-leads_to : (i : Instance) (d e : Digests) (moves : List Move) (old new : Standing) → all_made (by_digests i) d moves ≡ e → IsCell (cell_at i e) → at_cell i new.cell e → RegisterAt i.variant (reads_of new.items) e.register → new.items ≡ option_map (shown i d moves) old.items → StepLeads i d moves old new
+leads_to : (i : Instance) (d e : Digests) (moves : List Move) (old new : Standing) → all_made (by_digests i) d moves ≡ e
+    → IsCell (cell_at i e) → at_cell i new.cell e → RegisterAt i.variant (reads_of new.items) e.register
+    → new.items ≡ option_map (shown i d moves) old.items → StepLeads i d moves old new
 leads_to i d e moves old new is spells cell reads items = record {
   stands = subst (λ (x : Digests). StandsAt i new x) (sym is) (record { spells = spells; cell = cell; reads = reads });
   items = items;
 }
 
-items_brought : (i : Instance) (d : Digests) (values : List (List ℕ)) (items : Option (List Item)) → beside values items ≡ option_map (shown i d (map Foreign values)) items
+items_brought : (i : Instance) (d : Digests) (values : List (List ℕ)) (items : Option (List Item))
+    → beside values items ≡ option_map (shown i d (map Foreign values)) items
 items_brought i d values None = refl
 items_brought i d values (Some xs) = ap Some (sym (foreign_shown i d values xs))
 
 -- others' values alone
-brought : (i : Instance) (d : Digests) (values : List (List ℕ)) (old new : Standing) → StandsAt i old d → new.cell ≡ old.cell → new.items ≡ beside values old.items → StepLeads i d (map Foreign values) old new
+brought : (i : Instance) (d : Digests) (values : List (List ℕ)) (old new : Standing) → StandsAt i old d → new.cell ≡ old.cell
+    → new.items ≡ beside values old.items → StepLeads i d (map Foreign values) old new
 brought i d values old new s cell items =
     leads_to i d (with_register d (fold extended_of d.register values)) (map Foreign values) old new (foreign_made i d values)
     s.spells (cell ∙ s.cell)
@@ -125,7 +137,8 @@ brought i d values old new s cell items =
     (λ e. ap reads_of items ∙ reads_beside old.items values d.register e) s.reads)
     (items ∙ items_brought i d values old.items)
 
-change_shown : (i : Instance) (d : Digests) (act : Act) (m : Move) (values : List (List ℕ)) (items : Option (List Item)) → IsChange i d act m → items_after act true (beside values items) ≡ option_map (shown i d (map Foreign values ++ m ∷ [])) items
+change_shown : (i : Instance) (d : Digests) (act : Act) (m : Move) (values : List (List ℕ)) (items : Option (List Item))
+    → IsChange i d act m → items_after act true (beside values items) ≡ option_map (shown i d (map Foreign values ++ m ∷ [])) items
 change_shown i d act m values None c = items_of act None
 change_shown i d act m values (Some xs) c =
     items_of act (Some (xs ++ map foreign_item values))
@@ -135,7 +148,9 @@ change_shown i d act m values (Some xs) c =
     ∙ c.shows (xs ++ map foreign_item values)))
 
 -- a change of the register
-changed : (i : Instance) (d : Digests) (act : Act) (m : Move) (values : List (List ℕ)) (old new : Standing) → StandsAt i old d → IsChange i d act m → new.cell ≡ old.cell → new.items ≡ items_after act true (beside values old.items) → StepLeads i d (map Foreign values ++ m ∷ []) old new
+changed : (i : Instance) (d : Digests) (act : Act) (m : Move) (values : List (List ℕ)) (old new : Standing) → StandsAt i old d
+    → IsChange i d act m → new.cell ≡ old.cell → new.items ≡ items_after act true (beside values old.items)
+    → StepLeads i d (map Foreign values ++ m ∷ []) old new
 changed i d act m values old new s c cell items =
     let r : List ℕ = fold extended_of d.register values in
     let e : Digests = made i (with_register d r) m in
@@ -150,7 +165,8 @@ changed i d act m values old new s c cell items =
     ∙ ap (λ (x : List ℕ). Some x) (sym (c.register r))) s.reads)
     (items ∙ change_shown i d act m values old.items c)
 
-write_shown : (i : Instance) (d : Digests) (bytes : List ℕ) (m : Move) (values : List (List ℕ)) (items : Option (List Item)) → IsWrite i d bytes m → beside values items ≡ option_map (shown i d (m ∷ map Foreign values)) items
+write_shown : (i : Instance) (d : Digests) (bytes : List ℕ) (m : Move) (values : List (List ℕ)) (items : Option (List Item))
+    → IsWrite i d bytes m → beside values items ≡ option_map (shown i d (m ∷ map Foreign values)) items
 write_shown i d bytes m values None w = refl
 write_shown i d bytes m values (Some xs) w =
     ap Some (sym (foreign_shown i (made i d m) values (shown_by i.variant d.flag i m xs)
@@ -161,7 +177,9 @@ some_written bytes next None e = cc
 some_written bytes next (Some x) e = refl
 
 -- a write of the cell
-written : (i : Instance) (d : Digests) (bytes : List ℕ) (m : Move) (values : List (List ℕ)) (old new : Standing) → StandsAt i old d → IsWrite i d bytes m → new.cell ≡ option_map (λ _. bytes) old.cell → new.items ≡ beside values old.items → StepLeads i d (m ∷ map Foreign values) old new
+written : (i : Instance) (d : Digests) (bytes : List ℕ) (m : Move) (values : List (List ℕ)) (old new : Standing) → StandsAt i old d
+    → IsWrite i d bytes m → new.cell ≡ option_map (λ _. bytes) old.cell → new.items ≡ beside values old.items
+    → StepLeads i d (m ∷ map Foreign values) old new
 written i d bytes m values old new s w cell items =
     let e : Digests = made i d m in
     leads_to i d (with_register e (fold extended_of e.register values)) (m ∷ map Foreign values) old new
@@ -173,13 +191,16 @@ written i d bytes m values old new s w cell items =
     (items ∙ write_shown i d bytes m values old.items w)
 
 -- what a step leaves, by whether its effect was made
-step_leads : (act : Act) (step : Step) (is_made : Bool) (i : Instance) (d : Digests) (values : List (List ℕ)) (old new : Standing) → StandsAt i old d → MakesStep i d act step → new.cell ≡ cell_after act is_made old.cell → new.items ≡ items_after act is_made (beside values old.items) → StepLeads i d (step_moves step is_made values) old new
+step_leads : (act : Act) (step : Step) (is_made : Bool) (i : Instance) (d : Digests) (values : List (List ℕ)) (old new : Standing)
+    → StandsAt i old d → MakesStep i d act step → new.cell ≡ cell_after act is_made old.cell
+    → new.items ≡ items_after act is_made (beside values old.items) → StepLeads i d (step_moves step is_made values) old new
 step_leads ReadCell Reads is_made i d values old new s m cell items = brought i d values old new s cell items
 step_leads ReadRegister Reads is_made i d values old new s m cell items = brought i d values old new s cell items
 step_leads ResetRegister (Changes m) true i d values old new s c cell items = changed i d ResetRegister m values old new s c cell items
 step_leads ResetRegister (Changes m) false i d values old new s c cell items =
     subst (λ (ms : List Move). StepLeads i d ms old new) (sym (append-nil (map Foreign values))) (brought i d values old new s cell items)
-step_leads (ExtendRegister value) (Changes m) true i d values old new s c cell items = changed i d (ExtendRegister value) m values old new s c cell items
+step_leads (ExtendRegister value) (Changes m) true i d values old new s c cell items =
+    changed i d (ExtendRegister value) m values old new s c cell items
 step_leads (ExtendRegister value) (Changes m) false i d values old new s c cell items =
     subst (λ (ms : List Move). StepLeads i d ms old new) (sym (append-nil (map Foreign values))) (brought i d values old new s cell items)
 step_leads (WriteCell bytes) (Writes m) true i d values old new s w cell items = written i d bytes m values old new s w cell items
@@ -196,7 +217,8 @@ step_leads (WriteCell bytes) Reads is_made i d values old new s x cell items = a
 step_leads (WriteCell bytes) (Changes m) is_made i d values old new s x cell items = absurd x
 
 -- the count of writes
-act_writes : (act : Act) (step : Step) (i : Instance) (d : Digests) (count rest : ℕ) → MakesStep i d act step → counted_by rest (writes_after act count) ≡ counted_by (writes_then step rest) count
+act_writes : (act : Act) (step : Step) (i : Instance) (d : Digests) (count rest : ℕ) → MakesStep i d act step
+    → counted_by rest (writes_after act count) ≡ counted_by (writes_then step rest) count
 act_writes ReadCell Reads i d count rest m = refl
 act_writes ReadRegister Reads i d count rest m = refl
 act_writes ResetRegister (Changes m) i d count rest c = refl
@@ -220,7 +242,8 @@ record StepEnds (i : Instance) (d : Digests) (step : Step) (moves : List Move) (
   writes : (rest : ℕ) → counted_by rest new.writes ≡ counted_by (writes_then step rest) old.writes
 
 -- room changes nothing else
-roomier : (i : Instance) (d : Digests) (step : Step) (moves : List Move) (old after new : Standing) → new ≡ record after { spare = new.spare } → StepEnds i d step moves old after → StepEnds i d step moves old new
+roomier : (i : Instance) (d : Digests) (step : Step) (moves : List Move) (old after new : Standing)
+    → new ≡ record after { spare = new.spare } → StepEnds i d step moves old after → StepEnds i d step moves old new
 roomier i d step moves old after new e s =
     let cell : new.cell ≡ after.cell = ap (λ (x : Standing). x.cell) e in
     let items : new.items ≡ after.items = ap (λ (x : Standing). x.items) e in
@@ -237,7 +260,8 @@ roomier i d step moves old after new e s =
       writes = λ (rest : ℕ). ap (λ (x : Standing). counted_by rest x.writes) e ∙ s.writes rest;
     }
 
-step_ends : (i : Instance) (d : Digests) (fate : Fate) (step : Step) (old new : Standing) (fault : Option StepFault) → StandsAt i old d → (t : Stepped i d fate step old new fault) → StepEnds i d step (step_moves step t.goes.is_made fate.brings) old new
+step_ends : (i : Instance) (d : Digests) (fate : Fate) (step : Step) (old new : Standing) (fault : Option StepFault) → StandsAt i old d
+    → (t : Stepped i d fate step old new fault) → StepEnds i d step (step_moves step t.goes.is_made fate.brings) old new
 step_ends i d fate step old new fault s t =
     let items : t.after.items ≡ items_after t.act t.goes.is_made (beside fate.brings old.items) =
     t.goes.items ∙ ap (λ (vs : List (List ℕ)). items_after t.act t.goes.is_made (beside vs old.items)) (sym t.brings) in
@@ -248,7 +272,9 @@ step_ends i d fate step old new fault s t =
     })
 
 -- the step that failed is the last
-failed : (i : Instance) (d : Digests) (step : Step) (values : List (List ℕ)) (is_made : Bool) (fault : StepFault) (rest : Walked) (old new : Standing) → StepEnds i d step (step_moves step is_made values) old new → Leads i d (after_step step values (Fails fault is_made) rest) old new (Some fault)
+failed : (i : Instance) (d : Digests) (step : Step) (values : List (List ℕ)) (is_made : Bool) (fault : StepFault) (rest : Walked)
+    (old new : Standing) → StepEnds i d step (step_moves step is_made values) old new
+    → Leads i d (after_step step values (Fails fault is_made) rest) old new (Some fault)
 failed i d step values is_made fault rest old new s = record {
   stands = s.leads.stands;
   broken = refl;
@@ -257,16 +283,21 @@ failed i d step values is_made fault rest old new s = record {
   items = s.leads.items;
 }
 
-map_twice : (f g : List Item → List Item) (items : Option (List Item)) → option_map g (option_map f items) ≡ option_map (λ (xs : List Item). g (f xs)) items
+map_twice : (f g : List Item → List Item) (items : Option (List Item))
+    → option_map g (option_map f items) ≡ option_map (λ (xs : List Item). g (f xs)) items
 map_twice f g None = refl
 map_twice f g (Some xs) = refl
 
-map_alike : (f g : List Item → List Item) (items : Option (List Item)) → ((xs : List Item) → f xs ≡ g xs) → option_map f items ≡ option_map g items
+map_alike : (f g : List Item → List Item) (items : Option (List Item)) → ((xs : List Item) → f xs ≡ g xs)
+    → option_map f items ≡ option_map g items
 map_alike f g None h = refl
 map_alike f g (Some xs) h = ap Some (h xs)
 
 -- a step that was done, and the rest
-done : (i : Instance) (d : Digests) (step : Step) (values : List (List ℕ)) (rest : Walked) (old middle new : Standing) (fault : Option StepFault) → StepEnds i d step (step_moves step true values) old middle → Leads i (all_made (by_digests i) d (step_moves step true values)) rest middle new fault → Leads i d (after_step step values Done rest) old new fault
+done : (i : Instance) (d : Digests) (step : Step) (values : List (List ℕ)) (rest : Walked) (old middle new : Standing)
+    (fault : Option StepFault) → StepEnds i d step (step_moves step true values) old middle
+    → Leads i (all_made (by_digests i) d (step_moves step true values)) rest middle new fault
+    → Leads i d (after_step step values Done rest) old new fault
 done i d step values rest old middle new fault s l =
     let moves : List Move = step_moves step true values in
     let e : Digests = all_made (by_digests i) d moves in
@@ -282,16 +313,20 @@ done i d step values rest old middle new fault s l =
     }
 
 -- the end of a step by its answer
-ended : (answer : Option StepFault) (i : Instance) (d : Digests) (fate : Fate) (step : Step) (rest : Walked) (old middle new : Standing) (fault : Option StepFault) (going : Type 0) → StandsAt i old d → Stepped i d fate step old middle answer
-    → (going → StandsAt i middle (all_made (by_digests i) d (step_moves step true fate.brings)) → Leads i (all_made (by_digests i) d (step_moves step true fate.brings)) rest middle new fault)
+ended : (answer : Option StepFault) (i : Instance) (d : Digests) (fate : Fate) (step : Step) (rest : Walked) (old middle new : Standing)
+    (fault : Option StepFault) (going : Type 0) → StandsAt i old d → Stepped i d fate step old middle answer
+    → (going → StandsAt i middle (all_made (by_digests i) d (step_moves step true fate.brings))
+    → Leads i (all_made (by_digests i) d (step_moves step true fate.brings)) rest middle new fault)
     → Rest answer going ((new ≡ middle) × (fault ≡ answer)) → Leads i d (after_step step fate.brings fate.ends rest) old new fault
 ended None i d fate step rest old middle new fault going s t h r =
     let ends : StepEnds i d step (step_moves step true fate.brings) old middle =
-    subst (λ (m : Bool). StepEnds i d step (step_moves step m fate.brings) old middle) t.goes.ends.made (step_ends i d fate step old middle None s t) in
+    subst (λ (m : Bool). StepEnds i d step (step_moves step m fate.brings) old middle) t.goes.ends.made
+    (step_ends i d fate step old middle None s t) in
     subst (λ (x : End). Leads i d (after_step step fate.brings x rest) old new fault) (sym t.ends)
     (done i d step fate.brings rest old middle new fault ends (h r ends.leads.stands))
 ended (Some f) i d fate step rest old middle new fault going s t h r =
-    let ends : StepEnds i d step (step_moves step t.goes.is_made fate.brings) old middle = step_ends i d fate step old middle (Some f) s t in
+    let ends : StepEnds i d step (step_moves step t.goes.is_made fate.brings) old middle = step_ends i d fate step old middle (Some f) s t
+    in
     subst (λ (x : End). Leads i d (after_step step fate.brings x rest) old new fault) (sym t.ends)
     (subst (λ (x : Standing). Leads i d (after_step step fate.brings (Fails f t.goes.is_made) rest) old x fault) (sym r.0)
     (subst (λ (x : Option StepFault). Leads i d (after_step step fate.brings (Fails f t.goes.is_made) rest) old middle x) (sym r.1)
@@ -302,7 +337,8 @@ same_items None = refl
 same_items (Some xs) = refl
 
 -- no step
-none_leads : (i : Instance) (d : Digests) (old : Standing) → StandsAt i old d → Leads i d (record { moves = []; steps = 0; writes = 0; broken = None }) old old None
+none_leads : (i : Instance) (d : Digests) (old : Standing) → StandsAt i old d
+    → Leads i d (record { moves = []; steps = 0; writes = 0; broken = None }) old old None
 none_leads i d old s = record { stands = s; broken = refl; steps = refl; writes = refl; items = sym (same_items old.items) }
 
 pub leads : TrailsLead
@@ -312,4 +348,5 @@ leads i d fates n [] old new fault s t =
 leads i d fates n (step ∷ steps) old new fault s t =
     let e : Digests = all_made (by_digests i) d (step_moves step true (fates n).brings) in
     ended t.1 i d (fates n) step (walk fates (n + 1) steps) old t.0 new fault (Trail i e fates (n + 1) steps t.0 new fault) s t.2
-    (λ (r : Trail i e fates (n + 1) steps t.0 new fault) (stands : StandsAt i t.0 e). leads i e fates (n + 1) steps t.0 new fault stands r) t.3
+    (λ (r : Trail i e fates (n + 1) steps t.0 new fault) (stands : StandsAt i t.0 e). leads i e fates (n + 1) steps t.0 new fault stands r)
+    t.3

@@ -7,7 +7,7 @@ use Rattle.mm_digest.specs.declared.variant.Variant.TheVariants.{Basic, Opt}
 use Rattle.mm_model.specs.Instance.{Instance}
 use Rattle.mm_model.specs.History.{Value, History, Move, Commit, Foreign, Placed, Reset, Close, Power, moved}
 use Rattle.mm_model.specs.Steps.{Step, Reads, Changes, Writes, ask_steps}
-use Rattle.mm_model.specs.Messages.{move_messages}
+use Rattle.mm_model.specs.MessagesWords.{move_messages}
 use Rattle.mm_call.specs.Levels.{Level, by_lists, all_made}
 use Rattle.mm_call.specs.Courses.{End, Done, Fails, Fate, Walked, step_moves, after_step, walk, seen_in, commits}
 use Rattle.mm_call.specs.Asked.{moves_messages, foreign_in, from_reset}
@@ -80,7 +80,8 @@ quiet_placed b false values = foreign_first values []
 quiet_step : (step : Step) (values : List (List ℕ)) (ends : End) (rest : Walked) (b : Batch) (fresh : Bool) → IsQuiet step
     → Commits b fresh rest → Commits b fresh (after_step step values ends rest)
 quiet_step step values Done rest b fresh quiet (nothing e unless) =
-    nothing (committed-append (step_moves step true values) rest.moves ∙ ap (λ v. v ++ committed_in rest.moves) (quiet true values) ∙ e) unless
+    nothing (committed-append (step_moves step true values) rest.moves ∙ ap (λ v. v ++ committed_in rest.moves) (quiet true values) ∙ e)
+    unless
 quiet_step step values Done rest b fresh quiet (batch e is) =
     batch (committed-append (step_moves step true values) rest.moves ∙ ap (λ v. v ++ committed_in rest.moves) (quiet true values) ∙ e) is
 quiet_step step values (Fails fault made) rest b fresh quiet c = nothing (quiet made values) (λ e. cc)
@@ -130,7 +131,8 @@ changing_commits fates true true b =
     last_step (Changes (Commit b)) (fates 3).brings (fates 3).ends b
     (foreign_first (fates 3).brings (Commit b ∷ [])) (foreign_first (fates 3).brings [])
 changing_commits fates false true b =
-    quiet_step (Changes Reset) (fates 3).brings (fates 3).ends (walk fates 4 (Changes (Placed b) ∷ Writes (Commit b) ∷ [])) b true quiet_reset
+    quiet_step (Changes Reset) (fates 3).brings (fates 3).ends (walk fates 4 (Changes (Placed b) ∷ Writes (Commit b) ∷ [])) b true
+    quiet_reset
     (quiet_step (Changes (Placed b)) (fates 4).brings (fates 4).ends (walk fates 5 (Writes (Commit b) ∷ [])) b true (quiet_placed b)
     (last_step (Writes (Commit b)) (fates 5).brings (fates 5).ends b (written_one b (fates 5).brings) (committed-foreign (fates 5).brings)))
 
@@ -143,7 +145,8 @@ opt_commits fates flag fresh b =
     (changing_commits fates flag fresh b))
 
 -- a call commits nothing, or its batch
-pub call_commits : (variant : Variant) (fates : ℕ → Fate) (flag fresh : Bool) (b : Batch) → Commits b fresh (walk fates 1 (ask_steps variant flag fresh b))
+pub call_commits : (variant : Variant) (fates : ℕ → Fate) (flag fresh : Bool) (b : Batch)
+    → Commits b fresh (walk fates 1 (ask_steps variant flag fresh b))
 call_commits Basic fates flag fresh b = basic_commits fates flag fresh b
 call_commits Opt fates flag fresh b =
     subst (λ s. Commits b fresh (walk fates 1 s)) (sym (asks flag fresh b)) (opt_commits fates flag fresh b)
@@ -166,7 +169,8 @@ taking_is i (v ∷ values) y =
 
 pub foreign_made : (i : Instance) (values : List (List ℕ)) (moves : List Move) (y : History)
     → all_made (by_lists i) y (map Foreign values ++ moves) ≡ all_made (by_lists i) (taking y values) moves
-foreign_made i values moves y = made-append (by_lists i) (map Foreign values) moves y ∙ ap (λ x. all_made (by_lists i) x moves) (taking_is i values y)
+foreign_made i values moves y =
+    made-append (by_lists i) (map Foreign values) moves y ∙ ap (λ x. all_made (by_lists i) x moves) (taking_is i values y)
 
 -- what others put in among moves
 pub foreign_in-append : (xs ys : List Move) → foreign_in (xs ++ ys) ≡ foreign_in xs ++ foreign_in ys

@@ -4,7 +4,8 @@ use Rattle.mm_seal.specs.Snapshot.{Content, Snapshot, tag_of}
 use Rattle.mm_model.specs.declared.refusal.Refusal.{Refusal}
 use Rattle.mm_model.specs.declared.verdict.Verdict.{Verdict}
 use Rattle.mm_model.specs.declared.verdict.Verdict.TheVariants.{Fresh, Again, Lost, Stale}
-use Rattle.mm_call.specs.Order.{admitted, weighed}
+use Rattle.mm_call.specs.Order.{admitted}
+use Rattle.mm_call.specs.OrderWords.{weighed}
 use Rattle.mm_call.specs.Leaving.{IsAccepted}
 
 -- the verdict counts only for a rightly sealed offer of a spelled state

@@ -1,12 +1,13 @@
 -- What a call answers: by what was offered, and by what stands at the end.
 use Rattle.std.specs.Prelude.{ℕ, ◌+◌, ◌-◌, Bool, List, drop}
-use Rattle.mm_module.specs.Meaning.{Meaning, state_from, outputs_from}
+use Rattle.mm_module.specs.Meaning.{Meaning, outputs_from}
+use Rattle.mm_module.specs.MeaningWords.{state_from}
 use Rattle.mm_module.specs.Batch.{Batch, members_of, size_of}
 use Rattle.mm_seal.specs.declared.snapshot.Place.{Place}
 use Rattle.mm_seal.specs.Snapshot.{Content, sealed_of}
 use Rattle.mm_model.specs.Instance.{Instance}
 use Rattle.mm_model.specs.History.{History, requests_of, total_of}
-use Rattle.mm_model.specs.Standing.{issued_bytes}
+use Rattle.mm_model.specs.Places.{issued}
 use Rattle.mm_model.specs.declared.answer.BatchAnswer.{BatchAnswer}
 
 -- what the new snapshot says, at this place: the batch was run from the offered state
@@ -27,16 +28,14 @@ answer_at meaning key offered place b again = record {
   snapshot = sealed_of key (content_at meaning offered place b);
 }
 
--- what the module says to the last requests of a history, this many of them
-abbrev pub last_outputs : Meaning → History → ℕ → List (List ℕ)
-last_outputs meaning y count =
-    drop (total_of y.batches - count) (outputs_from meaning meaning.first (requests_of y.batches))
-
--- the answer to a batch with which a history ends, by whether it is a repeat
+-- the answer to a batch with which a history ends, by whether it is a repeat: what the module says
+-- to the last requests, as many as the batch has
 abbrev pub answer_on : Instance → History → Batch → Bool → BatchAnswer
 answer_on i y b again = record {
   again = again;
   position = total_of y.batches;
-  outputs = last_outputs i.meaning y (size_of b);
-  snapshot = issued_bytes i y;
+  outputs =
+      drop (total_of y.batches - size_of b)
+      (outputs_from i.meaning i.meaning.first (requests_of y.batches));
+  snapshot = sealed_of i.key (issued i y);
 }

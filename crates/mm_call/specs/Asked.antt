@@ -1,5 +1,7 @@
--- What is asked of a history and of the moves of a call, that the call be by digests what it is by lists.
+-- What is asked of a history and of the moves of a call, that the call be by digests what it is by
+-- lists.
 use Rattle.std.specs.Prelude.{◌≡◌, ℕ, Bool, true, false, List, [], ◌∷◌, ◌++◌, Option, None, Some, if◌then◌else◌}
+use Rattle.std.specs.Option.{option_map_or}
 use Rattle.std.specs.List.{AllByRecursion, Contains}
 use Rattle.mm_digest.specs.declared.variant.Variant.{Variant}
 use Rattle.mm_digest.specs.declared.variant.Variant.TheVariants.{Basic, Opt}
@@ -9,7 +11,7 @@ use Rattle.mm_model.specs.Instance.{Instance}
 use Rattle.mm_model.specs.History.{History, Move, Commit, Foreign, Placed, Reset, Close, Power, moved}
 use Rattle.mm_model.specs.Sound.{IsSound}
 use Rattle.mm_model.specs.Moves.{IsOutside}
-use Rattle.mm_model.specs.Messages.{Within, IsClear, AreNoGuards, history_messages, move_messages, offer_messages}
+use Rattle.mm_model.specs.Messages.{Within, IsClear, AreNoGuards, history_messages, moving_messages, offer_messages}
 use Rattle.mm_model.specs.Standing.{IsGenuine}
 use Rattle.mm_call.specs.Found.{right_content}
 
@@ -23,7 +25,8 @@ abbrev pub IsLedTo : Variant → History → Type 0
 IsLedTo Basic y = IsPlain y
 IsLedTo Opt y = IsSound y
 
--- What counts of a history: while no segment is open the register isn't read, and a reset comes before it counts.
+-- What counts of a history: while no segment is open the register isn't read, and a reset comes
+-- before it counts.
 abbrev pub counted_part : History → History
 counted_part y = record y { items = if y.is_open then y.items else [] }
 
@@ -45,7 +48,8 @@ counted_moves false moves = from_reset moves
 -- the messages of moves made one after another
 abbrev pub moves_messages : Instance → History → List Move → List (List ℕ)
 moves_messages i y [] = []
-moves_messages i y (m ∷ moves) = move_messages i y m ++ moves_messages i (moved i y m) moves
+moves_messages i y (m ∷ moves) =
+    moving_messages i.variant y.is_open i y m ++ moves_messages i (moved i y m) moves
 
 -- the values that others put into the register among these moves
 abbrev pub foreign_in : List Move → List (List ℕ)
@@ -59,21 +63,23 @@ foreign_in (Power ∷ moves) = foreign_in moves
 
 -- the messages of what is asked of a right offer
 abbrev pub right_messages : Instance → Batch → Option Content → List (List ℕ)
-right_messages i b None = []
-right_messages i b (Some content) = offer_messages i content.place b
+right_messages i b right = option_map_or (λ content. offer_messages i content.place b) right []
 
--- What is asked of a history, and what a call keeps: calls and others led to it; its messages are in the list `all`; its
--- values that stand for no batch and count are among `others`; and its batches among those `asked`.
-pub record IsWithin (all others : List (List ℕ)) (asked : List Batch) (i : Instance) (y : History) : Type 0 where
+-- What is asked of a history, and what a call keeps: calls and others led to it; its messages are
+-- in the list `all`; its values that stand for no batch and count are among `others`; and its
+-- batches among those `asked`.
+pub record IsWithin (all others : List (List ℕ)) (asked : List Batch) (i : Instance)
+    (y : History) : Type 0 where
   pub sound : IsLedTo i.variant y
   pub outside : IsOutside others y
   pub listed : Within (history_messages i (counted_part y)) all
   pub batches : AllByRecursion (Contains asked) y.batches
 
--- What is asked of a call from a history that makes these moves: the list is clear, and none of the values is the guard
--- of one of the batches; the history is within them, and so are the batch, the messages of a right offer, which names a
--- position of the history, and what counts of the moves.
-pub record IsAsked (all others : List (List ℕ)) (asked : List Batch) (i : Instance) (y : History) (moves : List Move) (offer : List ℕ)
+-- What is asked of a call from a history that makes these moves: the list is clear, and none of the
+-- values is the guard of one of the batches; the history is within them, and so are the batch, the
+-- messages of a right offer, which names a position of the history, and what counts of the moves.
+pub record IsAsked (all others : List (List ℕ)) (asked : List Batch) (i : Instance) (y : History)
+    (moves : List Move) (offer : List ℕ)
     (b : Batch) : Type 0 where
   pub clear : IsClear all
   pub apart : AreNoGuards i.barrier others asked

@@ -1,5 +1,7 @@
 -- What a call comes to on a course, by either level.
-use Rattle.std.specs.Prelude.{ℕ, Bool, true, false, List, [], ◌∷◌, Option, None, Some, Result, Ok, Err}
+use Rattle.std.specs.Prelude.{ℕ, true, false, List, [], ◌∷◌, Option, None, Some, Result, Ok, Err, fold, if◌then◌else◌}
+use Rattle.std.specs.Option.{option_map_or}
+use Rattle.std.specs.Result.{result_ok, result_and}
 use Rattle.mm_digest.specs.declared.variant.Variant.{Variant}
 use Rattle.mm_digest.specs.declared.variant.Variant.TheVariants.{Basic, Opt}
 use Rattle.mm_platform.specs.declared.fault.StepFault.{StepFault}
@@ -9,19 +11,20 @@ use Rattle.mm_model.specs.History.{Move}
 use Rattle.mm_model.specs.Steps.{Step, Reads, ask_steps}
 use Rattle.mm_model.specs.declared.answer.BatchAnswer.{BatchAnswer}
 use Rattle.mm_model.specs.declared.refusal.Refusal.{Refusal}
-use Rattle.mm_model.specs.declared.refusal.Refusal.TheVariants.{Device}
-use Rattle.mm_call.specs.Levels.{Level, all_made}
-use Rattle.mm_call.specs.Found.{Found, found_at, found_unless_wanting, is_fresh}
+use Rattle.mm_model.specs.declared.refusal.Refusal.TheVariants.{Device, Memory}
+use Rattle.mm_call.specs.Levels.{Level}
+use Rattle.mm_call.specs.Found.{Found, found_at}
 use Rattle.mm_call.specs.Courses.{Course, Walked, walk, seen_in, commits}
 
--- answered, refused, or broken off by a fault: then with the position after the batch, if that was committed
+-- answered, refused, or broken off by a fault: then with the position after the batch, if that was
+-- committed
 pub data Ending : Type 0 where
   Answers : BatchAnswer → Ending
   Refuses : Refusal → Ending
   Breaks : StepFault → Option ℕ → Ending
 
--- what stands after a call; how it ended; the moves that were made; the steps called, and those of them that write the
--- cell
+-- what stands after a call; how it ended; the moves that were made; the steps called, and those of
+-- them that write the cell
 pub record Called (S : Type 0) : Type 0 where
   pub state : S
   pub ending : Ending
@@ -39,41 +42,42 @@ abbrev pub position_of : {S : Type 0} → Level S → S → S → Batch → Resu
 position_of level seen s b (Ok found) = (level.answer found.again seen s found.offered b).position
 position_of level seen s b (Err why) = 0
 
--- that position, where the batch was committed
-abbrev pub kept_at : Bool → ℕ → Option ℕ
-kept_at true position = Some position
-kept_at false position = None
-
--- how a walk ends a call, by what was found: from the state at the reading steps and the state at the end
-abbrev pub ended_by : {S : Type 0} → Level S → S → S → Batch → Result Found Refusal → List Move → Option StepFault → Ending
-ended_by level seen s b found moves (Some fault) = Breaks fault (kept_at (commits moves) (position_of level seen s b found))
+-- how a walk ends a call, by what was found: from the state at the reading steps and the state at
+-- the end. A call that is broken off has that position where the batch was committed.
+abbrev pub ended_by : {S : Type 0} → Level S → S → S → Batch → Result Found Refusal → List Move
+    → Option StepFault → Ending
+ended_by level seen s b found moves (Some fault) =
+    Breaks fault (if commits moves then Some (position_of level seen s b found) else None)
 ended_by level seen s b (Err why) moves None = Refuses why
-ended_by level seen s b (Ok found) moves None = Answers (level.answer found.again seen s found.offered b)
+ended_by level seen s b (Ok found) moves None =
+    Answers (level.answer found.again seen s found.offered b)
 
 -- a call, by the walk of its steps
-abbrev pub called_by : {S : Type 0} → Level S → S → S → Batch → Result Found Refusal → Walked → Called S
+abbrev pub called_by : {S : Type 0} → Level S → S → S → Batch → Result Found Refusal → Walked
+    → Called S
 called_by level s seen b found walked = record {
-  state = all_made level s walked.moves;
-  ending = ended_by level seen (all_made level s walked.moves) b found walked.moves walked.broken;
+  state = fold level.made s walked.moves;
+  ending = ended_by level seen (fold level.made s walked.moves) b found walked.moves walked.broken;
   moves = walked.moves;
   steps = walked.steps;
   writes = walked.writes;
 }
 
--- a call, by what it sees and finds at its last reading step: its steps follow from that, and are walked on the course
-abbrev pub called_with : {S : Type 0} → Instance → Level S → S → S → Course → Batch → Result Found Refusal → Called S
-called_with i level s seen c b found =
-    called_by level s seen b found (walk c.fates 1 (ask_steps i.variant (level.is_open s) (is_fresh found) b))
-
 -- the state that a call sees: after the values that come before its reading steps
 abbrev pub seen_at : {S : Type 0} → Instance → Level S → S → Course → S
-seen_at i level s c = all_made level s (seen_in c.fates (reading_steps i.variant) 1)
+seen_at i level s c = fold level.made s (seen_in c.fates (reading_steps i.variant) 1)
 
--- a call that offers these bytes and asks for the batch
+-- A call that offers these bytes and asks for the batch: its steps follow from what it sees and
+-- finds at its last reading step, and are walked on the course. Memory may be wanting when the
+-- batch is run.
 abbrev pub called : {S : Type 0} → Instance → Level S → S → Course → List ℕ → Batch → Called S
 called i level s c bytes b =
     let seen = seen_at i level s c in
-    called_with i level s seen c b (found_unless_wanting (found_at i level seen b bytes) c.lacks)
+    let offered = found_at i level seen b bytes in
+    let found = result_and offered (if c.lacks then Err Memory else offered) in
+    let is_new = option_map_or (λ it. if it.again then false else true) (result_ok found) false in
+    let steps = ask_steps i.variant (level.is_open s) is_new b in
+    called_by level s seen b found (walk c.fates 1 steps)
 
 -- what a core gives for an ending: a device's fault is handed on
 abbrev pub given_for : Ending → Result BatchAnswer Refusal

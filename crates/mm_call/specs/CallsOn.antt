@@ -17,8 +17,9 @@ use Rattle.mm_call.specs.Called.{Called, called, given_for}
 use Rattle.mm_call.specs.Standing.{instance_by, StandsAt, shown, counted_by}
 use Rattle.mm_call.specs.Asked.{IsWithin, IsAsked}
 
--- The call over a platform that stood at these digests was this one: its result; the cell and the register; what the
--- register shows of its moves; and its steps, and those of them that write the cell.
+-- The call over a platform that stood at these digests was this one: its result; the cell and the
+-- register; what the register shows of its moves; and its steps, and those of them that write the
+-- cell.
 pub record GoesBy (i : Instance) (d : Digests) (o : Called Digests) (old new : Standing)
     (result : Result BatchAnswer Refusal) : Type 0 where
   pub gives : result ≡ given_for o.ending
@@ -27,30 +28,39 @@ pub record GoesBy (i : Instance) (d : Digests) (o : Called Digests) (old new : S
   pub steps : new.steps ≡ counted_by o.steps old.steps
   pub writes : new.writes ≡ counted_by o.writes old.writes
 
--- The call over a platform that stood for a history was this one, and what was asked of the history holds after it.
-pub record CallContinues (all others : List (List ℕ)) (asked : List Batch) (i : Instance) (o : Called History) (new : Standing)
+-- The call over a platform that stood for a history was this one, and what was asked of the history
+-- holds after it.
+pub record CallContinues (all others : List (List ℕ)) (asked : List Batch) (i : Instance)
+    (o : Called History) (new : Standing)
     (result : Result BatchAnswer Refusal) : Type 0 where
   pub gives : result ≡ given_for o.ending
   pub stands : StandsFor i new o.state
   pub within : IsWithin all others asked i o.state
 
--- A call over a platform, that isn't too long: there is a course, which is that of the plan where one is told, on which
--- the call goes from any digests that the platform stands at, and from any history that it stands for.
--- What is asked of the moves is asked of what the register shows of them, by the field `items`.
-pub record CallsOn (variant : Variant) (meaning : Meaning) (old new : Standing) (offer : List ℕ) (b : Batch)
+-- A call over a platform, that isn't too long: there is a course, which is that of the plan where
+-- one is told, on which the call goes from any digests that the platform stands at, and from any
+-- history that it stands for. What is asked of the moves is asked of what the register shows of
+-- them, by the field `items`.
+pub record CallsOn (variant : Variant) (meaning : Meaning) (old new : Standing) (offer : List ℕ)
+    (b : Batch)
     (result : Result BatchAnswer Refusal) : Type 0 where
   pub course : Course
   pub tells : AreTold old course.fates
   pub goes : (key barrier : List ℕ) (d : Digests) →
       StandsAt (instance_by variant meaning key barrier) old d →
       GoesBy (instance_by variant meaning key barrier) d
-      (called (instance_by variant meaning key barrier) (by_digests (instance_by variant meaning key barrier)) d course offer (normal b))
+      (called (instance_by variant meaning key barrier)
+      (by_digests (instance_by variant meaning key barrier)) d course offer (normal b))
       old new result
-  pub continues : (key barrier : List ℕ) (y : History) (all others : List (List ℕ)) (asked : List Batch) →
+  pub continues : (key barrier : List ℕ) (y : History) (all others : List (List ℕ))
+      (asked : List Batch) →
       StandsFor (instance_by variant meaning key barrier) old y →
       IsAsked all others asked (instance_by variant meaning key barrier) y
-      (called (instance_by variant meaning key barrier) (by_digests (instance_by variant meaning key barrier))
-      (digests_of (instance_by variant meaning key barrier) y) course offer (normal b)).moves offer (normal b) →
+      (called (instance_by variant meaning key barrier)
+      (by_digests (instance_by variant meaning key barrier))
+      (digests_of (instance_by variant meaning key barrier) y) course offer (normal b)).moves offer
+      (normal b) →
       CallContinues all others asked (instance_by variant meaning key barrier)
-      (called (instance_by variant meaning key barrier) (by_lists (instance_by variant meaning key barrier)) y course offer (normal b))
+      (called (instance_by variant meaning key barrier)
+      (by_lists (instance_by variant meaning key barrier)) y course offer (normal b))
       new result

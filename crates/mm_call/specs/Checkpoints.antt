@@ -1,23 +1,25 @@
 -- What a checkpoint comes to on a course, by either level; and its laws.
-use Rattle.std.specs.Prelude.{◌≡◌, ℕ, Bool, true, false, List, Option, None, Some}
+use Rattle.std.specs.Prelude.{◌≡◌, ℕ, Bool, true, false, List, fold}
+use Rattle.std.specs.Option.{option_map_or}
 use Rattle.std.specs.List.{AllByRecursion, Contains}
 use Rattle.mm_digest.specs.declared.variant.Variant.{Variant}
 use Rattle.mm_digest.specs.declared.variant.Variant.TheVariants.{Basic, Opt}
 use Rattle.mm_platform.specs.declared.fault.StepFault.{StepFault}
 use Rattle.mm_module.specs.Meaning.{Meaning}
 use Rattle.mm_module.specs.Batch.{Batch}
-use Rattle.mm_model.specs.Instance.{Instance, basic, opt}
+use Rattle.mm_model.specs.Instance.{Instance}
+use Rattle.mm_model.specs.InstanceWords.{basic, opt}
 use Rattle.mm_model.specs.History.{History, Move}
 use Rattle.mm_model.specs.Messages.{Within, IsClear}
 use Rattle.mm_model.specs.Moves.{Digests}
 use Rattle.mm_model.specs.Steps.{checkpoint_steps}
-use Rattle.mm_call.specs.Levels.{Level, all_made, by_lists, by_digests, Agrees}
+use Rattle.mm_call.specs.Levels.{Level, by_lists, by_digests, Agrees}
 use Rattle.mm_call.specs.Courses.{Course, Walked, walk, closes}
 use Rattle.mm_call.specs.Called.{seen_at}
 use Rattle.mm_call.specs.Asked.{counted_part, counted_moves, moves_messages, foreign_in, IsWithin}
 
--- The segment was closed; or nothing was: Basic has no segments, none is open, or power was lost inside it; or the call
--- was broken off by a fault: then whether the segment was closed.
+-- The segment was closed; or nothing was: Basic has no segments, none is open, or power was lost
+-- inside it; or the call was broken off by a fault: then whether the segment was closed.
 pub data Closing : Type 0 where
   Closes : Closing
   HasNone : Closing
@@ -25,8 +27,8 @@ pub data Closing : Type 0 where
   LostPower : Closing
   Stops : StepFault → Bool → Closing
 
--- what stands after a checkpoint; how it ended; the moves that were made; the steps called, and those of them that
--- write the cell
+-- what stands after a checkpoint; how it ended; the moves that were made; the steps called, and
+-- those of them that write the cell
 pub record Checkpointed (S : Type 0) : Type 0 where
   pub state : S
   pub ending : Closing
@@ -34,47 +36,44 @@ pub record Checkpointed (S : Type 0) : Type 0 where
   pub steps : ℕ
   pub writes : ℕ
 
--- how a checkpoint ends that isn't broken off: by whether a segment is open, and whether power was lost inside it
+-- how a checkpoint ends that isn't broken off: by whether a segment is open, and whether power was
+-- lost inside it
 abbrev pub closing_of : Variant → Bool → Bool → Closing
 closing_of Basic is_open is_lost = HasNone
 closing_of Opt false is_lost = NoSegment
 closing_of Opt true true = LostPower
 closing_of Opt true false = Closes
 
-abbrev pub closed_by : Option StepFault → Bool → Closing → Closing
-closed_by None closed closing = closing
-closed_by (Some fault) closed closing = Stops fault closed
-
 -- a checkpoint, by how it ends unless it is broken off, and the walk of its steps
 abbrev pub checkpointed_by : {S : Type 0} → Level S → S → Closing → Walked → Checkpointed S
 checkpointed_by level s closing walked = record {
-  state = all_made level s walked.moves;
-  ending = closed_by walked.broken (closes walked.moves) closing;
+  state = fold level.made s walked.moves;
+  ending = option_map_or (λ fault. Stops fault (closes walked.moves)) walked.broken closing;
   moves = walked.moves;
   steps = walked.steps;
   writes = walked.writes;
 }
 
-abbrev pub checkpointed_with : {S : Type 0} → Instance → Level S → S → Course → Bool → Checkpointed S
-checkpointed_with i level s c is_lost =
+-- a checkpoint on a course: its steps follow from what it sees, and are walked on the course
+abbrev pub checkpointed : {S : Type 0} → Instance → Level S → S → Course → Checkpointed S
+checkpointed i level s c =
+    let is_lost = level.is_lost (seen_at i level s c) in
     checkpointed_by level s (closing_of i.variant (level.is_open s) is_lost)
     (walk c.fates 1 (checkpoint_steps i.variant (level.is_open s) is_lost))
 
--- a checkpoint on a course: its steps follow from what it sees, and are walked on the course
-abbrev pub checkpointed : {S : Type 0} → Instance → Level S → S → Course → Checkpointed S
-checkpointed i level s c = checkpointed_with i level s c (level.is_lost (seen_at i level s c))
-
--- What is asked of a history and of the moves of a checkpoint from it: the list is clear, the history is within it, and
--- so is what counts of the moves.
-pub record IsClosedWithin (all others : List (List ℕ)) (asked : List Batch) (i : Instance) (y : History) (moves : List Move) : Type 0 where
+-- What is asked of a history and of the moves of a checkpoint from it: the list is clear, the
+-- history is within it, and so is what counts of the moves.
+pub record IsClosedWithin (all others : List (List ℕ)) (asked : List Batch) (i : Instance)
+    (y : History) (moves : List Move) : Type 0 where
   pub clear : IsClear all
   pub within : IsWithin all others asked i y
   pub messages : Within (moves_messages i (counted_part y) (counted_moves y.is_open moves)) all
   pub values : AllByRecursion (Contains others) (foreign_in (counted_moves y.is_open moves))
 
--- Two checkpoints end in the same way, with the same moves, steps and writes; the digests after are those of the
--- history; and what was asked of the history holds again.
-pub record IsSameCheckpoint (all others : List (List ℕ)) (asked : List Batch) (i : Instance) (lists : Checkpointed History)
+-- Two checkpoints end in the same way, with the same moves, steps and writes; the digests after are
+-- those of the history; and what was asked of the history holds again.
+pub record IsSameCheckpoint (all others : List (List ℕ)) (asked : List Batch) (i : Instance)
+    (lists : Checkpointed History)
     (digests : Checkpointed Digests) : Type 0 where
   pub ending : digests.ending ≡ lists.ending
   pub moves : digests.moves ≡ lists.moves
@@ -85,12 +84,17 @@ pub record IsSameCheckpoint (all others : List (List ℕ)) (asked : List Batch) 
 
 -- On every course the checkpoint by digests is the checkpoint by lists.
 abbrev pub CheckpointsAgree : Instance → Type 0
-CheckpointsAgree i = (all others : List (List ℕ)) (asked : List Batch) (y : History) (d : Digests) (course : Course) →
-    Agrees i y d → IsClosedWithin all others asked i y (checkpointed i (by_digests i) d course).moves →
-    IsSameCheckpoint all others asked i (checkpointed i (by_lists i) y course) (checkpointed i (by_digests i) d course)
+CheckpointsAgree i =
+    (all others : List (List ℕ)) (asked : List Batch) (y : History) (d : Digests) (course : Course)
+    →
+    Agrees i y d → IsClosedWithin all others asked i y
+    (checkpointed i (by_digests i) d course).moves →
+    IsSameCheckpoint all others asked i (checkpointed i (by_lists i) y course)
+    (checkpointed i (by_digests i) d course)
 
 abbrev pub BasicCheckpointsAgree : Type 0
 BasicCheckpointsAgree = (meaning : Meaning) (key : List ℕ) → CheckpointsAgree (basic meaning key)
 
 abbrev pub OptCheckpointsAgree : Type 0
-OptCheckpointsAgree = (meaning : Meaning) (key barrier : List ℕ) → CheckpointsAgree (opt meaning key barrier)
+OptCheckpointsAgree =
+    (meaning : Meaning) (key barrier : List ℕ) → CheckpointsAgree (opt meaning key barrier)

@@ -1,11 +1,14 @@
--- The course of a call: what others put into the register before each step, and how the step ends; and the walk of
--- steps on a course. Nothing here knows a state: a walk gives the moves that are made.
-use Rattle.std.specs.Prelude.{◌≡◌, ℕ, ◌+◌, suc, Bool, true, false, List, [], ◌∷◌, ◌++◌, Option, None, Some, map}
+-- The course of a call: what others put into the register before each step, and how the step ends;
+-- and the walk of
+use Rattle.std.specs.Prelude.{◌≡◌, ℕ, ◌+◌, suc, Bool, true, false, List, [], ◌∷◌, ◌++◌, Option, None, Some, map, filter, ◌==◌, if◌then◌else◌}
+use Rattle.std.specs.Option.{option_map_or}
 use Rattle.mm_platform.specs.declared.fault.StepFault.{StepFault}
-use Rattle.mm_platform.specs.Standing.{Plan, Standing, due}
+use Rattle.mm_platform.specs.Standing.{Plan, Standing}
 use Rattle.mm_platform.specs.Steps.{fault_at, is_made_at}
 use Rattle.mm_model.specs.History.{Move, Commit, Foreign, Placed, Reset, Close, Power}
 use Rattle.mm_model.specs.Steps.{Step, Reads, Changes, Writes}
+
+-- steps on a course. Nothing here knows a state: a walk gives the moves that are made.
 
 -- how a step ends: it is done; or it fails by this fault, with its effect made or not
 pub data End : Type 0 where
@@ -17,22 +20,18 @@ pub record Fate : Type 0 where
   pub brings : List (List ℕ)
   pub ends : End
 
--- what meets a call: the fate of each step, by its number; and whether memory is wanting when the batch is run
+-- what meets a call: the fate of each step, by its number; and whether memory is wanting when the
+-- batch is run
 pub record Course : Type 0 where
   pub fates : ℕ → Fate
   pub lacks : Bool
 
--- the move of one step, where its effect is made
-abbrev pub made_move : Bool → Move → List Move
-made_move true m = m ∷ []
-made_move false m = []
-
--- the moves of one step: by whether its effect is made, and by the values that others put into the register
--- just before it. A write of the cell makes its move before them.
+-- the moves of one step: by whether its effect is made, and by the values that others put into the
+-- register just before it. A write of the cell makes its move before them.
 abbrev pub step_moves : Step → Bool → List (List ℕ) → List Move
 step_moves Reads made values = map Foreign values
-step_moves (Changes m) made values = map Foreign values ++ made_move made m
-step_moves (Writes m) made values = made_move made m ++ map Foreign values
+step_moves (Changes m) made values = map Foreign values ++ (if made then m ∷ [] else [])
+step_moves (Writes m) made values = (if made then m ∷ [] else []) ++ map Foreign values
 
 -- a step that writes the cell, before so many others
 abbrev pub writes_then : Step → ℕ → ℕ
@@ -40,8 +39,8 @@ writes_then Reads later = later
 writes_then (Changes m) later = later
 writes_then (Writes m) later = suc later
 
--- the moves made; the steps called, and those of them that write the cell; and the fault by which the call was broken
--- off, if it was
+-- the moves made; the steps called, and those of them that write the cell; and the fault by which
+-- the call was broken off, if it was
 pub record Walked : Type 0 where
   pub moves : List Move
   pub steps : ℕ
@@ -66,7 +65,8 @@ after_step step values (Fails fault made) rest = record {
 -- the steps, one after another, from the step of this number on
 abbrev pub walk : (ℕ → Fate) → ℕ → List Step → Walked
 walk fates n [] = record { moves = []; steps = 0; writes = 0; broken = None }
-walk fates n (step ∷ steps) = after_step step (fates n).brings (fates n).ends (walk fates (n + 1) steps)
+walk fates n (step ∷ steps) =
+    after_step step (fates n).brings (fates n).ends (walk fates (n + 1) steps)
 
 -- what others put into the register up to the last of these steps, which read
 abbrev pub seen_in : (ℕ → Fate) → List Step → ℕ → List Move
@@ -92,16 +92,17 @@ closes (Placed b ∷ moves) = closes moves
 closes (Reset ∷ moves) = closes moves
 closes (Power ∷ moves) = closes moves
 
--- how a step ends that answers this fault, or none
-abbrev pub end_of : Option StepFault → Bool → End
-end_of None made = Done
-end_of (Some fault) made = Fails fault made
-
--- the fate of each step by a plan of which no step is over
+-- the fate of each step by a plan of which no step is over: the values of the meddles with this
+-- step extend the register just before it, in order
 abbrev pub planned : Plan → ℕ → Fate
-planned plan n = record { brings = due n plan.meddles; ends = end_of (fault_at plan.stop n) (is_made_at plan.stop n) }
+planned plan n = record {
+  brings = map (λ m. m.value.bytes) (filter (λ m. m.step == n) plan.meddles);
+  ends = option_map_or (λ fault. Fails fault (is_made_at plan.stop n)) (fault_at plan.stop n) Done;
+}
 
--- Where the platform is on and tells a plan of which no step is over, these are the fates by the plan.
+-- Where the platform is on and tells a plan of which no step is over, these are the fates by the
+-- plan.
 abbrev pub AreTold : Standing → (ℕ → Fate) → Type 0
 AreTold old fates =
-    (plan : Plan) → old.is_on ≡ true → old.plan ≡ Some plan → plan.at ≡ 0 → (n : ℕ) → fates n ≡ planned plan n
+    (plan : Plan) → old.is_on ≡ true → old.plan ≡ Some plan → plan.at ≡ 0 → (n : ℕ)
+    → fates n ≡ planned plan n

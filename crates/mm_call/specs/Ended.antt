@@ -39,18 +39,20 @@ abbrev pub committed_as : Option ℕ → Result BatchAnswer StepFault → Ended
 committed_as commits (Ok answer) = Answered answer
 committed_as commits (Err fault) = Broken fault commits
 
--- The position that a step which ends so has committed: the one that it would, where its effect was made.
+-- The position that a step which ends so has committed: the one that it would, where its effect was
+-- made.
 abbrev pub kept_by : End → Option ℕ → Option ℕ
 kept_by Done commits = None
 kept_by (Fails fault true) commits = commits
 kept_by (Fails fault false) commits = None
 
--- A refusal hands no fault on. A call that was broken off ended with the position that its last step would commit,
--- where that was made on these fates.
+-- A refusal hands no fault on. A call that was broken off ended with the position that its last
+-- step would commit, where that was made on these fates.
 abbrev pub KeepsAs : (ℕ → Fate) → Called Digests → Ended → Type 0
 KeepsAs fates o (Answered answer) = Unit {0}
 KeepsAs fates o (Refused why) = fault_of why ≡ None
-KeepsAs fates o (Broken fault commits) = o.ending ≡ Breaks fault (kept_by (fates o.steps).ends commits)
+KeepsAs fates o (Broken fault commits) =
+    o.ending ≡ Breaks fault (kept_by (fates o.steps).ends commits)
 
 -- a device's fault broke it off
 abbrev pub is_broken : Ended → Bool
@@ -66,16 +68,21 @@ StaysOn Quiet broken new = new.is_on ≡ true
 StaysOn (Drop step) broken new = new.is_on ≡ true
 StaysOn (Fail step done) broken new = new.is_on ≡ true
 
--- Where the platform is on and tells a plan of which no step is over, it stays on so, and goes on to tell one.
+-- Where the platform is on and tells a plan of which no step is over, it stays on so, and goes on
+-- to tell one.
 abbrev pub StaysPlanned : Standing → Standing → Bool → Type 0
 StaysPlanned old new broken =
-    (plan : Plan) → old.is_on ≡ true → old.plan ≡ Some plan → plan.at ≡ 0 → StaysOn plan.stop broken new × IsSome new.plan
+    (plan : Plan) → old.is_on ≡ true → old.plan ≡ Some plan → plan.at ≡ 0
+    → StaysOn plan.stop broken new × IsSome new.plan
 
 -- The call went on a course, and ended so.
-pub record CallsTo (variant : Variant) (meaning : Meaning) (old new : Standing) (offer : List ℕ) (b : Batch) (ended : Ended) : Type 0 where
+pub record CallsTo (variant : Variant) (meaning : Meaning) (old new : Standing) (offer : List ℕ)
+    (b : Batch) (ended : Ended) : Type 0 where
   pub calls : CallsOn variant meaning old new offer b (result_of ended)
-  pub keeps : (key barrier : List ℕ) (d : Digests) → StandsAt (instance_by variant meaning key barrier) old d →
+  pub keeps : (key barrier : List ℕ) (d : Digests)
+      → StandsAt (instance_by variant meaning key barrier) old d →
       KeepsAs calls.course.fates
-      (called (instance_by variant meaning key barrier) (by_digests (instance_by variant meaning key barrier)) d calls.course offer
+      (called (instance_by variant meaning key barrier)
+      (by_digests (instance_by variant meaning key barrier)) d calls.course offer
       (normal b)) ended
   pub plans : StaysPlanned old new (is_broken ended)

@@ -2,7 +2,8 @@
 use Rattle.std.specs.Prelude.{◌≡◌, ℕ, List}
 use Rattle.mm_module.specs.Meaning.{Meaning}
 use Rattle.mm_module.specs.Batch.{Batch}
-use Rattle.mm_model.specs.Instance.{Instance, basic, opt}
+use Rattle.mm_model.specs.Instance.{Instance}
+use Rattle.mm_model.specs.InstanceWords.{basic, opt}
 use Rattle.mm_model.specs.History.{History}
 use Rattle.mm_model.specs.Moves.{Digests}
 use Rattle.mm_call.specs.Levels.{by_lists, by_digests, Agrees}
@@ -10,9 +11,10 @@ use Rattle.mm_call.specs.Courses.{Course}
 use Rattle.mm_call.specs.Called.{Called, called}
 use Rattle.mm_call.specs.Asked.{IsWithin, IsAsked}
 
--- Two calls end in the same way, with the same moves, steps and writes; the digests after are those of the history; and
--- what was asked of the history holds again.
-pub record IsSameCall (all others : List (List ℕ)) (asked : List Batch) (i : Instance) (lists : Called History)
+-- Two calls end in the same way, with the same moves, steps and writes; the digests after are those
+-- of the history; and what was asked of the history holds again.
+pub record IsSameCall (all others : List (List ℕ)) (asked : List Batch) (i : Instance)
+    (lists : Called History)
     (digests : Called Digests) : Type 0 where
   pub ending : digests.ending ≡ lists.ending
   pub moves : digests.moves ≡ lists.moves
@@ -21,13 +23,18 @@ pub record IsSameCall (all others : List (List ℕ)) (asked : List Batch) (i : I
   pub agrees : Agrees i lists.state digests.state
   pub within : IsWithin all others asked i lists.state
 
--- On every course: where the history is within the list and what counts of the moves is, the call by digests is the
--- call by lists. Values of others before steps that weren't reached are never asked about.
+-- On every course: where the history is within the list and what counts of the moves is, the call
+-- by digests is the call by lists. Values of others before steps that weren't reached are never
+-- asked about.
 abbrev pub CallsAgree : Instance → Type 0
-CallsAgree i = (all others : List (List ℕ)) (asked : List Batch) (y : History) (d : Digests) (course : Course) (offer : List ℕ)
+CallsAgree i =
+    (all others : List (List ℕ)) (asked : List Batch) (y : History) (d : Digests) (course : Course)
+    (offer : List ℕ)
     (b : Batch) →
-    Agrees i y d → IsAsked all others asked i y (called i (by_digests i) d course offer b).moves offer b →
-    IsSameCall all others asked i (called i (by_lists i) y course offer b) (called i (by_digests i) d course offer b)
+    Agrees i y d → IsAsked all others asked i y (called i (by_digests i) d course offer b).moves
+    offer b →
+    IsSameCall all others asked i (called i (by_lists i) y course offer b)
+    (called i (by_digests i) d course offer b)
 
 abbrev pub BasicCallsAgree : Type 0
 BasicCallsAgree = (meaning : Meaning) (key : List ℕ) → CallsAgree (basic meaning key)

@@ -12,7 +12,8 @@ use Rattle.mm_model.specs.declared.verdict.Verdict.{Verdict}
 use Rattle.mm_model.specs.declared.verdict.Verdict.TheVariants.{Fresh, Again, Lost, Stale}
 use Rattle.mm_call.specs.Refusals.{fault_of, fault_in}
 
--- The platform is as before, but for the count of steps, the values of others in the register, and room.
+-- The platform is as before, but for the count of steps, the values of others in the register, and
+-- room.
 pub record IsUntouched (old new : Standing) : Type 0 where
   pub others : List (List ℕ)
   pub cell : new.cell ≡ old.cell
@@ -22,7 +23,8 @@ pub record IsUntouched (old new : Standing) : Type 0 where
   pub room : old.spare ≤ new.spare
   pub faults : new.faults ≡ old.faults
 
--- The count of faults rose by exactly one where a device's fault is handed on, and is as before otherwise.
+-- The count of faults rose by exactly one where a device's fault is handed on, and is as before
+-- otherwise.
 abbrev pub Blames : Option StepFault → ℕ → ℕ → Type 0
 Blames None before now = now ≡ before
 Blames (Some fault) before now = Rose before now
@@ -52,7 +54,8 @@ IsAccepted Again = Unit {0}
 IsAccepted Lost = ⊥
 IsAccepted Stale = ⊥
 
--- answered, or refused for want of memory, or for a device's fault that it hands on and that was counted
+-- answered, or refused for want of memory, or for a device's fault that it hands on and that was
+-- counted
 abbrev pub IsAnswered : Result BatchAnswer Refusal → Standing → Standing → Type 0
 IsAnswered result old new =
     IsOk result ⊎ (result ≡ Err Memory) ⊎ (IsSome (fault_in result) × Rose old.faults new.faults)

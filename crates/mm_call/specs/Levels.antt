@@ -11,19 +11,21 @@ use Rattle.mm_seal.specs.declared.snapshot.Place.TheVariants.{Basic as InBasic, 
 use Rattle.mm_seal.specs.Snapshot.{Content}
 use Rattle.mm_model.specs.Chains.{link, guard}
 use Rattle.mm_model.specs.Instance.{Instance}
-use Rattle.mm_model.specs.History.{History, Move, moved, total_of, cell_digest_of, register_value_of}
+use Rattle.mm_model.specs.History.{History, Move, moved, total_of, register_value_of}
+use Rattle.mm_model.specs.HistoryWords.{cell_digest_of}
 use Rattle.mm_model.specs.Life.{life_of, is_lost}
 use Rattle.mm_model.specs.Moves.{Digests, made}
-use Rattle.mm_model.specs.Places.{digest_of}
+use Rattle.mm_model.specs.PlacesWords.{digest_of}
 use Rattle.mm_model.specs.Judge.{judge, verdict_by_digests}
 use Rattle.mm_model.specs.Standing.{flag_of}
 use Rattle.mm_model.specs.declared.answer.BatchAnswer.{BatchAnswer}
 use Rattle.mm_model.specs.declared.verdict.Verdict.{Verdict}
 use Rattle.mm_call.specs.Answers.{answer_at, answer_on}
 
--- A way to follow a call: what a move does to a state; whether a segment is open, and whether power was lost inside
--- it; how many requests are committed; the verdict on an offer; and the answer, from the state at the verdict, the
--- state at the end of the call and the offer, by whether it is a repeat.
+-- A way to follow a call: what a move does to a state; whether a segment is open, and whether power
+-- was lost inside it; how many requests are committed; the verdict on an offer; and the answer,
+-- from the state at the verdict, the state at the end of the call and the offer, by whether it is a
+-- repeat.
 pub record Level (S : Type 0) : Type 0 where
   pub made : S → Move → S
   pub is_open : S → Bool
@@ -36,8 +38,8 @@ pub record Level (S : Type 0) : Type 0 where
 abbrev pub all_made : {S : Type 0} → Level S → S → List Move → S
 all_made level s moves = fold level.made s moves
 
--- By lists: the verdict looks at the offered position and the batch alone, and the batch that is answered is the last
--- of the history.
+-- By lists: the verdict looks at the offered position and the batch alone, and the batch that is
+-- answered is the last of the history.
 abbrev pub by_lists : Instance → Level History
 by_lists i = record {
   made = moved i;
@@ -50,13 +52,17 @@ by_lists i = record {
 
 -- where the platform stands once the batch is committed, or, for a repeat, where it stands
 abbrev pub place_then : Variant → Bool → Bool → Instance → Digests → Batch → Place
-place_then Basic flag again i d b = InBasic (digest_of (if again then d.digest else link d.digest b))
+place_then Basic flag again i d b =
+    InBasic (digest_of (if again then d.digest else link d.digest b))
 place_then Opt true again i d b =
-    InOpt (digest_of d.digest) (digest_of (if again then d.register else extended_of d.register (guard i.barrier b)))
+    InOpt (digest_of d.digest)
+    (digest_of (if again then d.register else extended_of d.register (guard i.barrier b)))
 place_then Opt false again i d b =
-    InOpt (digest_of d.digest) (digest_of (if again then zero_bytes else extended_of zero_bytes (guard i.barrier b)))
+    InOpt (digest_of d.digest)
+    (digest_of (if again then zero_bytes else extended_of zero_bytes (guard i.barrier b)))
 
--- By digests: the verdict compares digests, and the batch is run from the offered state, whatever was committed.
+-- By digests: the verdict compares digests, and the batch is run from the offered state, whatever
+-- was committed.
 abbrev pub by_digests : Instance → Level Digests
 by_digests i = record {
   made = made i;
@@ -64,10 +70,13 @@ by_digests i = record {
   is_lost = λ d. d.flag && bytes_eq d.register zero_bytes;
   count = λ d. d.count;
   verdict = λ d offered b. verdict_by_digests i.barrier d.flag d.digest d.register offered.place b;
-  answer = λ again seen d offered b. answer_at i.meaning i.key offered (place_then i.variant seen.flag again i seen b) b again;
+  answer =
+      λ again seen d offered b. answer_at i.meaning i.key offered
+      (place_then i.variant seen.flag again i seen b) b again;
 }
 
--- The digests are those of the history: what its cell and its register hold, and how many requests it has.
+-- The digests are those of the history: what its cell and its register hold, and how many requests
+-- it has.
 pub record Agrees (i : Instance) (y : History) (d : Digests) : Type 0 where
   pub digest : d.digest ≡ cell_digest_of i i.variant y
   pub flag : d.flag ≡ flag_of i.variant y

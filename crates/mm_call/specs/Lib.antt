@@ -16,3 +16,9 @@ pub mod Checkpoints
 pub mod Ended
 pub mod Tied
 pub mod Premises
+pub mod CoursesWords
+pub mod FoundWords
+pub mod CheckpointsWords
+pub mod CalledWords
+pub mod OrderWords
+pub mod AnswersWords

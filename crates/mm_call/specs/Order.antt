@@ -1,5 +1,5 @@
 -- The order in which an offer is refused.
-use Rattle.std.specs.Prelude.{ℕ, ◌+◌, Bool, true, false, List, Result, Ok, Err, nat_le}
+use Rattle.std.specs.Prelude.{ℕ, ◌+◌, Bool, true, false, List, Result, Ok, Err, nat_le, if◌then◌else◌}
 use Rattle.std.specs.Str.{bytes_eq}
 use Rattle.mm_base.specs.Limits.{last_position}
 use Rattle.mm_module.specs.Meaning.{Meaning}
@@ -19,14 +19,13 @@ admitted Again false = Err refusal.Full
 admitted Lost fits = Err refusal.Lost
 admitted Stale fits = Err refusal.Stale
 
--- before that: the offered state is one of the module's, and the tag is right
-abbrev pub weighed : Bool → Bool → Verdict → Bool → Result Bool Refusal
-weighed false is_tagged verdict fits = Err refusal.State
-weighed true false verdict fits = Err refusal.Tag
-weighed true true verdict fits = admitted verdict fits
-
--- an offer under the cell's key, by the verdict on it
+-- an offer under the cell's key, by the verdict on it: before that, the offered state is one of the
+-- module's, and the tag is right
 abbrev pub examined : Meaning → List ℕ → Snapshot → Batch → Verdict → Result Bool Refusal
 examined meaning key offered b verdict =
-    weighed (meaning.is_spelled offered.content.state) (bytes_eq offered.tag (tag_of key offered.content)) verdict
-    (nat_le (offered.content.position + size_of b) last_position)
+    let content = offered.content in
+    let fits = nat_le (content.position + size_of b) last_position in
+    if meaning.is_spelled content.state
+    then (if bytes_eq offered.tag (tag_of key content) then admitted verdict fits
+    else Err refusal.Tag)
+    else Err refusal.State

@@ -1,5 +1,5 @@
--- What is asked of who calls, before anything is known of moves: of a history, an offer and a batch; and of what the
--- register shows.
+-- What is asked of who calls, before anything is known of moves: of a history, an offer and a
+-- batch; and of what the register shows.
 use Rattle.std.specs.Prelude.{◌≡◌, ℕ, false, List}
 use Rattle.std.specs.List.{AllByRecursion, Contains}
 use Rattle.mm_digest.specs.Messages.{extended_message}
@@ -11,12 +11,13 @@ use Rattle.mm_model.specs.History.{History, register_value_of}
 use Rattle.mm_model.specs.Messages.{Within, IsClear, AreNoGuards}
 use Rattle.mm_model.specs.Standing.{IsGenuine}
 use Rattle.mm_call.specs.Asked.{counted_part, right_messages, IsWithin}
-use Rattle.mm_call.specs.Found.{right_content, found_at, is_fresh}
+use Rattle.mm_call.specs.Found.{right_content, found_at}
+use Rattle.mm_call.specs.FoundWords.{is_fresh}
 use Rattle.mm_call.specs.Levels.{by_lists}
 use Rattle.mm_call.specs.Tied.{foreign_items}
 
--- What is asked of a history, an offer and a batch. In Basic nothing is asked of what others do, nor of steps: it never
--- reads the register.
+-- What is asked of a history, an offer and a batch. In Basic nothing is asked of what others do,
+-- nor of steps: it never reads the register.
 pub record AreAsked (all others : List (List ℕ)) (asked : List Batch) (i : Instance) (y : History)
     (offer : List ℕ) (b : Batch) : Type 0 where
   pub clear : IsClear all
@@ -26,14 +27,18 @@ pub record AreAsked (all others : List (List ℕ)) (asked : List Batch) (i : Ins
   pub genuine : IsGenuine i y offer
   pub offered : Within (right_messages i b (right_content i offer)) all
 
--- What is asked of the items that the register shows at exit, behind those that counted at entry: their messages, one
--- after another, are in the clear list, and the values that aren't the platform's own are among those of others.
-pub record AreShown (all others : List (List ℕ)) (i : Instance) (y : History) (more : List Item) : Type 0 where
-  pub messages : Within (trail extended_message (register_value_of i (counted_part y)) (item_values more)) all
+-- What is asked of the items that the register shows at exit, behind those that counted at entry:
+-- their messages, one after another, are in the clear list, and the values that aren't the
+-- platform's own are among those of others.
+pub record AreShown (all others : List (List ℕ)) (i : Instance) (y : History)
+    (more : List Item) : Type 0 where
+  pub messages : Within
+      (trail extended_message (register_value_of i (counted_part y)) (item_values more)) all
   pub values : AllByRecursion (Contains others) (foreign_items more)
 
--- No segment is open, and the batch isn't taken for new: it is a repeat, or it is refused. Such a call neither goes by
--- what the register holds nor empties it, so nothing is asked of the items that the register shows.
+-- No segment is open, and the batch isn't taken for new: it is a repeat, or it is refused. Such a
+-- call neither goes by what the register holds nor empties it, so nothing is asked of the items
+-- that the register shows.
 pub record IsIdle (i : Instance) (y : History) (offer : List ℕ) (b : Batch) : Type 0 where
   pub shut : y.is_open ≡ false
   pub not_new : is_fresh (found_at i (by_lists i) y b offer) ≡ false

@@ -3,21 +3,24 @@ use Rattle.std.specs.Prelude.{◌≡◌, ℕ, zero, suc, Bool, true, false, List
 use Rattle.mm_base.specs.Faults.{counted}
 use Rattle.mm_digest.specs.declared.variant.Variant.{Variant}
 use Rattle.mm_digest.specs.declared.variant.Variant.TheVariants.{Basic, Opt}
+use Rattle.mm_digest.specs.Messages.{zero_bytes}
 use Rattle.mm_seal.specs.declared.cell.Cell.{Cell}
 use Rattle.mm_seal.specs.Cell.{IsCell, cell_spelling}
 use Rattle.mm_platform.specs.Standing.{Item, own_item, foreign_item, Standing}
 use Rattle.mm_module.specs.Meaning.{Meaning}
 use Rattle.mm_model.specs.Chains.{guard}
-use Rattle.mm_model.specs.Instance.{Instance, basic, opt}
+use Rattle.mm_model.specs.Instance.{Instance}
 use Rattle.mm_model.specs.History.{Move, Commit, Foreign, Placed, Reset, Close, Power}
 use Rattle.mm_model.specs.Moves.{Digests, made}
-use Rattle.mm_model.specs.Places.{digest_of}
+use Rattle.mm_model.specs.PlacesWords.{digest_of}
 use Rattle.mm_model.specs.Standing.{register_reads}
 
 -- the instance of a variant; Basic has no barrier, and ignores it
 abbrev pub instance_by : Variant → Meaning → (key barrier : List ℕ) → Instance
-instance_by Basic meaning key barrier = basic meaning key
-instance_by Opt meaning key barrier = opt meaning key barrier
+instance_by Basic meaning key barrier =
+    record { variant = Basic; meaning = meaning; key = key; barrier = zero_bytes }
+instance_by Opt meaning key barrier =
+    record { variant = Opt; meaning = meaning; key = key; barrier = barrier }
 
 -- the cell of an instance with these digests
 abbrev pub cell_at : Instance → Digests → Cell
@@ -41,8 +44,8 @@ pub record StandsAt (i : Instance) (standing : Standing) (d : Digests) : Type 0 
   pub cell : standing.cell ≡ Some (cell_spelling (cell_at i d))
   pub reads : RegisterAt i.variant (register_reads standing) d.register
 
--- What the register shows of a move, by its variant and whether a segment is open: others' values and the core's own
--- extensions behind what it had shown; nothing once it was emptied.
+-- What the register shows of a move, by its variant and whether a segment is open: others' values
+-- and the core's own extensions behind what it had shown; nothing once it was emptied.
 abbrev pub shown_by : Variant → Bool → Instance → Move → List Item → List Item
 shown_by Basic flag i (Commit b) items = items
 shown_by Opt true i (Commit b) items = items ++ own_item (guard i.barrier b) ∷ []

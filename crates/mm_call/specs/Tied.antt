@@ -5,7 +5,8 @@ use Rattle.mm_platform.specs.Standing.{Item, item_values}
 use Rattle.mm_module.specs.Meaning.{Meaning}
 use Rattle.mm_module.specs.Batch.{Batch}
 use Rattle.mm_model.specs.Chains.{trail}
-use Rattle.mm_model.specs.Instance.{Instance, opt}
+use Rattle.mm_model.specs.Instance.{Instance}
+use Rattle.mm_model.specs.InstanceWords.{opt}
 use Rattle.mm_model.specs.History.{History, Move, register_value_of}
 use Rattle.mm_model.specs.Moves.{Digests}
 use Rattle.mm_call.specs.Levels.{by_digests}
@@ -17,15 +18,16 @@ use Rattle.mm_call.specs.Asked.{counted_part, counted_moves, moves_messages, for
 -- the values of the items that aren't the platform's own
 abbrev pub foreign_items : List Item → List (List ℕ)
 foreign_items [] = []
-foreign_items (item ∷ items) = if item.own then foreign_items items else item.value ∷ foreign_items items
+foreign_items (item ∷ items) =
+    if item.own then foreign_items items else item.value ∷ foreign_items items
 
 -- the items that count when a call begins: by whether a segment is open
 abbrev pub standing_items : Bool → List Item → List Item
 standing_items true items = items
 standing_items false items = []
 
--- What counts of the moves is these items more: their messages, one after another from the register's value on, and
--- their values of others.
+-- What counts of the moves is these items more: their messages, one after another from the
+-- register's value on, and their values of others.
 pub record IsTied (i : Instance) (y : History) (moves : List Move) (more : List Item) : Type 0 where
   pub messages : moves_messages i (counted_part y) (counted_moves y.is_open moves)
       ≡ trail extended_message (register_value_of i (counted_part y)) (item_values more)
@@ -34,11 +36,16 @@ pub record IsTied (i : Instance) (y : History) (moves : List Move) (more : List 
 -- The register shows these items more behind those that counted; or nothing counts.
 pub data Tied (i : Instance) (y : History) (d : Digests) (moves : List Move) : Type 0 where
   shows : (more : List Item) → IsTied i y moves more
-      → ((items : List Item) → shown i d moves items ≡ standing_items y.is_open items ++ more) → Tied i y d moves
+      → ((items : List Item) → shown i d moves items ≡ standing_items y.is_open items ++ more)
+      → Tied i y d moves
   nothing : counted_moves y.is_open moves ≡ [] → Tied i y d moves
 
 -- So it is of each call by digests, on every course, however it ends.
 abbrev pub OptTied : Type 0
-OptTied = (meaning : Meaning) (key barrier : List ℕ) (y : History) (d : Digests) (course : Course) (offer : List ℕ) (b : Batch) →
+OptTied =
+    (meaning : Meaning) (key barrier : List ℕ) (y : History) (d : Digests) (course : Course)
+    (offer : List ℕ) (b : Batch) →
     d.flag ≡ y.is_open →
-    Tied (opt meaning key barrier) y d (called (opt meaning key barrier) (by_digests (opt meaning key barrier)) d course offer b).moves
+    Tied (opt meaning key barrier) y d
+    (called (opt meaning key barrier) (by_digests (opt meaning key barrier)) d course offer
+    b).moves

@@ -11,7 +11,8 @@ use Rattle.mm_model.specs.History.{Move}
 use Rattle.mm_model.specs.Moves.{Digests, made}
 use Rattle.mm_model.specs.Steps.{Step, Reads, Changes, Writes}
 use Rattle.mm_call.specs.Levels.{all_made, by_digests}
-use Rattle.mm_call.specs.Courses.{Fate, Walked, walk, step_moves, end_of}
+use Rattle.mm_call.specs.Courses.{Fate, Walked, walk, step_moves}
+use Rattle.mm_call.specs.CoursesWords.{end_of}
 use Rattle.mm_call.specs.Standing.{cell_at, StandsAt, shown_by, shown, counted_by}
 
 -- what a changing step does to a register, and to its items
@@ -29,14 +30,18 @@ items_by ReadCell items = items
 items_by (WriteCell bytes) items = items
 items_by ReadRegister items = items
 
--- A changing step makes this move, whatever others put into the register before it: the cell is that of the digests
--- after the move as it is that before, and the register and its items are as the step leaves them.
+-- A changing step makes this move, whatever others put into the register before it: the cell is
+-- that of the digests after the move as it is that before, and the register and its items are as
+-- the step leaves them.
 pub record IsChange (i : Instance) (d : Digests) (act : Act) (m : Move) : Type 0 where
-  pub cell : (register : List ℕ) → cell_at i (made i (record d { register = register }) m) ≡ cell_at i d
-  pub register : (register : List ℕ) → (made i (record d { register = register }) m).register ≡ register_by act register
+  pub cell : (register : List ℕ)
+      → cell_at i (made i (record d { register = register }) m) ≡ cell_at i d
+  pub register : (register : List ℕ)
+      → (made i (record d { register = register }) m).register ≡ register_by act register
   pub shows : (items : List Item) → shown_by i.variant d.flag i m items ≡ items_by act items
 
--- A write of these bytes makes this move: they spell the cell of the digests after it, and the register is as before.
+-- A write of these bytes makes this move: they spell the cell of the digests after it, and the
+-- register is as before.
 pub record IsWrite (i : Instance) (d : Digests) (bytes : List ℕ) (m : Move) : Type 0 where
   pub spells : IsCell (cell_at i (made i d m))
   pub cell : bytes ≡ cell_spelling (cell_at i (made i d m))
@@ -61,8 +66,10 @@ MakesStep i d (ExtendRegister value) (Writes m) = ⊥
 MakesStep i d (WriteCell bytes) Reads = ⊥
 MakesStep i d (WriteCell bytes) (Changes m) = ⊥
 
--- A device step was made that makes this step of a walk. Its fate is read off it, and room may have been made after it.
-pub record Stepped (i : Instance) (d : Digests) (fate : Fate) (step : Step) (old new : Standing) (fault : Option StepFault) : Type 0 where
+-- A device step was made that makes this step of a walk. Its fate is read off it, and room may have
+-- been made after it.
+pub record Stepped (i : Instance) (d : Digests) (fate : Fate) (step : Step) (old new : Standing)
+    (fault : Option StepFault) : Type 0 where
   pub act : Act
   pub after : Standing
   pub goes : Goes act old after fault
@@ -76,16 +83,20 @@ abbrev pub Rest : Option StepFault → Type 0 → Type 0 → Type 0
 Rest None goes_on is_over = goes_on
 Rest (Some fault) goes_on is_over = is_over
 
--- These steps were made one after another, from the one of this number on, and none after one that failed.
-abbrev pub Trail : Instance → Digests → (ℕ → Fate) → ℕ → List Step → Standing → Standing → Option StepFault → Type 0
+-- These steps were made one after another, from the one of this number on, and none after one that
+-- failed.
+abbrev pub Trail : Instance → Digests → (ℕ → Fate) → ℕ → List Step → Standing → Standing
+    → Option StepFault → Type 0
 Trail i d fates n [] old new fault = (new ≡ old) × (fault ≡ None)
 Trail i d fates n (step ∷ steps) old new fault =
     (middle : Standing) × (answer : Option StepFault) × Stepped i d (fates n) step old middle answer
-    × Rest answer (Trail i (all_made (by_digests i) d (step_moves step true (fates n).brings)) fates (n + 1) steps middle new fault)
+    × Rest answer (Trail i (all_made (by_digests i) d (step_moves step true (fates n).brings)) fates
+    (n + 1) steps middle new fault)
     ((new ≡ middle) × (fault ≡ answer))
 
 -- The platform went from these digests as the walk says.
-pub record Leads (i : Instance) (d : Digests) (walked : Walked) (old new : Standing) (fault : Option StepFault) : Type 0 where
+pub record Leads (i : Instance) (d : Digests) (walked : Walked) (old new : Standing)
+    (fault : Option StepFault) : Type 0 where
   pub stands : StandsAt i new (all_made (by_digests i) d walked.moves)
   pub broken : walked.broken ≡ fault
   pub steps : new.steps ≡ counted_by walked.steps old.steps
@@ -94,5 +105,8 @@ pub record Leads (i : Instance) (d : Digests) (walked : Walked) (old new : Stand
 
 -- A trail of steps leads where its walk leads.
 abbrev pub TrailsLead : Type 0
-TrailsLead = (i : Instance) (d : Digests) (fates : ℕ → Fate) (n : ℕ) (steps : List Step) (old new : Standing) (fault : Option StepFault)
-    → StandsAt i old d → Trail i d fates n steps old new fault → Leads i d (walk fates n steps) old new fault
+TrailsLead =
+    (i : Instance) (d : Digests) (fates : ℕ → Fate) (n : ℕ) (steps : List Step) (old new : Standing)
+    (fault : Option StepFault)
+    → StandsAt i old d → Trail i d fates n steps old new fault
+    → Leads i d (walk fates n steps) old new fault

@@ -2,7 +2,8 @@
 
 ghost use Rattle.std.specs.Prelude.{◌≡◌, ◌+◌, ◌<◌, ◌≤◌, false, IfOk, IsTrue, Some, slice_get};
 ghost use Rattle.mm_base.specs.Limits.{last_position};
-ghost use Rattle.mm_module.specs.Meaning.{IsLine, state_from, outputs_from};
+ghost use Rattle.mm_module.specs.Meaning.{IsLine, outputs_from};
+ghost use Rattle.mm_module.specs.MeaningWords.{state_from};
 ghost use Rattle.mm_module.specs.Batch.{members_of, size_of, normal};
 ghost use Rattle.mm_module.specs.Batches.{batch_of};
 ghost use Rattle.mm_seal.specs.Body.{content_of};

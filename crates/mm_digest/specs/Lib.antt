@@ -1,2 +1,4 @@
 pub mod Messages
 pub mod Hmac
+pub mod MessagesWords
+pub mod HmacWords

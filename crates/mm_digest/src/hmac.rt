@@ -3,7 +3,8 @@
 ghost use Rattle.std.specs.Prelude.{◌≡◌, ◌≤◌, ◌++◌, List, ℕ, length};
 ghost use Rattle.sha2.specs.Sha256.{sha256};
 ghost use Rattle.sha2.specs.Hashers.{Holds256};
-ghost use Rattle.mm_digest.specs.Hmac.{zero_padded, key_block, masked, hmac_of};
+ghost use Rattle.mm_digest.specs.Hmac.{hmac_of};
+ghost use Rattle.mm_digest.specs.HmacWords.{zero_padded, key_block, masked};
 
 use crate::digest::Digest;
 use sha2::{Digest as _, Sha256};
@@ -104,7 +105,6 @@ fn digest_after_three(hashed: &Sha256, first: &[u8], second: &[u8], third: &[u8]
 }
 
 // The block that a key makes.
-#[tactic(auto, unfolding(crate::specs::Hmac::key_block))]
 fn block_of(key: &[u8]) -> [u8; 64]
     ensures { result ≡ key_block key.now }
 {
@@ -116,7 +116,6 @@ fn block_of(key: &[u8]) -> [u8; 64]
 }
 
 // The bytes, filled up with zero bytes.
-#[tactic(auto, unfolding(crate::specs::Hmac::zero_padded))]
 fn padded_with_zeros(bytes: &[u8]) -> [u8; 64]
     requires { length bytes.now ≤ 64 }
     ensures { result ≡ zero_padded bytes.now }
@@ -128,7 +127,6 @@ fn padded_with_zeros(bytes: &[u8]) -> [u8; 64]
 }
 
 // The block with each byte xored with the pad.
-#[tactic(auto, unfolding(crate::specs::Hmac::masked))]
 fn masked_by(pad: u8, block: &[u8; 64]) -> [u8; 64]
     ensures { result ≡ masked pad block.now }
 {

@@ -74,7 +74,8 @@ same_fronts (b ∷ bs) (c ∷ cs) ds es e t =
     cc
 
 -- the first part of a list counts as the whole exactly where it is the whole
-pub at_the_end : (batches named rest : List Batch) → batches ≡ named ++ rest → Decides (nat_eq (total_of named) (total_of batches)) (named ≡ batches)
+pub at_the_end : (batches named rest : List Batch) → batches ≡ named ++ rest
+    → Decides (nat_eq (total_of named) (total_of batches)) (named ≡ batches)
 at_the_end batches named rest e = (
   λ t.
       let counts : total_of named ≡ total_of batches = (Decides-eqb (total_of named) (total_of batches)).0 t in
@@ -85,7 +86,8 @@ at_the_end batches named rest e = (
 )
 
 -- the first part, and then b, count as the whole and b is the last, exactly where they are the whole
-pub before_the_last : (batches named rest : List Batch) (b : Batch) → batches ≡ named ++ rest → Decides (nat_eq (total_of named + size_of b) (total_of batches) && is_last batches b) (named ++ b ∷ [] ≡ batches)
+pub before_the_last : (batches named rest : List Batch) (b : Batch) → batches ≡ named ++ rest
+    → Decides (nat_eq (total_of named + size_of b) (total_of batches) && is_last batches b) (named ++ b ∷ [] ≡ batches)
 before_the_last batches named rest b e = (
   λ t.
       let both = and_parts (nat_eq (total_of named + size_of b) (total_of batches)) (is_last batches b) t in

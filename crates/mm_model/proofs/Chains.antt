@@ -15,7 +15,8 @@ pub after-append : {A : Type 0} (f : List ℕ → A → List ℕ) (s : List ℕ)
 after-append f s [] ys = refl
 after-append f s (x ∷ xs) ys = after-append f (sha256 (f s x)) xs ys
 
-pub trail-append : {A : Type 0} (f : List ℕ → A → List ℕ) (s : List ℕ) (xs ys : List A) → trail f s (xs ++ ys) ≡ trail f s xs ++ trail f (after f s xs) ys
+pub trail-append : {A : Type 0} (f : List ℕ → A → List ℕ) (s : List ℕ) (xs ys : List A)
+    → trail f s (xs ++ ys) ≡ trail f s xs ++ trail f (after f s xs) ys
 trail-append f s [] ys = refl
 trail-append f s (x ∷ xs) ys = ap (λ v. f s x ∷ v) (trail-append f (sha256 (f s x)) xs ys)
 
@@ -46,35 +47,42 @@ pub record Telling {A : Type 0} (f : List ℕ → A → List ℕ) (start : List 
   pub leaves : (s : List ℕ) (x : A) → Contains all (f s x) → sha256 (f s x) ≢ start
   pub tells : (s t : List ℕ) (x y : A) → length s ≡ 32 → length t ≡ 32 → Fine x → Fine y → f s x ≡ f t y → (s ≡ t) × (x ≡ y)
 
-pub after-push : {A : Type 0} (f : List ℕ → A → List ℕ) (s : List ℕ) (xs : List A) (x : A) → after f s (xs ++ x ∷ []) ≡ sha256 (f (after f s xs) x)
+pub after-push : {A : Type 0} (f : List ℕ → A → List ℕ) (s : List ℕ) (xs : List A) (x : A)
+    → after f s (xs ++ x ∷ []) ≡ sha256 (f (after f s xs) x)
 after-push f s xs x = after-append f s xs (x ∷ [])
 
 -- the messages of a chain that grew by one item: those before, and the last
-pub trail_front : {A : Type 0} (f : List ℕ → A → List ℕ) (s : List ℕ) (xs ys : List A) (all : List (List ℕ)) → Within (trail f s (xs ++ ys)) all → Within (trail f s xs) all
+pub trail_front : {A : Type 0} (f : List ℕ → A → List ℕ) (s : List ℕ) (xs ys : List A) (all : List (List ℕ))
+    → Within (trail f s (xs ++ ys)) all → Within (trail f s xs) all
 trail_front f s xs ys all w =
     each_left (Contains all) (trail f s xs) (trail f (after f s xs) ys)
     (subst (λ (v : List (List ℕ)). Within v all) (trail-append f s xs ys) w)
 
-pub trail_last : {A : Type 0} (f : List ℕ → A → List ℕ) (s : List ℕ) (xs : List A) (x : A) (all : List (List ℕ)) → Within (trail f s (xs ++ x ∷ [])) all → Contains all (f (after f s xs) x)
+pub trail_last : {A : Type 0} (f : List ℕ → A → List ℕ) (s : List ℕ) (xs : List A) (x : A) (all : List (List ℕ))
+    → Within (trail f s (xs ++ x ∷ [])) all → Contains all (f (after f s xs) x)
 trail_last f s xs x all w =
     (each_right (Contains all) (trail f s xs) (trail f (after f s xs) (x ∷ []))
     (subst (λ (v : List (List ℕ)). Within v all) (trail-append f s xs (x ∷ [])) w)).0
 
-pub trail_push : {A : Type 0} (f : List ℕ → A → List ℕ) (s : List ℕ) (xs : List A) (x : A) (all : List (List ℕ)) → Within (trail f s xs) all → Contains all (f (after f s xs) x) → Within (trail f s (xs ++ x ∷ [])) all
+pub trail_push : {A : Type 0} (f : List ℕ → A → List ℕ) (s : List ℕ) (xs : List A) (x : A) (all : List (List ℕ)) → Within (trail f s xs) all
+    → Contains all (f (after f s xs) x) → Within (trail f s (xs ++ x ∷ [])) all
 trail_push f s xs x all w c =
     subst (λ (v : List (List ℕ)). Within v all) (sym (trail-append f s xs (x ∷ [])))
     (each_append (Contains all) (trail f s xs) (trail f (after f s xs) (x ∷ [])) w (c, tt))
 
 abbrev pub SameFrom : {A : Type 0} (f : List ℕ → A → List ℕ) (start : List ℕ) (Fine : A → Type 0) (all : List (List ℕ)) → List A → Type 0
 SameFrom {A} f start Fine all xs =
-    (ys : List A) → AllByRecursion Fine xs → AllByRecursion Fine ys → Within (trail f start xs) all → Within (trail f start ys) all → after f start xs ≡ after f start ys → xs ≡ ys
+    (ys : List A) → AllByRecursion Fine xs → AllByRecursion Fine ys → Within (trail f start xs) all → Within (trail f start ys) all
+    → after f start xs ≡ after f start ys → xs ≡ ys
 
 -- a chain that took a step doesn't end at its start
-pub never_back : {A : Type 0} (f : List ℕ → A → List ℕ) (start : List ℕ) (Fine : A → Type 0) (all : List (List ℕ)) → Telling f start Fine all → (xs : List A) (x : A) → Within (trail f start (xs ++ x ∷ [])) all → after f start (xs ++ x ∷ []) ≢ start
+pub never_back : {A : Type 0} (f : List ℕ → A → List ℕ) (start : List ℕ) (Fine : A → Type 0) (all : List (List ℕ))
+    → Telling f start Fine all → (xs : List A) (x : A) → Within (trail f start (xs ++ x ∷ [])) all → after f start (xs ++ x ∷ []) ≢ start
 never_back f start Fine all telling xs x w e =
     telling.leaves (after f start xs) x (trail_last f start xs x all w) (sym (after-push f start xs x) ∙ e)
 
-same_none : {A : Type 0} (f : List ℕ → A → List ℕ) (start : List ℕ) (Fine : A → Type 0) (all : List (List ℕ)) → Telling f start Fine all → SameFrom f start Fine all []
+same_none : {A : Type 0} (f : List ℕ → A → List ℕ) (start : List ℕ) (Fine : A → Type 0) (all : List (List ℕ)) → Telling f start Fine all
+    → SameFrom f start Fine all []
 same_none f start Fine all telling ys fx fy wx wy e =
     elim (ends ys) [
       | inl none ↦ sym none
@@ -84,7 +92,8 @@ same_none f start Fine all telling ys fx fy wx wy e =
           (sym (e ∙ ap (after f start) h.is)))
     ]
 
-same_more : {A : Type 0} (f : List ℕ → A → List ℕ) (start : List ℕ) (Fine : A → Type 0) (all : List (List ℕ)) → Telling f start Fine all → IsClear all → (xs : List A) (x : A) → SameFrom f start Fine all xs → SameFrom f start Fine all (xs ++ x ∷ [])
+same_more : {A : Type 0} (f : List ℕ → A → List ℕ) (start : List ℕ) (Fine : A → Type 0) (all : List (List ℕ)) → Telling f start Fine all
+    → IsClear all → (xs : List A) (x : A) → SameFrom f start Fine all xs → SameFrom f start Fine all (xs ++ x ∷ [])
 same_more {A} f start Fine all telling clear xs x same ys fx fy wx wy e =
     elim (ends ys) [
       | inl none ↦
@@ -108,7 +117,8 @@ same_more {A} f start Fine all telling clear xs x same ys fx fy wx wy e =
     ]
 
 -- equal ends, equal lists
-pub same_chains : {A : Type 0} (f : List ℕ → A → List ℕ) (start : List ℕ) (Fine : A → Type 0) (all : List (List ℕ)) → Telling f start Fine all → IsClear all → (xs : List A) → SameFrom f start Fine all xs
+pub same_chains : {A : Type 0} (f : List ℕ → A → List ℕ) (start : List ℕ) (Fine : A → Type 0) (all : List (List ℕ))
+    → Telling f start Fine all → IsClear all → (xs : List A) → SameFrom f start Fine all xs
 same_chains f start Fine all telling clear xs =
     by_last (SameFrom f start Fine all) (same_none f start Fine all telling)
     (same_more f start Fine all telling clear) xs

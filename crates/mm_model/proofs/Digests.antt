@@ -10,7 +10,8 @@ use Rattle.mm_digest.proofs.Lengths.{length-zero_bytes, length-start_of}
 use Rattle.std.specs.List.{fold}
 use Rattle.mm_platform.specs.Standing as platform
 use Rattle.mm_module.specs.Batch.{Batch, One, Many}
-use Rattle.mm_model.specs.Chains.{after, trail, link_message, guard_message, closing_message, link, guard, summary_of, register_of, anchor_of, own_values}
+use Rattle.mm_model.specs.Chains.{after, trail, link_message, guard_message, closing_message, link, guard, summary_of, register_of, anchor_of}
+use Rattle.mm_model.specs.ChainsWords.{own_values}
 use Rattle.mm_model.specs.Messages.{Within, IsClear, register_trail}
 use Rattle.mm_model.proofs.Chains.{Telling, same_chains, after-push}
 
@@ -34,7 +35,8 @@ link_starts_not : (id : ℕ) (s : List ℕ) (b : Batch) → link_message s b ≢
 link_starts_not id s (One x) e = omega (arith, heads_of 1 0 (s ++ x) (1 ∷ id ∷ []) e)
 link_starts_not id s (Many x) e = omega (arith, heads_of 4 0 (s ++ x) (1 ∷ id ∷ []) e)
 
-link_telling : (id : ℕ) (all : List (List ℕ)) → IsClear all → Contains all (start_message Basic id) → Telling link_message (start_of Basic id) (λ _. Unit {0}) all
+link_telling : (id : ℕ) (all : List (List ℕ)) → IsClear all → Contains all (start_message Basic id)
+    → Telling link_message (start_of Basic id) (λ _. Unit {0}) all
 unfolding start_of
 link_telling id all clear starts =
     record {
@@ -55,20 +57,24 @@ each_unit : {A : Type 0} (xs : List A) → AllByRecursion (λ (x : A). Unit {0})
 each_unit [] = tt
 each_unit (x ∷ xs) = (tt, each_unit xs)
 
-pub same_summaries : (id : ℕ) (all : List (List ℕ)) → IsClear all → Contains all (start_message Basic id) → (bs cs : List Batch) → Within (trail link_message (start_of Basic id) bs) all → Within (trail link_message (start_of Basic id) cs) all → summary_of id bs ≡ summary_of id cs → bs ≡ cs
+pub same_summaries : (id : ℕ) (all : List (List ℕ)) → IsClear all → Contains all (start_message Basic id) → (bs cs : List Batch)
+    → Within (trail link_message (start_of Basic id) bs) all → Within (trail link_message (start_of Basic id) cs) all
+    → summary_of id bs ≡ summary_of id cs → bs ≡ cs
 unfolding summary_of
 same_summaries id all clear starts bs cs wb wc e =
     same_chains link_message (start_of Basic id) (λ _. Unit {0}) all (link_telling id all clear starts) clear bs cs
     (each_unit bs) (each_unit cs) wb wc e
 
 -- equal register values, equal lists
-pub same_registers : (all : List (List ℕ)) → IsClear all → (vs ws : List (List ℕ)) → Within (register_trail vs) all → Within (register_trail ws) all → register_of vs ≡ register_of ws → vs ≡ ws
+pub same_registers : (all : List (List ℕ)) → IsClear all → (vs ws : List (List ℕ)) → Within (register_trail vs) all
+    → Within (register_trail ws) all → register_of vs ≡ register_of ws → vs ≡ ws
 unfolding register_of
 same_registers all clear vs ws wv ww e =
     same_chains extended_message zero_bytes (λ _. Unit {0}) all (extended_telling all clear) clear vs ws
     (each_unit vs) (each_unit ws) wv ww e
 
-closing_telling : (id : ℕ) (all : List (List ℕ)) → IsClear all → Contains all (start_message Opt id) → Telling closing_message (start_of Opt id) (λ vs. Within (register_trail vs) all) all
+closing_telling : (id : ℕ) (all : List (List ℕ)) → IsClear all → Contains all (start_message Opt id)
+    → Telling closing_message (start_of Opt id) (λ vs. Within (register_trail vs) all) all
 unfolding start_of register_of
 closing_telling id all clear starts =
     record {
@@ -83,14 +89,18 @@ closing_telling id all clear starts =
     }
 
 -- equal anchors, equal segments
-pub same_anchors : (id : ℕ) (all : List (List ℕ)) → IsClear all → Contains all (start_message Opt id) → (ls ks : List (List (List ℕ))) → AllByRecursion (λ vs. Within (register_trail vs) all) ls → AllByRecursion (λ vs. Within (register_trail vs) all) ks → Within (trail closing_message (start_of Opt id) ls) all → Within (trail closing_message (start_of Opt id) ks) all → anchor_of id ls ≡ anchor_of id ks → ls ≡ ks
+pub same_anchors : (id : ℕ) (all : List (List ℕ)) → IsClear all → Contains all (start_message Opt id) → (ls ks : List (List (List ℕ)))
+    → AllByRecursion (λ vs. Within (register_trail vs) all) ls → AllByRecursion (λ vs. Within (register_trail vs) all) ks
+    → Within (trail closing_message (start_of Opt id) ls) all → Within (trail closing_message (start_of Opt id) ks) all
+    → anchor_of id ls ≡ anchor_of id ks → ls ≡ ks
 unfolding anchor_of
 same_anchors id all clear starts ls ks fl fk wl wk e =
     same_chains closing_message (start_of Opt id) (λ vs. Within (register_trail vs) all) all
     (closing_telling id all clear starts) clear ls ks fl fk wl wk e
 
 -- a register that took in a value doesn't read zero
-pub register_nonzero : (all : List (List ℕ)) → IsClear all → (vs : List (List ℕ)) → Within (register_trail vs) all → register_of vs ≡ zero_bytes → vs ≡ []
+pub register_nonzero : (all : List (List ℕ)) → IsClear all → (vs : List (List ℕ)) → Within (register_trail vs) all
+    → register_of vs ≡ zero_bytes → vs ≡ []
 unfolding register_of
 register_nonzero all clear vs w e =
     same_registers all clear vs [] w tt e
@@ -104,12 +114,15 @@ guard_tells barrier (Many x) (Many y) e =
     let tails : barrier ++ x ≡ barrier ++ y = cc in ap Many (append_cancel_left barrier x y tails)
 
 -- equal guards, equal batches
-pub same_guards : (barrier : List ℕ) (all : List (List ℕ)) → IsClear all → (b c : Batch) → Contains all (guard_message barrier b) → Contains all (guard_message barrier c) → guard barrier b ≡ guard barrier c → b ≡ c
+pub same_guards : (barrier : List ℕ) (all : List (List ℕ)) → IsClear all → (b c : Batch) → Contains all (guard_message barrier b)
+    → Contains all (guard_message barrier c) → guard barrier b ≡ guard barrier c → b ≡ c
 unfolding guard
 same_guards barrier all clear b c hb hc e =
     guard_tells barrier b c (clear.apart (guard_message barrier b) (guard_message barrier c) hb hc e)
 
-pub same_own_values : (barrier : List ℕ) (all : List (List ℕ)) → IsClear all → (bs cs : List Batch) → Within (map (guard_message barrier) bs) all → Within (map (guard_message barrier) cs) all → own_values barrier bs ≡ own_values barrier cs → bs ≡ cs
+pub same_own_values : (barrier : List ℕ) (all : List (List ℕ)) → IsClear all → (bs cs : List Batch)
+    → Within (map (guard_message barrier) bs) all → Within (map (guard_message barrier) cs) all
+    → own_values barrier bs ≡ own_values barrier cs → bs ≡ cs
 same_own_values barrier all clear [] [] wb wc e = refl
 same_own_values barrier all clear [] (c ∷ cs) wb wc e = absurd (cc)
 same_own_values barrier all clear (b ∷ bs) [] wb wc e = absurd (cc)
@@ -121,7 +134,8 @@ same_own_values barrier all clear (b ∷ bs) (c ∷ cs) wb wc e =
     cc
 
 -- equal links, equal batches
-pub same_links : (all : List (List ℕ)) → IsClear all → (s t : List ℕ) (b c : Batch) → length s ≡ 32 → length t ≡ 32 → Contains all (link_message s b) → Contains all (link_message t c) → link s b ≡ link t c → b ≡ c
+pub same_links : (all : List (List ℕ)) → IsClear all → (s t : List ℕ) (b c : Batch) → length s ≡ 32 → length t ≡ 32
+    → Contains all (link_message s b) → Contains all (link_message t c) → link s b ≡ link t c → b ≡ c
 unfolding link
 same_links all clear s t b c ls lt hb hc e =
     (link_tells s t b c ls lt (clear.apart (link_message s b) (link_message t c) hb hc e)).1
@@ -134,7 +148,8 @@ pub register-push : (vs : List (List ℕ)) (v : List ℕ) → register_of (vs ++
 unfolding register_of extended_of
 register-push vs v = after-push extended_message zero_bytes vs v
 
-pub anchor-push : (id : ℕ) (ls : List (List (List ℕ))) (vs : List (List ℕ)) → anchor_of id (ls ++ vs ∷ []) ≡ anchored_of (anchor_of id ls) (register_of vs)
+pub anchor-push : (id : ℕ) (ls : List (List (List ℕ))) (vs : List (List ℕ))
+    → anchor_of id (ls ++ vs ∷ []) ≡ anchored_of (anchor_of id ls) (register_of vs)
 unfolding anchor_of register_of anchored_of
 anchor-push id ls vs = after-push closing_message (start_of Opt id) ls vs
 

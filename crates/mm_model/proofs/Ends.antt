@@ -9,7 +9,8 @@ use Rattle.mm_module.specs.Batch.{Batch, size_of}
 use Rattle.mm_module.specs.Meaning.{Meaning}
 use Rattle.mm_seal.specs.declared.snapshot.Place.{Place}
 use Rattle.mm_model.specs.Chains.{link_message, summary_of}
-use Rattle.mm_model.specs.Instance.{Instance, basic}
+use Rattle.mm_model.specs.Instance.{Instance}
+use Rattle.mm_model.specs.InstanceWords.{basic}
 use Rattle.mm_model.specs.History.{History, Commit, first_history, moved, total_of}
 use Rattle.mm_model.specs.Life.{Life, life_of}
 use Rattle.mm_model.specs.Judge.{is_last, judge, judged}
@@ -20,7 +21,8 @@ use Rattle.mm_model.proofs.Lists.{each_left, each_right}
 use Rattle.mm_model.proofs.Chains.{trail_push}
 
 -- the verdict where the history has ended
-pub ended : (l : Life) (y : History) (p : ℕ) (b : Batch) → life_of Opt y ≡ l → judge Opt y p b ≡ judged l (nat_eq p (total_of y.batches)) (nat_eq (p + size_of b) (total_of y.batches) && is_last y.batches b)
+pub ended : (l : Life) (y : History) (p : ℕ) (b : Batch) → life_of Opt y ≡ l
+    → judge Opt y p b ≡ judged l (nat_eq p (total_of y.batches)) (nat_eq (p + size_of b) (total_of y.batches) && is_last y.batches b)
 ended l y p b e =
     ap (λ (k : Life). judged k (nat_eq p (total_of y.batches)) (nat_eq (p + size_of b) (total_of y.batches) && is_last y.batches b)) e
 
@@ -30,7 +32,9 @@ within_itself ms ns =
     (each_left (Contains (ms ++ ns)) ms ns both, each_right (Contains (ms ++ ns)) ms ns both)
 
 -- the messages of a history and a call, as a list of their own
-pub clear_alone : (i : Instance) (y : History) (place : Place) (b : Batch) → IsClear (history_messages i y ++ offer_messages i place b) → AreNoGuards i.barrier (values_in (counting y)) (b ∷ y.batches) → IsClearFor (history_messages i y ++ offer_messages i place b) i y place b
+pub clear_alone : (i : Instance) (y : History) (place : Place) (b : Batch) → IsClear (history_messages i y ++ offer_messages i place b)
+    → AreNoGuards i.barrier (values_in (counting y)) (b ∷ y.batches)
+    → IsClearFor (history_messages i y ++ offer_messages i place b) i y place b
 clear_alone i y place b clear foreign =
     let both = within_itself (history_messages i y) (offer_messages i place b) in
     record { clear = clear; history = both.0; call = both.1; foreign = foreign }
@@ -47,7 +51,9 @@ first_sound = record {
 pub first_outside : (others : List (List ℕ)) → IsOutside others first_history
 first_outside others = tt
 
-pub basic_messages : (meaning : Meaning) (key : List ℕ) (y : History) (b : Batch) (all : List (List ℕ)) → Within (history_messages (basic meaning key) y) all → Contains all (link_message (summary_of meaning.id y.batches) b) → Within (history_messages (basic meaning key) (moved (basic meaning key) y (Commit b))) all
+pub basic_messages : (meaning : Meaning) (key : List ℕ) (y : History) (b : Batch) (all : List (List ℕ))
+    → Within (history_messages (basic meaning key) y) all → Contains all (link_message (summary_of meaning.id y.batches) b)
+    → Within (history_messages (basic meaning key) (moved (basic meaning key) y (Commit b))) all
 unfolding summary_of
 basic_messages meaning key y b all h c =
     (h.0, trail_push link_message (start_of Basic meaning.id) y.batches b all h.1 c)

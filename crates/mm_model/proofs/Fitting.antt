@@ -6,7 +6,8 @@ use Rattle.mm_base.specs.Limits.{last_position, limit_of}
 use Rattle.mm_digest.specs.declared.variant.Variant.{Variant}
 use Rattle.mm_digest.specs.declared.variant.Variant.TheVariants.{Basic, Opt}
 use Rattle.mm_digest.proofs.Lengths.{length-hmac_of}
-use Rattle.mm_module.specs.Meaning.{Meaning, IsLine, IsLawful, state_from, outputs_from}
+use Rattle.mm_module.specs.Meaning.{Meaning, IsLine, IsLawful, outputs_from}
+use Rattle.mm_module.specs.MeaningWords.{state_from}
 use Rattle.mm_module.specs.Batch.{Batch, members_of, size_of}
 use Rattle.mm_module.proofs.BatchLaws.{size_of-pos}
 use Rattle.mm_module.proofs.RunLaws.{length-outputs_from, state_from-is_spelled}
@@ -35,7 +36,8 @@ place_length-most : (v : Variant) → place_length v ≤ 64
 place_length-most Basic = omega arith
 place_length-most Opt = omega arith
 
-sealed_size : (front state place limit tag : ℕ) → front ≡ 18 + place + state → place ≤ 64 → state ≤ limit → limit ≤ 1048576 → tag ≡ 32 → front + tag ≤ 1048690
+sealed_size : (front state place limit tag : ℕ) → front ≡ 18 + place + state → place ≤ 64 → state ≤ limit → limit ≤ 1048576 → tag ≡ 32
+    → front + tag ≤ 1048690
 sealed_size front state place limit tag e p s l t = omega arith
 
 -- the longest snapshot
@@ -51,12 +53,15 @@ positive : (position size : ℕ) → 0 < size → 1 ≤ position + size
 positive position size h = omega arith
 
 -- the answer to a batch that was run from this state
-pub is_fit : (meaning : Meaning) → IsLawful meaning → (key state : List ℕ) (position : ℕ) (place : Place) (b : Batch) (again : Bool) → IsPlace place → IsTrue (meaning.is_spelled state) → position + size_of b ≤ last_position → IsFit b (record {
-  again = again;
-  position = position + size_of b;
-  outputs = outputs_from meaning state (members_of b);
-  snapshot = sealed_of key (record { id = meaning.id; place = place; position = position + size_of b; state = state_from meaning state (members_of b) });
-})
+pub is_fit : (meaning : Meaning) → IsLawful meaning → (key state : List ℕ) (position : ℕ) (place : Place) (b : Batch) (again : Bool)
+    → IsPlace place → IsTrue (meaning.is_spelled state) → position + size_of b ≤ last_position → IsFit b (record {
+      again = again;
+      position = position + size_of b;
+      outputs = outputs_from meaning state (members_of b);
+      snapshot =
+          sealed_of key (record
+          { id = meaning.id; place = place; position = position + size_of b; state = state_from meaning state (members_of b) });
+    })
 is_fit meaning lawful key state position place b again placed spelled fits = record {
   least = positive position (size_of b) (size_of-pos b);
   most = fits;

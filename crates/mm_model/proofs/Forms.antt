@@ -29,14 +29,16 @@ pub record Clears (id : ℕ) (all : List (List ℕ)) : Type 0 where
 abbrev pub point_of : ℕ → List (List (List ℕ)) → List (List ℕ) → Point
 point_of id segments values = record { anchor = anchor_of id segments; extension = register_of values }
 
-pub same_anchor : (id : ℕ) (all : List (List ℕ)) → Clears id all → (ls ks : List (List (List ℕ))) (vs ws : List (List ℕ)) → Listed id all ls vs → Listed id all ks ws → Decides (bytes_eq (anchor_of id ls) (anchor_of id ks)) (ls ≡ ks)
+pub same_anchor : (id : ℕ) (all : List (List ℕ)) → Clears id all → (ls ks : List (List (List ℕ))) (vs ws : List (List ℕ))
+    → Listed id all ls vs → Listed id all ks ws → Decides (bytes_eq (anchor_of id ls) (anchor_of id ks)) (ls ≡ ks)
 same_anchor id all clears ls ks vs ws l k = (
   λ t. same_anchors id all clears.clear clears.starts ls ks l.inner k.inner l.outer k.outer
       ((bytes_eq-Decides (anchor_of id ls) (anchor_of id ks)).0 t),
   λ e. (bytes_eq-Decides (anchor_of id ls) (anchor_of id ks)).1 (ap (anchor_of id) e),
 )
 
-pub same_register : (all : List (List ℕ)) → IsClear all → (vs ws : List (List ℕ)) → Within (register_trail vs) all → Within (register_trail ws) all → Decides (bytes_eq (register_of vs) (register_of ws)) (vs ≡ ws)
+pub same_register : (all : List (List ℕ)) → IsClear all → (vs ws : List (List ℕ)) → Within (register_trail vs) all
+    → Within (register_trail ws) all → Decides (bytes_eq (register_of vs) (register_of ws)) (vs ≡ ws)
 same_register all clear vs ws l k = (
   λ t. same_registers all clear vs ws l k ((bytes_eq-Decides (register_of vs) (register_of ws)).0 t),
   λ e. (bytes_eq-Decides (register_of vs) (register_of ws)).1 (ap register_of e),
@@ -47,13 +49,17 @@ pub reads_zero : register_of [] ≡ zero_bytes
 unfolding register_of
 reads_zero = refl
 
-pub zero_register : (all : List (List ℕ)) → IsClear all → (vs : List (List ℕ)) → Within (register_trail vs) all → Decides (bytes_eq (register_of vs) zero_bytes) (vs ≡ [])
+pub zero_register : (all : List (List ℕ)) → IsClear all → (vs : List (List ℕ)) → Within (register_trail vs) all
+    → Decides (bytes_eq (register_of vs) zero_bytes) (vs ≡ [])
 zero_register all clear vs l = (
   λ t. register_nonzero all clear vs l ((bytes_eq-Decides (register_of vs) zero_bytes).0 t),
   λ e. (bytes_eq-Decides (register_of vs) zero_bytes).1 (ap register_of e ∙ reads_zero),
 )
 
-pub fresh_tells : (id : ℕ) (all : List (List ℕ)) → Clears id all → (flag : Bool) (closed : List (List (List ℕ))) (items : List (List ℕ)) (before : List (List (List ℕ))) (rest : List (List ℕ)) → Listed id all closed items → Listed id all before rest → Decides (fits_fresh flag (anchor_of id closed) (register_of items) (point_of id before rest)) (Fresh flag closed items before rest)
+pub fresh_tells : (id : ℕ) (all : List (List ℕ)) → Clears id all
+    → (flag : Bool) (closed : List (List (List ℕ))) (items : List (List ℕ)) (before : List (List (List ℕ))) (rest : List (List ℕ))
+    → Listed id all closed items → Listed id all before rest
+    → Decides (fits_fresh flag (anchor_of id closed) (register_of items) (point_of id before rest)) (Fresh flag closed items before rest)
 fresh_tells id all clears true closed items before rest k l =
     Decides-and (bytes_eq (anchor_of id before) (anchor_of id closed)) (bytes_eq (register_of rest) (register_of items))
     (same_anchor id all clears before closed rest items l k) (same_register all clears.clear rest items l.last k.last)
@@ -62,12 +68,16 @@ fresh_tells id all clears false closed items before rest k l =
     (same_anchor id all clears before closed rest items l k) (zero_register all clears.clear rest l.last)
 
 -- the register's messages with one more value
-pub listed_value : (all : List (List ℕ)) (rest : List (List ℕ)) (v : List ℕ) → Within (register_trail rest) all → Contains all (extended_message (register_of rest) v) → Within (register_trail (rest ++ v ∷ [])) all
+pub listed_value : (all : List (List ℕ)) (rest : List (List ℕ)) (v : List ℕ) → Within (register_trail rest) all
+    → Contains all (extended_message (register_of rest) v) → Within (register_trail (rest ++ v ∷ [])) all
 unfolding register_of
 listed_value all rest v l c = trail_push extended_message zero_bytes rest v all l c
 
 -- the messages with the values closed into one more segment
-pub listed_segment : (id : ℕ) (all : List (List ℕ)) (before : List (List (List ℕ))) (values : List (List ℕ)) → AllByRecursion (λ vs. Within (register_trail vs) all) before → Within (trail closing_message (start_of Opt id) before) all → Within (register_trail values) all → Contains all (anchored_message (anchor_of id before) (register_of values)) → Listed id all (before ++ values ∷ []) []
+pub listed_segment : (id : ℕ) (all : List (List ℕ)) (before : List (List (List ℕ))) (values : List (List ℕ))
+    → AllByRecursion (λ vs. Within (register_trail vs) all) before → Within (trail closing_message (start_of Opt id) before) all
+    → Within (register_trail values) all → Contains all (anchored_message (anchor_of id before) (register_of values))
+    → Listed id all (before ++ values ∷ []) []
 unfolding register_of anchor_of
 listed_segment id all before values inner outer last c =
     record {
@@ -76,7 +86,12 @@ listed_segment id all before values inner outer last c =
       last = tt;
     }
 
-pub again_tells : (id : ℕ) (all : List (List ℕ)) → Clears id all → (flag : Bool) (closed : List (List (List ℕ))) (items : List (List ℕ)) (v : List ℕ) (before : List (List (List ℕ))) (rest : List (List ℕ)) → Listed id all closed items → Listed id all before rest → Within (form_messages (anchor_of id before) (register_of rest) v) all → Decides (fits_again flag (anchor_of id closed) (register_of items) v (point_of id before rest)) (Again flag closed items v before rest)
+pub again_tells : (id : ℕ) (all : List (List ℕ)) → Clears id all
+    → (flag : Bool) (closed : List (List (List ℕ))) (items : List (List ℕ)) (v : List ℕ) (before : List (List (List ℕ)))
+    (rest : List (List ℕ)) → Listed id all closed items → Listed id all before rest
+    → Within (form_messages (anchor_of id before) (register_of rest) v) all
+    → Decides (fits_again flag (anchor_of id closed) (register_of items) v (point_of id before rest))
+    (Again flag closed items v before rest)
 again_tells id all clears true closed items v before rest k l m =
     let longer = listed_value all rest v l.last m.0 in
     Decides-and (bytes_eq (anchor_of id before) (anchor_of id closed)) (bytes_eq (extended_of (register_of rest) v) (register_of items))

@@ -11,9 +11,12 @@ use Rattle.mm_seal.specs.declared.snapshot.Place.{Place}
 use Rattle.mm_seal.specs.declared.snapshot.Place.TheVariants.{Basic as InBasic, Opt as InOpt}
 use Rattle.mm_seal.specs.Snapshot.{Content}
 use Rattle.mm_model.specs.declared.verdict.Verdict.TheVariants.{Fresh as IsFresh}
-use Rattle.mm_model.specs.Chains.{guard_message, guard, register_of, anchor_of, own_values}
-use Rattle.mm_model.specs.Instance.{Instance, opt}
-use Rattle.mm_model.specs.History.{History, Commit, joined, total_of, values_of}
+use Rattle.mm_model.specs.Chains.{guard_message, guard, register_of, anchor_of}
+use Rattle.mm_model.specs.ChainsWords.{own_values}
+use Rattle.mm_model.specs.Instance.{Instance}
+use Rattle.mm_model.specs.InstanceWords.{opt}
+use Rattle.mm_model.specs.History.{History, Commit, joined, total_of}
+use Rattle.mm_model.specs.HistoryWords.{values_of}
 use Rattle.mm_model.specs.Life.{is_empty, has_value, are_own, Life, Live, Spoiled, Lost, life_of}
 use Rattle.mm_model.specs.Judge.{is_last, judge, judged}
 use Rattle.mm_model.specs.Places.{IsPoint, IsPlaceOf, Names}
@@ -35,44 +38,69 @@ judged_fresh Live true r e = (refl, refl)
 judged_fresh Live false true e = absurd (cc)
 judged_fresh Live false false e = absurd (cc)
 
-current_values : (barrier : List ℕ) (y : History) (flag : Bool) → IsSound y → y.is_open ≡ flag → LiveParts flag (is_empty y.items) (are_own y.items y.current) (has_value (joined y.closed)) → taken_in flag (values_of barrier y.items) ≡ own_values barrier y.current
+current_values : (barrier : List ℕ) (y : History) (flag : Bool) → IsSound y → y.is_open ≡ flag
+    → LiveParts flag (is_empty y.items) (are_own y.items y.current) (has_value (joined y.closed))
+    → taken_in flag (values_of barrier y.items) ≡ own_values barrier y.current
 current_values barrier y true sound f live = values_of-own barrier y.items y.current (live.own refl)
 current_values barrier y false sound f live = ap (own_values barrier) (sym (shut_current y sound f))
 
 -- the batch's extension, by the form that fits
-extends : (i : Instance) (y : History) (named rest : List Batch) (b : Batch) (all : List (List ℕ)) (before : List (List (List ℕ))) (taken : List (List ℕ)) → Standpoint i y named rest all before taken → Within (point_messages (anchor_of i.meaning.id before) (register_of taken) (guard i.barrier b)) all → taken_in y.is_open (values_of i.barrier y.items) ≡ own_values i.barrier y.current → FreshSomehow y.is_open (map (values_of i.barrier) y.closed) (values_of i.barrier y.items) before taken → Contains all (extended_message (register_of (own_values i.barrier y.current)) (guard i.barrier b))
+extends : (i : Instance) (y : History) (named rest : List Batch) (b : Batch) (all : List (List ℕ)) (before : List (List (List ℕ)))
+    (taken : List (List ℕ)) → Standpoint i y named rest all before taken
+    → Within (point_messages (anchor_of i.meaning.id before) (register_of taken) (guard i.barrier b)) all
+    → taken_in y.is_open (values_of i.barrier y.items) ≡ own_values i.barrier y.current
+    → FreshSomehow y.is_open (map (values_of i.barrier) y.closed) (values_of i.barrier y.items) before taken
+    → Contains all (extended_message (register_of (own_values i.barrier y.current)) (guard i.barrier b))
 extends i y named rest b all before taken s call same f =
     let id = i.meaning.id in
     let v = guard i.barrier b in
     elim f [
       | inl here ↦
           let first = each_left (Contains all) (form_messages (anchor_of id before) (register_of taken) v)
-          (if bytes_eq (register_of taken) zero_bytes then [] else anchored_message (anchor_of id before) (register_of taken) ∷ form_messages (anchored_of (anchor_of id before) (register_of taken)) zero_bytes v) call in
+          (if bytes_eq (register_of taken) zero_bytes then [] else anchored_message (anchor_of id before) (register_of taken)
+          ∷ form_messages (anchored_of (anchor_of id before) (register_of taken)) zero_bytes v) call in
           subst (λ (w : List ℕ). Contains all (extended_message w v)) (ap register_of (here.1 ∙ same)) first.0
       | inr there ↦
           let second = second_listed id all s.clears.clear before taken v s.path call there.0 in
           subst (λ (w : List ℕ). Contains all (extended_message w v)) (sym reads_zero ∙ ap register_of (there.1.1 ∙ same)) second.forms.0
     ]
 
-fresh_on : (i : Instance) (y : History) (named rest : List Batch) (a e : List ℕ) (b : Batch) (all : List (List ℕ)) → IsSound y → IsClear all → Within (messages_of Opt i y) all → Contains all (guard_message i.barrier b) → Within (point_messages a e (guard i.barrier b)) all → y.batches ≡ named ++ rest → IsPoint i y named a e → judge Opt y (total_of named) b ≡ IsFresh → Within (batch_messages i y (Commit b)) all
+fresh_on : (i : Instance) (y : History) (named rest : List Batch) (a e : List ℕ) (b : Batch) (all : List (List ℕ)) → IsSound y → IsClear all
+    → Within (messages_of Opt i y) all → Contains all (guard_message i.barrier b) → Within (point_messages a e (guard i.barrier b)) all
+    → y.batches ≡ named ++ rest → IsPoint i y named a e → judge Opt y (total_of named) b ≡ IsFresh
+    → Within (batch_messages i y (Commit b)) all
 fresh_on i y named rest a e b all sound clear history called call first place is =
     let q = stood_of i y named rest a e all sound clear history first place in
     let s = q.point in
-    let both = judged_fresh (life_of Opt y) (nat_eq (total_of named) (total_of y.batches)) (nat_eq (total_of named + size_of b) (total_of y.batches) && is_last y.batches b) is in
+    let both = judged_fresh (life_of Opt y) (nat_eq (total_of named) (total_of y.batches))
+    (nat_eq (total_of named + size_of b) (total_of y.batches) && is_last y.batches b) is in
     let parts = live_parts y.is_open (is_empty y.items) (are_own y.items y.current) (has_value (joined y.closed)) both.0 in
     let held = held_at y.is_open y.items i.barrier parts.held in
     let live = live_values_at i.barrier y y.is_open sound refl (live_clean y sound parts.clean) parts in
-    let found = fresh_from y.is_open (map (values_of i.barrier) y.closed) q.before s.later (values_of i.barrier y.items) q.taken s.split s.filled held s.reaches
+    let found = fresh_from y.is_open (map (values_of i.barrier) y.closed) q.before s.later (values_of i.barrier y.items) q.taken s.split
+    s.filled held s.reaches
     (s.flat ∙ ap (own_values i.barrier) ((at_the_end y.batches named rest first).0 both.1)
-    ∙ sym live ∙ sym (counted_values i.barrier y.is_open y.closed y.items)) in
-    (called, (extends i y named rest b all q.before q.taken s (path_messages i y named rest a e (guard i.barrier b) all q call) (current_values i.barrier y y.is_open sound refl parts) found, tt))
+    ∙ sym live ∙ sym (counted_values i.barrier y.is_open y.closed y.items)) in (
+      called,
+      (
+        extends i y named rest b all q.before q.taken s (path_messages i y named rest a e (guard i.barrier b) all q call)
+            (current_values i.barrier y y.is_open sound refl parts) found,
+        tt,
+      ),
+    )
 
-fresh_at : (meaning : Meaning) (key barrier : List ℕ) (y : History) (named rest : List Batch) (place : Place) (b : Batch) (all : List (List ℕ)) → IsSound y → IsClearFor all (opt meaning key barrier) y place b → y.batches ≡ named ++ rest → IsPlaceOf Opt (opt meaning key barrier) y named place → judge Opt y (total_of named) b ≡ IsFresh → Within (batch_messages (opt meaning key barrier) y (Commit b)) all
+fresh_at : (meaning : Meaning) (key barrier : List ℕ) (y : History) (named rest : List Batch) (place : Place) (b : Batch)
+    (all : List (List ℕ)) → IsSound y → IsClearFor all (opt meaning key barrier) y place b → y.batches ≡ named ++ rest
+    → IsPlaceOf Opt (opt meaning key barrier) y named place → judge Opt y (total_of named) b ≡ IsFresh
+    → Within (batch_messages (opt meaning key barrier) y (Commit b)) all
 fresh_at meaning key barrier y named rest (InBasic s) b all sound clear first is e = absurd is
 fresh_at meaning key barrier y named rest (InOpt a x) b all sound clear first is e =
-    fresh_on (opt meaning key barrier) y named rest a.bytes x.bytes b all sound clear.clear clear.history clear.call.0 clear.call.1 first is e
+    fresh_on (opt meaning key barrier) y named rest a.bytes x.bytes b all sound clear.clear clear.history clear.call.0 clear.call.1 first is
+    e
 
-pub fresh_lists : (meaning : Meaning) (key barrier : List ℕ) (y : History) (offered : Content) (b : Batch) (all : List (List ℕ)) → IsSound y → IsClearFor all (opt meaning key barrier) y offered.place b → Names (opt meaning key barrier) y offered → judge Opt y offered.position b ≡ IsFresh → Within (batch_messages (opt meaning key barrier) y (Commit b)) all
+pub fresh_lists : (meaning : Meaning) (key barrier : List ℕ) (y : History) (offered : Content) (b : Batch) (all : List (List ℕ)) → IsSound y
+    → IsClearFor all (opt meaning key barrier) y offered.place b → Names (opt meaning key barrier) y offered
+    → judge Opt y offered.position b ≡ IsFresh → Within (batch_messages (opt meaning key barrier) y (Commit b)) all
 fresh_lists meaning key barrier y offered b all sound clear names e =
     fresh_at meaning key barrier y names.named names.rest offered.place b all sound clear names.first names.place
     (ap (λ (p : ℕ). judge Opt y p b) (sym names.position) ∙ e)

@@ -5,8 +5,10 @@ use Rattle.std.proofs.lemmas.Bool.{and_parts}
 use Rattle.std.proofs.lemmas.List.Elements.{Contains-append_right}
 use Rattle.std.specs.List.{Contains}
 use Rattle.mm_module.specs.Batch.{Batch}
-use Rattle.mm_model.specs.Chains.{guard, own_values}
-use Rattle.mm_model.specs.History.{Entry, Own, Value, joined, value_of, values_of}
+use Rattle.mm_model.specs.Chains.{guard}
+use Rattle.mm_model.specs.ChainsWords.{own_values}
+use Rattle.mm_model.specs.History.{Entry, Own, Value, joined, value_of}
+use Rattle.mm_model.specs.HistoryWords.{values_of}
 use Rattle.mm_model.specs.Life.{is_empty, has_value, are_own, same_batch}
 use Rattle.mm_model.specs.Messages.{values_in}
 use Rattle.mm_model.specs.Sound.{batches_in}
@@ -14,14 +16,16 @@ use Rattle.mm_model.proofs.Lists.{ends}
 use Rattle.mm_model.proofs.Batches.{same_batch-Decides}
 use Rattle.mm_model.proofs.Segments.{true_not_false}
 
-pub own_values-append : (barrier : List ℕ) (bs cs : List Batch) → own_values barrier (bs ++ cs) ≡ own_values barrier bs ++ own_values barrier cs
+pub own_values-append : (barrier : List ℕ) (bs cs : List Batch) → own_values barrier (bs ++ cs) ≡ own_values barrier bs
+    ++ own_values barrier cs
 own_values-append barrier bs cs = map-append (guard barrier) bs cs
 
 pub values_of-append : (barrier : List ℕ) (es fs : List Entry) → values_of barrier (es ++ fs) ≡ values_of barrier es ++ values_of barrier fs
 values_of-append barrier es fs = map-append (value_of barrier) es fs
 
 -- the values of segments, one after another
-pub joined-values : (barrier : List ℕ) (segments : List (List Entry)) → joined (map (values_of barrier) segments) ≡ values_of barrier (joined segments)
+pub joined-values : (barrier : List ℕ) (segments : List (List Entry))
+    → joined (map (values_of barrier) segments) ≡ values_of barrier (joined segments)
 joined-values barrier [] = refl
 joined-values barrier (s ∷ ss) =
     ap (λ v. values_of barrier s ++ v) (joined-values barrier ss) ∙ sym (values_of-append barrier s (joined ss))
@@ -42,12 +46,14 @@ length-batches_in [] c = refl
 length-batches_in (Own b ∷ es) c = let h = length-batches_in es c in omega (arith, h)
 length-batches_in (Value d ∷ es) c = absurd (true_not_false c)
 
-pub values_of-clean : (barrier : List ℕ) (es : List Entry) → has_value es ≡ false → values_of barrier es ≡ own_values barrier (batches_in es)
+pub values_of-clean : (barrier : List ℕ) (es : List Entry) → has_value es ≡ false
+    → values_of barrier es ≡ own_values barrier (batches_in es)
 values_of-clean barrier [] c = refl
 values_of-clean barrier (Own b ∷ es) c = ap (λ v. guard barrier b ∷ v) (values_of-clean barrier es c)
 values_of-clean barrier (Value d ∷ es) c = absurd (true_not_false c)
 
-pub values_of-own : (barrier : List ℕ) (es : List Entry) (bs : List Batch) → are_own es bs ≡ true → values_of barrier es ≡ own_values barrier bs
+pub values_of-own : (barrier : List ℕ) (es : List Entry) (bs : List Batch) → are_own es bs ≡ true
+    → values_of barrier es ≡ own_values barrier bs
 values_of-own barrier [] [] o = refl
 values_of-own barrier [] (b ∷ bs) o = absurd (true_not_false (sym o))
 values_of-own barrier (Own b ∷ es) [] o = absurd (true_not_false (sym o))
@@ -57,10 +63,6 @@ values_of-own barrier (Own b ∷ es) (c ∷ bs) o =
     ∙ ap (λ v. guard barrier c ∷ v) (values_of-own barrier es bs both.1)
 values_of-own barrier (Value d ∷ es) bs o = absurd (true_not_false (sym o))
 
-pub are_own-nil : (bs : List Batch) → are_own [] bs ≡ true → bs ≡ []
-are_own-nil [] o = refl
-are_own-nil (b ∷ bs) o = absurd (true_not_false (sym o))
-
 -- a value that stands for no batch, and a batch with that guard
 pub record Meets (barrier : List ℕ) (values : List (List ℕ)) (batches : List Batch) : Type 0 where
   pub value : List ℕ
@@ -69,7 +71,8 @@ pub record Meets (barrier : List ℕ) (values : List (List ℕ)) (batches : List
   pub asked : Contains batches batch
   pub same : value ≡ guard barrier batch
 
-meets_more : (barrier : List ℕ) (values : List (List ℕ)) (bs : List Batch) (b : Batch) → Meets barrier values bs → Meets barrier values (b ∷ bs)
+meets_more : (barrier : List ℕ) (values : List (List ℕ)) (bs : List Batch) (b : Batch) → Meets barrier values bs
+    → Meets barrier values (b ∷ bs)
 meets_more barrier values bs b m =
     record {
       value = m.value;
@@ -80,7 +83,8 @@ meets_more barrier values bs b m =
     }
 
 -- entries whose values are guards of batches, though one stands for none: it is the guard of one of them
-pub meets : (barrier : List ℕ) (es : List Entry) (bs : List Batch) → has_value es ≡ true → values_of barrier es ≡ own_values barrier bs → Meets barrier (values_in es) bs
+pub meets : (barrier : List ℕ) (es : List Entry) (bs : List Batch) → has_value es ≡ true → values_of barrier es ≡ own_values barrier bs
+    → Meets barrier (values_in es) bs
 meets barrier [] bs h e = absurd (true_not_false (sym h))
 meets barrier (Own b ∷ es) [] h e = absurd (cc)
 meets barrier (Own b ∷ es) (c ∷ bs) h e =
@@ -102,7 +106,8 @@ pub record Sooner {A : Type 0} (before front : List A) : Type 0 where
   pub between : List A
   pub is : front ≡ before ++ between
 
-pub sooner : {A : Type 0} (before later front : List A) (last : A) → before ++ later ≡ front ++ last ∷ [] → is_empty later ≡ false → Sooner before front
+pub sooner : {A : Type 0} (before later front : List A) (last : A) → before ++ later ≡ front ++ last ∷ [] → is_empty later ≡ false
+    → Sooner before front
 sooner before later front last e some =
     elim (ends later) [
       | inl none ↦ absurd (true_not_false (ap is_empty (sym none) ∙ some))

@@ -6,11 +6,15 @@ use Rattle.mm_digest.specs.declared.variant.Variant.TheVariants.{Opt}
 use Rattle.mm_digest.specs.Messages.{start_of, extended_message, anchored_message}
 use Rattle.mm_module.specs.Batch.{Batch}
 use Rattle.mm_module.specs.Meaning.{Meaning}
-use Rattle.mm_model.specs.Chains.{trail, guard_message, closing_message, guard, register_of, anchor_of, own_values}
-use Rattle.mm_model.specs.Instance.{Instance, opt}
-use Rattle.mm_model.specs.History.{Entry, Own, Value, History, Move, Commit, Foreign, Placed, Reset, Close, Power, joined, value_of, values_of, renamed, moved}
+use Rattle.mm_model.specs.Chains.{trail, guard_message, closing_message, guard, register_of, anchor_of}
+use Rattle.mm_model.specs.ChainsWords.{own_values}
+use Rattle.mm_model.specs.Instance.{Instance}
+use Rattle.mm_model.specs.InstanceWords.{opt}
+use Rattle.mm_model.specs.History.{Entry, Own, Value, History, Move, Commit, Foreign, Placed, Reset, Close, Power, joined, value_of, renamed, moved}
+use Rattle.mm_model.specs.HistoryWords.{values_of}
 use Rattle.mm_model.specs.Sound.{IsSound, IsClean, batches_in}
-use Rattle.mm_model.specs.Messages.{Within, register_trail, closed_runs, runs_of, messages_of, moving_messages, move_messages}
+use Rattle.mm_model.specs.Messages.{Within, register_trail, closed_runs, runs_of, messages_of, moving_messages}
+use Rattle.mm_model.specs.MessagesWords.{move_messages}
 use Rattle.mm_model.specs.Moves.{IsAllowed, MayMove, batch_messages}
 use Rattle.mm_model.proofs.Lists.{each_append, each_left, each_right}
 use Rattle.mm_model.proofs.Chains.{trail_push}
@@ -22,7 +26,8 @@ use Rattle.mm_model.proofs.OptJudge.{HistoryListed, history_listed, shut_current
 use Rattle.mm_model.proofs.Moves.{moving, moving_is, open_current}
 use Rattle.mm_model.proofs.MovedDigests.{values_renamed}
 
-flat_each : {A B : Type 0} (P : B → Type 0) (f : A → List B) (xs : List A) → AllByRecursion (λ x. AllByRecursion P (f x)) xs → AllByRecursion P (flat_map f xs)
+flat_each : {A B : Type 0} (P : B → Type 0) (f : A → List B) (xs : List A) → AllByRecursion (λ x. AllByRecursion P (f x)) xs
+    → AllByRecursion P (flat_map f xs)
 flat_each P f [] h = tt
 flat_each P f (x ∷ xs) h = each_append P (f x) (flat_map f xs) h.0 (flat_each P f xs h.1)
 
@@ -49,18 +54,23 @@ listed_history i y all h =
           h.listed.outer,
     )
 
-pub items_grow : (barrier : List ℕ) (all : List (List ℕ)) (items : List Entry) (e : Entry) → Within (register_trail (values_of barrier items)) all → Contains all (extended_message (register_of (values_of barrier items)) (value_of barrier e)) → Within (register_trail (values_of barrier (items ++ e ∷ []))) all
+pub items_grow : (barrier : List ℕ) (all : List (List ℕ)) (items : List Entry) (e : Entry)
+    → Within (register_trail (values_of barrier items)) all
+    → Contains all (extended_message (register_of (values_of barrier items)) (value_of barrier e))
+    → Within (register_trail (values_of barrier (items ++ e ∷ []))) all
 items_grow barrier all items e w c =
     subst (λ (v : List (List ℕ)). Within (register_trail v) all) (sym (values_of-append barrier items (e ∷ [])))
     (listed_value all (values_of barrier items) (value_of barrier e) w c)
 
-pub run_grows : (barrier : List ℕ) (all : List (List ℕ)) (run : List Batch) (b : Batch) → RunsListed barrier all run → Contains all (extended_message (register_of (own_values barrier run)) (guard barrier b)) → RunsListed barrier all (run ++ b ∷ [])
+pub run_grows : (barrier : List ℕ) (all : List (List ℕ)) (run : List Batch) (b : Batch) → RunsListed barrier all run
+    → Contains all (extended_message (register_of (own_values barrier run)) (guard barrier b)) → RunsListed barrier all (run ++ b ∷ [])
 run_grows barrier all run b w c =
     subst (λ (v : List (List ℕ)). Within (register_trail v) all) (sym (own_values-append barrier run (b ∷ [])))
     (listed_value all (own_values barrier run) (guard barrier b) w c)
 
 -- the items alone change
-items_listed : (i : Instance) (y : History) (items : List Entry) (all : List (List ℕ)) → HistoryListed i y all → Within (register_trail (values_of i.barrier items)) all → HistoryListed i (record y { items = items }) all
+items_listed : (i : Instance) (y : History) (items : List Entry) (all : List (List ℕ)) → HistoryListed i y all
+    → Within (register_trail (values_of i.barrier items)) all → HistoryListed i (record y { items = items }) all
 items_listed i y items all h w = record {
   starts = h.starts;
   guards = h.guards;
@@ -68,13 +78,16 @@ items_listed i y items all h w = record {
   listed = record { inner = h.listed.inner; outer = h.listed.outer; last = w };
 }
 
-pub guards_grow : (barrier : List ℕ) (all : List (List ℕ)) (batches : List Batch) (b : Batch) → Within (map (guard_message barrier) batches) all → Contains all (guard_message barrier b) → Within (map (guard_message barrier) (batches ++ b ∷ [])) all
+pub guards_grow : (barrier : List ℕ) (all : List (List ℕ)) (batches : List Batch) (b : Batch)
+    → Within (map (guard_message barrier) batches) all → Contains all (guard_message barrier b)
+    → Within (map (guard_message barrier) (batches ++ b ∷ [])) all
 guards_grow barrier all batches b w c =
     subst (λ (v : List (List ℕ)). Within v all) (sym (map-append (guard_message barrier) batches (b ∷ [])))
     (each_append (Contains all) (map (guard_message barrier) batches) (guard_message barrier b ∷ []) w (c, tt))
 
 -- the batches before the open segment stay, where both grow by one
-front_stays : (batches current : List Batch) (b : Batch) → take (length (batches ++ b ∷ []) - length (current ++ b ∷ [])) (batches ++ b ∷ []) ≡ take (length batches - length current) batches
+front_stays : (batches current : List Batch) (b : Batch)
+    → take (length (batches ++ b ∷ []) - length (current ++ b ∷ [])) (batches ++ b ∷ []) ≡ take (length batches - length current) batches
 front_stays batches current b =
     let whole = length-append batches (b ∷ []) in
     let part = length-append current (b ∷ []) in
@@ -82,17 +95,28 @@ front_stays batches current b =
     let fits : length batches - length current ≤ length batches = omega arith in
     ap (λ (n : ℕ). take n (batches ++ b ∷ [])) same ∙ take-append-le (length batches - length current) batches (b ∷ []) fits
 
-runs_commit : (barrier : List ℕ) (all : List (List ℕ)) (y : History) (current : List Batch) (is_open : Bool) (items : List Entry) (b : Batch) → current ≡ y.current ++ b ∷ [] → AllByRecursion (RunsListed barrier all) (runs_of y) → Contains all (extended_message (register_of (own_values barrier y.current)) (guard barrier b)) → AllByRecursion (RunsListed barrier all) (runs_of (record y { batches = y.batches ++ b ∷ []; current = current; is_open = is_open; items = items }))
+runs_commit : (barrier : List ℕ) (all : List (List ℕ)) (y : History) (current : List Batch) (is_open : Bool) (items : List Entry)
+    (b : Batch) → current ≡ y.current ++ b ∷ [] → AllByRecursion (RunsListed barrier all) (runs_of y)
+    → Contains all (extended_message (register_of (own_values barrier y.current)) (guard barrier b))
+    → AllByRecursion (RunsListed barrier all)
+    (runs_of (record y { batches = y.batches ++ b ∷ []; current = current; is_open = is_open; items = items }))
 runs_commit barrier all y current is_open items b grown runs c =
     let k = length y.batches - length y.current in
     let closed = each_left (RunsListed barrier all) (closed_runs y.closed (take k y.batches)) (y.current ∷ []) runs in
     let open_run = (each_right (RunsListed barrier all) (closed_runs y.closed (take k y.batches)) (y.current ∷ []) runs).0 in
-    subst (λ (v : List Batch). AllByRecursion (RunsListed barrier all) (closed_runs y.closed (take (length (y.batches ++ b ∷ []) - length v) (y.batches ++ b ∷ [])) ++ v ∷ [])) (sym grown)
-    (each_append (RunsListed barrier all) (closed_runs y.closed (take (length (y.batches ++ b ∷ []) - length (y.current ++ b ∷ [])) (y.batches ++ b ∷ []))) ((y.current ++ b ∷ []) ∷ [])
-    (subst (λ (v : List Batch). AllByRecursion (RunsListed barrier all) (closed_runs y.closed v)) (sym (front_stays y.batches y.current b)) closed)
+    subst (λ (v : List Batch). AllByRecursion (RunsListed barrier all)
+    (closed_runs y.closed (take (length (y.batches ++ b ∷ []) - length v) (y.batches ++ b ∷ [])) ++ v ∷ [])) (sym grown)
+    (each_append (RunsListed barrier all)
+    (closed_runs y.closed (take (length (y.batches ++ b ∷ []) - length (y.current ++ b ∷ [])) (y.batches ++ b ∷ [])))
+    ((y.current ++ b ∷ []) ∷ [])
+    (subst (λ (v : List Batch). AllByRecursion (RunsListed barrier all) (closed_runs y.closed v)) (sym (front_stays y.batches y.current b))
+    closed)
     (run_grows barrier all y.current b open_run c, tt))
 
-commit_listed : (i : Instance) (y : History) (current : List Batch) (is_open : Bool) (items : List Entry) (b : Batch) (all : List (List ℕ)) → current ≡ y.current ++ b ∷ [] → HistoryListed i y all → Within (register_trail (values_of i.barrier items)) all → Within (batch_messages i y (Commit b)) all → HistoryListed i (record y { batches = y.batches ++ b ∷ []; current = current; is_open = is_open; items = items }) all
+commit_listed : (i : Instance) (y : History) (current : List Batch) (is_open : Bool) (items : List Entry) (b : Batch) (all : List (List ℕ))
+    → current ≡ y.current ++ b ∷ [] → HistoryListed i y all → Within (register_trail (values_of i.barrier items)) all
+    → Within (batch_messages i y (Commit b)) all
+    → HistoryListed i (record y { batches = y.batches ++ b ∷ []; current = current; is_open = is_open; items = items }) all
 commit_listed i y current is_open items b all grown h w m = record {
   starts = h.starts;
   guards = guards_grow i.barrier all y.batches b h.guards m.0;
@@ -101,7 +125,9 @@ commit_listed i y current is_open items b all grown h w m = record {
 }
 
 -- one more closed segment, with the batches that follow
-runs_push : (P : List Batch → Type 0) (closed : List (List Entry)) (segment : List Entry) (bs more : List Batch) → length bs ≡ length (joined closed) → AllByRecursion P (closed_runs closed bs) → P more → AllByRecursion P (closed_runs (closed ++ segment ∷ []) (bs ++ more))
+runs_push : (P : List Batch → Type 0) (closed : List (List Entry)) (segment : List Entry) (bs more : List Batch)
+    → length bs ≡ length (joined closed) → AllByRecursion P (closed_runs closed bs) → P more
+    → AllByRecursion P (closed_runs (closed ++ segment ∷ []) (bs ++ more))
 runs_push P [] segment bs more l h p =
     subst (λ (v : List Batch). AllByRecursion P (closed_runs (segment ∷ []) (v ++ more))) (sym (nothing_left bs l)) (p, tt)
 runs_push P (c ∷ []) segment bs more l h p =
@@ -112,11 +138,15 @@ runs_push P (c ∷ d ∷ closed) segment bs more l h p =
     let fits : length c ≤ length bs = omega (arith, l, whole) in
     let dropped = length-drop (length c) bs in (
       subst P (sym (take-append-le (length c) bs more fits)) h.0,
-      subst (λ (v : List Batch). AllByRecursion P (closed_runs (d ∷ (closed ++ segment ∷ [])) v)) (sym (drop-append-le (length c) bs more fits))
+      subst (λ (v : List Batch). AllByRecursion P (closed_runs (d ∷ (closed ++ segment ∷ [])) v))
+          (sym (drop-append-le (length c) bs more fits))
           (runs_push P (d ∷ closed) segment (drop (length c) bs) more (omega (arith, l, whole, dropped)) h.1 p),
     )
 
-close_listed : (i : Instance) (y : History) (all : List (List ℕ)) → IsClean y → HistoryListed i y all → Contains all (anchored_message (anchor_of i.meaning.id (map (values_of i.barrier) y.closed)) (register_of (values_of i.barrier y.items))) → HistoryListed i (record y { closed = y.closed ++ y.items ∷ []; current = []; is_open = false }) all
+close_listed : (i : Instance) (y : History) (all : List (List ℕ)) → IsClean y → HistoryListed i y all
+    → Contains all (anchored_message (anchor_of i.meaning.id (map (values_of i.barrier) y.closed))
+    (register_of (values_of i.barrier y.items)))
+    → HistoryListed i (record y { closed = y.closed ++ y.items ∷ []; current = []; is_open = false }) all
 unfolding anchor_of register_of
 close_listed i y all clean h c =
     let V = values_of i.barrier in
@@ -127,7 +157,8 @@ close_listed i y all clean h c =
     let cut = length-append bs y.current in
     let size : length bs ≡ k = omega (arith, count, cut) in
     let front : take k y.batches ≡ bs = ap (take k) clean.batches ∙ take_at bs y.current k size in
-    let closed = subst (λ (v : List Batch). AllByRecursion R (closed_runs y.closed v)) front (each_left R (closed_runs y.closed (take k y.batches)) (y.current ∷ []) h.runs) in
+    let closed = subst (λ (v : List Batch). AllByRecursion R (closed_runs y.closed v)) front
+    (each_left R (closed_runs y.closed (take k y.batches)) (y.current ∷ []) h.runs) in
     let open_run = (each_right R (closed_runs y.closed (take k y.batches)) (y.current ∷ []) h.runs).0 in
     let whole : take (length y.batches - 0) y.batches ≡ bs ++ y.current =
     take_all (length y.batches - 0) y.batches (omega arith) ∙ clean.batches in
@@ -148,7 +179,9 @@ close_listed i y all clean h c =
       };
     }
 
-listed_at : (i : Instance) (y : History) (flag : Bool) (m : Move) (all : List (List ℕ)) → IsSound y → y.is_open ≡ flag → IsAllowed Opt flag i y m → HistoryListed i y all → Within (moving_messages Opt flag i y m) all → Within (batch_messages i y m) all → HistoryListed i (moving flag i y m) all
+listed_at : (i : Instance) (y : History) (flag : Bool) (m : Move) (all : List (List ℕ)) → IsSound y → y.is_open ≡ flag
+    → IsAllowed Opt flag i y m → HistoryListed i y all → Within (moving_messages Opt flag i y m) all → Within (batch_messages i y m) all
+    → HistoryListed i (moving flag i y m) all
 listed_at i y true (Commit b) all sound f may h w m =
     commit_listed i y (y.current ++ b ∷ []) y.is_open (y.items ++ Own b ∷ []) b all refl h
     (items_grow i.barrier all y.items (Own b) h.listed.last w.0) m
@@ -163,14 +196,18 @@ listed_at i y false (Foreign d) all sound f may h w m =
     items_listed i y (y.items ++ Value d ∷ []) all h (items_grow i.barrier all y.items (Value d) h.listed.last w.0)
 listed_at i y true (Placed b) all sound f may h w m = absurd may
 listed_at i y false (Placed b) all sound f may h w m =
-    items_listed i y (y.items ++ Value (guard i.barrier b) ∷ []) all h (items_grow i.barrier all y.items (Value (guard i.barrier b)) h.listed.last w.0)
+    items_listed i y (y.items ++ Value (guard i.barrier b) ∷ []) all h
+    (items_grow i.barrier all y.items (Value (guard i.barrier b)) h.listed.last w.0)
 listed_at i y flag Reset all sound f may h w m = items_listed i y [] all h tt
 listed_at i y true Close all sound f may h w m =
     close_listed i y all (current_clean y sound (open_current y sound f)) h w.0
 listed_at i y false Close all sound f may h w m = absurd may
 listed_at i y flag Power all sound f may h w m = items_listed i y [] all h tt
 
-pub opt_messages : (meaning : Meaning) (key barrier : List ℕ) (y : History) (m : Move) (all : List (List ℕ)) → IsSound y → MayMove (opt meaning key barrier) y m → Within (messages_of Opt (opt meaning key barrier) y) all → Within (move_messages (opt meaning key barrier) y m) all → Within (batch_messages (opt meaning key barrier) y m) all → Within (messages_of Opt (opt meaning key barrier) (moved (opt meaning key barrier) y m)) all
+pub opt_messages : (meaning : Meaning) (key barrier : List ℕ) (y : History) (m : Move) (all : List (List ℕ)) → IsSound y
+    → MayMove (opt meaning key barrier) y m → Within (messages_of Opt (opt meaning key barrier) y) all
+    → Within (move_messages (opt meaning key barrier) y m) all → Within (batch_messages (opt meaning key barrier) y m) all
+    → Within (messages_of Opt (opt meaning key barrier) (moved (opt meaning key barrier) y m)) all
 opt_messages meaning key barrier y m all sound may h w b =
     let i = opt meaning key barrier in
     subst (λ (z : History). Within (messages_of Opt i z) all) (moving_is meaning key barrier y m)

@@ -18,7 +18,8 @@ ends (x ∷ xs) =
       | inr h ↦ inr (record { front = x ∷ h.front; last = h.last; is = ap (λ v. x ∷ v) h.is })
     ]
 
-grown : {A : Type 0} (P : List A → Type 0) → ((xs : List A) (x : A) → P xs → P (xs ++ x ∷ [])) → (done rest : List A) → P done → P (done ++ rest)
+grown : {A : Type 0} (P : List A → Type 0) → ((xs : List A) (x : A) → P xs → P (xs ++ x ∷ [])) → (done rest : List A) → P done
+    → P (done ++ rest)
 grown P step done [] p = subst P (sym (append-nil done)) p
 grown P step done (x ∷ rest) p =
     subst P (append_assoc done (x ∷ []) rest) (grown P step (done ++ x ∷ []) rest (step done x p))

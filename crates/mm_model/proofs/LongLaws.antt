@@ -9,7 +9,8 @@ use Rattle.mm_base.specs.Limits.{longest_request, most_members}
 use Rattle.mm_module.specs.Meaning.{IsLine}
 use Rattle.mm_module.specs.Batch.{Batch, members_of, batch_text, size_of}
 use Rattle.mm_module.proofs.BatchLaws.{text_of-members_of}
-use Rattle.mm_model.specs.Long.{is_lf, is_long}
+use Rattle.mm_model.specs.Long.{is_long}
+use Rattle.mm_model.specs.LongWords.{is_lf}
 
 neither_left : (a b : Bool) → (a || b) ≡ false → a ≡ false
 neither_left true b e = e
@@ -66,16 +67,12 @@ piece (x ∷ []) (suc i) m e = cc
 piece (x ∷ y ∷ xs) zero m e = let s : x ≡ m = cc in first_piece x m (9 ∷ join_with_byte 9 (y ∷ xs)) s
 piece (x ∷ y ∷ xs) (suc i) m e = later_piece x m (join_with_byte 9 (y ∷ xs)) (piece (y ∷ xs) i m e)
 
-pub few_members : (b : Batch) → is_long b ≡ false → size_of b ≤ most_members
-few_members b e =
-    few (size_of b)
-    (neither_right (nat_lt longest_request (length (batch_text b)) || list_any is_lf (batch_text b)) (nat_lt most_members (size_of b)) e)
-
 pub members_are_lines : (b : Batch) → is_long b ≡ false → (i : ℕ) (m : List ℕ) → slice_get (members_of b) i ≡ Some m → IsLine m
 members_are_lines b e i m at =
     let p : IsPiece m (batch_text b) =
     subst (λ (v : List ℕ). IsPiece m v) (text_of-members_of b) (piece (members_of b) i m at) in
-    let f = neither_left (nat_lt longest_request (length (batch_text b)) || list_any is_lf (batch_text b)) (nat_lt most_members (size_of b)) e in
+    let f = neither_left (nat_lt longest_request (length (batch_text b)) || list_any is_lf (batch_text b)) (nat_lt most_members (size_of b))
+    e in
     let s : length (batch_text b) ≤ longest_request =
     short (length (batch_text b)) (neither_left (nat_lt longest_request (length (batch_text b))) (list_any is_lf (batch_text b)) f) in
     record {

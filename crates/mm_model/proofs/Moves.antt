@@ -6,7 +6,8 @@ use Rattle.mm_digest.specs.declared.variant.Variant.TheVariants.{Opt}
 use Rattle.mm_module.specs.Batch.{Batch}
 use Rattle.mm_module.specs.Meaning.{Meaning}
 use Rattle.mm_model.specs.Chains.{guard}
-use Rattle.mm_model.specs.Instance.{Instance, opt}
+use Rattle.mm_model.specs.Instance.{Instance}
+use Rattle.mm_model.specs.InstanceWords.{opt}
 use Rattle.mm_model.specs.History.{Entry, Own, Value, History, Move, Commit, Foreign, Placed, Reset, Close, Power, joined, renamed, moved, committed}
 use Rattle.mm_model.specs.Life.{is_empty, has_value, are_own, same_batch}
 use Rattle.mm_model.specs.Sound.{IsSound, AreItems, batches_in}
@@ -64,7 +65,8 @@ open_current y sound f =
     ]
 
 -- the register's items alone change, and hold a value that stands for no batch
-sound_items : (y : History) (items : List Entry) → IsSound y → (y.is_open ≡ true → AreItems items y.current) → IsSound (record y { items = items })
+sound_items : (y : History) (items : List Entry) → IsSound y → (y.is_open ≡ true → AreItems items y.current)
+    → IsSound (record y { items = items })
 sound_items y items sound h =
     record {
       open_is = sound.open_is;
@@ -72,12 +74,22 @@ sound_items y items sound h =
       filled = sound.filled;
       history = elim sound.history [
         | inl c ↦ inl (record { clean = c.clean; batches = c.batches })
-        | inr m ↦ inr (record { before = m.before; last = m.last; rest = m.rest; split = m.split; clean = m.clean; marred = m.marred; shut = m.shut; batches = m.batches })
+        | inr m ↦ inr (record {
+          before = m.before;
+          last = m.last;
+          rest = m.rest;
+          split = m.split;
+          clean = m.clean;
+          marred = m.marred;
+          shut = m.shut;
+          batches = m.batches;
+        })
       ];
       register = h;
     }
 
-sound_commit : (y : History) (b : Batch) → IsSound y → y.is_open ≡ true → is_empty y.items ≡ false → IsSound (record y { batches = y.batches ++ b ∷ []; current = y.current ++ b ∷ []; items = y.items ++ Own b ∷ [] })
+sound_commit : (y : History) (b : Batch) → IsSound y → y.is_open ≡ true → is_empty y.items ≡ false
+    → IsSound (record y { batches = y.batches ++ b ∷ []; current = y.current ++ b ∷ []; items = y.items ++ Own b ∷ [] })
 sound_commit y b sound f some =
     let clean = current_clean y sound (open_current y sound f) in
     record {
@@ -107,14 +119,17 @@ opening_bare : (i : Instance) (y : History) (b : Batch) → IsOpening i y b → 
 opening_bare i y b o =
     ap batches_in o.items ∙ batches_in-append o.front (Value (guard i.barrier b) ∷ []) ∙ append-nil (batches_in o.front) ∙ o.others
 
-pub opening_clean : (y : History) → IsSound y → has_value (joined y.closed) ≡ false → y.is_open ≡ false → y.batches ≡ batches_in (joined y.closed)
+pub opening_clean : (y : History) → IsSound y → has_value (joined y.closed) ≡ false → y.is_open ≡ false
+    → y.batches ≡ batches_in (joined y.closed)
 opening_clean y sound clean shut =
     elim sound.history [
-      | inl c ↦ c.batches ∙ ap (λ (v : List Batch). batches_in (joined y.closed) ++ v) (shut_current y sound shut) ∙ append-nil (batches_in (joined y.closed))
+      | inl c ↦ c.batches ∙ ap (λ (v : List Batch). batches_in (joined y.closed) ++ v) (shut_current y sound shut)
+          ∙ append-nil (batches_in (joined y.closed))
       | inr m ↦ absurd (true_not_false (sym (marred_has y m) ∙ clean))
     ]
 
-sound_opening : (i : Instance) (y : History) (b : Batch) → IsSound y → y.is_open ≡ false → IsOpening i y b → IsSound (record y { batches = y.batches ++ b ∷ []; current = b ∷ []; is_open = true; items = renamed y.items b })
+sound_opening : (i : Instance) (y : History) (b : Batch) → IsSound y → y.is_open ≡ false → IsOpening i y b
+    → IsSound (record y { batches = y.batches ++ b ∷ []; current = b ∷ []; is_open = true; items = renamed y.items b })
 sound_opening i y b sound shut o =
     record {
       open_is = λ _. refl;
@@ -127,7 +142,8 @@ sound_opening i y b sound shut o =
       register = λ _. renamed_items y.items b (opening_bare i y b o);
     }
 
-sound_close : (y : History) → IsSound y → y.is_open ≡ true → is_empty y.items ≡ false → IsSound (record y { closed = y.closed ++ y.items ∷ []; current = []; is_open = false })
+sound_close : (y : History) → IsSound y → y.is_open ≡ true → is_empty y.items ≡ false
+    → IsSound (record y { closed = y.closed ++ y.items ∷ []; current = []; is_open = false })
 sound_close y sound f some =
     let clean = current_clean y sound (open_current y sound f) in
     record {
@@ -168,7 +184,8 @@ moving flag i y Reset = moved i y Reset
 moving flag i y Close = moved i y Close
 moving flag i y Power = moved i y Power
 
-sound_at : (i : Instance) (y : History) (flag : Bool) (m : Move) → IsSound y → y.is_open ≡ flag → IsAllowed Opt flag i y m → IsSound (moving flag i y m)
+sound_at : (i : Instance) (y : History) (flag : Bool) (m : Move) → IsSound y → y.is_open ≡ flag → IsAllowed Opt flag i y m
+    → IsSound (moving flag i y m)
 sound_at i y true (Commit b) sound f may = sound_commit y b sound f may
 sound_at i y false (Commit b) sound f may = sound_opening i y b sound f may
 sound_at i y flag (Foreign d) sound f may = sound_items y (y.items ++ Value d ∷ []) sound (λ _. inr (inr (has_value-push y.items d)))
@@ -179,7 +196,8 @@ sound_at i y true Close sound f may = sound_close y sound f may
 sound_at i y false Close sound f may = absurd may
 sound_at i y flag Power sound f may = sound_items y [] sound (λ _. inr (inl refl))
 
-pub moving_is : (meaning : Meaning) (key barrier : List ℕ) (y : History) (m : Move) → moving y.is_open (opt meaning key barrier) y m ≡ moved (opt meaning key barrier) y m
+pub moving_is : (meaning : Meaning) (key barrier : List ℕ) (y : History) (m : Move)
+    → moving y.is_open (opt meaning key barrier) y m ≡ moved (opt meaning key barrier) y m
 moving_is meaning key barrier y (Commit b) = refl
 moving_is meaning key barrier y (Foreign d) = refl
 moving_is meaning key barrier y (Placed b) = refl
@@ -187,6 +205,7 @@ moving_is meaning key barrier y Reset = refl
 moving_is meaning key barrier y Close = refl
 moving_is meaning key barrier y Power = refl
 
-pub sound_moved : (meaning : Meaning) (key barrier : List ℕ) (y : History) (m : Move) → IsSound y → MayMove (opt meaning key barrier) y m → IsSound (moved (opt meaning key barrier) y m)
+pub sound_moved : (meaning : Meaning) (key barrier : List ℕ) (y : History) (m : Move) → IsSound y → MayMove (opt meaning key barrier) y m
+    → IsSound (moved (opt meaning key barrier) y m)
 sound_moved meaning key barrier y m sound may =
     subst IsSound (moving_is meaning key barrier y m) (sound_at (opt meaning key barrier) y y.is_open m sound refl may)

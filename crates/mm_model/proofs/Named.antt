@@ -8,7 +8,8 @@ use Rattle.mm_seal.specs.declared.snapshot.Place.{Place}
 use Rattle.mm_seal.specs.declared.snapshot.Place.TheVariants.{Basic as InBasic, Opt as InOpt}
 use Rattle.mm_seal.specs.Snapshot.{Content}
 use Rattle.mm_model.specs.Chains.{guard}
-use Rattle.mm_model.specs.Instance.{Instance, basic, opt}
+use Rattle.mm_model.specs.Instance.{Instance}
+use Rattle.mm_model.specs.InstanceWords.{basic, opt}
 use Rattle.mm_model.specs.History.{Entry, Own, Value, History, Move, Commit, Foreign, Placed, Reset, Close, Power, joined, moved, renamed}
 use Rattle.mm_model.specs.Life.{has_value}
 use Rattle.mm_model.specs.Sound.{IsSound, IsClean, batches_in}
@@ -21,7 +22,8 @@ use Rattle.mm_model.proofs.OptJudge.{shut_current}
 use Rattle.mm_model.proofs.Moves.{moving, moving_is, open_current, opening_clean}
 
 -- the register's items are no part of a place
-pub point_items : (i : Instance) (y : History) (items : List Entry) (named : List Batch) (a e : List ℕ) → IsPoint i y named a e → IsPoint i (record y { items = items }) named a e
+pub point_items : (i : Instance) (y : History) (items : List Entry) (named : List Batch) (a e : List ℕ) → IsPoint i y named a e
+    → IsPoint i (record y { items = items }) named a e
 point_items i y items named a e (at_anchor p) = at_anchor (record {
   before = p.before;
   later = p.later;
@@ -58,7 +60,8 @@ point_items i y items named a e (in_current p) = in_current (record {
 })
 
 -- in a clean history a place in a closed segment ends within it
-ends_within : (i : Instance) (y : History) (named rest : List Batch) (a e : List ℕ) → IsClean y → y.batches ≡ named ++ rest → (p : InClosed i y named a e) → length p.taken ≤ length p.segment
+ends_within : (i : Instance) (y : History) (named rest : List Batch) (a e : List ℕ) → IsClean y → y.batches ≡ named ++ rest
+    → (p : InClosed i y named a e) → length p.taken ≤ length p.segment
 ends_within i y named rest a e clean first p =
     elim p.within [
       | inl within ↦ within
@@ -81,7 +84,9 @@ ends_within i y named rest a e clean first p =
     ]
 
 -- a batch more in the open segment, or a new one
-point_commit : (i : Instance) (y : History) (current : List Batch) (is_open : Bool) (items : List Entry) (b : Batch) (named rest : List Batch) (a e : List ℕ) → IsClean y → y.batches ≡ named ++ rest → current ≡ y.current ++ b ∷ [] → IsPoint i y named a e → IsPoint i (record y { batches = y.batches ++ b ∷ []; current = current; is_open = is_open; items = items }) named a e
+point_commit : (i : Instance) (y : History) (current : List Batch) (is_open : Bool) (items : List Entry) (b : Batch)
+    (named rest : List Batch) (a e : List ℕ) → IsClean y → y.batches ≡ named ++ rest → current ≡ y.current ++ b ∷ [] → IsPoint i y named a e
+    → IsPoint i (record y { batches = y.batches ++ b ∷ []; current = current; is_open = is_open; items = items }) named a e
 point_commit i y current is_open items b named rest a e clean first grown (at_anchor p) = at_anchor (record {
   before = p.before;
   later = p.later;
@@ -110,7 +115,9 @@ point_commit i y current is_open items b named rest a e clean first grown (in_cu
   taken = p.taken;
   more = p.more ++ b ∷ [];
   split = grown ∙ ap (λ (v : List Batch). v ++ b ∷ []) p.split ∙ append_assoc p.taken p.more (b ∷ []);
-  start = ap (λ (v : List Batch). v ++ b ∷ []) p.start ∙ append_assoc p.done y.current (b ∷ []) ∙ ap (λ (v : List Batch). p.done ++ v) (sym grown);
+  start =
+      ap (λ (v : List Batch). v ++ b ∷ []) p.start ∙ append_assoc p.done y.current (b ∷ [])
+      ∙ ap (λ (v : List Batch). p.done ++ v) (sym grown);
   named_is = p.named_is;
   begun = p.begun;
   anchor_is = p.anchor_is;
@@ -118,7 +125,8 @@ point_commit i y current is_open items b named rest a e clean first grown (in_cu
 })
 
 -- the open segment becomes the last closed one
-point_close : (i : Instance) (y : History) (named rest : List Batch) (a e : List ℕ) → IsClean y → y.batches ≡ named ++ rest → IsPoint i y named a e → IsPoint i (record y { closed = y.closed ++ y.items ∷ []; current = []; is_open = false }) named a e
+point_close : (i : Instance) (y : History) (named rest : List Batch) (a e : List ℕ) → IsClean y → y.batches ≡ named ++ rest
+    → IsPoint i y named a e → IsPoint i (record y { closed = y.closed ++ y.items ∷ []; current = []; is_open = false }) named a e
 point_close i y named rest a e clean first (at_anchor p) = at_anchor (record {
   before = p.before;
   later = p.later ++ y.items ∷ [];
@@ -165,7 +173,8 @@ clean_here y sound clean =
       | inr h ↦ absurd (true_not_false (sym (marred_has y h) ∙ clean))
     ]
 
-point_at : (i : Instance) (y : History) (flag : Bool) (m : Move) (named rest : List Batch) (a e : List ℕ) → IsSound y → y.is_open ≡ flag → IsAllowed Opt flag i y m → y.batches ≡ named ++ rest → IsPoint i y named a e → IsPoint i (moving flag i y m) named a e
+point_at : (i : Instance) (y : History) (flag : Bool) (m : Move) (named rest : List Batch) (a e : List ℕ) → IsSound y → y.is_open ≡ flag
+    → IsAllowed Opt flag i y m → y.batches ≡ named ++ rest → IsPoint i y named a e → IsPoint i (moving flag i y m) named a e
 point_at i y true (Commit b) named rest a e sound f may first p =
     point_commit i y (y.current ++ b ∷ []) y.is_open (y.items ++ Own b ∷ []) b named rest a e
     (current_clean y sound (open_current y sound f)) first refl p
@@ -199,12 +208,16 @@ batches_at i y flag Reset = sym (append-nil y.batches)
 batches_at i y flag Close = sym (append-nil y.batches)
 batches_at i y flag Power = sym (append-nil y.batches)
 
-place_at : (meaning : Meaning) (key barrier : List ℕ) (y : History) (m : Move) (named rest : List Batch) (place : Place) → IsSound y → MayMove (opt meaning key barrier) y m → y.batches ≡ named ++ rest → IsPlaceOf Opt (opt meaning key barrier) y named place → IsPlaceOf Opt (opt meaning key barrier) (moving y.is_open (opt meaning key barrier) y m) named place
+place_at : (meaning : Meaning) (key barrier : List ℕ) (y : History) (m : Move) (named rest : List Batch) (place : Place) → IsSound y
+    → MayMove (opt meaning key barrier) y m → y.batches ≡ named ++ rest → IsPlaceOf Opt (opt meaning key barrier) y named place
+    → IsPlaceOf Opt (opt meaning key barrier) (moving y.is_open (opt meaning key barrier) y m) named place
 place_at meaning key barrier y m named rest (InBasic s) sound may first p = absurd p
 place_at meaning key barrier y m named rest (InOpt a e) sound may first p =
     point_at (opt meaning key barrier) y y.is_open m named rest a.bytes e.bytes sound refl may first p
 
-pub opt_names : (meaning : Meaning) (key barrier : List ℕ) (y : History) (m : Move) (offered : Content) → IsSound y → MayMove (opt meaning key barrier) y m → Names (opt meaning key barrier) y offered → Names (opt meaning key barrier) (moved (opt meaning key barrier) y m) offered
+pub opt_names : (meaning : Meaning) (key barrier : List ℕ) (y : History) (m : Move) (offered : Content) → IsSound y
+    → MayMove (opt meaning key barrier) y m → Names (opt meaning key barrier) y offered
+    → Names (opt meaning key barrier) (moved (opt meaning key barrier) y m) offered
 opt_names meaning key barrier y m offered sound may n =
     let i = opt meaning key barrier in
     subst (λ (z : History). Names i z offered) (moving_is meaning key barrier y m) (record {
@@ -216,7 +229,8 @@ opt_names meaning key barrier y m offered sound may n =
       place = place_at meaning key barrier y m n.named n.rest offered.place sound may n.first n.place;
     })
 
-basic_place : (meaning : Meaning) (key : List ℕ) (y z : History) (named : List Batch) (place : Place) → IsPlaceOf Basic (basic meaning key) y named place → IsPlaceOf Basic (basic meaning key) z named place
+basic_place : (meaning : Meaning) (key : List ℕ) (y z : History) (named : List Batch) (place : Place)
+    → IsPlaceOf Basic (basic meaning key) y named place → IsPlaceOf Basic (basic meaning key) z named place
 basic_place meaning key y z named (InBasic s) p = p
 basic_place meaning key y z named (InOpt a e) p = absurd p
 
@@ -229,7 +243,8 @@ basic_batches meaning key y Reset = sym (append-nil y.batches)
 basic_batches meaning key y Close = sym (append-nil y.batches)
 basic_batches meaning key y Power = sym (append-nil y.batches)
 
-pub basic_names : (meaning : Meaning) (key : List ℕ) (y : History) (m : Move) (offered : Content) → Names (basic meaning key) y offered → Names (basic meaning key) (moved (basic meaning key) y m) offered
+pub basic_names : (meaning : Meaning) (key : List ℕ) (y : History) (m : Move) (offered : Content) → Names (basic meaning key) y offered
+    → Names (basic meaning key) (moved (basic meaning key) y m) offered
 basic_names meaning key y m offered n = record {
   named = n.named;
   rest = n.rest ++ added m;
@@ -249,7 +264,8 @@ basic_issued meaning key y = record {
   place = refl;
 }
 
-issued_point : (i : Instance) (y : History) (flag : Bool) → IsSound y → has_value (joined y.closed) ≡ false → y.is_open ≡ flag → IsPlaceOf Opt i y y.batches (issued_place Opt flag i y)
+issued_point : (i : Instance) (y : History) (flag : Bool) → IsSound y → has_value (joined y.closed) ≡ false → y.is_open ≡ flag
+    → IsPlaceOf Opt i y y.batches (issued_place Opt flag i y)
 issued_point i y true sound clean f =
     let c = clean_here y sound clean in
     in_current (record {
@@ -275,7 +291,8 @@ issued_point i y false sound clean f =
       extension_is = refl;
     })
 
-pub opt_issued : (meaning : Meaning) (key barrier : List ℕ) (y : History) → IsSound y → has_value (joined y.closed) ≡ false → Names (opt meaning key barrier) y (issued (opt meaning key barrier) y)
+pub opt_issued : (meaning : Meaning) (key barrier : List ℕ) (y : History) → IsSound y → has_value (joined y.closed) ≡ false
+    → Names (opt meaning key barrier) y (issued (opt meaning key barrier) y)
 opt_issued meaning key barrier y sound clean = record {
   named = y.batches;
   rest = [];

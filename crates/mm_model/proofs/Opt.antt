@@ -31,7 +31,12 @@ alone false a b = (
 )
 
 -- a test on some form of a place: on the first, or where its extension isn't zero on the second
-on_forms : (A B : Type 0) (test : Point → Bool) (a e : List ℕ) (rest : List (List ℕ)) (is_zero : Bool) → is_zero ≡ is_empty rest → Decides (test (record { anchor = a; extension = e })) A → (is_empty rest ≡ false → Decides (test (record { anchor = anchored_of a e; extension = zero_bytes })) B) → Decides (list_any test (record { anchor = a; extension = e } ∷ (if is_zero then [] else record { anchor = anchored_of a e; extension = zero_bytes } ∷ []))) (A ⊎ (is_empty rest ≡ false) × B)
+on_forms : (A B : Type 0) (test : Point → Bool) (a e : List ℕ) (rest : List (List ℕ)) (is_zero : Bool) → is_zero ≡ is_empty rest
+    → Decides (test (record { anchor = a; extension = e })) A
+    → (is_empty rest ≡ false → Decides (test (record { anchor = anchored_of a e; extension = zero_bytes })) B)
+    → Decides (list_any test
+    (record { anchor = a; extension = e } ∷ (if is_zero then [] else record { anchor = anchored_of a e; extension = zero_bytes } ∷ [])))
+    (A ⊎ (is_empty rest ≡ false) × B)
 on_forms A B test a e rest true r da db =
     alone (test (record { anchor = a; extension = e })) da (λ q. true_not_false (r ∙ q.0))
 on_forms A B test a e rest false r da db =
@@ -40,7 +45,8 @@ on_forms A B test a e rest false r da db =
     (λ t. (sym r, there.0 t), λ q. there.1 q.1) in
     either (test (record { anchor = a; extension = e })) (test (record { anchor = anchored_of a e; extension = zero_bytes })) da second
 
-pub zero_tells : (all : List (List ℕ)) → IsClear all → (rest : List (List ℕ)) → Within (register_trail rest) all → bytes_eq (register_of rest) zero_bytes ≡ is_empty rest
+pub zero_tells : (all : List (List ℕ)) → IsClear all → (rest : List (List ℕ)) → Within (register_trail rest) all
+    → bytes_eq (register_of rest) zero_bytes ≡ is_empty rest
 zero_tells all clear [] l = (zero_register all clear [] l).1 refl
 zero_tells all clear (v ∷ rest) l =
     same_tests _ _ (λ t. ap is_empty ((zero_register all clear (v ∷ rest) l).0 t)) (λ e. absurd (true_not_false (sym e)))
@@ -59,7 +65,9 @@ pub record SecondListed (id : ℕ) (all : List (List ℕ)) (before : List (List 
   pub closes : Contains all (anchored_message (anchor_of id before) (register_of rest))
   pub forms : Within (form_messages (anchored_of (anchor_of id before) (register_of rest)) zero_bytes v) all
 
-pub second_listed : (id : ℕ) (all : List (List ℕ)) → IsClear all → (before : List (List (List ℕ))) (rest : List (List ℕ)) (v : List ℕ) → Listed id all before rest → Within (point_messages (anchor_of id before) (register_of rest) v) all → is_empty rest ≡ false → SecondListed id all before rest v
+pub second_listed : (id : ℕ) (all : List (List ℕ)) → IsClear all → (before : List (List (List ℕ))) (rest : List (List ℕ)) (v : List ℕ)
+    → Listed id all before rest → Within (point_messages (anchor_of id before) (register_of rest) v) all → is_empty rest ≡ false
+    → SecondListed id all before rest v
 second_listed id all clear before rest v l m some =
     let a = anchor_of id before in
     let e = register_of rest in
@@ -70,10 +78,17 @@ second_listed id all clear before rest v l m some =
     record { closes = there.0; forms = there.1 }
 
 -- the second form is the point at the anchor after one more segment
-second_is : (id : ℕ) (before : List (List (List ℕ))) (rest : List (List ℕ)) → point_of id (before ++ rest ∷ []) [] ≡ record { anchor = anchored_of (anchor_of id before) (register_of rest); extension = zero_bytes }
+second_is : (id : ℕ) (before : List (List (List ℕ))) (rest : List (List ℕ))
+    → point_of id (before ++ rest ∷ [])
+    [] ≡ record { anchor = anchored_of (anchor_of id before) (register_of rest); extension = zero_bytes }
 second_is id before rest = λ j. record { anchor = anchor-push id before rest j; extension = reads_zero j }
 
-pub fresh_somehow : (id : ℕ) (all : List (List ℕ)) → Clears id all → (flag : Bool) (closed : List (List (List ℕ))) (items : List (List ℕ)) (before : List (List (List ℕ))) (rest : List (List ℕ)) → Listed id all closed items → Listed id all before rest → (is_empty rest ≡ false → Contains all (anchored_message (anchor_of id before) (register_of rest))) → Decides (list_any (fits_fresh flag (anchor_of id closed) (register_of items)) (forms_of (anchor_of id before) (register_of rest))) (FreshSomehow flag closed items before rest)
+pub fresh_somehow : (id : ℕ) (all : List (List ℕ)) → Clears id all
+    → (flag : Bool) (closed : List (List (List ℕ))) (items : List (List ℕ)) (before : List (List (List ℕ))) (rest : List (List ℕ))
+    → Listed id all closed items → Listed id all before rest
+    → (is_empty rest ≡ false → Contains all (anchored_message (anchor_of id before) (register_of rest)))
+    → Decides (list_any (fits_fresh flag (anchor_of id closed) (register_of items)) (forms_of (anchor_of id before) (register_of rest)))
+    (FreshSomehow flag closed items before rest)
 fresh_somehow id all clears flag closed items before rest k l closes =
     on_forms (Fresh flag closed items before rest) (Fresh flag closed items (before ++ rest ∷ []) [])
     (fits_fresh flag (anchor_of id closed) (register_of items)) (anchor_of id before) (register_of rest) rest
@@ -81,21 +96,29 @@ fresh_somehow id all clears flag closed items before rest k l closes =
     (fresh_tells id all clears flag closed items before rest k l)
     (λ some.
     let listed = listed_segment id all before rest l.inner l.outer l.last (closes some) in
-    subst (λ (x : Point). Decides (fits_fresh flag (anchor_of id closed) (register_of items) x) (Fresh flag closed items (before ++ rest ∷ []) []))
+    subst (λ (x : Point). Decides (fits_fresh flag (anchor_of id closed) (register_of items) x)
+    (Fresh flag closed items (before ++ rest ∷ []) []))
     (second_is id before rest) (fresh_tells id all clears flag closed items (before ++ rest ∷ []) [] k listed))
 
-pub again_somehow : (id : ℕ) (all : List (List ℕ)) → Clears id all → (flag : Bool) (closed : List (List (List ℕ))) (items : List (List ℕ)) (before : List (List (List ℕ))) (rest : List (List ℕ)) (v : List ℕ) → Listed id all closed items → Listed id all before rest → Within (point_messages (anchor_of id before) (register_of rest) v) all → Decides (list_any (fits_again flag (anchor_of id closed) (register_of items) v) (forms_of (anchor_of id before) (register_of rest))) (AgainSomehow flag closed items v before rest)
+pub again_somehow : (id : ℕ) (all : List (List ℕ)) → Clears id all
+    → (flag : Bool) (closed : List (List (List ℕ))) (items : List (List ℕ)) (before : List (List (List ℕ))) (rest : List (List ℕ))
+    (v : List ℕ) → Listed id all closed items → Listed id all before rest
+    → Within (point_messages (anchor_of id before) (register_of rest) v) all
+    → Decides (list_any (fits_again flag (anchor_of id closed) (register_of items) v) (forms_of (anchor_of id before) (register_of rest)))
+    (AgainSomehow flag closed items v before rest)
 again_somehow id all clears flag closed items before rest v k l m =
     on_forms (Again flag closed items v before rest) (Again flag closed items v (before ++ rest ∷ []) [])
     (fits_again flag (anchor_of id closed) (register_of items) v) (anchor_of id before) (register_of rest) rest
     (bytes_eq (register_of rest) zero_bytes) (zero_tells all clears.clear rest l.last)
     (again_tells id all clears flag closed items v before rest k l
     (each_left (Contains all) (form_messages (anchor_of id before) (register_of rest) v)
-    (if bytes_eq (register_of rest) zero_bytes then [] else anchored_message (anchor_of id before) (register_of rest) ∷ form_messages (anchored_of (anchor_of id before) (register_of rest)) zero_bytes v) m))
+    (if bytes_eq (register_of rest) zero_bytes then [] else anchored_message (anchor_of id before) (register_of rest)
+    ∷ form_messages (anchored_of (anchor_of id before) (register_of rest)) zero_bytes v) m))
     (λ some.
     let second = second_listed id all clears.clear before rest v l m some in
     let listed = listed_segment id all before rest l.inner l.outer l.last second.closes in
     let forms : Within (form_messages (anchor_of id (before ++ rest ∷ [])) (register_of []) v) all =
     subst (λ (x : Point). Within (form_messages x.anchor x.extension v) all) (sym (second_is id before rest)) second.forms in
-    subst (λ (x : Point). Decides (fits_again flag (anchor_of id closed) (register_of items) v x) (Again flag closed items v (before ++ rest ∷ []) []))
+    subst (λ (x : Point). Decides (fits_again flag (anchor_of id closed) (register_of items) v x)
+    (Again flag closed items v (before ++ rest ∷ []) []))
     (second_is id before rest) (again_tells id all clears flag closed items v (before ++ rest ∷ []) [] k listed forms))

@@ -9,13 +9,16 @@ use Rattle.std.proofs.lemmas.List.Elements.{Contains-append_left, Contains-appen
 use Rattle.mm_digest.specs.declared.variant.Variant.TheVariants.{Opt}
 use Rattle.mm_digest.specs.Messages.{zero_bytes, start_message, start_of}
 use Rattle.mm_module.specs.Batch.{Batch, size_of}
-use Rattle.mm_model.specs.Chains.{trail, guard_message, closing_message, guard, register_of, anchor_of, own_values}
+use Rattle.mm_model.specs.Chains.{trail, guard_message, closing_message, guard, register_of, anchor_of}
+use Rattle.mm_model.specs.ChainsWords.{own_values}
 use Rattle.mm_module.specs.Meaning.{Meaning}
 use Rattle.mm_seal.specs.declared.snapshot.Place.{Place}
 use Rattle.mm_seal.specs.declared.snapshot.Place.TheVariants.{Basic as InBasic, Opt as InOpt}
 use Rattle.mm_seal.specs.Snapshot.{Content}
-use Rattle.mm_model.specs.Instance.{Instance, opt}
-use Rattle.mm_model.specs.History.{Entry, History, joined, total_of, values_of, cell_digest_of, register_value_of}
+use Rattle.mm_model.specs.Instance.{Instance}
+use Rattle.mm_model.specs.InstanceWords.{opt}
+use Rattle.mm_model.specs.History.{Entry, History, joined, total_of, register_value_of}
+use Rattle.mm_model.specs.HistoryWords.{values_of, cell_digest_of}
 use Rattle.mm_model.specs.Life.{is_empty, has_value, are_own, Life, Live, Spoiled, Lost, life_by, life_of, is_lost as is_lost_life}
 use Rattle.mm_model.specs.Judge.{verdict_by_digests, forms_of, fits_fresh, fits_again, is_last, verdict_by, opt_verdict, judge, judged}
 use Rattle.mm_model.specs.Places.{IsPoint, IsPlaceOf, Names, anchor_after}
@@ -32,7 +35,8 @@ use Rattle.mm_model.proofs.Histories.{own_values-append, values_of-append, joine
 use Rattle.mm_model.proofs.Paths.{path_of, RunsListed, empty_cases, marred_has}
 use Rattle.mm_model.proofs.Opt.{zero_tells, FreshSomehow, AgainSomehow, second_listed, fresh_somehow, again_somehow}
 
-each_flat : {A B : Type 0} (P : B → Type 0) (f : A → List B) (xs : List A) → AllByRecursion P (flat_map f xs) → AllByRecursion (λ x. AllByRecursion P (f x)) xs
+each_flat : {A B : Type 0} (P : B → Type 0) (f : A → List B) (xs : List A) → AllByRecursion P (flat_map f xs)
+    → AllByRecursion (λ x. AllByRecursion P (f x)) xs
 each_flat P f [] h = tt
 each_flat P f (x ∷ xs) h = (each_left P (f x) (flat_map f xs) h, each_flat P f xs (each_right P (f x) (flat_map f xs) h))
 
@@ -40,7 +44,8 @@ each_map : {A B : Type 0} (P : B → Type 0) (f : A → B) (xs : List A) → All
 each_map P f [] h = tt
 each_map P f (x ∷ xs) h = (h.0, each_map P f xs h.1)
 
-each_unmap : {A B : Type 0} (P : B → Type 0) (Q : A → Type 0) (f : A → B) → ((x : A) → Q x → P (f x)) → (xs : List A) → AllByRecursion Q xs → AllByRecursion P (map f xs)
+each_unmap : {A B : Type 0} (P : B → Type 0) (Q : A → Type 0) (f : A → B) → ((x : A) → Q x → P (f x)) → (xs : List A) → AllByRecursion Q xs
+    → AllByRecursion P (map f xs)
 each_unmap P Q f g [] h = tt
 each_unmap P Q f g (x ∷ xs) h = (g x h.0, each_unmap P Q f g xs h.1)
 
@@ -118,11 +123,15 @@ lost_test false p o false = refl
 lost_test false p o true = refl
 
 -- the values that count, with the register's items where a segment is open
-pub counted_values : (barrier : List ℕ) (flag : Bool) (closed : List (List Entry)) (items : List Entry) → joined (map (values_of barrier) closed) ++ taken_in flag (values_of barrier items) ≡ values_of barrier (joined closed ++ (if flag then items else []))
+pub counted_values : (barrier : List ℕ) (flag : Bool) (closed : List (List Entry)) (items : List Entry)
+    → joined (map (values_of barrier) closed) ++ taken_in flag (values_of barrier items) ≡ values_of barrier
+    (joined closed ++ (if flag then items else []))
 counted_values barrier true closed items =
-    ap (λ (v : List (List ℕ)). v ++ values_of barrier items) (joined-values barrier closed) ∙ sym (values_of-append barrier (joined closed) items)
+    ap (λ (v : List (List ℕ)). v ++ values_of barrier items) (joined-values barrier closed)
+    ∙ sym (values_of-append barrier (joined closed) items)
 counted_values barrier false closed items =
-    append-nil (joined (map (values_of barrier) closed)) ∙ joined-values barrier closed ∙ ap (values_of barrier) (sym (append-nil (joined closed)))
+    append-nil (joined (map (values_of barrier) closed)) ∙ joined-values barrier closed
+    ∙ ap (values_of barrier) (sym (append-nil (joined closed)))
 
 pub shut_current : (y : History) → IsSound y → y.is_open ≡ false → y.current ≡ []
 shut_current y sound shut =
@@ -131,11 +140,14 @@ shut_current y sound shut =
       | inr some ↦ absurd (true_not_false (sym (sound.open_is some) ∙ shut))
     ]
 
-pub live_values_at : (barrier : List ℕ) (y : History) (flag : Bool) → IsSound y → y.is_open ≡ flag → IsClean y → LiveParts flag (is_empty y.items) (are_own y.items y.current) (has_value (joined y.closed)) → values_of barrier (joined y.closed ++ (if flag then y.items else [])) ≡ own_values barrier y.batches
+pub live_values_at : (barrier : List ℕ) (y : History) (flag : Bool) → IsSound y → y.is_open ≡ flag → IsClean y
+    → LiveParts flag (is_empty y.items) (are_own y.items y.current) (has_value (joined y.closed))
+    → values_of barrier (joined y.closed ++ (if flag then y.items else [])) ≡ own_values barrier y.batches
 live_values_at barrier y true sound f h live =
     values_of-append barrier (joined y.closed) y.items
     ∙ ap (λ (v : List (List ℕ)). v ++ values_of barrier y.items) (values_of-clean barrier (joined y.closed) h.clean)
-    ∙ ap (λ (v : List (List ℕ)). own_values barrier (batches_in (joined y.closed)) ++ v) (values_of-own barrier y.items y.current (live.own refl))
+    ∙ ap (λ (v : List (List ℕ)). own_values barrier (batches_in (joined y.closed)) ++ v)
+    (values_of-own barrier y.items y.current (live.own refl))
     ∙ sym (own_values-append barrier (batches_in (joined y.closed)) y.current) ∙ ap (own_values barrier) (sym h.batches)
 live_values_at barrier y false sound f h live =
     ap (values_of barrier) (append-nil (joined y.closed)) ∙ values_of-clean barrier (joined y.closed) h.clean
@@ -149,7 +161,8 @@ live_clean y sound clean =
       | inr h ↦ absurd (true_not_false (sym (marred_has y h) ∙ clean))
     ]
 
-pub held_at : (flag : Bool) (items : List Entry) (barrier : List ℕ) → (flag ≡ true → is_empty items ≡ false) → IsHeld flag (values_of barrier items)
+pub held_at : (flag : Bool) (items : List Entry) (barrier : List ℕ) → (flag ≡ true → is_empty items ≡ false)
+    → IsHeld flag (values_of barrier items)
 held_at true [] barrier h = absurd (true_not_false (h refl))
 held_at true (x ∷ items) barrier h = refl
 held_at false items barrier h = tt
@@ -162,7 +175,9 @@ or_first : (a b : Bool) → a ≡ true → (a || b) ≡ true
 or_first true b e = refl
 or_first false b e = absurd (true_not_false (sym e))
 
-pub spoiled_has_at : (y : History) (flag : Bool) → IsSound y → y.is_open ≡ flag → life_by flag (is_empty y.items) (are_own y.items y.current) (has_value (joined y.closed)) ≡ Spoiled → has_value (joined y.closed ++ (if flag then y.items else [])) ≡ true
+pub spoiled_has_at : (y : History) (flag : Bool) → IsSound y → y.is_open ≡ flag
+    → life_by flag (is_empty y.items) (are_own y.items y.current) (has_value (joined y.closed)) ≡ Spoiled
+    → has_value (joined y.closed ++ (if flag then y.items else [])) ≡ true
 spoiled_has_at y flag sound f e =
     elim (spoiled_parts flag (is_empty y.items) (are_own y.items y.current) (has_value (joined y.closed)) e) [
       | inl m ↦
@@ -180,7 +195,8 @@ spoiled_has_at y flag sound f e =
     ]
 
 -- A path, with what a verdict on it looks at, but for the messages of a call.
-pub record Standpoint (i : Instance) (y : History) (named rest : List Batch) (all : List (List ℕ)) (before : List (List (List ℕ))) (taken : List (List ℕ)) : Type 0 where
+pub record Standpoint (i : Instance) (y : History) (named rest : List Batch) (all : List (List ℕ)) (before : List (List (List ℕ)))
+    (taken : List (List ℕ)) : Type 0 where
   pub first : y.batches ≡ named ++ rest
   pub later : List (List (List ℕ))
   pub split : map (values_of i.barrier) y.closed ≡ before ++ later
@@ -193,7 +209,10 @@ pub record Standpoint (i : Instance) (y : History) (named rest : List Batch) (al
   pub guards : Within (map (guard_message i.barrier) y.batches) all
 
 -- the values that count are all there is to a fresh path, and to a repeat with one more value
-pub fresh_counts : (i : Instance) (y : History) (named rest : List Batch) (all : List (List ℕ)) (before : List (List (List ℕ))) (taken : List (List ℕ)) → Standpoint i y named rest all before taken → FreshSomehow y.is_open (map (values_of i.barrier) y.closed) (values_of i.barrier y.items) before taken → own_values i.barrier named ≡ values_of i.barrier (counting y)
+pub fresh_counts : (i : Instance) (y : History) (named rest : List Batch) (all : List (List ℕ)) (before : List (List (List ℕ)))
+    (taken : List (List ℕ)) → Standpoint i y named rest all before taken
+    → FreshSomehow y.is_open (map (values_of i.barrier) y.closed) (values_of i.barrier y.items) before taken
+    → own_values i.barrier named ≡ values_of i.barrier (counting y)
 fresh_counts i y named rest all before taken s f =
     let closed = map (values_of i.barrier) y.closed in
     let items = values_of i.barrier y.items in
@@ -206,7 +225,10 @@ fresh_counts i y named rest all before taken s f =
     ] in
     sym s.flat ∙ joins ∙ counted_values i.barrier y.is_open y.closed y.items
 
-again_counts : (i : Instance) (y : History) (named rest : List Batch) (b : Batch) (all : List (List ℕ)) (before : List (List (List ℕ))) (taken : List (List ℕ)) → Standpoint i y named rest all before taken → AgainSomehow y.is_open (map (values_of i.barrier) y.closed) (values_of i.barrier y.items) (guard i.barrier b) before taken → own_values i.barrier (named ++ b ∷ []) ≡ values_of i.barrier (counting y)
+again_counts : (i : Instance) (y : History) (named rest : List Batch) (b : Batch) (all : List (List ℕ)) (before : List (List (List ℕ)))
+    (taken : List (List ℕ)) → Standpoint i y named rest all before taken
+    → AgainSomehow y.is_open (map (values_of i.barrier) y.closed) (values_of i.barrier y.items) (guard i.barrier b) before taken
+    → own_values i.barrier (named ++ b ∷ []) ≡ values_of i.barrier (counting y)
 again_counts i y named rest b all before taken s f =
     let closed = map (values_of i.barrier) y.closed in
     let items = values_of i.barrier y.items in
@@ -221,13 +243,18 @@ again_counts i y named rest b all before taken s f =
     own_values-append i.barrier named (b ∷ []) ∙ ap (λ (w : List (List ℕ)). w ++ v ∷ []) (sym s.flat) ∙ joins
     ∙ counted_values i.barrier y.is_open y.closed y.items
 
-guards_of_named : (i : Instance) (y : History) (named rest : List Batch) (all : List (List ℕ)) (before : List (List (List ℕ))) (taken : List (List ℕ)) → Standpoint i y named rest all before taken → Within (map (guard_message i.barrier) named) all
+guards_of_named : (i : Instance) (y : History) (named rest : List Batch) (all : List (List ℕ)) (before : List (List (List ℕ)))
+    (taken : List (List ℕ)) → Standpoint i y named rest all before taken → Within (map (guard_message i.barrier) named) all
 guards_of_named i y named rest all before taken s =
     each_left (Contains all) (map (guard_message i.barrier) named) (map (guard_message i.barrier) rest)
     (subst (λ (v : List (List ℕ)). Within v all)
     (ap (map (guard_message i.barrier)) s.first ∙ map-append (guard_message i.barrier) named rest) s.guards)
 
-pub live_fresh : (i : Instance) (y : History) (named rest : List Batch) (all : List (List ℕ)) (before : List (List (List ℕ))) (taken : List (List ℕ)) → Standpoint i y named rest all before taken → IsHeld y.is_open (values_of i.barrier y.items) → values_of i.barrier (counting y) ≡ own_values i.barrier y.batches → (test : Bool) → Decides test (FreshSomehow y.is_open (map (values_of i.barrier) y.closed) (values_of i.barrier y.items) before taken) → test ≡ nat_eq (total_of named) (total_of y.batches)
+pub live_fresh : (i : Instance) (y : History) (named rest : List Batch) (all : List (List ℕ)) (before : List (List (List ℕ)))
+    (taken : List (List ℕ)) → Standpoint i y named rest all before taken → IsHeld y.is_open (values_of i.barrier y.items)
+    → values_of i.barrier (counting y) ≡ own_values i.barrier y.batches → (test : Bool)
+    → Decides test (FreshSomehow y.is_open (map (values_of i.barrier) y.closed) (values_of i.barrier y.items) before taken)
+    → test ≡ nat_eq (total_of named) (total_of y.batches)
 live_fresh i y named rest all before taken s held live test decides =
     let closed = map (values_of i.barrier) y.closed in
     let items = values_of i.barrier y.items in
@@ -239,7 +266,11 @@ live_fresh i y named rest all before taken s held live test decides =
     (s.flat ∙ ap (own_values i.barrier) ((at_the_end y.batches named rest s.first).0 t)
     ∙ sym live ∙ sym (counted_values i.barrier y.is_open y.closed y.items))))
 
-live_again : (i : Instance) (y : History) (named rest : List Batch) (b : Batch) (all : List (List ℕ)) (before : List (List (List ℕ))) (taken : List (List ℕ)) → Standpoint i y named rest all before taken → Contains all (guard_message i.barrier b) → IsHeld y.is_open (values_of i.barrier y.items) → values_of i.barrier (counting y) ≡ own_values i.barrier y.batches → (test : Bool) → Decides test (AgainSomehow y.is_open (map (values_of i.barrier) y.closed) (values_of i.barrier y.items) (guard i.barrier b) before taken) → test ≡ (nat_eq (total_of named + size_of b) (total_of y.batches) && is_last y.batches b)
+live_again : (i : Instance) (y : History) (named rest : List Batch) (b : Batch) (all : List (List ℕ)) (before : List (List (List ℕ)))
+    (taken : List (List ℕ)) → Standpoint i y named rest all before taken → Contains all (guard_message i.barrier b)
+    → IsHeld y.is_open (values_of i.barrier y.items) → values_of i.barrier (counting y) ≡ own_values i.barrier y.batches → (test : Bool)
+    → Decides test (AgainSomehow y.is_open (map (values_of i.barrier) y.closed) (values_of i.barrier y.items) (guard i.barrier b) before
+    taken) → test ≡ (nat_eq (total_of named + size_of b) (total_of y.batches) && is_last y.batches b)
 live_again i y named rest b all before taken s called held live test decides =
     let closed = map (values_of i.barrier) y.closed in
     let items = values_of i.barrier y.items in
@@ -257,7 +288,9 @@ live_again i y named rest b all before taken s called held live test decides =
     ∙ sym live ∙ sym (counted_values i.barrier y.is_open y.closed y.items))))
 
 -- where a value that stands for no batch counts, the values that count are no guards of batches
-pub never_guards : (i : Instance) (y : History) (asked bs : List Batch) → AreNoGuards i.barrier (values_in (counting y)) asked → has_value (counting y) ≡ true → ((c : Batch) → Contains bs c → Contains asked c) → own_values i.barrier bs ≢ values_of i.barrier (counting y)
+pub never_guards : (i : Instance) (y : History) (asked bs : List Batch) → AreNoGuards i.barrier (values_in (counting y)) asked
+    → has_value (counting y) ≡ true → ((c : Batch) → Contains bs c → Contains asked c)
+    → own_values i.barrier bs ≢ values_of i.barrier (counting y)
 never_guards i y asked bs foreign has among e =
     let m = meets i.barrier (counting y) bs has (sym e) in
     foreign m.value m.batch m.among (among m.batch m.asked) m.same
@@ -266,7 +299,8 @@ pub among_all : (batches named rest : List Batch) → batches ≡ named ++ rest 
 among_all batches named rest first c h = subst (λ (v : List Batch). Contains v c) (sym first) (Contains-append_left named rest c h)
 
 -- those of a call too
-among_asked : (batches named rest : List Batch) (b : Batch) → batches ≡ named ++ rest → (c : Batch) → Contains named c ⊎ (b ≡ c) → Contains (b ∷ batches) c
+among_asked : (batches named rest : List Batch) (b : Batch) → batches ≡ named ++ rest → (c : Batch) → Contains named c ⊎ (b ≡ c)
+    → Contains (b ∷ batches) c
 among_asked batches named rest b first c h =
     elim h [
       | inl old ↦ Contains-append_right (b ∷ []) batches c (among_all batches named rest first c old)
@@ -278,7 +312,14 @@ never true h = absurd (h refl)
 never false h = refl
 
 -- by the life of the history
-opt_by : (i : Instance) (y : History) (named rest : List Batch) (b : Batch) (all : List (List ℕ)) (before : List (List (List ℕ))) (taken : List (List ℕ)) → Standpoint i y named rest all before taken → Contains all (guard_message i.barrier b) → IsSound y → AreNoGuards i.barrier (values_in (counting y)) (b ∷ y.batches) → (fresh again : Bool) → Decides fresh (FreshSomehow y.is_open (map (values_of i.barrier) y.closed) (values_of i.barrier y.items) before taken) → Decides again (AgainSomehow y.is_open (map (values_of i.barrier) y.closed) (values_of i.barrier y.items) (guard i.barrier b) before taken) → (life : Life) → life_of Opt y ≡ life → verdict_by (is_lost_life life) fresh again ≡ judged life (nat_eq (total_of named) (total_of y.batches)) (nat_eq (total_of named + size_of b) (total_of y.batches) && is_last y.batches b)
+opt_by : (i : Instance) (y : History) (named rest : List Batch) (b : Batch) (all : List (List ℕ)) (before : List (List (List ℕ)))
+    (taken : List (List ℕ)) → Standpoint i y named rest all before taken → Contains all (guard_message i.barrier b) → IsSound y
+    → AreNoGuards i.barrier (values_in (counting y)) (b ∷ y.batches) → (fresh again : Bool)
+    → Decides fresh (FreshSomehow y.is_open (map (values_of i.barrier) y.closed) (values_of i.barrier y.items) before taken)
+    → Decides again (AgainSomehow y.is_open (map (values_of i.barrier) y.closed) (values_of i.barrier y.items) (guard i.barrier b) before
+    taken) → (life : Life) → life_of Opt y ≡ life
+    → verdict_by (is_lost_life life) fresh again ≡ judged life (nat_eq (total_of named) (total_of y.batches))
+    (nat_eq (total_of named + size_of b) (total_of y.batches) && is_last y.batches b)
 opt_by i y named rest b all before taken s called sound foreign fresh again df da Live is =
     let parts = live_parts y.is_open (is_empty y.items) (are_own y.items y.current) (has_value (joined y.closed)) is in
     let held = held_at y.is_open y.items i.barrier parts.held in
@@ -286,14 +327,16 @@ opt_by i y named rest b all before taken s called sound foreign fresh again df d
     ap (λ (x : Bool). verdict_by false x again) (live_fresh i y named rest all before taken s held live fresh df)
     ∙ ap (λ (x : Bool). verdict_by false (nat_eq (total_of named) (total_of y.batches)) x)
     (live_again i y named rest b all before taken s called held live again da)
-    ∙ verdicts (nat_eq (total_of named) (total_of y.batches)) (nat_eq (total_of named + size_of b) (total_of y.batches) && is_last y.batches b)
+    ∙ verdicts (nat_eq (total_of named) (total_of y.batches))
+    (nat_eq (total_of named + size_of b) (total_of y.batches) && is_last y.batches b)
 opt_by i y named rest b all before taken s called sound foreign fresh again df da Spoiled is =
     let has = spoiled_has_at y y.is_open sound refl is in
     let not_fresh : fresh ≡ false = never fresh (λ t.
     never_guards i y (b ∷ y.batches) named foreign has (λ c h. among_asked y.batches named rest b s.first c (inl h))
     (fresh_counts i y named rest all before taken s (df.0 t))) in
     let not_again : again ≡ false = never again (λ t.
-    never_guards i y (b ∷ y.batches) (named ++ b ∷ []) foreign has (λ c h. among_asked y.batches named rest b s.first c (Contains-push_cases named b c h))
+    never_guards i y (b ∷ y.batches) (named ++ b ∷ []) foreign has
+    (λ c h. among_asked y.batches named rest b s.first c (Contains-push_cases named b c h))
     (again_counts i y named rest b all before taken s (da.0 t))) in
     ap (λ (x : Bool). verdict_by false x again) not_fresh ∙ ap (verdict_by false false) not_again
 opt_by i y named rest b all before taken s called sound foreign fresh again df da Lost is = refl
@@ -310,7 +353,8 @@ pub record Stood (i : Instance) (y : History) (named rest : List Batch) (a e : L
   pub extension_is : e ≡ register_of taken
   pub point : Standpoint i y named rest all before taken
 
-pub stood_of : (i : Instance) (y : History) (named rest : List Batch) (a e : List ℕ) (all : List (List ℕ)) → IsSound y → IsClear all → Within (messages_of Opt i y) all → y.batches ≡ named ++ rest → IsPoint i y named a e → Stood i y named rest a e all
+pub stood_of : (i : Instance) (y : History) (named rest : List Batch) (a e : List ℕ) (all : List (List ℕ)) → IsSound y → IsClear all
+    → Within (messages_of Opt i y) all → y.batches ≡ named ++ rest → IsPoint i y named a e → Stood i y named rest a e all
 stood_of i y named rest a e all sound clear history first place =
     let h = history_listed i y all history in
     let p = path_of i y named rest a e all sound first h.runs place in
@@ -350,13 +394,19 @@ stood_of i y named rest a e all sound clear history first place =
     }
 
 -- the messages of a call at the path
-pub path_messages : (i : Instance) (y : History) (named rest : List Batch) (a e v : List ℕ) (all : List (List ℕ)) → (q : Stood i y named rest a e all) → Within (point_messages a e v) all → Within (point_messages (anchor_of i.meaning.id q.before) (register_of q.taken) v) all
+pub path_messages : (i : Instance) (y : History) (named rest : List Batch) (a e v : List ℕ) (all : List (List ℕ))
+    → (q : Stood i y named rest a e all) → Within (point_messages a e v) all
+    → Within (point_messages (anchor_of i.meaning.id q.before) (register_of q.taken) v) all
 path_messages i y named rest a e v all q call =
     subst (λ (w : List ℕ). Within (point_messages (anchor_of i.meaning.id q.before) w v) all) q.extension_is
     (subst (λ (w : List ℕ). Within (point_messages w e v) all) q.anchor_is call)
 
 -- the verdict on a place, by the path that it is
-opt_on : (i : Instance) (y : History) (named rest : List Batch) (a e : List ℕ) (b : Batch) (all : List (List ℕ)) → IsSound y → IsClear all → Within (messages_of Opt i y) all → Contains all (guard_message i.barrier b) → Within (point_messages a e (guard i.barrier b)) all → AreNoGuards i.barrier (values_in (counting y)) (b ∷ y.batches) → y.batches ≡ named ++ rest → IsPoint i y named a e → opt_verdict y.is_open (anchor_after i y.closed) (register_of (values_of i.barrier y.items)) (forms_of a e) (guard i.barrier b) ≡ judge Opt y (total_of named) b
+opt_on : (i : Instance) (y : History) (named rest : List Batch) (a e : List ℕ) (b : Batch) (all : List (List ℕ)) → IsSound y → IsClear all
+    → Within (messages_of Opt i y) all → Contains all (guard_message i.barrier b) → Within (point_messages a e (guard i.barrier b)) all
+    → AreNoGuards i.barrier (values_in (counting y)) (b ∷ y.batches) → y.batches ≡ named ++ rest → IsPoint i y named a e
+    → opt_verdict y.is_open (anchor_after i y.closed) (register_of (values_of i.barrier y.items)) (forms_of a e) (guard i.barrier b) ≡ judge
+    Opt y (total_of named) b
 opt_on i y named rest a e b all sound clear history called call foreign first place =
     let q = stood_of i y named rest a e all sound clear history first place in
     let s = q.point in
@@ -365,13 +415,16 @@ opt_on i y named rest a e b all sound clear history called call foreign first pl
     let closed = map (values_of i.barrier) y.closed in
     let items = values_of i.barrier y.items in
     let v = guard i.barrier b in
-    let fresh = list_any (fits_fresh y.is_open (anchor_of id closed) (register_of items)) (forms_of (anchor_of id q.before) (register_of q.taken)) in
-    let again = list_any (fits_again y.is_open (anchor_of id closed) (register_of items) v) (forms_of (anchor_of id q.before) (register_of q.taken)) in
+    let fresh = list_any (fits_fresh y.is_open (anchor_of id closed) (register_of items))
+    (forms_of (anchor_of id q.before) (register_of q.taken)) in
+    let again = list_any (fits_again y.is_open (anchor_of id closed) (register_of items) v)
+    (forms_of (anchor_of id q.before) (register_of q.taken)) in
     let lost : (y.is_open && bytes_eq (register_of items) zero_bytes) ≡ is_lost_life (life_of Opt y) =
     ap (λ (x : Bool). y.is_open && x) (zero_tells all clear items s.history.last ∙ zero_items i.barrier y.items)
     ∙ lost_test y.is_open (is_empty y.items) (are_own y.items y.current) (has_value (joined y.closed)) in
     ap (λ (w : List ℕ). opt_verdict y.is_open (anchor_of id closed) (register_of items) (forms_of w e) v) q.anchor_is
-    ∙ ap (λ (w : List ℕ). opt_verdict y.is_open (anchor_of id closed) (register_of items) (forms_of (anchor_of id q.before) w) v) q.extension_is
+    ∙ ap (λ (w : List ℕ). opt_verdict y.is_open (anchor_of id closed) (register_of items) (forms_of (anchor_of id q.before) w) v)
+    q.extension_is
     ∙ ap (λ (x : Bool). verdict_by x fresh again) lost
     ∙ opt_by i y named rest b all q.before q.taken s called sound foreign fresh again
     (fresh_somehow id all s.clears y.is_open closed items q.before q.taken s.history s.path
@@ -379,19 +432,28 @@ opt_on i y named rest a e b all sound clear history called call foreign first pl
     (again_somehow id all s.clears y.is_open closed items q.before q.taken v s.history s.path call')
     (life_of Opt y) refl
 
-opt_at : (meaning : Meaning) (key barrier : List ℕ) (y : History) (named rest : List Batch) (place : Place) (b : Batch) (all : List (List ℕ)) → IsSound y → IsClearFor all (opt meaning key barrier) y place b → y.batches ≡ named ++ rest → IsPlaceOf Opt (opt meaning key barrier) y named place → verdict_by_digests barrier y.is_open (cell_digest_of (opt meaning key barrier) Opt y) (register_value_of (opt meaning key barrier) y) place b ≡ judge Opt y (total_of named) b
+opt_at : (meaning : Meaning) (key barrier : List ℕ) (y : History) (named rest : List Batch) (place : Place) (b : Batch)
+    (all : List (List ℕ)) → IsSound y → IsClearFor all (opt meaning key barrier) y place b → y.batches ≡ named ++ rest
+    → IsPlaceOf Opt (opt meaning key barrier) y named place
+    → verdict_by_digests barrier y.is_open (cell_digest_of (opt meaning key barrier) Opt y) (register_value_of (opt meaning key barrier) y)
+    place b ≡ judge Opt y (total_of named) b
 opt_at meaning key barrier y named rest (InBasic s) b all sound clear first is = absurd is
 opt_at meaning key barrier y named rest (InOpt a e) b all sound clear first is =
     opt_on (opt meaning key barrier) y named rest a.bytes e.bytes b all sound clear.clear clear.history
     clear.call.0 clear.call.1 clear.foreign first is
 
-pub opt_is_judged : (meaning : Meaning) (key barrier : List ℕ) (y : History) (offered : Content) (b : Batch) (all : List (List ℕ)) → IsSound y → IsClearFor all (opt meaning key barrier) y offered.place b → Names (opt meaning key barrier) y offered → verdict_by_digests barrier y.is_open (cell_digest_of (opt meaning key barrier) Opt y) (register_value_of (opt meaning key barrier) y) offered.place b ≡ judge Opt y offered.position b
+pub opt_is_judged : (meaning : Meaning) (key barrier : List ℕ) (y : History) (offered : Content) (b : Batch) (all : List (List ℕ))
+    → IsSound y → IsClearFor all (opt meaning key barrier) y offered.place b → Names (opt meaning key barrier) y offered
+    → verdict_by_digests barrier y.is_open (cell_digest_of (opt meaning key barrier) Opt y) (register_value_of (opt meaning key barrier) y)
+    offered.place b ≡ judge Opt y offered.position b
 opt_is_judged meaning key barrier y offered b all sound clear names =
     opt_at meaning key barrier y names.named names.rest offered.place b all sound clear names.first names.place
     ∙ ap (λ (p : ℕ). judge Opt y p b) (sym names.position)
 
 -- the register reads zero under a set flag exactly where power was lost inside an open segment
-pub lost_is_zero : (meaning : Meaning) (key barrier : List ℕ) (y : History) (all : List (List ℕ)) → IsClear all → Within (messages_of Opt (opt meaning key barrier) y) all → (y.is_open && bytes_eq (register_value_of (opt meaning key barrier) y) zero_bytes) ≡ is_lost_life (life_of Opt y)
+pub lost_is_zero : (meaning : Meaning) (key barrier : List ℕ) (y : History) (all : List (List ℕ)) → IsClear all
+    → Within (messages_of Opt (opt meaning key barrier) y) all
+    → (y.is_open && bytes_eq (register_value_of (opt meaning key barrier) y) zero_bytes) ≡ is_lost_life (life_of Opt y)
 lost_is_zero meaning key barrier y all clear history =
     let i = opt meaning key barrier in
     let h = history_listed i y all history in

@@ -5,9 +5,11 @@ use Rattle.std.proofs.lemmas.Bool.{or_parts}
 use Rattle.std.specs.List.{AllByRecursion}
 use Rattle.mm_digest.specs.Messages.{zero_bytes, extended_message}
 use Rattle.mm_module.specs.Batch.{Batch}
-use Rattle.mm_model.specs.Chains.{guard, register_of, own_values}
+use Rattle.mm_model.specs.Chains.{guard, register_of}
+use Rattle.mm_model.specs.ChainsWords.{own_values}
 use Rattle.mm_model.specs.Instance.{Instance}
-use Rattle.mm_model.specs.History.{Entry, History, joined, value_of, values_of}
+use Rattle.mm_model.specs.History.{Entry, History, joined, value_of}
+use Rattle.mm_model.specs.HistoryWords.{values_of}
 use Rattle.mm_model.specs.Life.{is_empty, has_value}
 use Rattle.mm_model.specs.Places.{AtAnchor, InClosed, InCurrent, IsPoint, at_anchor, in_closed, in_current, anchor_after}
 use Rattle.mm_model.specs.Messages.{Within, register_trail, closed_runs, runs_of}
@@ -37,7 +39,8 @@ begins_clean y before later h split =
           ∙ append_assoc (batches_in (joined before)) (batches_in (joined later)) y.current;
     }
 
-begins_marred : (y : History) (before later : List (List Entry)) → IsMarred y → y.closed ≡ before ++ later → is_empty later ≡ false → Begins y before
+begins_marred : (y : History) (before later : List (List Entry)) → IsMarred y → y.closed ≡ before ++ later → is_empty later ≡ false
+    → Begins y before
 begins_marred y before later h split some =
     let s = sooner before later h.before h.last (sym split ∙ h.split) some in
     let whole : joined h.before ≡ joined before ++ joined s.between = ap joined s.is ∙ joined-append before s.between in
@@ -64,7 +67,8 @@ pub empty_cases : {A : Type 0} (xs : List A) → (xs ≡ []) ⊎ (is_empty xs �
 empty_cases [] = inl refl
 empty_cases (x ∷ xs) = inr refl
 
-begins : (y : History) (before later : List (List Entry)) → IsSound y → y.closed ≡ before ++ later → (has_value (joined before) ≡ false) ⊎ (is_empty later ≡ false) → Begins y before
+begins : (y : History) (before later : List (List Entry)) → IsSound y → y.closed ≡ before ++ later
+    → (has_value (joined before) ≡ false) ⊎ (is_empty later ≡ false) → Begins y before
 begins y before later sound split why =
     elim sound.history [
       | inl h ↦ begins_clean y before later h split
@@ -75,21 +79,26 @@ begins y before later sound split why =
                 absurd (elim why [
                   | inl clean ↦
                       true_not_false (sym (marred_has y h)
-                      ∙ ap (λ (v : List (List Entry)). has_value (joined v)) (split ∙ ap (λ v. before ++ v) none ∙ append-nil before) ∙ clean)
+                      ∙ ap (λ (v : List (List Entry)). has_value (joined v)) (split ∙ ap (λ v. before ++ v) none ∙ append-nil before)
+                      ∙ clean)
                   | inr some ↦ true_not_false (ap is_empty (sym none) ∙ some)
                 ])
           ]
     ]
 
 -- first batches as many as the entries of these segments are the segments' batches
-done_is : (y : History) (before : List (List Entry)) (done more : List Batch) → Begins y before → y.batches ≡ done ++ more → length done ≡ length (joined before) → done ≡ batches_in (joined before)
+done_is : (y : History) (before : List (List Entry)) (done more : List Batch) → Begins y before → y.batches ≡ done ++ more
+    → length done ≡ length (joined before) → done ≡ batches_in (joined before)
 done_is y before done more h e l =
     (same_halves done (batches_in (joined before)) more h.tail
     (l ∙ sym (length-batches_in (joined before) h.clean)) (sym e ∙ h.is)).0
 
-flat_is : (barrier : List ℕ) (y : History) (before : List (List Entry)) (done taken named : List Batch) → Begins y before → done ≡ batches_in (joined before) → named ≡ done ++ taken → values_of barrier (joined before) ++ own_values barrier taken ≡ own_values barrier named
+flat_is : (barrier : List ℕ) (y : History) (before : List (List Entry)) (done taken named : List Batch) → Begins y before
+    → done ≡ batches_in (joined before) → named ≡ done ++ taken → values_of barrier (joined before)
+    ++ own_values barrier taken ≡ own_values barrier named
 flat_is barrier y before done taken named h d n =
-    ap (λ (v : List (List ℕ)). v ++ own_values barrier taken) (values_of-clean barrier (joined before) h.clean ∙ ap (own_values barrier) (sym d))
+    ap (λ (v : List (List ℕ)). v ++ own_values barrier taken) (values_of-clean barrier (joined before) h.clean
+    ∙ ap (own_values barrier) (sym d))
     ∙ sym (own_values-append barrier done taken) ∙ ap (own_values barrier) (sym n)
 
 pub record Path (i : Instance) (y : History) (named : List Batch) (a e : List ℕ) (all : List (List ℕ)) : Type 0 where
@@ -107,7 +116,8 @@ pub record Path (i : Instance) (y : History) (named : List Batch) (a e : List �
 abbrev pub RunsListed : List ℕ → List (List ℕ) → List Batch → Type 0
 RunsListed barrier all run = Within (register_trail (own_values barrier run)) all
 
-pub listed_front : (barrier : List ℕ) (all : List (List ℕ)) (taken more : List Batch) → RunsListed barrier all (taken ++ more) → RunsListed barrier all taken
+pub listed_front : (barrier : List ℕ) (all : List (List ℕ)) (taken more : List Batch) → RunsListed barrier all (taken ++ more)
+    → RunsListed barrier all taken
 listed_front barrier all taken more w =
     trail_front extended_message zero_bytes (own_values barrier taken) (own_values barrier more) all
     (subst (λ (v : List (List ℕ)). Within (register_trail v) all) (own_values-append barrier taken more) w)
@@ -116,7 +126,8 @@ reaches_none : (flag : Bool) (later : List (List (List ℕ))) → Reaches flag l
 reaches_none flag [] = tt
 reaches_none flag (s ∷ ss) = inl (omega arith)
 
-path_at_anchor : (i : Instance) (y : History) (named rest : List Batch) (a e : List ℕ) (all : List (List ℕ)) → IsSound y → y.batches ≡ named ++ rest → AtAnchor i y named a e → Path i y named a e all
+path_at_anchor : (i : Instance) (y : History) (named rest : List Batch) (a e : List ℕ) (all : List (List ℕ)) → IsSound y
+    → y.batches ≡ named ++ rest → AtAnchor i y named a e → Path i y named a e all
 path_at_anchor i y named rest a e all sound first p =
     let h = begins y p.before p.later sound p.split (inl p.clean) in
     let d = done_is y p.before named rest h first p.counted in
@@ -144,14 +155,16 @@ pub begun_longer : (taken more : List Batch) → is_empty taken ≡ false → is
 begun_longer [] more b = absurd (true_not_false b)
 begun_longer (x ∷ xs) more b = refl
 
-path_in_current : (i : Instance) (y : History) (named rest : List Batch) (a e : List ℕ) (all : List (List ℕ)) → IsSound y → AllByRecursion (RunsListed i.barrier all) (runs_of y) → InCurrent i y named a e → Path i y named a e all
+path_in_current : (i : Instance) (y : History) (named rest : List Batch) (a e : List ℕ) (all : List (List ℕ)) → IsSound y
+    → AllByRecursion (RunsListed i.barrier all) (runs_of y) → InCurrent i y named a e → Path i y named a e all
 path_in_current i y named rest a e all sound runs p =
     let some : is_empty y.current ≡ false = ap is_empty p.split ∙ begun_longer p.taken p.more p.begun in
     let clean = current_clean y sound some in
     let h = begins_clean y y.closed [] clean (sym (append-nil y.closed)) in
     let d : p.done ≡ batches_in (joined y.closed) =
     append_cancel_right p.done (batches_in (joined y.closed)) y.current (sym p.start ∙ clean.batches) in
-    let run = (each_right (RunsListed i.barrier all) (closed_runs y.closed (take (length y.batches - length y.current) y.batches)) (y.current ∷ []) runs).0 in
+    let run = (each_right (RunsListed i.barrier all) (closed_runs y.closed (take (length y.batches - length y.current) y.batches))
+    (y.current ∷ []) runs).0 in
     record {
       before = y.closed;
       later = [];
@@ -169,11 +182,14 @@ abbrev run_at : List Entry → List (List Entry) → List Batch → List Batch
 run_at segment [] more = more
 run_at segment (next ∷ later) more = take (length segment) more
 
-run_first : (P : List Batch → Type 0) (segment : List Entry) (later : List (List Entry)) (bs more : List Batch) → bs ≡ more → AllByRecursion P (closed_runs (segment ∷ later) bs) → P (run_at segment later more)
+run_first : (P : List Batch → Type 0) (segment : List Entry) (later : List (List Entry)) (bs more : List Batch) → bs ≡ more
+    → AllByRecursion P (closed_runs (segment ∷ later) bs) → P (run_at segment later more)
 run_first P segment [] bs more e h = subst P e h.0
 run_first P segment (next ∷ later) bs more e h = subst (λ (v : List Batch). P (take (length segment) v)) e h.0
 
-run_holds : (P : List Batch → Type 0) (before : List (List Entry)) (segment : List Entry) (later : List (List Entry)) (bs done more : List Batch) → bs ≡ done ++ more → length done ≡ length (joined before) → AllByRecursion P (closed_runs (before ++ segment ∷ later) bs) → P (run_at segment later more)
+run_holds : (P : List Batch → Type 0) (before : List (List Entry)) (segment : List Entry) (later : List (List Entry))
+    (bs done more : List Batch) → bs ≡ done ++ more → length done ≡ length (joined before)
+    → AllByRecursion P (closed_runs (before ++ segment ∷ later) bs) → P (run_at segment later more)
 run_holds P [] segment later bs done more e l h =
     run_first P segment later bs more (e ∙ ap (λ (v : List Batch). v ++ more) (nothing_left done l)) h
 run_holds P (s ∷ []) segment later bs done more e l h =
@@ -201,7 +217,9 @@ takes_whole (suc n) (x ∷ xs) ys l =
     let h = takes_whole n xs ys (omega (arith, l)) in
     record { more = h.more; is = ap (λ v. x ∷ v) h.is }
 
-run_listed : (barrier : List ℕ) (all : List (List ℕ)) (segment : List Entry) (later : List (List Entry)) (taken more : List Batch) → (length taken ≤ length segment) ⊎ (later ≡ []) → RunsListed barrier all (run_at segment later (taken ++ more)) → RunsListed barrier all taken
+run_listed : (barrier : List ℕ) (all : List (List ℕ)) (segment : List Entry) (later : List (List Entry)) (taken more : List Batch)
+    → (length taken ≤ length segment) ⊎ (later ≡ []) → RunsListed barrier all (run_at segment later (taken ++ more))
+    → RunsListed barrier all taken
 run_listed barrier all segment [] taken more fits w = listed_front barrier all taken more w
 run_listed barrier all segment (next ∷ later) taken more fits w =
     elim fits [
@@ -211,7 +229,8 @@ run_listed barrier all segment (next ∷ later) taken more fits w =
       | inr none ↦ absurd (true_not_false (sym (ap is_empty none)))
     ]
 
-none_longer : (y : History) (named rest : List Batch) → y.batches ≡ named ++ rest → y.current ≡ [] → length named ≤ length y.batches - length y.current
+none_longer : (y : History) (named rest : List Batch) → y.batches ≡ named ++ rest → y.current ≡ []
+    → length named ≤ length y.batches - length y.current
 none_longer y named rest e none =
     let whole = ap length e in
     let parts = length-append named rest in
@@ -226,7 +245,8 @@ marred_current y sound h =
     ]
 
 -- a path into a closed segment ends before the open one
-ends_before_current : (i : Instance) (y : History) (named rest : List Batch) (a e : List ℕ) → IsSound y → y.batches ≡ named ++ rest → (p : InClosed i y named a e) → length named ≤ length y.batches - length y.current
+ends_before_current : (i : Instance) (y : History) (named rest : List Batch) (a e : List ℕ) → IsSound y → y.batches ≡ named ++ rest
+    → (p : InClosed i y named a e) → length named ≤ length y.batches - length y.current
 ends_before_current i y named rest a e sound first p =
     elim sound.history [
       | inr h ↦ none_longer y named rest first (marred_current y sound h)
@@ -248,7 +268,8 @@ ends_before_current i y named rest a e sound first p =
           ]
     ]
 
-reaches_closed : (i : Instance) (y : History) (named : List Batch) (a e : List ℕ) → IsSound y → (p : InClosed i y named a e) → Reaches y.is_open (map (values_of i.barrier) (p.segment ∷ p.later)) (length (own_values i.barrier p.taken))
+reaches_closed : (i : Instance) (y : History) (named : List Batch) (a e : List ℕ) → IsSound y → (p : InClosed i y named a e)
+    → Reaches y.is_open (map (values_of i.barrier) (p.segment ∷ p.later)) (length (own_values i.barrier p.taken))
 reaches_closed i y named a e sound p =
     elim p.within [
       | inl within ↦
@@ -258,7 +279,8 @@ reaches_closed i y named a e sound p =
       | inr last ↦ inr (ap (map (values_of i.barrier)) last.0, sound.shut_is (ap is_empty last.1))
     ]
 
-path_in_closed : (i : Instance) (y : History) (named rest : List Batch) (a e : List ℕ) (all : List (List ℕ)) → IsSound y → y.batches ≡ named ++ rest → AllByRecursion (RunsListed i.barrier all) (runs_of y) → InClosed i y named a e → Path i y named a e all
+path_in_closed : (i : Instance) (y : History) (named rest : List Batch) (a e : List ℕ) (all : List (List ℕ)) → IsSound y
+    → y.batches ≡ named ++ rest → AllByRecursion (RunsListed i.barrier all) (runs_of y) → InClosed i y named a e → Path i y named a e all
 path_in_closed i y named rest a e all sound first runs p =
     let h = begins y p.before (p.segment ∷ p.later) sound p.split (inr refl) in
     let first' : y.batches ≡ p.done ++ (p.taken ++ rest) =
@@ -286,7 +308,8 @@ path_in_closed i y named rest a e all sound first runs p =
     }
 
 -- each place of a sound history is a path
-pub path_of : (i : Instance) (y : History) (named rest : List Batch) (a e : List ℕ) (all : List (List ℕ)) → IsSound y → y.batches ≡ named ++ rest → AllByRecursion (RunsListed i.barrier all) (runs_of y) → IsPoint i y named a e → Path i y named a e all
+pub path_of : (i : Instance) (y : History) (named rest : List Batch) (a e : List ℕ) (all : List (List ℕ)) → IsSound y
+    → y.batches ≡ named ++ rest → AllByRecursion (RunsListed i.barrier all) (runs_of y) → IsPoint i y named a e → Path i y named a e all
 path_of i y named rest a e all sound first runs (at_anchor p) = path_at_anchor i y named rest a e all sound first p
 path_of i y named rest a e all sound first runs (in_closed p) = path_in_closed i y named rest a e all sound first runs p
 path_of i y named rest a e all sound first runs (in_current p) = path_in_current i y named rest a e all sound runs p

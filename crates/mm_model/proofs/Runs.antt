@@ -6,15 +6,22 @@ use Rattle.mm_module.proofs.RunLaws.{state_after-push, said_after-push, state_af
 use Rattle.mm_model.specs.Run.{IsRun}
 
 -- the state that a machine passes to its module is spelled
-pub spelled_at : (meaning : Meaning) → IsLawful meaning → (requests : List (List ℕ)) (state seen : List ℕ) → state ≡ state_after meaning requests → seen ≡ state → IsTrue (meaning.is_spelled seen)
+pub spelled_at : (meaning : Meaning) → IsLawful meaning → (requests : List (List ℕ)) (state seen : List ℕ)
+    → state ≡ state_after meaning requests → seen ≡ state → IsTrue (meaning.is_spelled seen)
 spelled_at meaning lawful requests state seen e f =
     subst (λ (s : List ℕ). IsTrue (meaning.is_spelled s)) (sym (f ∙ e)) (state_after-is_spelled meaning lawful requests)
 
-pub IsRun-push : (meaning : Meaning) (requests items : List (List ℕ)) (request asked state seen output next said : List ℕ) → IsRun meaning requests state output → seen ≡ state → next ≡ meaning.next seen request → said ≡ meaning.says seen request → asked ≡ request → items ≡ requests ++ asked ∷ [] → IsRun meaning items next said
+pub IsRun-push : (meaning : Meaning) (requests items : List (List ℕ)) (request asked state seen output next said : List ℕ)
+    → IsRun meaning requests state output → seen ≡ state → next ≡ meaning.next seen request → said ≡ meaning.says seen request
+    → asked ≡ request → items ≡ requests ++ asked ∷ [] → IsRun meaning items next said
 IsRun-push meaning requests items request asked state seen output next said run s n o a i =
     let at : seen ≡ state_after meaning requests = s ∙ run.state_is in
     let grown : items ≡ requests ++ request ∷ [] = i ∙ ap (λ (r : List ℕ). requests ++ r ∷ []) a in
     record {
-      state_is = n ∙ ap (λ (v : List ℕ). meaning.next v request) at ∙ sym (state_after-push meaning requests request) ∙ ap (state_after meaning) (sym grown);
-      output_is = o ∙ ap (λ (v : List ℕ). meaning.says v request) at ∙ sym (said_after-push meaning requests request) ∙ ap (said_after meaning) (sym grown);
+      state_is =
+          n ∙ ap (λ (v : List ℕ). meaning.next v request) at ∙ sym (state_after-push meaning requests request)
+          ∙ ap (state_after meaning) (sym grown);
+      output_is =
+          o ∙ ap (λ (v : List ℕ). meaning.says v request) at ∙ sym (said_after-push meaning requests request)
+          ∙ ap (said_after meaning) (sym grown);
     }

@@ -55,11 +55,13 @@ abbrev pub Again : {A : Type 0} → Bool → List (List A) → List A → A → 
 Again true closed items v before rest = (before ≡ closed) × (rest ++ v ∷ [] ≡ items)
 Again false closed items v before rest = before ++ (rest ++ v ∷ []) ∷ [] ≡ closed
 
-pub fresh_joins : {A : Type 0} (flag : Bool) (closed : List (List A)) (items : List A) (before : List (List A)) (rest : List A) → Fresh flag closed items before rest → joined before ++ rest ≡ joined closed ++ taken_in flag items
+pub fresh_joins : {A : Type 0} (flag : Bool) (closed : List (List A)) (items : List A) (before : List (List A)) (rest : List A)
+    → Fresh flag closed items before rest → joined before ++ rest ≡ joined closed ++ taken_in flag items
 fresh_joins flag closed items before rest f =
     ap (λ v. joined v ++ rest) f.0 ∙ ap (λ v. joined closed ++ v) f.1
 
-pub again_joins : {A : Type 0} (flag : Bool) (closed : List (List A)) (items : List A) (v : A) (before : List (List A)) (rest : List A) → Again flag closed items v before rest → (joined before ++ rest) ++ v ∷ [] ≡ joined closed ++ taken_in flag items
+pub again_joins : {A : Type 0} (flag : Bool) (closed : List (List A)) (items : List A) (v : A) (before : List (List A)) (rest : List A)
+    → Again flag closed items v before rest → (joined before ++ rest) ++ v ∷ [] ≡ joined closed ++ taken_in flag items
 again_joins true closed items v before rest f =
     append_assoc (joined before) rest (v ∷ []) ∙ ap (λ w. joined w ++ (rest ++ v ∷ [])) f.0 ∙ ap (λ w. joined closed ++ w) f.1
 again_joins false closed items v before rest f =
@@ -76,7 +78,8 @@ IsHeld true items = is_empty items ≡ false
 IsHeld false items = Unit {0}
 
 -- a path that reaches the end of the next segment and all after it: then that segment is the last
-only_one : {A : Type 0} (segment : List A) (later : List (List A)) (n : ℕ) → AllByRecursion (λ x. is_empty x ≡ false) later → (n ≤ length segment) ⊎ ((later ≡ []) × (false ≡ false)) → n ≡ length segment + length (joined later) → later ≡ []
+only_one : {A : Type 0} (segment : List A) (later : List (List A)) (n : ℕ) → AllByRecursion (λ x. is_empty x ≡ false) later
+    → (n ≤ length segment) ⊎ ((later ≡ []) × (false ≡ false)) → n ≡ length segment + length (joined later) → later ≡ []
 only_one segment later n filled reach e =
     elim reach [
       | inl within ↦ no_segments later filled (omega (arith, within, e))
@@ -84,7 +87,8 @@ only_one segment later n filled reach e =
     ]
 
 -- a path ends within the next segment where a segment is open, or another one follows
-at_most : {A : Type 0} (flag : Bool) (segment : List A) (later : List (List A)) (n : ℕ) → (n ≤ length segment) ⊎ ((later ≡ []) × (flag ≡ false)) → (is_empty later ≡ false) ⊎ (flag ≡ true) → n ≤ length segment
+at_most : {A : Type 0} (flag : Bool) (segment : List A) (later : List (List A)) (n : ℕ)
+    → (n ≤ length segment) ⊎ ((later ≡ []) × (flag ≡ false)) → (is_empty later ≡ false) ⊎ (flag ≡ true) → n ≤ length segment
 at_most flag segment later n reach goes =
     elim reach [
       | inl within ↦ within
@@ -97,7 +101,10 @@ at_most flag segment later n reach goes =
 
 -- Where the values up to the end of the path are all that counts, it is fresh, or it is once its segment is closed.
 -- By the segments after the path.
-fresh_after : {A : Type 0} (flag : Bool) (before : List (List A)) (items rest : List A) (later : List (List A)) → AllByRecursion (λ x. is_empty x ≡ false) later → IsHeld flag items → Reaches flag later (length rest) → rest ≡ joined later ++ taken_in flag items → Fresh flag (before ++ later) items before rest ⊎ (is_empty rest ≡ false) × Fresh flag (before ++ later) items (before ++ rest ∷ []) []
+fresh_after : {A : Type 0} (flag : Bool) (before : List (List A)) (items rest : List A) (later : List (List A))
+    → AllByRecursion (λ x. is_empty x ≡ false) later → IsHeld flag items → Reaches flag later (length rest)
+    → rest ≡ joined later ++ taken_in flag items → Fresh flag (before ++ later) items before rest ⊎ (is_empty rest ≡ false)
+    × Fresh flag (before ++ later) items (before ++ rest ∷ []) []
 fresh_after flag before items rest [] filled held reach e = inl (sym (append-nil before), e)
 fresh_after true before items rest (segment ∷ later) filled held reach e =
     absurd (
@@ -120,7 +127,10 @@ fresh_after false before items rest (segment ∷ later) filled held reach e =
 
 -- Where one more value makes the values up to the end of the path all that counts, it leads there from the path, or
 -- from the path once its segment is closed.
-again_after : {A : Type 0} (flag : Bool) (before : List (List A)) (items : List A) (v : A) (rest : List A) (later : List (List A)) → AllByRecursion (λ x. is_empty x ≡ false) later → IsHeld flag items → Reaches flag later (length rest) → rest ++ v ∷ [] ≡ joined later ++ taken_in flag items → Again flag (before ++ later) items v before rest ⊎ (is_empty rest ≡ false) × Again flag (before ++ later) items v (before ++ rest ∷ []) []
+again_after : {A : Type 0} (flag : Bool) (before : List (List A)) (items : List A) (v : A) (rest : List A) (later : List (List A))
+    → AllByRecursion (λ x. is_empty x ≡ false) later → IsHeld flag items → Reaches flag later (length rest)
+    → rest ++ v ∷ [] ≡ joined later ++ taken_in flag items → Again flag (before ++ later) items v before rest ⊎ (is_empty rest ≡ false)
+    × Again flag (before ++ later) items v (before ++ rest ∷ []) []
 again_after true before items v rest [] filled held reach e = inl (sym (append-nil before), e)
 again_after false before items v rest [] filled held reach e =
     absurd (let l = ap length e in let m = length-append rest (v ∷ []) in omega (arith, l, m))
@@ -169,21 +179,29 @@ again_after false before items v rest (segment ∷ next ∷ later) filled held r
           ∙ ap (λ (w : List (List _)). before ++ segment ∷ next ∷ w) (sym none),
     )
 
-pub fresh_from : {A : Type 0} (flag : Bool) (closed before later : List (List A)) (items rest : List A) → closed ≡ before ++ later → AllByRecursion (λ x. is_empty x ≡ false) later → IsHeld flag items → Reaches flag later (length rest) → joined before ++ rest ≡ joined closed ++ taken_in flag items → Fresh flag closed items before rest ⊎ (is_empty rest ≡ false) × Fresh flag closed items (before ++ rest ∷ []) []
+pub fresh_from : {A : Type 0} (flag : Bool) (closed before later : List (List A)) (items rest : List A) → closed ≡ before ++ later
+    → AllByRecursion (λ x. is_empty x ≡ false) later → IsHeld flag items → Reaches flag later (length rest)
+    → joined before ++ rest ≡ joined closed ++ taken_in flag items → Fresh flag closed items before rest ⊎ (is_empty rest ≡ false)
+    × Fresh flag closed items (before ++ rest ∷ []) []
 fresh_from {A} flag closed before later items rest split filled held reach e =
     let tails : rest ≡ joined later ++ taken_in flag items =
     append_cancel_left (joined before) rest (joined later ++ taken_in flag items)
-    (e ∙ ap (λ (v : List (List A)). joined v ++ taken_in flag items) split ∙ ap (λ (v : List A). v ++ taken_in flag items) (joined-append before later)
+    (e ∙ ap (λ (v : List (List A)). joined v ++ taken_in flag items) split
+    ∙ ap (λ (v : List A). v ++ taken_in flag items) (joined-append before later)
     ∙ append_assoc (joined before) (joined later) (taken_in flag items)) in
     subst (λ (c : List (List A)). Fresh flag c items before rest ⊎ (is_empty rest ≡ false) × Fresh flag c items (before ++ rest ∷ []) [])
     (sym split) (fresh_after flag before items rest later filled held reach tails)
 
-pub again_from : {A : Type 0} (flag : Bool) (closed before later : List (List A)) (items : List A) (v : A) (rest : List A) → closed ≡ before ++ later → AllByRecursion (λ x. is_empty x ≡ false) later → IsHeld flag items → Reaches flag later (length rest) → (joined before ++ rest) ++ v ∷ [] ≡ joined closed ++ taken_in flag items → Again flag closed items v before rest ⊎ (is_empty rest ≡ false) × Again flag closed items v (before ++ rest ∷ []) []
+pub again_from : {A : Type 0} (flag : Bool) (closed before later : List (List A)) (items : List A) (v : A) (rest : List A)
+    → closed ≡ before ++ later → AllByRecursion (λ x. is_empty x ≡ false) later → IsHeld flag items → Reaches flag later (length rest)
+    → (joined before ++ rest) ++ v ∷ [] ≡ joined closed ++ taken_in flag items
+    → Again flag closed items v before rest ⊎ (is_empty rest ≡ false) × Again flag closed items v (before ++ rest ∷ []) []
 again_from {A} flag closed before later items v rest split filled held reach e =
     let tails : rest ++ v ∷ [] ≡ joined later ++ taken_in flag items =
     append_cancel_left (joined before) (rest ++ v ∷ []) (joined later ++ taken_in flag items)
     (sym (append_assoc (joined before) rest (v ∷ [])) ∙ e ∙ ap (λ (w : List (List A)). joined w ++ taken_in flag items) split
     ∙ ap (λ (w : List A). w ++ taken_in flag items) (joined-append before later)
     ∙ append_assoc (joined before) (joined later) (taken_in flag items)) in
-    subst (λ (c : List (List A)). Again flag c items v before rest ⊎ (is_empty rest ≡ false) × Again flag c items v (before ++ rest ∷ []) [])
+    subst (λ (c : List (List A)). Again flag c items v before rest ⊎ (is_empty rest ≡ false)
+    × Again flag c items v (before ++ rest ∷ []) [])
     (sym split) (again_after flag before items v rest later filled held reach tails)

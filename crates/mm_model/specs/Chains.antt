@@ -1,10 +1,12 @@
--- What the digests stand for: the summary of a list of batches, the value of a register and the anchor
--- of a list of segments. Each is one chain: every item is hashed with the digest before it.
-use Rattle.std.specs.Prelude.{ℕ, List, [], ◌∷◌, map}
+-- What the digests stand for: the summary of a list of batches, the value of a register and the
+-- anchor
+use Rattle.std.specs.Prelude.{ℕ, List, [], ◌∷◌, ◌++◌}
 use Rattle.sha2.specs.Sha256.{sha256}
 use Rattle.mm_digest.specs.declared.variant.Variant.TheVariants.{Basic, Opt}
-use Rattle.mm_digest.specs.Messages.{zero_bytes, start_of, successor_message, successor_batch_message, secured_message, secured_batch_message, extended_message, anchored_message}
+use Rattle.mm_digest.specs.Messages.{zero_bytes, start_of, extended_message, anchored_message}
 use Rattle.mm_module.specs.Batch.{Batch, One, Many}
+
+-- of a list of segments. Each is one chain: every item is hashed with the digest before it.
 
 -- the digest after these items, from the digest s
 abbrev pub after : {A : Type 0} → (List ℕ → A → List ℕ) → List ℕ → List A → List ℕ
@@ -18,13 +20,13 @@ trail message s (x ∷ xs) = message s x ∷ trail message (sha256 (message s x)
 
 -- the message by which a batch follows the summary s
 abbrev pub link_message : List ℕ → Batch → List ℕ
-link_message s (One r) = successor_message s r
-link_message s (Many text) = successor_batch_message s text
+link_message s (One r) = 1 ∷ (s ++ r)
+link_message s (Many text) = 4 ∷ (s ++ text)
 
 -- the message that a batch makes under the barrier
 abbrev pub guard_message : List ℕ → Batch → List ℕ
-guard_message barrier (One r) = secured_message barrier r
-guard_message barrier (Many text) = secured_batch_message barrier text
+guard_message barrier (One r) = 2 ∷ (barrier ++ r)
+guard_message barrier (Many text) = 5 ∷ (barrier ++ text)
 
 -- the message by which a segment, its values, follows the anchor a
 abbrev pub closing_message : List ℕ → List (List ℕ) → List ℕ
@@ -49,7 +51,3 @@ register_of values = after extended_message zero_bytes values
 -- the anchor after these segments, each the values that the register had taken in
 unfoldable pub anchor_of : ℕ → List (List (List ℕ)) → List ℕ
 anchor_of id segments = after closing_message (start_of Opt id) segments
-
--- the values by which the batches extend the register
-abbrev pub own_values : List ℕ → List Batch → List (List ℕ)
-own_values barrier batches = map (guard barrier) batches

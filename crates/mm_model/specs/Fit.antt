@@ -5,8 +5,8 @@ use Rattle.mm_module.specs.Meaning.{IsLine}
 use Rattle.mm_module.specs.Batch.{Batch, size_of}
 use Rattle.mm_model.specs.declared.answer.BatchAnswer.{BatchAnswer}
 
--- The answer to the batch has a position from 1 to 2^48, a line for each request, and a snapshot that is no longer than
--- the longest: 82 bytes before a state of 1,048,576 bytes, and a tag of 32.
+-- The answer to the batch has a position from 1 to 2^48, a line for each request, and a snapshot
+-- that is no longer than the longest: 82 bytes before a state of 1,048,576 bytes, and a tag of 32.
 pub record IsFit (b : Batch) (answer : BatchAnswer) : Type 0 where
   pub least : 1 ≤ answer.position
   pub most : answer.position ≤ last_position

@@ -4,7 +4,7 @@ use Rattle.std.specs.List.{flat_map}
 use Rattle.mm_digest.specs.declared.variant.Variant.{Variant}
 use Rattle.mm_digest.specs.declared.variant.Variant.TheVariants.{Basic, Opt}
 use Rattle.mm_module.specs.Batch.{Batch, members_of}
-use Rattle.mm_model.specs.Chains.{guard, summary_of, register_of, anchor_of}
+use Rattle.mm_model.specs.Chains.{guard, register_of}
 use Rattle.mm_model.specs.Instance.{Instance}
 
 -- what a register took in: the value of a committed batch, or a value that stands for none
@@ -12,8 +12,8 @@ pub data Entry : Type 0 where
   Own : Batch → Entry
   Value : List ℕ → Entry
 
--- the committed batches; the closed segments; the batches of the open segment; whether one is open; and
--- what the register took in since it was zero
+-- the committed batches; the closed segments; the batches of the open segment; whether one is open;
+-- and what the register took in since it was zero
 pub record History : Type 0 where
   pub batches : List Batch
   pub closed : List (List Entry)
@@ -42,11 +42,9 @@ abbrev pub value_of : List ℕ → Entry → List ℕ
 value_of barrier (Own b) = guard barrier b
 value_of barrier (Value d) = d
 
-abbrev pub values_of : List ℕ → List Entry → List (List ℕ)
-values_of barrier entries = map (value_of barrier) entries
-
--- what changes a history: a batch is committed; others extend the register; the core extends it by the
--- guard of a batch that isn't committed yet; the core empties it; the open segment is closed; power is lost
+-- what changes a history: a batch is committed; others extend the register; the core extends it by
+-- the guard of a batch that isn't committed yet; the core empties it; the open segment is closed;
+-- power is lost
 pub data Move : Type 0 where
   Commit : Batch → Move
   Foreign : List ℕ → Move
@@ -61,14 +59,25 @@ renamed [] b = Own b ∷ []
 renamed (x ∷ []) b = Own b ∷ []
 renamed (x ∷ y ∷ xs) b = x ∷ renamed (y ∷ xs) b
 
--- in Opt a batch enters the register's items too. Where no segment is open it opens one, and the entry
--- that was placed for it, the last, becomes its own
+-- in Opt a batch enters the register's items too. Where no segment is open it opens one, and the
+-- entry that was placed for it, the last, becomes its own
 abbrev pub committed : Variant → Bool → History → Batch → History
 committed Basic is_open y b = record y { batches = y.batches ++ b ∷ [] }
 committed Opt true y b =
-    record y { batches = y.batches ++ b ∷ []; current = y.current ++ b ∷ []; items = y.items ++ Own b ∷ [] }
+    record y {
+      batches = y.batches ++ b ∷ [];
+      current = y.current ++ b ∷ [];
+      items = y.items
+          ++ Own b ∷ [];
+    }
 committed Opt false y b =
-    record y { batches = y.batches ++ b ∷ []; current = b ∷ []; is_open = true; items = renamed y.items b }
+    record y {
+      batches = y.batches ++ b ∷ [];
+      current = b
+          ∷ [];
+      is_open = true;
+      items = renamed y.items b;
+    }
 
 abbrev pub moved : Instance → History → Move → History
 moved i y (Commit b) = committed i.variant y.is_open y b
@@ -78,11 +87,6 @@ moved i y Reset = record y { items = [] }
 moved i y Close = record y { closed = y.closed ++ y.items ∷ []; current = []; is_open = false }
 moved i y Power = record y { items = [] }
 
--- the digest that a cell holds for a history: its summary or its anchor
-abbrev pub cell_digest_of : Instance → Variant → History → List ℕ
-cell_digest_of i Basic y = summary_of i.meaning.id y.batches
-cell_digest_of i Opt y = anchor_of i.meaning.id (map (values_of i.barrier) y.closed)
-
 -- the register's value for a history
 abbrev pub register_value_of : Instance → History → List ℕ
-register_value_of i y = register_of (values_of i.barrier y.items)
+register_value_of i y = register_of (map (value_of i.barrier) y.items)

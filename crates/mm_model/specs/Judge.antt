@@ -1,4 +1,5 @@
--- The verdict on an offered position: from a history, which knows no digest, and from digests alone.
+-- The verdict on an offered position: from a history, which knows no digest, and from digests
+-- alone.
 use Rattle.std.specs.Prelude.{ℕ, ◌+◌, Bool, true, false, ◌&&◌, List, [], ◌∷◌, if◌then◌else◌, nat_eq}
 use Rattle.std.specs.List.{list_any}
 use Rattle.std.specs.Str.{bytes_eq}
@@ -19,8 +20,8 @@ is_last [] b = false
 is_last (c ∷ []) b = same_batch c b
 is_last (c ∷ d ∷ batches) b = is_last (d ∷ batches) b
 
--- Lost where the history is, Stale where it is Spoiled. Else, by whether the position is the last, and
--- whether it is the one before the last batch, which is the one asked
+-- Lost where the history is, Stale where it is Spoiled. Else, by whether the position is the last,
+-- and whether it is the one before the last batch, which is the one asked
 abbrev pub judged : Life → Bool → Bool → Verdict
 judged LostLife is_here is_repeat = Lost
 judged Spoiled is_here is_repeat = Stale
@@ -54,10 +55,11 @@ pub record Point : Type 0 where
 abbrev pub forms_of : List ℕ → List ℕ → List Point
 forms_of a e =
     record { anchor = a; extension = e } ∷
-    (if bytes_eq e zero_bytes then [] else record { anchor = anchored_of a e; extension = zero_bytes } ∷ [])
+    (if bytes_eq e zero_bytes then []
+    else record { anchor = anchored_of a e; extension = zero_bytes } ∷ [])
 
--- A form fits as fresh: it is where the platform stands. By: a segment is open; the cell's anchor; the
--- register's value.
+-- A form fits as fresh: it is where the platform stands. By: a segment is open; the cell's anchor;
+-- the register's value.
 abbrev pub fits_fresh : Bool → List ℕ → List ℕ → Point → Bool
 fits_fresh true anchor register x = bytes_eq x.anchor anchor && bytes_eq x.extension register
 fits_fresh false anchor register x = bytes_eq x.anchor anchor && bytes_eq x.extension zero_bytes
@@ -69,14 +71,16 @@ fits_again true anchor register v x =
 fits_again false anchor register v x =
     bytes_eq (anchored_of x.anchor (extended_of x.extension v)) anchor
 
--- Opt: by the cell's flag and anchor, the register's value, the forms offered, and the guard of the batch
+-- Opt: by the cell's flag and anchor, the register's value, the forms offered, and the guard of the
+-- batch
 abbrev pub opt_verdict : Bool → List ℕ → List ℕ → List Point → List ℕ → Verdict
 opt_verdict flag anchor register forms v =
-    verdict_by (flag && bytes_eq register zero_bytes) (list_any (fits_fresh flag anchor register) forms)
+    verdict_by (flag && bytes_eq register zero_bytes)
+    (list_any (fits_fresh flag anchor register) forms)
     (list_any (fits_again flag anchor register v) forms)
 
--- the verdict from digests: by the barrier, the cell's flag and its summary or anchor, the register's value, the
--- offered place and the batch. A place of the other variant is never offered.
+-- the verdict from digests: by the barrier, the cell's flag and its summary or anchor, the
+-- register's value, the offered place and the batch. A place of the other variant is never offered.
 abbrev pub verdict_by_digests : List ℕ → Bool → List ℕ → List ℕ → Place → Batch → Verdict
 verdict_by_digests barrier flag digest register (InBasic s) b = basic_verdict digest s.bytes b
 verdict_by_digests barrier flag digest register (InOpt a e) b =

@@ -29,7 +29,8 @@ stands_for (Own b) c = same_batch b c
 stands_for (Value d) c = false
 
 abbrev pub kept_segments : {A : Type 0} → List (Vec KeptEntry A) → List (List Entry)
-kept_segments {A} segments = map (λ (segment : Vec KeptEntry A). kept_entries segment.items) segments
+kept_segments {A} segments =
+    map (λ (segment : Vec KeptEntry A). kept_entries segment.items) segments
 
 -- a variant, and a history of it
 pub record Kept : Type 0 where

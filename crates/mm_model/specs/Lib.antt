@@ -17,3 +17,9 @@ pub mod Moves
 pub mod Kept
 pub mod Symbolic
 pub mod Fit
+pub mod HistoryWords
+pub mod InstanceWords
+pub mod ChainsWords
+pub mod LongWords
+pub mod MessagesWords
+pub mod PlacesWords

@@ -30,15 +30,15 @@ are_own (Own b ∷ entries) [] = false
 are_own (Own b ∷ entries) (c ∷ batches) = same_batch b c && are_own entries batches
 are_own (Value d ∷ entries) batches = false
 
--- Live goes on. Spoiled accepts no offer any more, as a value that no batch put there counts. Lost: power
--- was lost inside an open segment
+-- Live goes on. Spoiled accepts no offer any more, as a value that no batch put there counts. Lost:
+-- power was lost inside an open segment
 pub data Life : Type 0 where
   Live : Life
   Spoiled : Life
   Lost : Life
 
--- by: a segment is open; the register's items are empty; they are those of the open segment; a closed
--- segment holds a value that stands for no batch
+-- by: a segment is open; the register's items are empty; they are those of the open segment; a
+-- closed segment holds a value that stands for no batch
 abbrev pub life_by : Bool → Bool → Bool → Bool → Life
 life_by true true is_own is_marred = Lost
 life_by true false true false = Live
@@ -50,7 +50,8 @@ life_by false is_bare is_own true = Spoiled
 -- Basic always goes on
 abbrev pub life_of : Variant → History → Life
 life_of Basic y = Live
-life_of Opt y = life_by y.is_open (is_empty y.items) (are_own y.items y.current) (has_value (joined y.closed))
+life_of Opt y =
+    life_by y.is_open (is_empty y.items) (are_own y.items y.current) (has_value (joined y.closed))
 
 -- power was lost inside an open segment
 abbrev pub is_lost : Life → Bool

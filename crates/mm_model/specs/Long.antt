@@ -1,12 +1,11 @@
 -- Which batches are too long to be asked.
-use Rattle.std.specs.Prelude.{ℕ, Bool, ◌==◌, ◌||◌, length, nat_lt}
+use Rattle.std.specs.Prelude.{Bool, ◌==◌, ◌||◌, length, nat_lt}
 use Rattle.std.specs.List.{list_any}
 use Rattle.mm_base.specs.Limits.{longest_request, most_members}
 use Rattle.mm_module.specs.Batch.{Batch, batch_text, size_of}
 
-abbrev pub is_lf : ℕ → Bool
-is_lf byte = byte == 10
-
--- its text has more than 4,096 bytes or an LF, or it has more than 64 requests
+-- its text has more than 4,096 bytes or an LF, which is 10, or it has more than 64 requests
 abbrev pub is_long : Batch → Bool
-is_long b = nat_lt longest_request (length (batch_text b)) || list_any is_lf (batch_text b) || nat_lt most_members (size_of b)
+is_long b =
+    nat_lt longest_request (length (batch_text b)) || list_any (λ byte. byte == 10) (batch_text b)
+    || nat_lt most_members (size_of b)

@@ -1,4 +1,5 @@
--- The messages that are hashed, as far as a proof looks at them, and what is asked of their digests.
+-- The messages that are hashed, as far as a proof looks at them, and what is asked of their
+-- digests.
 use Rattle.std.specs.Prelude.{ℕ, ◌-◌, ◌≡◌, ◌≢◌, Bool, true, false, List, [], ◌∷◌, ◌++◌, length, map, take, drop, if◌then◌else◌}
 use Rattle.std.specs.List.{flat_map, AllByRecursion, Contains}
 use Rattle.std.specs.Str.{bytes_eq}
@@ -7,13 +8,17 @@ use Rattle.mm_digest.specs.declared.variant.Variant.{Variant}
 use Rattle.mm_digest.specs.declared.variant.Variant.TheVariants.{Basic, Opt}
 use Rattle.mm_digest.specs.Messages.{zero_bytes, start_message, start_of, extended_message, extended_of, anchored_message, anchored_of}
 use Rattle.mm_module.specs.Batch.{Batch}
-use Rattle.mm_model.specs.Chains.{trail, link_message, guard_message, closing_message, guard, own_values}
+use Rattle.mm_model.specs.Chains.{trail, link_message, guard_message, closing_message, guard}
+use Rattle.mm_model.specs.ChainsWords.{own_values}
 use Rattle.mm_model.specs.Instance.{Instance}
-use Rattle.mm_model.specs.History.{Entry, Own, Value, History, Move, Commit, Foreign, Placed, Reset, Close, Power, values_of, register_value_of, cell_digest_of, joined}
+use Rattle.mm_model.specs.History.{Entry, Own, Value, History, Move, Commit, Foreign, Placed, Reset, Close, Power, register_value_of, joined}
+use Rattle.mm_model.specs.HistoryWords.{values_of}
+use Rattle.mm_model.specs.Places.{anchor_after}
 use Rattle.mm_seal.specs.declared.snapshot.Place.{Place}
 use Rattle.mm_seal.specs.declared.snapshot.Place.TheVariants.{Basic as InBasic, Opt as InOpt}
 
--- the batches of each closed segment: a segment runs to the next start, the last one to the end of these
+-- the batches of each closed segment: a segment runs to the next start, the last one to the end of
+-- these
 abbrev pub closed_runs : List (List Entry) → List Batch → List (List Batch)
 closed_runs [] batches = []
 closed_runs (segment ∷ []) batches = batches ∷ []
@@ -22,15 +27,17 @@ closed_runs (segment ∷ next ∷ later) batches =
 
 -- the batches of each segment, of the open one too
 abbrev pub runs_of : History → List (List Batch)
-runs_of y = closed_runs y.closed (take (length y.batches - length y.current) y.batches) ++ y.current ∷ []
+runs_of y =
+    closed_runs y.closed (take (length y.batches - length y.current) y.batches) ++ y.current ∷ []
 
 -- the messages by which these values went into a register that was zero
 abbrev pub register_trail : List (List ℕ) → List (List ℕ)
 register_trail values = trail extended_message zero_bytes values
 
--- The messages of a history. In Basic the start message and the batches' link messages. In Opt the start
--- message; the guard message of each batch; the extended messages of each segment's batches, of the entries
--- of each closed segment and of the register's items; and the anchored message of each closing.
+-- The messages of a history. In Basic the start message and the batches' link messages. In Opt the
+-- start message; the guard message of each batch; the extended messages of each segment's batches,
+-- of the entries of each closed segment and of the register's items; and the anchored message of
+-- each closing.
 abbrev pub messages_of : Variant → Instance → History → List (List ℕ)
 messages_of Basic i y =
     start_message Basic i.meaning.id ∷ trail link_message (start_of Basic i.meaning.id) y.batches
@@ -54,27 +61,29 @@ form_messages anchor extension v =
 abbrev pub point_messages : List ℕ → List ℕ → List ℕ → List (List ℕ)
 point_messages a e v =
     form_messages a e v
-    ++ (if bytes_eq e zero_bytes then [] else anchored_message a e ∷ form_messages (anchored_of a e) zero_bytes v)
+    ++ (if bytes_eq e zero_bytes then [] else anchored_message a e
+    ∷ form_messages (anchored_of a e) zero_bytes v)
 
 -- the messages of a call that offers the place and asks for the batch
 abbrev pub offer_messages : Instance → Place → Batch → List (List ℕ)
 offer_messages i (InBasic s) b = link_message s.bytes b ∷ []
-offer_messages i (InOpt a e) b = guard_message i.barrier b ∷ point_messages a.bytes e.bytes (guard i.barrier b)
+offer_messages i (InOpt a e) b =
+    guard_message i.barrier b ∷ point_messages a.bytes e.bytes (guard i.barrier b)
 
--- the messages of one move, made from a history: what the register takes in, and what closes a segment
+-- the messages of one move, made from a history, by whether a segment is open there: what the
+-- register takes in, and what closes a segment
 abbrev pub moving_messages : Variant → Bool → Instance → History → Move → List (List ℕ)
 moving_messages Basic is_open i y m = []
-moving_messages Opt true i y (Commit b) = extended_message (register_value_of i y) (guard i.barrier b) ∷ []
+moving_messages Opt true i y (Commit b) =
+    extended_message (register_value_of i y) (guard i.barrier b) ∷ []
 moving_messages Opt false i y (Commit b) = []
 moving_messages Opt is_open i y (Foreign d) = extended_message (register_value_of i y) d ∷ []
-moving_messages Opt is_open i y (Placed b) = extended_message (register_value_of i y) (guard i.barrier b) ∷ []
+moving_messages Opt is_open i y (Placed b) =
+    extended_message (register_value_of i y) (guard i.barrier b) ∷ []
 moving_messages Opt is_open i y Reset = []
 moving_messages Opt is_open i y Close =
-    anchored_message (cell_digest_of i Opt y) (register_value_of i y) ∷ []
+    anchored_message (anchor_after i y.closed) (register_value_of i y) ∷ []
 moving_messages Opt is_open i y Power = []
-
-abbrev pub move_messages : Instance → History → Move → List (List ℕ)
-move_messages i y m = moving_messages i.variant y.is_open i y m
 
 -- each of the messages is in the list
 abbrev pub Within : List (List ℕ) → List (List ℕ) → Type 0
@@ -91,7 +100,8 @@ values_in [] = []
 values_in (Own b ∷ entries) = values_in entries
 values_in (Value d ∷ entries) = d ∷ values_in entries
 
--- the entries of a history that count: those of closed segments, and the register's items while a segment is open
+-- the entries of a history that count: those of closed segments, and the register's items while a
+-- segment is open
 abbrev pub counting : History → List Entry
 counting y = joined y.closed ++ (if y.is_open then y.items else [])
 
@@ -100,9 +110,11 @@ abbrev pub AreNoGuards : List ℕ → List (List ℕ) → List Batch → Type 0
 AreNoGuards barrier values batches =
     (d : List ℕ) (b : Batch) → Contains values d → Contains batches b → d ≢ guard barrier b
 
--- What is asked of the digests for a history and a call from it that offers the place and asks for the batch:
--- the list `all` holds their messages and is clear, and no value that counts is the guard of one of their batches.
-pub record IsClearFor (all : List (List ℕ)) (i : Instance) (y : History) (offered : Place) (b : Batch) : Type 0 where
+-- What is asked of the digests for a history and a call from it that offers the place and asks for
+-- the batch: the list `all` holds their messages and is clear, and no value that counts is the
+-- guard of one of their batches.
+pub record IsClearFor (all : List (List ℕ)) (i : Instance) (y : History) (offered : Place)
+    (b : Batch) : Type 0 where
   pub clear : IsClear all
   pub history : Within (history_messages i y) all
   pub call : Within (offer_messages i offered b) all

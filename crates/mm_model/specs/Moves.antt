@@ -5,16 +5,18 @@ use Rattle.mm_digest.specs.declared.variant.Variant.{Variant}
 use Rattle.mm_digest.specs.declared.variant.Variant.TheVariants.{Basic, Opt}
 use Rattle.mm_digest.specs.Messages.{zero_bytes, extended_message, extended_of, anchored_of}
 use Rattle.mm_module.specs.Batch.{Batch, size_of}
-use Rattle.mm_model.specs.Chains.{link, guard, guard_message, register_of, own_values}
+use Rattle.mm_model.specs.Chains.{link, guard, guard_message, register_of}
+use Rattle.mm_model.specs.ChainsWords.{own_values}
 use Rattle.mm_model.specs.Instance.{Instance}
-use Rattle.mm_model.specs.History.{Entry, Value, History, Move, Commit, Foreign, Placed, Reset, Close, Power, joined, total_of, cell_digest_of, register_value_of, renamed}
+use Rattle.mm_model.specs.History.{Entry, Value, History, Move, Commit, Foreign, Placed, Reset, Close, Power, joined, total_of, register_value_of, renamed}
+use Rattle.mm_model.specs.HistoryWords.{cell_digest_of}
 use Rattle.mm_model.specs.Life.{is_empty, has_value}
 use Rattle.mm_model.specs.Sound.{batches_in}
 use Rattle.mm_model.specs.Messages.{values_in, counting}
 use Rattle.mm_model.specs.Standing.{flag_of}
 
--- A batch may open a segment: no closed one is spoiled, and the register was emptied before, then took in values
--- that stand for no batch, and last the guard of this one.
+-- A batch may open a segment: no closed one is spoiled, and the register was emptied before, then
+-- took in values that stand for no batch, and last the guard of this one.
 pub record IsOpening (i : Instance) (y : History) (b : Batch) : Type 0 where
   pub clean : has_value (joined y.closed) ≡ false
   pub front : List Entry
@@ -41,8 +43,8 @@ IsAllowed variant is_open i y Power = Unit {0}
 abbrev pub MayMove : Instance → History → Move → Type 0
 MayMove i y m = IsAllowed i.variant y.is_open i y m
 
--- what stands on a platform, by digests: the cell's summary or anchor and its flag, the register's value, and the
--- number of committed requests
+-- what stands on a platform, by digests: the cell's summary or anchor and its flag, the register's
+-- value, and the number of committed requests
 pub record Digests : Type 0 where
   pub digest : List ℕ
   pub flag : Bool
@@ -57,10 +59,12 @@ digests_of i y = record {
   count = total_of y.batches;
 }
 
--- Basic writes the cell; Opt extends the register inside a segment, and sets the cell's flag to open one
+-- Basic writes the cell; Opt extends the register inside a segment, and sets the cell's flag to
+-- open one
 abbrev pub committing : Variant → Bool → Instance → Digests → Batch → Digests
 committing Basic flag i d b = record d { digest = link d.digest b; count = d.count + size_of b }
-committing Opt true i d b = record d { register = extended_of d.register (guard i.barrier b); count = d.count + size_of b }
+committing Opt true i d b =
+    record d { register = extended_of d.register (guard i.barrier b); count = d.count + size_of b }
 committing Opt false i d b = record d { flag = true; count = d.count + size_of b }
 
 -- what a move does to the digests: the effect of the device step that makes it
@@ -76,10 +80,11 @@ made i d Power = record d { register = zero_bytes }
 abbrev pub IsOutside : List (List ℕ) → History → Type 0
 IsOutside others y = AllByRecursion (Contains others) (values_in (counting y))
 
--- what a move takes in from others is among these values: a foreign value, and what the register took in before a
--- batch that opens a segment
+-- what a move takes in from others is among these values: a foreign value, and what the register
+-- took in before a batch that opens a segment
 abbrev pub Brings : Variant → Bool → List (List ℕ) → History → Move → Type 0
-Brings Opt false others y (Commit b) = AllByRecursion (Contains others) (values_in (renamed y.items b))
+Brings Opt false others y (Commit b) =
+    AllByRecursion (Contains others) (values_in (renamed y.items b))
 Brings Opt true others y (Commit b) = Unit {0}
 Brings Basic is_open others y (Commit b) = Unit {0}
 Brings variant is_open others y (Foreign d) = Contains others d
@@ -88,11 +93,12 @@ Brings variant is_open others y Reset = Unit {0}
 Brings variant is_open others y Close = Unit {0}
 Brings variant is_open others y Power = Unit {0}
 
--- what the messages of a history gain by a batch, besides those of the move: its guard, and its extension after the
--- batches of its segment
+-- what the messages of a history gain by a batch, besides those of the move: its guard, and its
+-- extension after the batches of its segment
 abbrev pub batch_messages : Instance → History → Move → List (List ℕ)
 batch_messages i y (Commit b) =
-    guard_message i.barrier b ∷ extended_message (register_of (own_values i.barrier y.current)) (guard i.barrier b) ∷ []
+    guard_message i.barrier b ∷ extended_message (register_of (own_values i.barrier y.current))
+    (guard i.barrier b) ∷ []
 batch_messages i y (Foreign d) = []
 batch_messages i y (Placed b) = []
 batch_messages i y Reset = []

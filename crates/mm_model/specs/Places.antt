@@ -5,22 +5,22 @@ use Rattle.mm_digest.specs.declared.variant.Variant.TheVariants.{Basic, Opt}
 use Rattle.mm_digest.specs.Messages.{zero_bytes}
 use Rattle.mm_module.specs.Batch.{Batch}
 use Rattle.mm_module.specs.Meaning.{state_after}
-use Rattle.mm_model.specs.Chains.{summary_of, register_of, anchor_of, own_values}
+use Rattle.mm_model.specs.Chains.{guard, summary_of, register_of, anchor_of}
 use Rattle.mm_model.specs.Instance.{Instance}
-use Rattle.mm_model.specs.History.{Entry, History, requests_of, total_of, values_of, joined}
+use Rattle.mm_model.specs.History.{Entry, History, requests_of, total_of, value_of, joined}
 use Rattle.mm_model.specs.Life.{is_empty, has_value}
 use Rattle.mm_seal.specs.declared.snapshot.Place.{Place}
 use Rattle.mm_seal.specs.declared.snapshot.Place.TheVariants.{Basic as InBasic, Opt as InOpt}
 use Rattle.mm_seal.specs.Snapshot.{Content}
-use Rattle.mm_digest.specs.declared.digest.Digest.{Digest}
 
 -- the anchor after these segments
 abbrev pub anchor_after : Instance → List (List Entry) → List ℕ
-anchor_after i segments = anchor_of i.meaning.id (map (values_of i.barrier) segments)
+anchor_after i segments = anchor_of i.meaning.id (map (map (value_of i.barrier)) segments)
 
--- At an anchor: after some first closed segments, of which none holds a value that stands for no batch.
--- The batches up to there are as many as their entries.
-pub record AtAnchor (i : Instance) (y : History) (named : List Batch) (anchor extension : List ℕ) : Type 0 where
+-- At an anchor: after some first closed segments, of which none holds a value that stands for no
+-- batch. The batches up to there are as many as their entries.
+pub record AtAnchor (i : Instance) (y : History) (named : List Batch)
+    (anchor extension : List ℕ) : Type 0 where
   pub before : List (List Entry)
   pub later : List (List Entry)
   pub split : y.closed ≡ before ++ later
@@ -29,9 +29,11 @@ pub record AtAnchor (i : Instance) (y : History) (named : List Batch) (anchor ex
   pub anchor_is : anchor ≡ anchor_after i before
   pub extension_is : extension ≡ zero_bytes
 
--- Inside a closed segment: after its first batches, at least one. A segment starts at as many batches as
--- the segments before it have entries, and it runs to the next start, the last one to the end.
-pub record InClosed (i : Instance) (y : History) (named : List Batch) (anchor extension : List ℕ) : Type 0 where
+-- Inside a closed segment: after its first batches, at least one. A segment starts at as many
+-- batches as the segments before it have entries, and it runs to the next start, the last one to
+-- the end.
+pub record InClosed (i : Instance) (y : History) (named : List Batch)
+    (anchor extension : List ℕ) : Type 0 where
   pub before : List (List Entry)
   pub segment : List Entry
   pub later : List (List Entry)
@@ -43,10 +45,11 @@ pub record InClosed (i : Instance) (y : History) (named : List Batch) (anchor ex
   pub begun : is_empty taken ≡ false
   pub within : (length taken ≤ length segment) ⊎ ((later ≡ []) × (y.current ≡ []))
   pub anchor_is : anchor ≡ anchor_after i before
-  pub extension_is : extension ≡ register_of (own_values i.barrier taken)
+  pub extension_is : extension ≡ register_of (map (guard i.barrier) taken)
 
 -- Inside the open segment: after its first batches, at least one.
-pub record InCurrent (i : Instance) (y : History) (named : List Batch) (anchor extension : List ℕ) : Type 0 where
+pub record InCurrent (i : Instance) (y : History) (named : List Batch)
+    (anchor extension : List ℕ) : Type 0 where
   pub done : List Batch
   pub taken : List Batch
   pub more : List Batch
@@ -55,10 +58,11 @@ pub record InCurrent (i : Instance) (y : History) (named : List Batch) (anchor e
   pub named_is : named ≡ done ++ taken
   pub begun : is_empty taken ≡ false
   pub anchor_is : anchor ≡ anchor_after i y.closed
-  pub extension_is : extension ≡ register_of (own_values i.barrier taken)
+  pub extension_is : extension ≡ register_of (map (guard i.barrier) taken)
 
 -- a place of Opt
-pub data IsPoint (i : Instance) (y : History) (named : List Batch) (anchor extension : List ℕ) : Type 0 where
+pub data IsPoint (i : Instance) (y : History) (named : List Batch)
+    (anchor extension : List ℕ) : Type 0 where
   at_anchor : AtAnchor i y named anchor extension → IsPoint i y named anchor extension
   in_closed : InClosed i y named anchor extension → IsPoint i y named anchor extension
   in_current : InCurrent i y named anchor extension → IsPoint i y named anchor extension
@@ -79,15 +83,15 @@ pub record Names (i : Instance) (y : History) (offered : Content) : Type 0 where
   pub state : offered.state ≡ state_after i.meaning (requests_of named)
   pub place : IsPlaceOf i.variant i y named offered.place
 
-abbrev pub digest_of : List ℕ → Digest
-digest_of bytes = record { bytes = bytes }
-
 -- where the snapshot of an answer stands
 abbrev pub issued_place : Variant → Bool → Instance → History → Place
-issued_place Basic is_open i y = InBasic (digest_of (summary_of i.meaning.id y.batches))
+issued_place Basic is_open i y = InBasic (record { bytes = summary_of i.meaning.id y.batches })
 issued_place Opt true i y =
-    InOpt (digest_of (anchor_after i y.closed)) (digest_of (register_of (own_values i.barrier y.current)))
-issued_place Opt false i y = InOpt (digest_of (anchor_after i y.closed)) (digest_of zero_bytes)
+    InOpt (record { bytes = anchor_after i y.closed })
+    (record { bytes = register_of (map (guard i.barrier) y.current) })
+issued_place Opt false i y =
+    InOpt (record { bytes = anchor_after i y.closed })
+    (record { bytes = zero_bytes })
 
 -- what the snapshot of an answer says
 abbrev pub issued : Instance → History → Content

@@ -8,6 +8,7 @@ pub record Run (M : Type 0) : Type 0 where
   pub requests : List (List ℕ)
 
 -- the state and the last output are those of the requests
-pub record IsRun (meaning : Meaning) (requests : List (List ℕ)) (state output : List ℕ) : Type 0 where
-  pub state_is : state ≡ state_after meaning requests
-  pub output_is : output ≡ said_after meaning requests
+pub record IsRun (meaning : Meaning) (requests : List (List ℕ)) (state output : List ℕ) : Type 0
+  where
+    pub state_is : state ≡ state_after meaning requests
+    pub output_is : output ≡ said_after meaning requests

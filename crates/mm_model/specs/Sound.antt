@@ -11,14 +11,14 @@ batches_in [] = []
 batches_in (Own b ∷ entries) = b ∷ batches_in entries
 batches_in (Value d ∷ entries) = batches_in entries
 
--- No closed segment holds a value that stands for no batch, and the batches are those of the closed segments
--- and then those of the open one.
+-- No closed segment holds a value that stands for no batch, and the batches are those of the closed
+-- segments and then those of the open one.
 pub record IsClean (y : History) : Type 0 where
   pub clean : has_value (joined y.closed) ≡ false
   pub batches : y.batches ≡ batches_in (joined y.closed) ++ y.current
 
--- The last closed segment alone holds such a value, nothing is open, and the batches begin with those of the
--- segments before it.
+-- The last closed segment alone holds such a value, nothing is open, and the batches begin with
+-- those of the segments before it.
 pub record IsMarred (y : History) : Type 0 where
   pub before : List (List Entry)
   pub last : List Entry
@@ -29,8 +29,8 @@ pub record IsMarred (y : History) : Type 0 where
   pub shut : y.is_open ≡ false
   pub batches : y.batches ≡ batches_in (joined before) ++ rest
 
--- what the register's items are while a segment is open: its batches' entries; nothing, after a loss of
--- power; or they hold a value that stands for no batch
+-- what the register's items are while a segment is open: its batches' entries; nothing, after a
+-- loss of power; or they hold a value that stands for no batch
 abbrev pub AreItems : List Entry → List Batch → Type 0
 AreItems items current = (are_own items current ≡ true) ⊎ (items ≡ []) ⊎ (has_value items ≡ true)
 

@@ -8,8 +8,10 @@ use Rattle.mm_seal.specs.Cell.{IsCell, cell_spelling}
 use Rattle.mm_seal.specs.Snapshot.{Content, IsContent, variant_of, sealed_of}
 use Rattle.mm_platform.specs.Standing.{Standing, item_values, register_after}
 use Rattle.mm_model.specs.Instance.{Instance}
-use Rattle.mm_model.specs.History.{History, cell_digest_of, register_value_of}
-use Rattle.mm_model.specs.Places.{Names, digest_of, issued}
+use Rattle.mm_model.specs.History.{History, register_value_of}
+use Rattle.mm_model.specs.HistoryWords.{cell_digest_of}
+use Rattle.mm_model.specs.Places.{Names, issued}
+use Rattle.mm_model.specs.PlacesWords.{digest_of}
 
 -- the flag of a cell: in Opt, whether a segment is open
 abbrev pub flag_of : Variant → History → Bool
@@ -36,15 +38,16 @@ abbrev pub RegisterStands : Variant → Instance → Standing → History → Ty
 RegisterStands Basic i standing y = Unit {0}
 RegisterStands Opt i standing y = register_reads standing ≡ Some (register_value_of i y)
 
--- The platform stands for the history: its cell spells the history's summary or anchor, the flag, and the
--- instance's variant, module, key and barrier; and in Opt its register has the history's value.
+-- The platform stands for the history: its cell spells the history's summary or anchor, the flag,
+-- and the instance's variant, module, key and barrier; and in Opt its register has the history's
+-- value.
 pub record StandsFor (i : Instance) (standing : Standing) (y : History) : Type 0 where
   pub spells : IsCell (cell_of i y)
   pub cell : standing.cell ≡ Some (cell_spelling (cell_of i y))
   pub register : RegisterStands i.variant i standing y
 
--- An offer is right: it is sealed under the instance's key, is of its variant and module, and has a state of the
--- module.
+-- An offer is right: it is sealed under the instance's key, is of its variant and module, and has a
+-- state of the module.
 pub record IsRight (i : Instance) (offer : List ℕ) (content : Content) : Type 0 where
   pub formed : IsContent content
   pub sealed : offer ≡ sealed_of i.key content

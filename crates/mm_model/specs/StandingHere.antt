@@ -17,4 +17,5 @@ is_new Stale = false
 -- the messages of an offered place without a batch: of its second form, the closing of its segment
 abbrev pub place_messages : Place → List (List ℕ)
 place_messages (InBasic s) = []
-place_messages (InOpt a e) = if bytes_eq e.bytes zero_bytes then [] else anchored_message a.bytes e.bytes ∷ []
+place_messages (InOpt a e) =
+    if bytes_eq e.bytes zero_bytes then [] else anchored_message a.bytes e.bytes ∷ []

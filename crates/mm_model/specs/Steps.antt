@@ -5,21 +5,22 @@ use Rattle.mm_digest.specs.declared.variant.Variant.TheVariants.{Basic, Opt}
 use Rattle.mm_module.specs.Batch.{Batch}
 use Rattle.mm_model.specs.History.{Move, Commit, Placed, Reset, Close}
 
--- a step reads; or changes the register, after what others put there before it; or writes the cell, and
--- then its move stands before what others put into the register in the meantime
+-- a step reads; or changes the register, after what others put there before it; or writes the cell,
+-- and then its move stands before what others put into the register in the meantime
 pub data Step : Type 0 where
   Reads : Step
   Changes : Move → Step
   Writes : Move → Step
 
--- the steps of a call that asks for the batch, where it isn't refused before its last reading step: by
--- whether a segment is open and the verdict was Fresh
+-- the steps of a call that asks for the batch, where it isn't refused before its last reading step:
+-- by whether a segment is open and the verdict was Fresh
 abbrev pub ask_steps : Variant → Bool → Bool → Batch → List Step
 ask_steps Basic is_open false b = Reads ∷ []
 ask_steps Basic is_open true b = Reads ∷ Writes (Commit b) ∷ []
 ask_steps Opt is_open false b = Reads ∷ Reads ∷ []
 ask_steps Opt true true b = Reads ∷ Reads ∷ Changes (Commit b) ∷ []
-ask_steps Opt false true b = Reads ∷ Reads ∷ Changes Reset ∷ Changes (Placed b) ∷ Writes (Commit b) ∷ []
+ask_steps Opt false true b =
+    Reads ∷ Reads ∷ Changes Reset ∷ Changes (Placed b) ∷ Writes (Commit b) ∷ []
 
 -- the steps of a checkpoint: by whether a segment is open and the register reads zero
 abbrev pub checkpoint_steps : Variant → Bool → Bool → List Step

@@ -1,7 +1,8 @@
 //! Batches and entries of a history, owned.
 
 ghost use Rattle.std.specs.Prelude.{◌≡◌, map, IfOk};
-ghost use Rattle.mm_module.specs.Batch.{has_tab, normal};
+ghost use Rattle.mm_module.specs.Batch.{normal};
+ghost use Rattle.mm_module.specs.BatchWords.{has_tab};
 ghost use Rattle.mm_module.specs.Batches.{batch_of};
 ghost use Rattle.mm_model.specs.History.{joined};
 ghost use Rattle.mm_model.specs.Life.{same_batch, has_value, are_own};

@@ -6,12 +6,15 @@ ghost use Rattle.std.specs.Prelude.{◌≡◌, ◌&&◌, ℕ, false, List, [], �
 ghost use Rattle.std.specs.Str.{bytes_eq};
 ghost use Rattle.std.specs.List.{Contains, AllByRecursion};
 ghost use Rattle.mm_digest.specs.declared.variant.Variant.TheVariants.{Basic, Opt};
-ghost use Rattle.mm_digest.specs.Messages.{zero_bytes, start_message, start_of, successor_message, secured_message, successor_of, secured_of, successor_batch_of, secured_batch_of, extended_of, anchored_of};
+ghost use Rattle.mm_digest.specs.Messages.{zero_bytes, start_message, start_of, extended_of, anchored_of};
+ghost use Rattle.mm_digest.specs.MessagesWords.{successor_message, secured_message, successor_of, secured_of, successor_batch_of, secured_batch_of};
 ghost use Rattle.mm_module.specs.Batch.{Batch, One, Many};
 ghost use Rattle.mm_module.specs.Meaning.{Meaning};
 ghost use Rattle.mm_model.specs.Chains.{trail, link_message, guard_message, closing_message, link, guard, summary_of, register_of, anchor_of};
-ghost use Rattle.mm_model.specs.Instance.{Instance, basic, opt};
-ghost use Rattle.mm_model.specs.History.{History, cell_digest_of, register_value_of};
+ghost use Rattle.mm_model.specs.Instance.{Instance};
+ghost use Rattle.mm_model.specs.InstanceWords.{basic, opt};
+ghost use Rattle.mm_model.specs.History.{History, register_value_of};
+ghost use Rattle.mm_model.specs.HistoryWords.{cell_digest_of};
 ghost use Rattle.mm_platform.specs.Standing.{register_after as folded_of};
 ghost use Rattle.mm_seal.specs.Snapshot.{Content};
 ghost use Rattle.mm_model.specs.Places.{Names};

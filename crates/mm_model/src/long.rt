@@ -3,7 +3,8 @@
 ghost use Rattle.std.specs.Prelude.{◌≡◌, ◌==◌};
 ghost use Rattle.std.specs.List.{list_any};
 ghost use Rattle.mm_module.specs.Batches.{batch_of};
-ghost use Rattle.mm_model.specs.Long.{is_lf, is_long};
+ghost use Rattle.mm_model.specs.Long.{is_long};
+ghost use Rattle.mm_model.specs.LongWords.{is_lf};
 
 use mm_base::{LONGEST_REQUEST, MOST_MEMBERS};
 use mm_module::Batch;

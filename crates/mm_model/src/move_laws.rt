@@ -8,14 +8,15 @@ ghost use Rattle.mm_module.specs.Batch.{Batch};
 ghost use Rattle.mm_module.specs.Meaning.{Meaning};
 ghost use Rattle.mm_seal.specs.Snapshot.{Content};
 ghost use Rattle.mm_model.specs.Chains.{link_message, summary_of};
-ghost use Rattle.mm_model.specs.Instance.{basic, opt};
+ghost use Rattle.mm_model.specs.InstanceWords.{basic, opt};
 ghost use Rattle.mm_model.specs.History.{History, Move, Commit, first_history, joined, moved};
 ghost use Rattle.mm_model.specs.Life.{has_value};
 ghost use Rattle.mm_model.specs.Sound.{IsSound};
 ghost use Rattle.mm_model.specs.Judge.{judge};
 ghost use Rattle.mm_model.specs.declared.verdict.Verdict.TheVariants.{Fresh};
 ghost use Rattle.mm_model.specs.Places.{Names, issued};
-ghost use Rattle.mm_model.specs.Messages.{Within, IsClearFor, history_messages, move_messages};
+ghost use Rattle.mm_model.specs.Messages.{Within, IsClearFor, history_messages};
+ghost use Rattle.mm_model.specs.MessagesWords.{move_messages};
 ghost use Rattle.mm_model.specs.Symbolic.{commit_moves, moved_by, with_batch};
 ghost use Rattle.mm_model.specs.Moves.{MayMove, digests_of, made, IsOutside, Brings, batch_messages};
 

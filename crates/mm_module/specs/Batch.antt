@@ -1,24 +1,16 @@
 -- A batch of requests under one commit, as contracts see it.
-use Rattle.std.specs.Prelude.{◌==◌, ℕ, List, [], ◌∷◌, length, Bool, IsTrue, if◌then◌else◌}
+use Rattle.std.specs.Prelude.{◌==◌, ℕ, List, [], ◌∷◌, length, IsTrue, if◌then◌else◌}
 use Rattle.std.specs.List.{slice_split, list_any}
 
--- one request, or a text whose pieces between bytes TAB are the requests
+-- one request, or a text whose pieces between bytes TAB, which are 9, are the requests
 pub data Batch : Type 0 where
   One : (request : List ℕ) → Batch
   Many : (text : List ℕ) → Batch
 
--- a TAB
-abbrev pub is_tab : ℕ → Bool
-is_tab byte = byte == 9
-
--- some byte is a TAB
-abbrev pub has_tab : List ℕ → Bool
-has_tab text = list_any is_tab text
-
 -- the requests of a batch, in order
 abbrev pub members_of : Batch → List (List ℕ)
 members_of (One request) = request ∷ []
-members_of (Many text) = slice_split is_tab text
+members_of (Many text) = slice_split (λ byte. byte == 9) text
 
 -- the bytes of a batch: its members, joined by TABs
 abbrev pub batch_text : Batch → List ℕ
@@ -32,9 +24,9 @@ size_of batch = length (members_of batch)
 -- a batch that its members fix: a text with no TAB is one request
 abbrev pub IsBatch : Batch → Type 0
 IsBatch (One request) = Unit {0}
-IsBatch (Many text) = IsTrue (has_tab text)
+IsBatch (Many text) = IsTrue (list_any (λ byte. byte == 9) text)
 
 -- the same members as such a batch
 abbrev pub normal : Batch → Batch
 normal (One request) = One request
-normal (Many text) = if has_tab text then Many text else One text
+normal (Many text) = if list_any (λ byte. byte == 9) text then Many text else One text

@@ -16,7 +16,8 @@ use Rattle.mm_module.specs.CounterTable.{counter, stepped, is_state, outcome_of,
 -- a state has 8 bytes
 length-state : (state : List ℕ) → is_state state ≡ true → length state ≡ 8
 unfolding is_state
-length-state state is = let eight = (and-true (are_bytes state) (length state == 8) is).1 in grind (arith, nat_tests)
+length-state state is =
+    let eight = (and-true (are_bytes state) (length state == 8) is).1 in grind (arith, nat_tests)
 
 bytes-state : (state : List ℕ) → is_state state ≡ true → All (λ byte. byte < 256) state
 unfolding is_state
@@ -53,24 +54,30 @@ Says64 Bad = Unit {0}
 
 -- its text is at most 20 bytes, with no LF
 text_of-IsText : (says : Says) → Says64 says → IsText 20 (text_of says)
-text_of-IsText (Value value) small = record { short = length-decimal value small; unbroken = is_unbroken-decimal value small }
+text_of-IsText (Value value) small =
+    record { short = length-decimal value small; unbroken = is_unbroken-decimal value small }
 text_of-IsText Full _ = record { short = omega arith; unbroken = refl }
 text_of-IsText Bad _ = record { short = omega arith; unbroken = refl }
 
 added-64 : (value number : ℕ) (flag : Bool) → nat_lt (value + number) (2 ^ 64) ≡ flag
-    → Says64 (if◌then◌else◌ {A = ℕ × Says} flag (value + number, Value (value + number)) (value, Full)).1
+    → Says64 (if◌then◌else◌ {A = ℕ × Says} flag (value + number, Value (value + number))
+    (value, Full)).1
 added-64 value number true is = grind (arith, nat_tests)
 added-64 value number false is = tt
 
-outcome_of-64 : (value : ℕ) (request : Option Request) → value < 2 ^ 64 → Says64 (outcome_of value request).1
+outcome_of-64 : (value : ℕ) (request : Option Request) → value < 2 ^ 64
+    → Says64 (outcome_of value request).1
 outcome_of-64 value (Some Read) small = small
-outcome_of-64 value (Some (Add number)) small = added-64 value number (nat_lt (value + number) (2 ^ 64)) refl
+outcome_of-64 value (Some (Add number)) small =
+    added-64 value number (nat_lt (value + number) (2 ^ 64)) refl
 outcome_of-64 value None small = tt
 
 -- what a counter says is at most 20 bytes, with no LF
-counter_says : (state request : List ℕ) → is_state state ≡ true → IsText 20 (counter.says state request)
+counter_says : (state request : List ℕ) → is_state state ≡ true
+    → IsText 20 (counter.says state request)
 unfolding stepped
-counter_says state request is = text_of-IsText _ (outcome_of-64 (of_eight_bytes state) _ (value-lt state is))
+counter_says state request is =
+    text_of-IsText _ (outcome_of-64 (of_eight_bytes state) _ (value-lt state is))
 
 counter_begins : is_state counter.first ≡ true
 unfolding is_state
@@ -83,12 +90,16 @@ counter_is_lawful = record {
   goes_on = λ state request is. search (rules, is_state-eight (stepped state request).0);
   fits = λ state is. omega (arith, length-state state (search (rules, is)));
   has_bytes = λ state is. bytes-state state (search (rules, is));
-  says_lines = λ state request is. IsLine-text 20 _ (omega arith) (counter_says state request (search (rules, is)));
+  says_lines =
+      λ state request is. IsLine-text 20 _ (omega arith)
+      (counter_says state request (search (rules, is)));
 }
 
 -- a counter is short
 pub counter_is_short : IsShort counter
 counter_is_short = record {
   state = λ state is. omega (arith, length-state state (search (rules, is)));
-  output = λ state request is. let text = counter_says state request (search (rules, is)) in omega (arith, text.short);
+  output =
+      λ state request is. let text = counter_says state request (search (rules, is))
+      in omega (arith, text.short);
 }

@@ -16,13 +16,16 @@ use Rattle.mm_module.specs.declared.counter.Says.TheVariants.{Value, Full, Bad}
 -- the request that these words are: `read`, or `add N`
 abbrev pub request_of : List (List ℕ) → Option Request
 request_of (word ∷ []) = if bytes_eq word (codes "read") then Some Read else None
-request_of (word ∷ number ∷ []) = if bytes_eq word (codes "add") then option_map (λ n. Add n) (decimal_number number) else None
+request_of (word ∷ number ∷ []) =
+    if bytes_eq word (codes "add") then option_map (λ n. Add n) (decimal_number number) else None
 request_of _ = None
 
 -- the value after a request, and what the counter says
 abbrev pub outcome_of : ℕ → Option Request → ℕ × Says
 outcome_of value (Some Read) = (value, Value value)
-outcome_of value (Some (Add number)) = if nat_lt (value + number) (2 ^ 64) then (value + number, Value (value + number)) else (value, Full)
+outcome_of value (Some (Add number)) =
+    if nat_lt (value + number) (2 ^ 64) then (value + number, Value (value + number))
+    else (value, Full)
 outcome_of value None = (value, Bad)
 
 -- the text of what is said

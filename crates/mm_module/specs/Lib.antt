@@ -13,3 +13,6 @@ pub mod Numbers
 pub mod Visible
 pub mod PartLaws
 pub mod TableLaws
+pub mod MeaningWords
+pub mod BatchWords
+pub mod WordsWords

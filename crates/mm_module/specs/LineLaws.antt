@@ -30,24 +30,32 @@ passes true refuted = refl
 passes false refuted = absurd (refuted refl)
 
 -- a test that each element passes holds at each place
-pub list_all-get_or : (p : ℕ → Bool) (xs : List ℕ) → list_all p xs ≡ true → (k d : ℕ) → k < length xs → p (get_or xs k d) ≡ true
+pub list_all-get_or : (p : ℕ → Bool) (xs : List ℕ) → list_all p xs ≡ true → (k d : ℕ)
+    → k < length xs → p (get_or xs k d) ≡ true
 list_all-get_or p xs all k d inside =
-    passes (p (get_or xs k d)) (λ fails. let some_fails : list_all p xs ≡ false = list_all_at p xs k d inside fails in cc)
+    passes (p (get_or xs k d))
+    (λ fails. let some_fails : list_all p xs ≡ false = list_all_at p xs k d inside fails in cc)
 
 pub All-are_bytes : (bytes : List ℕ) → are_bytes bytes ≡ true → All (λ byte. byte < 256) bytes
-All-are_bytes bytes is = λ k d inside. let passed = list_all-get_or is_byte bytes is k d inside in grind (arith, nat_tests)
+All-are_bytes bytes is =
+    λ k d inside. let passed = list_all-get_or is_byte bytes is k d inside
+    in grind (arith, nat_tests)
 
 pub All-is_unbroken : (text : List ℕ) → is_unbroken text ≡ true → All (λ byte. byte ≢ 10) text
-All-is_unbroken text is = λ k d inside. let passed = list_all-get_or (λ byte. not (byte == 10)) text is k d inside in
+All-is_unbroken text is =
+    λ k d inside. let passed = list_all-get_or (λ byte. not (byte == 10)) text is k d inside in
     λ e. let broken : not (10 == 10) ≡ true = rw e at passed in cc
 
 byte-Fits : (x : ℕ) → Fits w8 x → is_byte x ≡ true
 byte-Fits x fits = let small : x < 256 = omega (arith, fits) in grind (arith, nat_tests)
 
 -- the bytes of a slice are bytes
-pub are_bytes-Fits : (bytes : List ℕ) → ((i : ℕ) → Fits w8 (get_or bytes i 0)) → are_bytes bytes ≡ true
+pub are_bytes-Fits : (bytes : List ℕ) → ((i : ℕ) → Fits w8 (get_or bytes i 0))
+    → are_bytes bytes ≡ true
 are_bytes-Fits [] fits = refl
-are_bytes-Fits (x ∷ xs) fits = and-both (is_byte x) (are_bytes xs) (byte-Fits x (fits 0)) (are_bytes-Fits xs (λ i. fits (suc i)))
+are_bytes-Fits (x ∷ xs) fits =
+    and-both (is_byte x) (are_bytes xs) (byte-Fits x (fits 0))
+    (are_bytes-Fits xs (λ i. fits (suc i)))
 
 -- a remainder of 256 is a byte
 pub is_byte-rem : (x : ℕ) → is_byte (x % 256) ≡ true
@@ -64,7 +72,9 @@ digits_unbroken (d ∷ ds) is = let w = and-true (is_ascii_digit d) (all_ascii_d
 -- a decimal has no LF
 pub is_unbroken-decimal : (n : ℕ) → n < 2 ^ 64 → is_unbroken (decimal n) ≡ true
 is_unbroken-decimal n small =
-    digits_unbroken (decimal n) (digits_decimal (numerals_by_value (λ ds. all_ascii_digits ds ≡ true) tells_all_ascii_digits) n small)
+    digits_unbroken (decimal n)
+    (digits_decimal (numerals_by_value (λ ds. all_ascii_digits ds ≡ true)
+    tells_all_ascii_digits) n small)
 
 -- a decimal of 64 bits has at most 20 digits
 pub length-decimal : (n : ℕ) → n < 2 ^ 64 → length (decimal n) ≤ 20
@@ -76,8 +86,10 @@ pub record IsText (most : ℕ) (text : List ℕ) : Type 0 where
   pub unbroken : is_unbroken text ≡ true
 
 -- such a text is a line
-pub IsLine-text : (most : ℕ) (text : List ℕ) → most ≤ longest_request → IsText most text → IsLine text
-IsLine-text most text few is = record { short = omega (arith, is.short, few); unbroken = All-is_unbroken text is.unbroken }
+pub IsLine-text : (most : ℕ) (text : List ℕ) → most ≤ longest_request → IsText most text
+    → IsLine text
+IsLine-text most text few is =
+    record { short = omega (arith, is.short, few); unbroken = All-is_unbroken text is.unbroken }
 
 -- a text with no LF, from each byte
 pub is_unbroken-All : (text : List ℕ) → All (λ byte. byte ≢ 10) text → is_unbroken text ≡ true

@@ -20,19 +20,22 @@ pub drop-front : (n : ℕ) (front back : List ℕ) → length front ≡ n → dr
 drop-front n front back is = rw (← is) (drop-append_seam front back)
 
 -- the bytes of each part are bytes
-pub are_bytes-take : (n : ℕ) (bytes : List ℕ) → are_bytes bytes ≡ true → are_bytes (take n bytes) ≡ true
+pub are_bytes-take : (n : ℕ) (bytes : List ℕ) → are_bytes bytes ≡ true
+    → are_bytes (take n bytes) ≡ true
 are_bytes-take zero bytes is = refl
 are_bytes-take (suc n) [] is = refl
 are_bytes-take (suc n) (x ∷ xs) is = let w = and-true (is_byte x) (are_bytes xs) is in
     and-both (is_byte x) (are_bytes (take n xs)) w.0 (are_bytes-take n xs w.1)
 
-pub are_bytes-drop : (n : ℕ) (bytes : List ℕ) → are_bytes bytes ≡ true → are_bytes (drop n bytes) ≡ true
+pub are_bytes-drop : (n : ℕ) (bytes : List ℕ) → are_bytes bytes ≡ true
+    → are_bytes (drop n bytes) ≡ true
 are_bytes-drop zero bytes is = is
 are_bytes-drop (suc n) [] is = refl
 are_bytes-drop (suc n) (x ∷ xs) is = are_bytes-drop n xs (and-true (is_byte x) (are_bytes xs) is).1
 
 -- and those of parts that are put together
-pub are_bytes-append : (xs ys : List ℕ) → are_bytes xs ≡ true → are_bytes ys ≡ true → are_bytes (xs ++ ys) ≡ true
+pub are_bytes-append : (xs ys : List ℕ) → are_bytes xs ≡ true → are_bytes ys ≡ true
+    → are_bytes (xs ++ ys) ≡ true
 are_bytes-append xs ys is_xs is_ys = list_all-append is_byte xs ys ∙ and-both _ _ is_xs is_ys
 
 -- numbers below 256 are bytes, and a byte list has them at each place
@@ -41,11 +44,13 @@ are_bytes-All [] all = refl
 are_bytes-All (x ∷ xs) all =
     let small : x < 256 = all 0 0 (omega arith) in
     let is : is_byte x ≡ true = grind (arith, nat_tests) in
-    and-both (is_byte x) (are_bytes xs) is (are_bytes-All xs (λ k d inside. all (suc k) d (omega (arith, inside))))
+    and-both (is_byte x) (are_bytes xs) is
+    (are_bytes-All xs (λ k d inside. all (suc k) d (omega (arith, inside))))
 
 pub get_or-small : (bytes : List ℕ) → are_bytes bytes ≡ true → (i : ℕ) → get_or bytes i 0 < 256
 get_or-small [] is i = omega arith
-get_or-small (x ∷ xs) is zero = let w = and-true (is_byte x) (are_bytes xs) is in grind (arith, nat_tests)
+get_or-small (x ∷ xs) is zero =
+    let w = and-true (is_byte x) (are_bytes xs) is in grind (arith, nat_tests)
 get_or-small (x ∷ xs) is (suc i) = get_or-small xs (and-true (is_byte x) (are_bytes xs) is).1 i
 
 -- visible bytes are bytes
@@ -69,6 +74,7 @@ pub of_eight_bytes-eight : (n : ℕ) → n < 2 ^ 64 → of_eight_bytes (eight_by
 unfolding of_eight_bytes eight_bytes
 of_eight_bytes-eight n small = from_be_bytes-to_be_bytes_8 n small
 
-pub eight-of_eight_bytes : (bytes : List ℕ) → length bytes ≡ 8 → are_bytes bytes ≡ true → eight_bytes (of_eight_bytes bytes) ≡ bytes
+pub eight-of_eight_bytes : (bytes : List ℕ) → length bytes ≡ 8 → are_bytes bytes ≡ true
+    → eight_bytes (of_eight_bytes bytes) ≡ bytes
 unfolding of_eight_bytes eight_bytes
 eight-of_eight_bytes bytes eight is = be_bytes_8 bytes _ eight (get_or-small bytes is) refl

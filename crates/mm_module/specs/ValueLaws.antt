@@ -28,7 +28,8 @@ are_bytes-IsBytes (x ∷ xs) below =
     let is : is_byte x ≡ true = grind (arith, nat_tests) in
     and-both (is_byte x) (are_bytes xs) is (are_bytes-IsBytes xs (λ i. below (suc i)))
 
-decoded-value : (word : List ℕ) (decoded : Result (List ℕ) FromHexError) → decode_sized word 32 ≡ decoded → MayBeValue (result_ok decoded)
+decoded-value : (word : List ℕ) (decoded : Result (List ℕ) FromHexError)
+    → decode_sized word 32 ≡ decoded → MayBeValue (result_ok decoded)
 decoded-value word (Ok bytes) is =
     let double = decode_sized-ok word 32 bytes is in
     let whole : decode_of word ≡ Ok bytes = sym (decode_sized-twice word 32 double) ∙ is in
@@ -42,7 +43,8 @@ unfolding value_at
 value_at-value word = decoded-value word (decode_sized word 32) refl
 
 -- what each of these numbers passes, and 0, passes each of them and any past the end
-passes_at : (p : ℕ → Bool) (xs : List ℕ) → list_all p xs ≡ true → p 0 ≡ true → (i : ℕ) → p (slice_index xs i) ≡ true
+passes_at : (p : ℕ → Bool) (xs : List ℕ) → list_all p xs ≡ true → p 0 ≡ true → (i : ℕ)
+    → p (slice_index xs i) ≡ true
 passes_at p [] all none i = none
 passes_at p (x ∷ xs) all none zero = (and-true (p x) (list_all p xs) all).0
 passes_at p (x ∷ xs) all none (suc i) = passes_at p xs (and-true (p x) (list_all p xs) all).1 none i
@@ -53,7 +55,8 @@ pub passes-encoded : (p : ℕ → Bool) → list_all p lower_digits ≡ true →
 unfolding encode_with
 passes-encoded p all none [] = refl
 passes-encoded p all none (b ∷ rest) =
-    and-both _ _ (passes_at p lower_digits all none _) (and-both _ _ (passes_at p lower_digits all none _) (passes-encoded p all none rest))
+    and-both _ _ (passes_at p lower_digits all none _)
+    (and-both _ _ (passes_at p lower_digits all none _) (passes-encoded p all none rest))
 
 -- such a text has no LF
 pub is_unbroken-encoded : (bytes : List ℕ) → is_unbroken (encode_lower bytes) ≡ true

@@ -16,7 +16,8 @@ pub beside-beside : (first second : List (List ℕ)) (items : Option (List Item)
     → beside second (beside first items) ≡ beside (first ++ second) items
 beside-beside first second None = refl
 beside-beside first second (Some xs) =
-    ap Some (append_assoc xs (map foreign_item first) (map foreign_item second) ∙ ap (λ ys. xs ++ ys) (sym (map-append foreign_item first second)))
+    ap Some (append_assoc xs (map foreign_item first) (map foreign_item second)
+    ∙ ap (λ ys. xs ++ ys) (sym (map-append foreign_item first second)))
 
 pub rose_by : (fault : StepFault) (old new : Standing) (made : Bool) → EndsBy (Some fault) old new made → Rose old.faults new.faults
 rose_by Failed old new made e = e.faults

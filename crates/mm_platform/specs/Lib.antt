@@ -5,3 +5,4 @@ pub mod Entries
 pub mod Told
 pub mod Calls
 pub mod Memory
+pub mod StandingWords

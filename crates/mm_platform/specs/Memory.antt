@@ -33,7 +33,8 @@ stopping stop plan = record plan { stop = stop }
 
 -- the plan where others besides bring this value just before its next step
 abbrev pub meddling : Digest → Plan → Plan
-meddling value plan = record plan { meddles = plan.meddles ++ record { step = next_step plan; value = value } ∷ [] }
+meddling value plan =
+    record plan { meddles = plan.meddles ++ record { step = next_step plan; value = value } ∷ [] }
 
 -- the next step fails, and nothing else goes wrong
 abbrev pub failing_plan : Bool → Plan
@@ -41,4 +42,5 @@ failing_plan done = record { stop = Fail 1 done; meddles = []; at = 0 }
 
 -- what stands once power was lost and came back, which is counted
 abbrev pub cycled : Standing → Standing
-cycled old = record old { items = option_map (λ _. []) old.items; is_on = true; cycles = counted old.cycles }
+cycled old =
+    record old { items = option_map (λ _. []) old.items; is_on = true; cycles = counted old.cycles }

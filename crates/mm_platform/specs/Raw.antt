@@ -30,8 +30,10 @@ pub record ReadsRaw (old new : Standing) (fault : Option StepFault) : Type 0 whe
   pub is_made : Bool
   pub ends : EndsBy fault old new is_made
 
--- a write leaves some bytes in its range: the given ones after Ok, and the old ones while the platform is off
-pub record WritesRaw (at : ℕ) (bytes : List ℕ) (old new : Standing) (fault : Option StepFault) : Type 0 where
+-- a write leaves some bytes in its range: the given ones after Ok, and the old ones while the
+-- platform is off
+pub record WritesRaw (at : ℕ) (bytes : List ℕ) (old new : Standing)
+    (fault : Option StepFault) : Type 0 where
   pub written : List ℕ
   pub size : length written ≡ length bytes
   pub cell : new.cell ≡ option_map (spliced at written) old.cell

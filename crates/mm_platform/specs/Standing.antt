@@ -1,12 +1,13 @@
 -- What stands on a platform.
-use Rattle.std.specs.Prelude.{ℕ, Bool, true, false, List, Option, map, filter, ◌==◌}
+use Rattle.std.specs.Prelude.{ℕ, Bool, true, false, List, Option, map}
 use Rattle.std.specs.List.{fold}
 use Rattle.mm_base.specs.Faults.{counted}
 use Rattle.mm_digest.specs.Messages.{zero_bytes, extended_of}
 use Rattle.mm_platform.specs.declared.plan.Meddle.{Meddle}
 use Rattle.mm_platform.specs.declared.plan.Stop.{Stop}
 
--- one extension of the register: by the platform's own program, or by others; and its value of 32 bytes
+-- one extension of the register: by the platform's own program, or by others; and its value of 32
+-- bytes
 pub record Item : Type 0 where
   pub own : Bool
   pub value : List ℕ
@@ -24,14 +25,15 @@ item_values items = map (λ item. item.value) items
 abbrev pub register_after : List (List ℕ) → List ℕ
 register_after values = fold extended_of zero_bytes values
 
--- what the coming steps will meet: a stop, the values by which others extend the register just before
--- certain steps, and the number of steps since the plan was made
+-- what the coming steps will meet: a stop, the values by which others extend the register just
+-- before certain steps, and the number of steps since the plan was made
 pub record Plan : Type 0 where
   pub stop : Stop
   pub meddles : List Meddle
   pub at : ℕ
 
--- what stands on a platform; the cell, the register's items and the plan only where the platform tells them
+-- what stands on a platform; the cell, the register's items and the plan only where the platform
+-- tells them
 pub record Standing : Type 0 where
   pub cell : Option (List ℕ)
   pub items : Option (List Item)
@@ -53,7 +55,3 @@ next_step plan = counted plan.at
 -- the plan once the next step is over
 abbrev pub plan_after : Plan → Plan
 plan_after plan = record plan { at = next_step plan }
-
--- the values by which others extend the register just before this step, in order
-abbrev pub due : ℕ → List Meddle → List (List ℕ)
-due step meddles = map (λ m. m.value.bytes) (filter (λ m. m.step == step) meddles)

@@ -6,7 +6,8 @@ use Rattle.mm_platform.specs.declared.fault.StepFault.{StepFault}
 use Rattle.mm_platform.specs.declared.fault.StepFault.TheVariants.{Failed, Off}
 use Rattle.mm_platform.specs.declared.plan.Stop.{Stop}
 use Rattle.mm_platform.specs.declared.plan.Stop.TheVariants.{Quiet, Cut, Drop, Fail}
-use Rattle.mm_platform.specs.Standing.{Item, own_item, foreign_item, Plan, Standing, next_step, plan_after, due}
+use Rattle.mm_platform.specs.Standing.{Item, own_item, foreign_item, Plan, Standing, next_step, plan_after}
+use Rattle.mm_platform.specs.StandingWords.{due}
 
 -- the device steps
 pub data Act : Type 0 where
@@ -69,8 +70,8 @@ pub record HasFailed (old new : Standing) : Type 0 where
   pub is_on : new.is_on ≡ true
   pub faults : Rose old.faults new.faults
 
--- Off: the effect is made or isn't, and the platform may be off. A platform that was off stays so, and
--- makes no effect.
+-- Off: the effect is made or isn't, and the platform may be off. A platform that was off stays so,
+-- and makes no effect.
 pub record IsOff (old new : Standing) (is_made : Bool) : Type 0 where
   pub faults : Rose old.faults new.faults
   pub still : old.is_on ≡ false → (is_made ≡ false) × (new.is_on ≡ false)
@@ -80,8 +81,8 @@ EndsBy None old new is_made = IsDone old new is_made
 EndsBy (Some Failed) old new is_made = HasFailed old new
 EndsBy (Some Off) old new is_made = IsOff old new is_made
 
--- What a plan says of the step with a number: the fault that it answers, whether its effect is made, and
--- whether the platform is on afterwards.
+-- What a plan says of the step with a number: the fault that it answers, whether its effect is
+-- made, and whether the platform is on afterwards.
 abbrev pub fault_at : Stop → ℕ → Option StepFault
 fault_at Quiet step = None
 fault_at (Cut at) step = if at == step then Some Off else None
@@ -127,8 +128,9 @@ pub record GoesByPlan (plan : Plan) (old new : Standing) (is_made : Bool) (other
   pub brings : others ≡ will_bring old.is_on plan
   pub counts : new.faults ≡ faults_after fault old.faults
 
--- A device step went from one standing to another, and answered this fault, or none for Ok. First others
--- extended the register by their values; then the step's effect was made, or wasn't; nothing comes later.
+-- A device step went from one standing to another, and answered this fault, or none for Ok. First
+-- others extended the register by their values; then the step's effect was made, or wasn't; nothing
+-- comes later.
 pub record Goes (act : Act) (old new : Standing) (fault : Option StepFault) : Type 0 where
   pub is_made : Bool
   pub others : List (List ℕ)
@@ -147,14 +149,16 @@ pub record Readies (old new : Standing) : Type 0 where
   pub room : 1 ≤ new.spare
   pub same : new ≡ record old { spare = new.spare }
 
--- Power was lost and came back. After Ok the register is empty and the platform on; after a fault the
--- register is empty or as before. It is counted once, failed or not. Where the platform tells its plan, it never fails.
+-- Power was lost and came back. After Ok the register is empty and the platform on; after a fault
+-- the register is empty or as before. It is counted once, failed or not. Where the platform tells
+-- its plan, it never fails.
 abbrev pub items_cycled : Bool → Option (List Item) → Option (List Item)
 items_cycled true items = option_map (λ _. []) items
 items_cycled false items = items
 
 abbrev pub EndsCycle : Option StepFault → Standing → Standing → Bool → Type 0
-EndsCycle None old new is_emptied = (is_emptied ≡ true) × (new.is_on ≡ true) × (new.faults ≡ old.faults)
+EndsCycle None old new is_emptied =
+    (is_emptied ≡ true) × (new.is_on ≡ true) × (new.faults ≡ old.faults)
 EndsCycle (Some fault) old new is_emptied = Rose old.faults new.faults
 
 pub record Cycles (old new : Standing) (fault : Option StepFault) : Type 0 where

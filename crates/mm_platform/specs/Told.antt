@@ -11,7 +11,8 @@ use Rattle.mm_base.specs.Faults.{counted}
 abbrev pub quiet_plan : Plan
 quiet_plan = record { stop = Quiet; meddles = []; at = 0 }
 
--- What the next step of a platform that tells its plan will do. The plan of one that tells none is taken as quiet.
+-- What the next step of a platform that tells its plan will do. The plan of one that tells none is
+-- taken as quiet.
 abbrev pub next_plan : Standing → Plan
 next_plan old = option_map_or (λ plan. plan) old.plan quiet_plan
 
@@ -49,14 +50,17 @@ step_made act old = let now : Standing = step_begun old in record now {
   spare = spare_after act (makes old) now.spare;
 }
 
--- What stands after these steps, of which none comes after one that fails; and what the last of them answers.
+-- What stands after these steps, of which none comes after one that fails; and what the last of
+-- them answers.
 abbrev pub acted : List Act → Standing → Standing
 acted [] old = old
-acted (act ∷ acts) old = if is_none (next_answer old) then acted acts (step_made act old) else step_made act old
+acted (act ∷ acts) old =
+    if is_none (next_answer old) then acted acts (step_made act old) else step_made act old
 
 abbrev pub acts_answer : List Act → Standing → Option StepFault
 acts_answer [] old = None
-acts_answer (act ∷ acts) old = if is_none (next_answer old) then acts_answer acts (step_made act old) else next_answer old
+acts_answer (act ∷ acts) old =
+    if is_none (next_answer old) then acts_answer acts (step_made act old) else next_answer old
 
 -- two standings that differ in their room at most
 pub record AreAlike (one other : Standing) : Type 0 where

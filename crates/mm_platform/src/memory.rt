@@ -4,7 +4,8 @@ ghost use Rattle.std.specs.Prelude.{◌≡◌, ◌+◌, ◌<◌, ◌≤◌, Some
 ghost use Rattle.std.specs.Option.{option_map};
 ghost use Rattle.mm_base.specs.Faults.{counted};
 ghost use Rattle.mm_platform.specs.Steps.{beside, will_bring};
-ghost use Rattle.mm_platform.specs.Standing.{Standing, Plan, foreign_item, due, next_step, plan_after, item_values, register_after};
+ghost use Rattle.mm_platform.specs.Standing.{Standing, Plan, foreign_item, next_step, plan_after, item_values, register_after};
+ghost use Rattle.mm_platform.specs.StandingWords.{due};
 ghost use Rattle.mm_platform.specs.Entries.{items_of, is_own};
 ghost use Rattle.mm_platform.specs.Told.{quiet_plan, next_plan, step_begun, makes, next_answer};
 ghost use Rattle.mm_platform.specs.Memory.{new_platform, ahead, stopping, meddling, failing_plan, cycled};

@@ -13,11 +13,6 @@ use Rattle.mm_seal.specs.Cell.{IsCell, ReadsCell, flag_byte, cell_spelling, blan
 use Rattle.mm_base.proofs.FieldLaws.{append-injective}
 use Rattle.mm_base.specs.Limits.{cell_length}
 
-pub length-cell_spelling : (cell : Cell) → IsCell cell → length (cell_spelling cell) ≡ cell_length
-unfolding cell_spelling
-length-cell_spelling cell h =
-    simp length-append (omega (arith, h.summary, h.key, h.barrier))
-
 pub variant_byte-injective : (v w : Variant) → variant_byte v ≡ variant_byte w → v ≡ w
 variant_byte-injective Basic Basic e = refl
 variant_byte-injective Basic Opt e = absurd (omega arith)

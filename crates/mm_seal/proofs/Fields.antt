@@ -17,11 +17,13 @@ use Rattle.mm_seal.specs.declared.snapshot.Place.{Place}
 use Rattle.mm_seal.specs.declared.snapshot.Place.TheVariants.{Basic, Opt}
 use Rattle.mm_base.specs.Fields.{eight_bytes, four_bytes}
 use Rattle.mm_seal.specs.Body.{place_length}
-use Rattle.mm_seal.specs.Snapshot.{Content, Snapshot, IsContent, IsPlace, Spells, IsOfKind, IsNoSnapshot, ReadsParts, place_spelling, front_head, snapshot_front, snapshot_spelling, variant_of}
+use Rattle.mm_seal.specs.Snapshot.{Content, Snapshot, IsContent, IsPlace, Spells, IsOfKind, IsNoSnapshot, ReadsParts, place_spelling, snapshot_front, snapshot_spelling, variant_of}
+use Rattle.mm_seal.specs.SnapshotWords.{front_head}
 use Rattle.mm_base.proofs.FieldLaws.{length-eight_bytes, length-four_bytes}
 use Rattle.mm_seal.proofs.SnapshotLaws.{length-place_spelling, reads_parts-same}
-use Rattle.mm_seal.specs.Parts.{fields_of, snapshot_with, is_bounded, is_spelled_by, same_variant, is_of_kind, parts_of}
-use Rattle.mm_seal.proofs.Reading.{spells_read}
+use Rattle.mm_seal.specs.Parts.{fields_of, is_spelled_by, is_of_kind, parts_of}
+use Rattle.mm_seal.specs.PartsWords.{is_bounded, same_variant}
+use Rattle.mm_seal.proofs.Reading.{fields_with, spells_read}
 
 pub take_front : (n : ℕ) (xs ys : List ℕ) → length xs ≡ n → take n (xs ++ ys) ≡ xs
 take_front n xs ys e = ap (λ (m : ℕ). take m (xs ++ ys)) (sym e) ∙ take-append_seam xs ys
@@ -94,7 +96,8 @@ has_fields x end size is t l =
       head_size = refl;
       variant = refl;
       id = refl;
-      position = ap (λ (b : List ℕ). from_be_bytes w64 (take 8 b)) at_position ∙ position_read x.position (four ++ (x.state ++ end)) is.position;
+      position =
+          ap (λ (b : List ℕ). from_be_bytes w64 (take 8 b)) at_position ∙ position_read x.position (four ++ (x.state ++ end)) is.position;
       state = ap (take (length bytes - (50 + size))) at_state ∙ take_front (length bytes - (50 + size)) x.state end (sym n);
       tag = ap (λ (k : ℕ). drop k bytes) m ∙ at_end;
       long = omega (arith, all);
@@ -112,10 +115,11 @@ fields_basic id position summary state tag bytes l h =
     let place : take 32 (drop 6 bytes) ≡ summary.bytes =
     ap (λ (b : List ℕ). take 32 (drop 6 b)) h.whole ∙ ap (take 32) (drop_front 6 h.head (summary.bytes ++ h.rest) h.head_size)
     ∙ take_front 32 summary.bytes h.rest l in
-    ap (λ (v : ℕ). if v == 2 then snapshot_with true 64 bytes else snapshot_with false 32 bytes) h.variant
+    ap (λ (v : ℕ). fields_with (v == 2) bytes) h.variant
     ∙ (λ i. snapshot_of (h.id i) (Basic (record { bytes = place i })) (h.position i) (h.state i) (h.tag i))
 
-fields_opt : (id position : ℕ) (anchor extension : Digest) (state tag bytes : List ℕ) → length anchor.bytes ≡ 32 → length extension.bytes ≡ 32
+fields_opt : (id position : ℕ) (anchor extension : Digest) (state tag bytes : List ℕ) → length anchor.bytes ≡ 32
+    → length extension.bytes ≡ 32
     → HasFields (snapshot_of id (Opt anchor extension) position state tag).content tag 64 bytes
     → fields_of bytes ≡ snapshot_of id (Opt anchor extension) position state tag
 unfolding fields_of
@@ -123,13 +127,15 @@ fields_opt id position anchor extension state tag bytes la le h =
     let whole : bytes ≡ h.head ++ (anchor.bytes ++ (extension.bytes ++ h.rest)) =
     h.whole ∙ ap (λ (b : List ℕ). h.head ++ b) (append_assoc anchor.bytes extension.bytes h.rest) in
     let first : take 32 (drop 6 bytes) ≡ anchor.bytes =
-    ap (λ (b : List ℕ). take 32 (drop 6 b)) whole ∙ ap (take 32) (drop_front 6 h.head (anchor.bytes ++ (extension.bytes ++ h.rest)) h.head_size)
+    ap (λ (b : List ℕ). take 32 (drop 6 b)) whole
+    ∙ ap (take 32) (drop_front 6 h.head (anchor.bytes ++ (extension.bytes ++ h.rest)) h.head_size)
     ∙ take_front 32 anchor.bytes (extension.bytes ++ h.rest) la in
     let second : take 32 (drop 38 bytes) ≡ extension.bytes =
     ap (λ (b : List ℕ). take 32 (drop 38 b)) whole
-    ∙ ap (take 32) (drop_past 6 32 h.head (anchor.bytes ++ (extension.bytes ++ h.rest)) h.head_size ∙ drop_front 32 anchor.bytes (extension.bytes ++ h.rest) la)
+    ∙ ap (take 32) (drop_past 6 32 h.head (anchor.bytes ++ (extension.bytes ++ h.rest)) h.head_size
+    ∙ drop_front 32 anchor.bytes (extension.bytes ++ h.rest) la)
     ∙ take_front 32 extension.bytes h.rest le in
-    ap (λ (v : ℕ). if v == 2 then snapshot_with true 64 bytes else snapshot_with false 32 bytes) h.variant
+    ap (λ (v : ℕ). fields_with (v == 2) bytes) h.variant
     ∙ (λ i. snapshot_of (h.id i) (Opt (record { bytes = first i }) (record { bytes = second i })) (h.position i) (h.state i) (h.tag i))
 
 fields_by : (id position : ℕ) (place : Place) (state tag bytes : List ℕ) → IsPlace place
@@ -164,7 +170,8 @@ complete bytes s p =
       spelled = both_true (nat_le (50 + size) (length bytes) && is_bounded s.content) (bytes_eq bytes (snapshot_spelling s))
           (both_true (nat_le (50 + size) (length bytes)) (is_bounded s.content) (le_is (50 + size) (length bytes) h.long)
           (both_true (nat_le s.content.position last_position) (nat_le (length s.content.state) (limit_of s.content.id))
-          (le_is s.content.position last_position p.0.content.position) (le_is (length s.content.state) (limit_of s.content.id) p.0.content.state)))
+          (le_is s.content.position last_position p.0.content.position)
+          (le_is (length s.content.state) (limit_of s.content.id) p.0.content.state)))
           ((bytes_eq-Decides bytes (snapshot_spelling s)).1 p.1);
     }
 
@@ -173,7 +180,8 @@ kind_is variant id s k =
     both_true (same_variant (variant_of s.content.place) variant) (s.content.id == id)
     (eq_is (variant_byte (variant_of s.content.place)) (variant_byte variant) (ap variant_byte k.0)) (eq_is s.content.id id k.1)
 
-read_ok : (variant : Variant) (id : ℕ) (bytes : List ℕ) → is_spelled_by bytes (fields_of bytes) ≡ true → is_of_kind variant id (fields_of bytes) ≡ true
+read_ok : (variant : Variant) (id : ℕ) (bytes : List ℕ) → is_spelled_by bytes (fields_of bytes) ≡ true
+    → is_of_kind variant id (fields_of bytes) ≡ true
     → parts_of variant id bytes ≡ Ok (fields_of bytes)
 unfolding parts_of
 read_ok variant id bytes s k =
@@ -194,7 +202,8 @@ no_snapshot bytes e t is at =
     absurd (cc)
 
 reads_by : (variant : Variant) (id : ℕ) (bytes : List ℕ) (s : Snapshot) (spelled kind : Bool) → (spelled ≡ true → Spells bytes s)
-    → (spelled ≡ false → IsNoSnapshot bytes) → (spelled ≡ true → kind ≡ true → IsOfKind variant id s) → (IsOfKind variant id s → kind ≡ true)
+    → (spelled ≡ false → IsNoSnapshot bytes) → (spelled ≡ true → kind ≡ true → IsOfKind variant id s)
+    → (IsOfKind variant id s → kind ≡ true)
     → ReadsParts bytes variant id (if spelled then (if kind then Ok s else Err Kind) else Err Form)
 reads_by variant id bytes s true true a b c d = (a refl, c refl refl)
 reads_by variant id bytes s true false a b c d = (s, a refl, λ (k : IsOfKind variant id s). let f : false ≡ true = d k in absurd (cc))

@@ -1,6 +1,7 @@
 -- What is read of an offer.
 use Rattle.std.proofs.Common.{ℕ, ◌≡◌, ◌+◌, ◌-◌, ◌≤◌, Bool, true, false, ◌&&◌, List, ◌++◌, length, take, drop, Ok, Err, refl, sym, ap, ◌∙◌, subst, arith, length-drop}
 use Rattle.std.specs.Prelude.{if◌then◌else◌, nat_le, ◌==◌, slice_index}
+use Rattle.std.specs.Int.{w64, from_be_bytes}
 use Rattle.std.specs.Str.{bytes_eq}
 use Rattle.std.proofs.lemmas.Bool.{and_parts}
 use Rattle.std.proofs.lemmas.Bool.Decides.{nat_tests}
@@ -10,9 +11,11 @@ use Rattle.mm_base.specs.Limits.{last_position, limit_of}
 use Rattle.mm_digest.specs.declared.variant.Variant.{Variant}
 use Rattle.mm_digest.specs.declared.variant.Variant.TheVariants as variants
 use Rattle.mm_seal.specs.declared.snapshot.PartsFault.TheVariants.{Form, Kind}
+use Rattle.mm_seal.specs.declared.snapshot.Place.TheVariants.{Basic as InBasic, Opt as InOpt}
 use Rattle.mm_seal.specs.Snapshot.{Snapshot, IsPlace, Spells, IsOfKind, snapshot_spelling, variant_of}
 use Rattle.mm_seal.specs.Body.{place_length}
-use Rattle.mm_seal.specs.Parts.{fields_of, snapshot_with, is_bounded, is_spelled_by, same_variant, is_of_kind, parts_of}
+use Rattle.mm_seal.specs.Parts.{fields_of, digest_at, is_spelled_by, is_of_kind, parts_of}
+use Rattle.mm_seal.specs.PartsWords.{is_bounded, same_variant}
 
 -- what a snapshot read from the bytes is
 pub record IsReadAs (variant : Variant) (id : ℕ) (bytes : List ℕ) (snapshot : Snapshot) : Type 0 where
@@ -53,12 +56,24 @@ variant_tells variants.Opt variants.Basic e = cc
 digest_whole : (at : ℕ) (bytes : List ℕ) → at + 32 ≤ length bytes → length (take 32 (drop at bytes)) ≡ 32
 digest_whole at bytes h = omega (arith, length-take 32 (drop at bytes), length-drop at bytes)
 
+-- the fields that the bytes have, by whether they are of Opt
+abbrev pub fields_with : Bool → List ℕ → Snapshot
+fields_with is_opt bytes = record {
+  content = record {
+    id = slice_index bytes 5;
+    place = if is_opt then InOpt (digest_at 6 bytes) (digest_at 38 bytes) else InBasic (digest_at 6 bytes);
+    position = from_be_bytes w64 (take 8 (drop (6 + (if is_opt then 64 else 32)) bytes));
+    state = take (length bytes - (50 + (if is_opt then 64 else 32))) (drop (18 + (if is_opt then 64 else 32)) bytes);
+  };
+  tag = drop (length bytes - 32) bytes;
+}
+
 -- the fields of long enough bytes are whole
 pub record IsWhole (snapshot : Snapshot) : Type 0 where
   pub place : IsPlace snapshot.content.place
   pub tag : length snapshot.tag ≡ 32
 
-whole : (is_opt : Bool) (bytes : List ℕ) → (let s : Snapshot = (if is_opt then snapshot_with true 64 bytes else snapshot_with false 32 bytes) in
+whole : (is_opt : Bool) (bytes : List ℕ) → (let s : Snapshot = fields_with is_opt bytes in
     50 + place_length (variant_of s.content.place) ≤ length bytes → IsWhole s)
 whole true bytes h = record {
   place = (digest_whole 6 bytes (omega arith), digest_whole 38 bytes (omega arith));
@@ -77,9 +92,12 @@ pub spells_read : (variant : Variant) (id : ℕ) (bytes : List ℕ) (snapshot : 
     → Spells bytes snapshot × IsOfKind variant id snapshot
 spells_read variant id bytes snapshot e =
     let t = parts_tell variant id bytes snapshot e in
-    let parts = and_parts (nat_le (50 + place_length (variant_of snapshot.content.place)) (length bytes) && is_bounded snapshot.content) (bytes_eq bytes (snapshot_spelling snapshot)) t.spelled in
-    let long = and_parts (nat_le (50 + place_length (variant_of snapshot.content.place)) (length bytes)) (is_bounded snapshot.content) parts.0 in
-    let bounds = and_parts (nat_le snapshot.content.position last_position) (nat_le (length snapshot.content.state) (limit_of snapshot.content.id)) long.1 in
+    let parts = and_parts (nat_le (50 + place_length (variant_of snapshot.content.place)) (length bytes) && is_bounded snapshot.content)
+    (bytes_eq bytes (snapshot_spelling snapshot)) t.spelled in
+    let long = and_parts (nat_le (50 + place_length (variant_of snapshot.content.place)) (length bytes)) (is_bounded snapshot.content)
+    parts.0 in
+    let bounds = and_parts (nat_le snapshot.content.position last_position)
+    (nat_le (length snapshot.content.state) (limit_of snapshot.content.id)) long.1 in
     let kinds = and_parts (same_variant (variant_of snapshot.content.place) variant) (snapshot.content.id == id) t.kind in
     let enough : 50 + place_length (variant_of snapshot.content.place) ≤ length bytes = le_tells _ _ long.0 in
     let P : Snapshot → Type 0 = λ s. 50 + place_length (variant_of s.content.place) ≤ length bytes → IsWhole s in

@@ -10,7 +10,8 @@ use Rattle.mm_seal.specs.declared.snapshot.Place.{Place}
 use Rattle.mm_seal.specs.declared.snapshot.Place.TheVariants.{Basic, Opt}
 use Rattle.mm_base.specs.Fields.{eight_bytes, four_bytes}
 use Rattle.mm_seal.specs.Fields.{version_of}
-use Rattle.mm_seal.specs.Snapshot.{Content, IsContent, IsPlace, Snapshot, snapshot_spelling, OneSpelling, variant_of, place_spelling, front_head, snapshot_front, Spells, IsOfKind, ReadsParts, tag_of, sealed_of}
+use Rattle.mm_seal.specs.Snapshot.{Content, IsContent, IsPlace, Snapshot, snapshot_spelling, OneSpelling, variant_of, place_spelling, snapshot_front, Spells, IsOfKind, ReadsParts, tag_of, sealed_of}
+use Rattle.mm_seal.specs.SnapshotWords.{front_head}
 use Rattle.mm_digest.proofs.Lengths.{length-hmac_of}
 use Rattle.mm_seal.specs.declared.snapshot.PartsFault.{PartsFault}
 use Rattle.mm_seal.specs.declared.snapshot.PartsFault.TheVariants.{Form, Kind}
@@ -38,7 +39,8 @@ pub length-snapshot_front : (x : Content) → IsContent x →
     length (snapshot_front x) ≡ 18 + place_length (variant_of x.place) + length x.state
 unfolding snapshot_front
 length-snapshot_front x is =
-    simp length-append (omega (arith, length-place_spelling x.place is.place, length-eight_bytes x.position, length-four_bytes (length x.state)))
+    simp length-append (omega
+    (arith, length-place_spelling x.place is.place, length-eight_bytes x.position, length-four_bytes (length x.state)))
 
 front_variant : (x : Content) → variant_byte (variant_of x.place) ≡ get_or (snapshot_front x) 4 0
 unfolding snapshot_front
@@ -164,7 +166,8 @@ regrouped-front x a = simp append_assoc
 pub same_front : (x y : Content) (a b : List ℕ) → IsContent x → IsContent y →
     snapshot_front x ++ a ≡ snapshot_front y ++ b → (x ≡ y) × (a ≡ b)
 same_front x y a b ix iy e =
-    let whole : front_head x ++ (place_spelling x.place ++ (eight_bytes x.position ++ (four_bytes (length x.state) ++ (x.state ++ a)))) ≡ snapshot_front y ++ b =
+    let whole : front_head x
+    ++ (place_spelling x.place ++ (eight_bytes x.position ++ (four_bytes (length x.state) ++ (x.state ++ a)))) ≡ snapshot_front y ++ b =
     sym (regrouped-front x a) ∙ e in
     let f = same_fields y x (front_head x) (length x.state) (x.state ++ a) b iy ix.place
     (omega (arith, ix.position)) (omega (arith, ix.state, limit_of-below x.id)) refl refl refl whole in

@@ -6,7 +6,8 @@ use Rattle.mm_digest.specs.declared.variant.Variant.TheVariants.{Basic, Opt}
 use Rattle.mm_digest.specs.Messages.{variant_byte}
 use Rattle.mm_seal.specs.declared.snapshot.Body.{Body}
 use Rattle.mm_seal.specs.declared.snapshot.Place.{Place}
-use Rattle.mm_seal.specs.Snapshot.{Content, IsContent, IsPlace, variant_of, place_spelling, front_head, snapshot_front}
+use Rattle.mm_seal.specs.Snapshot.{Content, IsContent, IsPlace, variant_of, place_spelling, snapshot_front}
+use Rattle.mm_seal.specs.SnapshotWords.{front_head}
 
 abbrev pub content_of : Body → Content
 content_of body = record {
@@ -30,7 +31,8 @@ place_length Opt = 64
 
 -- the bytes name the variant, and are long enough for its fields
 abbrev pub HasFieldsOf : List ℕ → Variant → Type 0
-HasFieldsOf front variant = (variant_byte variant ≡ slice_index front 4) × (18 + place_length variant ≤ length front)
+HasFieldsOf front variant =
+    (variant_byte variant ≡ slice_index front 4) × (18 + place_length variant ≤ length front)
 
 -- the place of this variant in front of the bytes, and the rest
 abbrev pub PlacedIn : List ℕ → Variant → Place → List ℕ → Type 0

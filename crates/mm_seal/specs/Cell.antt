@@ -24,8 +24,8 @@ abbrev pub flag_byte : Bool → ℕ
 flag_byte true = 1
 flag_byte false = 0
 
--- `MMN`, the version, the variant, the module's id, the flag, a zero byte, then the summary or anchor,
--- the key and the barrier: 104 bytes
+-- `MMN`, the version, the variant, the module's id, the flag, a zero byte, then the summary or
+-- anchor, the key and the barrier: 104 bytes
 unfoldable pub cell_spelling : Cell → List ℕ
 cell_spelling cell =
     0x4d ∷ 0x4d ∷ 0x4e ∷ version_of cell.module ∷ variant_byte cell.variant ∷ cell.module

@@ -3,3 +3,5 @@ pub mod Cell
 pub mod Snapshot
 pub mod Body
 pub mod Parts
+pub mod PartsWords
+pub mod SnapshotWords

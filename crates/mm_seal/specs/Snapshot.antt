@@ -1,5 +1,5 @@
 -- The bytes of a snapshot, and its seal.
-use Rattle.std.specs.Prelude.{◌≡◌, ◌≢◌, ◌≤◌, ℕ, List, [], ◌∷◌, ◌++◌, length, Result, Ok, Err}
+use Rattle.std.specs.Prelude.{◌≡◌, ◌≢◌, ◌≤◌, ℕ, List, [], ◌∷◌, ◌++◌, length, nat_lt, Result, Ok, Err, if◌then◌else◌}
 use Rattle.mm_base.specs.Limits.{last_position, limit_of}
 use Rattle.mm_digest.specs.declared.variant.Variant.{Variant}
 use Rattle.mm_digest.specs.declared.variant.Variant.TheVariants as variants
@@ -12,7 +12,6 @@ use Rattle.mm_seal.specs.declared.snapshot.PartsFault.TheVariants.{Form, Kind}
 use Rattle.mm_seal.specs.declared.snapshot.OpenFault.{OpenFault}
 use Rattle.mm_seal.specs.declared.snapshot.OpenFault.TheVariants as opening
 use Rattle.mm_base.specs.Fields.{eight_bytes, four_bytes}
-use Rattle.mm_seal.specs.Fields.{version_of}
 
 abbrev pub variant_of : Place → Variant
 variant_of (Basic summary) = variants.Basic
@@ -40,16 +39,14 @@ pub record IsContent (content : Content) : Type 0 where
   pub position : content.position ≤ last_position
   pub state : length content.state ≤ limit_of content.id
 
--- what comes before the place: `MMS`, the version, the variant and the module's id
-abbrev pub front_head : Content → List ℕ
-front_head content =
-    0x4d ∷ 0x4d ∷ 0x53 ∷ version_of content.id ∷ variant_byte (variant_of content.place) ∷ content.id ∷ []
-
--- what is signed: the head, the place, the position in 8 bytes, the length of the state in 4 bytes, and
--- the state
+-- What is signed: `MMS`, the version, the variant and the module's id; the place, the position in 8
+-- bytes, the length of the state in 4 bytes, and the state. The version is `1` where the id is
+-- below 128, else `2`.
 unfoldable pub snapshot_front : Content → List ℕ
 snapshot_front content =
-    front_head content ++ (place_spelling content.place ++ (eight_bytes content.position
+    0x4d ∷ 0x4d ∷ 0x53 ∷ (if nat_lt content.id 128 then 0x31 else 0x32)
+    ∷ variant_byte (variant_of content.place) ∷ content.id
+    ∷ (place_spelling content.place ++ (eight_bytes content.position
     ++ (four_bytes (length content.state) ++ content.state)))
 
 -- a snapshot: its content and its tag
@@ -78,7 +75,8 @@ offered_of key content = record { content = content; tag = tag_of key content }
 
 -- the snapshot is of this variant and module
 abbrev pub IsOfKind : Variant → ℕ → Snapshot → Type 0
-IsOfKind variant id snapshot = (variant_of snapshot.content.place ≡ variant) × (snapshot.content.id ≡ id)
+IsOfKind variant id snapshot =
+    (variant_of snapshot.content.place ≡ variant) × (snapshot.content.id ≡ id)
 
 -- the bytes are this snapshot's
 abbrev pub Spells : List ℕ → Snapshot → Type 0
@@ -86,7 +84,8 @@ Spells bytes snapshot = IsSnapshot snapshot × (bytes ≡ snapshot_spelling snap
 
 -- no snapshot is spelled so
 abbrev pub IsNoSnapshot : List ℕ → Type 0
-IsNoSnapshot bytes = (snapshot : Snapshot) → IsSnapshot snapshot → bytes ≢ snapshot_spelling snapshot
+IsNoSnapshot bytes =
+    (snapshot : Snapshot) → IsSnapshot snapshot → bytes ≢ snapshot_spelling snapshot
 
 -- the bytes are a snapshot's of another variant or module
 abbrev pub IsOtherKind : List ℕ → Variant → ℕ → Type 0
@@ -102,14 +101,16 @@ ReadsParts bytes variant id (Err Kind) = IsOtherKind bytes variant id
 -- what opening an offer under the key gives
 abbrev pub Opens : List ℕ → List ℕ → Variant → ℕ → Result Snapshot OpenFault → Type 0
 Opens bytes key variant id (Ok snapshot) =
-    Spells bytes snapshot × IsOfKind variant id snapshot × (snapshot.tag ≡ tag_of key snapshot.content)
+    Spells bytes snapshot × IsOfKind variant id snapshot
+    × (snapshot.tag ≡ tag_of key snapshot.content)
 Opens bytes key variant id (Err opening.Form) = IsNoSnapshot bytes
 Opens bytes key variant id (Err opening.Kind) = IsOtherKind bytes variant id
 Opens bytes key variant id (Err opening.Tag) =
     (snapshot : Snapshot) × Spells bytes snapshot × IsOfKind variant id snapshot
     × (snapshot.tag ≢ tag_of key snapshot.content)
 
--- the law of the grammar: each spelling has one content and tag, and none is a proper prefix of another
+-- the law of the grammar: each spelling has one content and tag, and none is a proper prefix of
+-- another
 abbrev pub OneSpelling : Type 0
 OneSpelling = (s t : Snapshot) (rest : List ℕ) → IsSnapshot s → IsSnapshot t →
     snapshot_spelling s ++ rest ≡ snapshot_spelling t → (s ≡ t) × (rest ≡ [])

@@ -3,7 +3,8 @@
 ghost use Rattle.std.specs.Prelude.{◌≡◌, ◌≤◌, ◌<◌, ◌++◌, ◌↔◌, IsTrue, IfOk, MatchOption, OnOk, OnErr, length};
 ghost use Rattle.mm_base.specs.Limits.{last_position, limit_of};
 ghost use Rattle.mm_digest.specs.Hmac.{hmac_of};
-ghost use Rattle.mm_seal.specs.Snapshot.{variant_of, place_spelling, IsPlace, front_head, snapshot_front, sealed_of, IsOfKind, IsNoSnapshot, Spells, ReadsParts, Opens, OneSpelling};
+ghost use Rattle.mm_seal.specs.Snapshot.{variant_of, place_spelling, IsPlace, snapshot_front, sealed_of, IsOfKind, IsNoSnapshot, Spells, ReadsParts, Opens, OneSpelling};
+ghost use Rattle.mm_seal.specs.SnapshotWords.{front_head};
 ghost use Rattle.mm_seal.specs.Parts.{parts_of};
 ghost use Rattle.mm_seal.specs.Body.{content_of, SpellsNoContent, SpellsContent, HasFieldsOf, HasHead, PlacedIn, place_length};
 

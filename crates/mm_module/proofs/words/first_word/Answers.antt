@@ -10,5 +10,6 @@ pub returns-in-Some : goal.returns-in-Some
 returns-in-Some c =
     let found : FirstWord c.args.text.now c.in-Some.at = first_word-position c.args.text.now _ c.in-Some.ensures in
     let s = drop (c.in-Some.at + 1) c.args.text.now in
-    let whole : take (length c.args.text.now - (c.in-Some.at + 1)) (drop (c.in-Some.at + 1) c.args.text.now) ≡ drop (c.in-Some.at + 1) c.args.text.now = grind (arith, common_steps) in
+    let whole : take (length c.args.text.now - (c.in-Some.at + 1)) (drop (c.in-Some.at + 1) c.args.text.now) ≡ drop (c.in-Some.at + 1)
+    c.args.text.now = grind (arith, common_steps) in
     rw whole found.parts

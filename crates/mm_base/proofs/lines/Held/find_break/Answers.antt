@@ -13,5 +13,6 @@ invariant_of-self-2-clause-unbroken c =
 
 pub returns-clause-found : goal.returns-clause-found
 returns-clause-found c =
-    Breaks-range c.args.self.now.buffer.items _ _ _ _ c.args.self.now.begun c.args.self.now.seen (rw c.args.self.now.room c.args.self.now.within) c.args.self.now.unbroken
+    Breaks-range c.args.self.now.buffer.items _ _ _ _ c.args.self.now.begun c.args.self.now.seen
+    (rw c.args.self.now.room c.args.self.now.within) c.args.self.now.unbroken
     (rw c.deref.ensures.value at c.in-Some.ensures)

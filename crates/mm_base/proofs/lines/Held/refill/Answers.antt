@@ -5,7 +5,8 @@ use Rattle.mm_base.proofs.lines.Held.refill.Goals as goal
 pub invariant_of-self-clause-unbroken : goal.invariant_of-self-clause-unbroken
 invariant_of-self-clause-unbroken g c =
     let was = c.make_room.new.self in
-    rw (range-same c.take_behind.new.buffer.items was.buffer.items was.start was.scanned was.end was.begun was.seen c.in_default.ensures.front)
+    rw (range-same c.take_behind.new.buffer.items was.buffer.items was.start was.scanned was.end was.begun was.seen
+    c.in_default.ensures.front)
     was.unbroken
 
 pub returns-in_default-clause-refilled : goal.returns-in_default-clause-refilled

@@ -1,7 +1,7 @@
 use Rattle.std.proofs.Common.{rules, tests}
 use Rattle.std.proofs.lemmas.Iterator.Consumers.{nth_from_yields_List}
 use Rattle.std.proofs.lemmas.Iterator.Splits.{YieldsList-from_slice_split}
-use Rattle.mm_module.specs.Batch.{is_tab}
+use Rattle.mm_module.specs.BatchWords.{is_tab}
 use Rattle.mm_module.proofs.batch.Batch.member.Goals as goal
 
 -- the pieces are those that `split` gives
@@ -9,4 +9,5 @@ pub returns-in-Many : goal.returns-in-Many
 returns-in-Many c =
     rw c.in-Many.is
     (nth_from_yields_List c.nth.result c.nth.new.self c.args.i c.nth.ensures.ran
-    (YieldsList-from_slice_split _ is_tab c.in-Many.text.now c.split.ensures.rest c.split.ensures.done c.split.ensures.closure (λ x r q k. search (rules, tests))))
+    (YieldsList-from_slice_split _ is_tab c.in-Many.text.now c.split.ensures.rest c.split.ensures.done c.split.ensures.closure
+    (λ x r q k. search (rules, tests))))

@@ -1,0 +1,15 @@
+-- Words of the laws and proofs, each of which says a thing of History in short.
+use Rattle.std.specs.Prelude.{ℕ, List, map}
+use Rattle.mm_digest.specs.declared.variant.Variant.{Variant}
+use Rattle.mm_digest.specs.declared.variant.Variant.TheVariants.{Basic, Opt}
+use Rattle.mm_model.specs.Chains.{summary_of, anchor_of}
+use Rattle.mm_model.specs.Instance.{Instance}
+use Rattle.mm_model.specs.History.{Entry, History, value_of}
+
+abbrev pub values_of : List ℕ → List Entry → List (List ℕ)
+values_of barrier = map (value_of barrier)
+
+-- the digest that a cell holds for a history: its summary or its anchor
+abbrev pub cell_digest_of : Instance → Variant → History → List ℕ
+cell_digest_of i Basic y = summary_of i.meaning.id y.batches
+cell_digest_of i Opt y = anchor_of i.meaning.id (map (values_of i.barrier) y.closed)

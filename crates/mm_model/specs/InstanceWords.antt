@@ -1,0 +1,13 @@
+-- Words of the laws and proofs, each of which says a thing of Instance in short.
+use Rattle.std.specs.Prelude.{ℕ, List}
+use Rattle.mm_digest.specs.declared.variant.Variant.TheVariants.{Basic, Opt}
+use Rattle.mm_digest.specs.Messages.{zero_bytes}
+use Rattle.mm_module.specs.Meaning.{Meaning}
+use Rattle.mm_model.specs.Instance.{Instance}
+
+-- an instance of Basic, which has no barrier
+abbrev pub basic : Meaning → List ℕ → Instance
+basic meaning key = record { variant = Basic; meaning = meaning; key = key; barrier = zero_bytes }
+
+abbrev pub opt : Meaning → List ℕ → List ℕ → Instance
+opt meaning key barrier = record { variant = Opt; meaning = meaning; key = key; barrier = barrier }

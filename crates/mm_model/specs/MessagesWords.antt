@@ -1,0 +1,8 @@
+-- Words of the laws and proofs, each of which says a thing of Messages in short.
+use Rattle.std.specs.Prelude.{ℕ, List}
+use Rattle.mm_model.specs.Instance.{Instance}
+use Rattle.mm_model.specs.History.{History, Move}
+use Rattle.mm_model.specs.Messages.{moving_messages}
+
+abbrev pub move_messages : Instance → History → Move → List (List ℕ)
+move_messages i y m = moving_messages i.variant y.is_open i y m
