@@ -22,7 +22,8 @@ StopsBy answer number next rest ReadFault = Unit {0}
 StopsBy answer number next rest WriteFault = Unit {0}
 
 -- The first lines were answered, and the run stopped.
-record Halts {P : Type 0} (answer : P → List ℕ → Result (List ℕ × P) Refused) (number : ℕ) (player : P) (lines : List (List ℕ)) (written : List ℕ) (fault : ReplayFault) : Type 0 where
+record Halts {P : Type 0} (answer : P → List ℕ → Result (List ℕ × P) Refused) (number : ℕ) (player : P) (lines : List (List ℕ))
+    (written : List ℕ) (fault : ReplayFault) : Type 0 where
   done : List (List ℕ)
   rest : List (List ℕ)
   next : P
@@ -39,12 +40,15 @@ outcome_of t u h = ap (λ (x : Told _). x.outcome) h
 err_same : {P : Type 0} (a b : ReplayFault) → (let r : Result P ReplayFault = Err a in r ≡ Err b) → a ≡ b
 err_same a b h = cc
 
-told_both : {P : Type 0} (t : Told P) (written : List ℕ) (outcome : Result P ReplayFault) → t.written ≡ written → t.outcome ≡ outcome → t ≡ told written outcome
+told_both : {P : Type 0} (t : Told P) (written : List ℕ) (outcome : Result P ReplayFault) → t.written ≡ written → t.outcome ≡ outcome
+    → t ≡ told written outcome
 told_both t written outcome w o = λ i. told (w i) (o i)
 
 -- no line was answered
-halts_at : {P : Type 0} (answer : P → List ℕ → Result (List ℕ × P) Refused) (number : ℕ) (player : P) (lines : List (List ℕ)) (written : List ℕ) (why fault : ReplayFault)
-    → stopped why ≡ told {P = P} written (Err fault) → StopsBy answer number player lines why → Halts answer number player lines written fault
+halts_at : {P : Type 0} (answer : P → List ℕ → Result (List ℕ × P) Refused) (number : ℕ) (player : P) (lines : List (List ℕ))
+    (written : List ℕ) (why fault : ReplayFault)
+    → stopped why ≡ told {P = P} written (Err fault) → StopsBy answer number player lines why
+    → Halts answer number player lines written fault
 halts_at {P} answer number player lines written why fault h s = record {
   done = [];
   rest = lines;
@@ -56,7 +60,8 @@ halts_at {P} answer number player lines written why fault h s = record {
 }
 
 -- one line was answered in front
-halts_more : {P : Type 0} (answer : P → List ℕ → Result (List ℕ × P) Refused) (number : ℕ) (player : P) (line : List ℕ) (lines : List (List ℕ)) (reply : List ℕ × P) (written : List ℕ) (fault : ReplayFault)
+halts_more : {P : Type 0} (answer : P → List ℕ → Result (List ℕ × P) Refused) (number : ℕ) (player : P) (line : List ℕ)
+    (lines : List (List ℕ)) (reply : List ℕ × P) (written : List ℕ) (fault : ReplayFault)
     → nat_lt longest_line (length line) ≡ false → answer player line ≡ Ok reply
     → Halts answer (number + 1) reply.1 lines written fault → Halts answer number player (line ∷ lines) (reply.0 ++ written) fault
 halts_more {P} answer number player line lines reply written fault short is h = record {
@@ -64,7 +69,9 @@ halts_more {P} answer number player line lines reply written fault short is h = 
   rest = h.rest;
   next = h.next;
   split = ap (λ (ls : List (List ℕ)). line ∷ ls) h.split;
-  ran = ap (λ b. cond b (stopped (LineLong number)) (answered (λ next. run answer (number + 1) next h.done) number (answer player line))) short
+  ran =
+      ap (λ b. cond b (stopped (LineLong number)) (answered (λ next. run answer (number + 1) next h.done) number (answer player line)))
+      short
       ∙ ap (answered (λ next. run answer (number + 1) next h.done) number) is
       ∙ ap (after_writing reply.0) h.ran;
   stops = subst (λ n. StopsBy answer n h.next h.rest fault) (omega arith) h.stops;
@@ -74,42 +81,55 @@ abbrev Onward : {P : Type 0} → (P → List ℕ → Result (List ℕ × P) Refu
 Onward {P} answer number lines = (next : P) (written : List ℕ) (fault : ReplayFault)
     → run answer (number + 1) next lines ≡ told written (Err fault) → Halts answer (number + 1) next lines written fault
 
-halts_refused : {P : Type 0} (answer : P → List ℕ → Result (List ℕ × P) Refused) (number : ℕ) (player : P) (line : List ℕ) (lines : List (List ℕ)) (written : List ℕ) (fault : ReplayFault)
+halts_refused : {P : Type 0} (answer : P → List ℕ → Result (List ℕ × P) Refused) (number : ℕ) (player : P) (line : List ℕ)
+    (lines : List (List ℕ)) (written : List ℕ) (fault : ReplayFault)
     (why : Refused) → answer player line ≡ Err why
     → stopped (refusal_at number why) ≡ told {P = P} written (Err fault) → Halts answer number player (line ∷ lines) written fault
-halts_refused answer number player line lines written fault Bad is h = halts_at answer number player (line ∷ lines) written (BadLine number) fault h refl
+halts_refused answer number player line lines written fault Bad is h =
+    halts_at answer number player (line ∷ lines) written (BadLine number) fault h refl
 halts_refused answer number player line lines written fault Much is h =
     halts_at answer number player (line ∷ lines) written TooMuch fault h (line, lines, refl, is)
 
 -- by the answer to the line
-halts_answered : {P : Type 0} (answer : P → List ℕ → Result (List ℕ × P) Refused) (number : ℕ) (player : P) (line : List ℕ) (lines : List (List ℕ)) (written : List ℕ) (fault : ReplayFault)
-    (said : Result (List ℕ × P) Refused) → nat_lt longest_line (length line) ≡ false → answer player line ≡ said → Onward answer number lines
+halts_answered : {P : Type 0} (answer : P → List ℕ → Result (List ℕ × P) Refused) (number : ℕ) (player : P) (line : List ℕ)
+    (lines : List (List ℕ)) (written : List ℕ) (fault : ReplayFault)
+    (said : Result (List ℕ × P) Refused) → nat_lt longest_line (length line) ≡ false → answer player line ≡ said
+    → Onward answer number lines
     → answered (λ next. run answer (number + 1) next lines) number said ≡ told written (Err fault)
     → Halts answer number player (line ∷ lines) written fault
-halts_answered answer number player line lines written fault (Err why) short is on h = halts_refused answer number player line lines written fault why is h
+halts_answered answer number player line lines written fault (Err why) short is on h =
+    halts_refused answer number player line lines written fault why is h
 halts_answered {P} answer number player line lines written fault (Ok reply) short is on h =
     let t = run answer (number + 1) reply.1 lines in
     let went = told_both t t.written (Err fault) refl (outcome_of (after_writing reply.0 t) (told written (Err fault)) h) in
-    subst (λ (w : List ℕ). Halts answer number player (line ∷ lines) w fault) (written_of (after_writing reply.0 t) (told written (Err fault)) h)
+    subst (λ (w : List ℕ). Halts answer number player (line ∷ lines) w fault)
+    (written_of (after_writing reply.0 t) (told written (Err fault)) h)
     (halts_more answer number player line lines reply t.written fault short is (on reply.1 t.written fault went))
 
 -- by whether the line is too long
-halts_line : {P : Type 0} (answer : P → List ℕ → Result (List ℕ × P) Refused) (number : ℕ) (player : P) (line : List ℕ) (lines : List (List ℕ)) (written : List ℕ) (fault : ReplayFault)
+halts_line : {P : Type 0} (answer : P → List ℕ → Result (List ℕ × P) Refused) (number : ℕ) (player : P) (line : List ℕ)
+    (lines : List (List ℕ)) (written : List ℕ) (fault : ReplayFault)
     (long : Bool) → nat_lt longest_line (length line) ≡ long → Onward answer number lines
-    → cond long (stopped (LineLong number)) (answered (λ next. run answer (number + 1) next lines) number (answer player line)) ≡ told written (Err fault)
+    → cond long (stopped (LineLong number)) (answered (λ next. run answer (number + 1) next lines) number (answer player line)) ≡ told
+    written (Err fault)
     → Halts answer number player (line ∷ lines) written fault
-halts_line answer number player line lines written fault true is on h = halts_at answer number player (line ∷ lines) written (LineLong number) fault h refl
+halts_line answer number player line lines written fault true is on h =
+    halts_at answer number player (line ∷ lines) written (LineLong number) fault h refl
 halts_line answer number player line lines written fault false is on h =
     halts_answered answer number player line lines written fault (answer player line) is refl on h
 
-halts : {P : Type 0} (answer : P → List ℕ → Result (List ℕ × P) Refused) (lines : List (List ℕ)) (number : ℕ) (player : P) (written : List ℕ) (fault : ReplayFault)
+halts : {P : Type 0} (answer : P → List ℕ → Result (List ℕ × P) Refused) (lines : List (List ℕ)) (number : ℕ) (player : P)
+    (written : List ℕ) (fault : ReplayFault)
     → run answer number player lines ≡ told written (Err fault) → Halts answer number player lines written fault
-halts answer [] number player written fault h = absurd (not_ok fault player (sym (outcome_of (told [] (Ok player)) (told written (Err fault)) h)))
+halts answer [] number player written fault h =
+    absurd (not_ok fault player (sym (outcome_of (told [] (Ok player)) (told written (Err fault)) h)))
 halts answer (line ∷ lines) number player written fault h =
-    halts_line answer number player line lines written fault (nat_lt longest_line (length line)) refl (λ next w f. halts answer lines (number + 1) next w f) h
+    halts_line answer number player line lines written fault (nat_lt longest_line (length line)) refl
+    (λ next w f. halts answer lines (number + 1) next w f) h
 
 -- a whole input: the lines were all answered, and the end of the input stopped it
-halts_after : {P : Type 0} (answer : P → List ℕ → Result (List ℕ × P) Refused) (player next : P) (lines : List (List ℕ)) (said written : List ℕ) (why fault : ReplayFault)
+halts_after : {P : Type 0} (answer : P → List ℕ → Result (List ℕ × P) Refused) (player next : P) (lines : List (List ℕ))
+    (said written : List ℕ) (why fault : ReplayFault)
     → run answer 1 player lines ≡ told said (Ok next) → after_writing said (stopped why) ≡ told {P = P} written (Err fault)
     → StopsBy answer (1 + length lines) next [] why → Halts answer 1 player lines written fault
 halts_after {P} answer player next lines said written why fault ran h s = record {
@@ -117,47 +137,63 @@ halts_after {P} answer player next lines said written why fault ran h s = record
   rest = [];
   next = next;
   split = sym (append-nil lines);
-  ran = ran ∙ ap (λ (w : List ℕ). told w (Ok next)) (sym (append-nil said) ∙ written_of (after_writing said (stopped why)) (told written (Err fault)) h);
-  stops = subst (StopsBy answer (1 + length lines) next []) (err_same {P = P} why fault (outcome_of (after_writing said (stopped why)) (told written (Err fault)) h)) s;
+  ran =
+      ran ∙ ap (λ (w : List ℕ). told w (Ok next))
+      (sym (append-nil said) ∙ written_of (after_writing said (stopped why)) (told written (Err fault)) h);
+  stops =
+      subst (StopsBy answer (1 + length lines) next [])
+      (err_same {P = P} why fault (outcome_of (after_writing said (stopped why)) (told written (Err fault)) h)) s;
 }
 
-ended_halts : {P : Type 0} (answer : P → List ℕ → Result (List ℕ × P) Refused) (closing : P → Option (List ℕ)) (player next : P) (lines : List (List ℕ)) (tail said written : List ℕ) (fault : ReplayFault)
+ended_halts : {P : Type 0} (answer : P → List ℕ → Result (List ℕ × P) Refused) (closing : P → Option (List ℕ)) (player next : P)
+    (lines : List (List ℕ)) (tail said written : List ℕ) (fault : ReplayFault)
     → run answer 1 player lines ≡ told said (Ok next)
     → after_writing said (ended closing (1 + length lines) tail next) ≡ told written (Err fault) → Halts answer 1 player lines written fault
 ended_halts {P} answer closing player next lines [] said written fault ran h = by_closing (closing next) h
   where
-    by_closing : (last : Option (List ℕ)) → after_writing said (closed (1 + length lines) next last) ≡ told written (Err fault) → Halts answer 1 player lines written fault
+    by_closing : (last : Option (List ℕ)) → after_writing said (closed (1 + length lines) next last) ≡ told written (Err fault)
+        → Halts answer 1 player lines written fault
     by_closing None h = halts_after answer player next lines said written (BadLine (1 + length lines)) fault ran h refl
     by_closing (Some last) h =
         absurd (not_ok fault next (sym (outcome_of (after_writing said (told last (Ok next))) (told written (Err fault)) h)))
-ended_halts {P} answer closing player next lines (byte ∷ bytes) said written fault ran h = by_size (nat_lt longest_line (length (byte ∷ bytes))) h
+ended_halts {P} answer closing player next lines (byte ∷ bytes) said written fault ran h =
+    by_size (nat_lt longest_line (length (byte ∷ bytes))) h
   where
-    by_size : (long : Bool) → after_writing said (cond long (stopped (LineLong (1 + length lines))) (stopped (BadLine (1 + length lines)))) ≡ told {P = P} written (Err fault)
+    by_size : (long : Bool)
+        → after_writing said (cond long (stopped (LineLong (1 + length lines))) (stopped (BadLine (1 + length lines)))) ≡ told {P = P}
+        written (Err fault)
         → Halts answer 1 player lines written fault
     by_size true h = halts_after answer player next lines said written (LineLong (1 + length lines)) fault ran h refl
     by_size false h = halts_after answer player next lines said written (BadLine (1 + length lines)) fault ran h refl
 
-then_halts : {P : Type 0} (answer : P → List ℕ → Result (List ℕ × P) Refused) (closing : P → Option (List ℕ)) (player : P) (lines : List (List ℕ)) (tail said written : List ℕ) (fault : ReplayFault)
+then_halts : {P : Type 0} (answer : P → List ℕ → Result (List ℕ × P) Refused) (closing : P → Option (List ℕ)) (player : P)
+    (lines : List (List ℕ)) (tail said written : List ℕ) (fault : ReplayFault)
     (outcome : Result P ReplayFault) → run answer 1 player lines ≡ told said outcome
     → goes_on (ended closing (1 + length lines) tail) said outcome ≡ told written (Err fault) → Halts answer 1 player lines written fault
-then_halts answer closing player lines tail said written fault (Ok next) ran h = ended_halts answer closing player next lines tail said written fault ran h
+then_halts answer closing player lines tail said written fault (Ok next) ran h =
+    ended_halts answer closing player next lines tail said written fault ran h
 then_halts answer closing player lines tail said written fault (Err why) ran h = halts answer lines 1 player written fault (ran ∙ h)
 
 -- The run over an input stopped.
-whole_halts : {P : Type 0} (answer : P → List ℕ → Result (List ℕ × P) Refused) (closing : P → Option (List ℕ)) (player : P) (input written : List ℕ) (fault : ReplayFault)
+whole_halts : {P : Type 0} (answer : P → List ℕ → Result (List ℕ × P) Refused) (closing : P → Option (List ℕ)) (player : P)
+    (input written : List ℕ) (fault : ReplayFault)
     → run_of answer closing player input ≡ told written (Err fault) → Halts answer 1 player (lines_of input) written fault
 whole_halts answer closing player input written fault h =
     let t = run answer 1 player (lines_of input) in
     then_halts answer closing player (lines_of input) (tail_of input) t.written written fault t.outcome refl h
 
 -- The run over an input came to its end.
-ended_finishes : {P : Type 0} (answer : P → List ℕ → Result (List ℕ × P) Refused) (closing : P → Option (List ℕ)) (player next end : P) (lines : List (List ℕ)) (tail said written : List ℕ)
+ended_finishes : {P : Type 0} (answer : P → List ℕ → Result (List ℕ × P) Refused) (closing : P → Option (List ℕ)) (player next end : P)
+    (lines : List (List ℕ)) (tail said written : List ℕ)
     → run answer 1 player lines ≡ told said (Ok next)
     → after_writing said (ended closing (1 + length lines) tail next) ≡ told written (Ok end) → Finished answer closing player lines written
 ended_finishes {P} answer closing player next end lines [] said written ran h = by_closing (closing next) refl h
   where
-    by_closing : (last : Option (List ℕ)) → closing next ≡ last → after_writing said (closed (1 + length lines) next last) ≡ told written (Ok end) → Finished answer closing player lines written
-    by_closing None is h = absurd (not_ok (BadLine (1 + length lines)) end (outcome_of (after_writing said (stopped (BadLine (1 + length lines)))) (told written (Ok end)) h))
+    by_closing : (last : Option (List ℕ)) → closing next ≡ last
+        → after_writing said (closed (1 + length lines) next last) ≡ told written (Ok end) → Finished answer closing player lines written
+    by_closing None is h =
+        absurd (not_ok (BadLine (1 + length lines)) end
+        (outcome_of (after_writing said (stopped (BadLine (1 + length lines)))) (told written (Ok end)) h))
     by_closing (Some last) is h = record {
       next = next;
       said = said;
@@ -166,43 +202,65 @@ ended_finishes {P} answer closing player next end lines [] said written ran h = 
       closed = is;
       whole = sym (written_of (after_writing said (told last (Ok next))) (told written (Ok end)) h);
     }
-ended_finishes {P} answer closing player next end lines (byte ∷ bytes) said written ran h = absurd (by_size (nat_lt longest_line (length (byte ∷ bytes))) h)
+ended_finishes {P} answer closing player next end lines (byte ∷ bytes) said written ran h =
+    absurd (by_size (nat_lt longest_line (length (byte ∷ bytes))) h)
   where
-    by_size : (long : Bool) → after_writing said (cond long (stopped (LineLong (1 + length lines))) (stopped (BadLine (1 + length lines)))) ≡ told {P = P} written (Ok end) → ⊥
-    by_size true h = not_ok (LineLong (1 + length lines)) end (outcome_of (after_writing said (stopped (LineLong (1 + length lines)))) (told written (Ok end)) h)
-    by_size false h = not_ok (BadLine (1 + length lines)) end (outcome_of (after_writing said (stopped (BadLine (1 + length lines)))) (told written (Ok end)) h)
+    by_size : (long : Bool)
+        → after_writing said (cond long (stopped (LineLong (1 + length lines))) (stopped (BadLine (1 + length lines)))) ≡ told {P = P}
+        written (Ok end) → ⊥
+    by_size true h =
+        not_ok (LineLong (1 + length lines)) end
+        (outcome_of (after_writing said (stopped (LineLong (1 + length lines)))) (told written (Ok end)) h)
+    by_size false h =
+        not_ok (BadLine (1 + length lines)) end
+        (outcome_of (after_writing said (stopped (BadLine (1 + length lines)))) (told written (Ok end)) h)
 
-then_finishes : {P : Type 0} (answer : P → List ℕ → Result (List ℕ × P) Refused) (closing : P → Option (List ℕ)) (player end : P) (lines : List (List ℕ)) (tail said written : List ℕ)
+then_finishes : {P : Type 0} (answer : P → List ℕ → Result (List ℕ × P) Refused) (closing : P → Option (List ℕ)) (player end : P)
+    (lines : List (List ℕ)) (tail said written : List ℕ)
     (outcome : Result P ReplayFault) → run answer 1 player lines ≡ told said outcome
     → goes_on (ended closing (1 + length lines) tail) said outcome ≡ told written (Ok end) → Finished answer closing player lines written
-then_finishes answer closing player end lines tail said written (Ok next) ran h = ended_finishes answer closing player next end lines tail said written ran h
-then_finishes answer closing player end lines tail said written (Err why) ran h = absurd (not_ok why end (outcome_of (told said (Err why)) (told written (Ok end)) h))
+then_finishes answer closing player end lines tail said written (Ok next) ran h =
+    ended_finishes answer closing player next end lines tail said written ran h
+then_finishes answer closing player end lines tail said written (Err why) ran h =
+    absurd (not_ok why end (outcome_of (told said (Err why)) (told written (Ok end)) h))
 
-whole_finishes : {P : Type 0} (answer : P → List ℕ → Result (List ℕ × P) Refused) (closing : P → Option (List ℕ)) (player end : P) (input written : List ℕ)
+whole_finishes : {P : Type 0} (answer : P → List ℕ → Result (List ℕ × P) Refused) (closing : P → Option (List ℕ)) (player end : P)
+    (input written : List ℕ)
     → run_of answer closing player input ≡ told written (Ok end) → Finished answer closing player (lines_of input) written
 whole_finishes answer closing player end input written h =
     let t = run answer 1 player (lines_of input) in
     then_finishes answer closing player end (lines_of input) (tail_of input) t.written written t.outcome refl h
 
 -- it holds of the whole input, and so does what follows from it
-pub for_whole : (left : Option (List ℕ)) (taken : List ℕ) (A B : List ℕ → Type 0) → ((input : List ℕ) → A input → B input) → ForWhole left taken A → ForWhole left taken B
+pub for_whole : (left : Option (List ℕ)) (taken : List ℕ) (A B : List ℕ → Type 0) → ((input : List ℕ) → A input → B input)
+    → ForWhole left taken A → ForWhole left taken B
 for_whole left taken A B lift w = elim w [ inl h ↦ inl (λ rest. lift (taken ++ rest) (h rest)) | inr h ↦ inr (h.0, lift taken h.1) ]
 
 -- where it stopped
-first_by : {P : Type 0} (answer : P → List ℕ → Result (List ℕ × P) Refused) (player : P) (lines : List (List ℕ)) (written : List ℕ) (fault : ReplayFault) (stops : List (List ℕ) → List (List ℕ) → Type 0)
+first_by : {P : Type 0} (answer : P → List ℕ → Result (List ℕ × P) Refused) (player : P) (lines : List (List ℕ)) (written : List ℕ)
+    (fault : ReplayFault) (stops : List (List ℕ) → List (List ℕ) → Type 0)
     (h : Halts answer 1 player lines written fault) → stops h.done h.rest → AnswersFirst (Answered answer player) stops lines written
-first_by answer player lines written fault stops h s = record { done = h.done; rest = h.rest; split = h.split; answered = (h.next, h.ran); stopped = s }
+first_by answer player lines written fault stops h s =
+    record { done = h.done; rest = h.rest; split = h.split; answered = (h.next, h.ran); stopped = s }
 
 -- some bytes of which these are a front
-fronts : {P : Type 0} (answer : P → List ℕ → Result (List ℕ × P) Refused) (closing : P → Option (List ℕ)) (player : P) (input sent written : List ℕ) (outcome : Result P ReplayFault)
+fronts : {P : Type 0} (answer : P → List ℕ → Result (List ℕ × P) Refused) (closing : P → Option (List ℕ)) (player : P)
+    (input sent written : List ℕ) (outcome : Result P ReplayFault)
     → run_of answer closing player input ≡ told written outcome → IsFrontOf sent written
-    → (all : List ℕ) × IsFrontOf sent all × (AnswersFirst (Answered answer player) anywhere (lines_of input) all ⊎ Finished answer closing player (lines_of input) all)
-fronts answer closing player input sent written (Ok end) is front = (written, front, inr (whole_finishes answer closing player end input written is))
-fronts answer closing player input sent written (Err fault) is front =
-    (written, front, inl (first_by answer player (lines_of input) written fault anywhere (whole_halts answer closing player input written fault is) tt))
+    → (all : List ℕ) × IsFrontOf sent all
+    × (AnswersFirst (Answered answer player) anywhere (lines_of input) all ⊎ Finished answer closing player (lines_of input) all)
+fronts answer closing player input sent written (Ok end) is front =
+    (written, front, inr (whole_finishes answer closing player end input written is))
+fronts answer closing player input sent written (Err fault) is front = (
+  written,
+  front,
+  inl
+      (first_by answer player (lines_of input) written fault anywhere (whole_halts answer closing player input written fault is) tt),
+)
 
 -- What a call that settled tells.
-pub tells_by : {P T : Type 0} (answer : P → List ℕ → Result (List ℕ × P) Refused) (closing : P → Option (List ℕ)) (player next : P) (left : Option (List ℕ)) (taken sent : List ℕ) (result : Result T ReplayFault)
+pub tells_by : {P T : Type 0} (answer : P → List ℕ → Result (List ℕ × P) Refused) (closing : P → Option (List ℕ)) (player next : P)
+    (left : Option (List ℕ)) (taken sent : List ℕ) (result : Result T ReplayFault)
     → Settles (run answer 1 player) (run_of answer closing player) next left taken sent result
     → TellsBy (Answered answer player) (Finished answer closing player) (RefusesMuch answer player) left taken sent result
 tells_by answer closing player next left taken sent (Ok _) s = whole_finishes answer closing player next taken sent s.1
@@ -233,7 +291,8 @@ tells_by answer closing player next left taken sent (Err TooMuch) s =
     })) s
 
 -- the lines were answered, and so what this means holds
-first_more : (some some' : List (List ℕ) → List ℕ → Type 0) (stops stops' : List (List ℕ) → List (List ℕ) → Type 0) (lines : List (List ℕ)) (written : List ℕ)
+first_more : (some some' : List (List ℕ) → List ℕ → Type 0) (stops stops' : List (List ℕ) → List (List ℕ) → Type 0) (lines : List (List ℕ))
+    (written : List ℕ)
     → ((ls : List (List ℕ)) (w : List ℕ) → some ls w → some' ls w) → ((done rest : List (List ℕ)) → stops done rest → stops' done rest)
     → AnswersFirst some stops lines written → AnswersFirst some' stops' lines written
 first_more some some' stops stops' lines written lift turn a = record {
@@ -253,10 +312,12 @@ either_more some some' all all' lines written lift whole e = elim e [
 ]
 
 abbrev Fronted : (List (List ℕ) → List ℕ → Type 0) → (List (List ℕ) → List ℕ → Type 0) → List ℕ → List ℕ → Type 0
-Fronted some all sent input = (written : List ℕ) × IsFrontOf sent written × (AnswersFirst some anywhere (lines_of input) written ⊎ all (lines_of input) written)
+Fronted some all sent input =
+    (written : List ℕ) × IsFrontOf sent written × (AnswersFirst some anywhere (lines_of input) written ⊎ all (lines_of input) written)
 
 -- What the answers to lines mean is what is told.
-pub tells_more : {T : Type 0} (some some' all all' : List (List ℕ) → List ℕ → Type 0) (much much' : List (List ℕ) → List (List ℕ) → Type 0) (left : Option (List ℕ)) (taken sent : List ℕ) (result : Result T ReplayFault)
+pub tells_more : {T : Type 0} (some some' all all' : List (List ℕ) → List ℕ → Type 0) (much much' : List (List ℕ) → List (List ℕ) → Type 0)
+    (left : Option (List ℕ)) (taken sent : List ℕ) (result : Result T ReplayFault)
     → ((ls : List (List ℕ)) (w : List ℕ) → some ls w → some' ls w) → ((ls : List (List ℕ)) (w : List ℕ) → all ls w → all' ls w)
     → ((done rest : List (List ℕ)) → much done rest → much' done rest)
     → TellsBy some all much left taken sent result → TellsBy some' all' much' left taken sent result

@@ -22,7 +22,8 @@ line_first held taken line held' h = h ∙ append_assoc line (10 ∷ []) held'
 and_rest : (bytes line held rest : List ℕ) → bytes ≡ line ++ 10 ∷ held → bytes ++ rest ≡ line ++ 10 ∷ (held ++ rest)
 and_rest bytes line held rest h = ap (λ b. b ++ rest) h ∙ append_assoc line (10 ∷ held) rest
 
-went_by_line : {P : Type 0} (answer : P → List ℕ → Result (List ℕ × P) Refused) (closing : P → Option (List ℕ)) (number : ℕ) (player next : P)
+went_by_line : {P : Type 0} (answer : P → List ℕ → Result (List ℕ × P) Refused) (closing : P → Option (List ℕ)) (number : ℕ)
+    (player next : P)
     (left : Option (List ℕ)) (bytes held line pending said : List ℕ) (result : Result Bool ReplayFault)
     → bytes ≡ line ++ 10 ∷ held → MayGrow longest_line line → Answers number (answer player line) next pending said result
     → PlayedOn answer (run_from answer closing number player) number player next left bytes held pending said result
@@ -51,7 +52,8 @@ went_by_line {P} answer closing number player next left bytes held line pending 
 )
 
 -- A line was read, and the player answered it or didn't.
-pub advanced_by_line : {P : Type 0} (answer : P → List ℕ → Result (List ℕ × P) Refused) (closing : P → Option (List ℕ)) (number : ℕ) (player next : P)
+pub advanced_by_line : {P : Type 0} (answer : P → List ℕ → Result (List ℕ × P) Refused) (closing : P → Option (List ℕ)) (number : ℕ)
+    (player next : P)
     (left left' : Option (List ℕ)) (held held' pending pending' : List ℕ) (result : Result Bool ReplayFault)
     (read : Result Read LineFault) (what : Read) (line : _)
     → NextLine longest_line left left' held read held' → read ≡ Ok what → what ≡ Line line
@@ -67,7 +69,8 @@ advanced_by_line answer closing number player next left left' held held' pending
     }
 
 -- The input ended within a line.
-pub advanced_by_tail : {P : Type 0} (answer : P → List ℕ → Result (List ℕ × P) Refused) (closing : P → Option (List ℕ)) (number : ℕ) (player : P)
+pub advanced_by_tail : {P : Type 0} (answer : P → List ℕ → Result (List ℕ × P) Refused) (closing : P → Option (List ℕ)) (number : ℕ)
+    (player : P)
     (left left' : Option (List ℕ)) (held held' pending : List ℕ)
     (read : Result Read LineFault) (what : Read)
     → NextLine longest_line left left' held read held' → read ≡ Ok what → what ≡ Tail
@@ -87,52 +90,9 @@ advanced_by_tail answer closing number player left left' held held' pending read
       );
     }
 
-went_by_end : {P : Type 0} (answer : P → List ℕ → Result (List ℕ × P) Refused) (closing : P → Option (List ℕ)) (number : ℕ) (player : P)
-    (left : Option (List ℕ)) (bytes held pending said : List ℕ) (result : Result Bool ReplayFault)
-    → bytes ≡ [] → IsAtEnd left → EndsInput number (closing player) pending said result
-    → PlayedOn answer (run_from answer closing number player) number player player left bytes held pending said result
-went_by_end answer closing number player left bytes held pending said (Ok true) none at_end e =
-    let clash : true ≡ false = e.0 in absurd (no_clash clash)
-  where
-    no_clash : true ≡ false → ⊥
-    no_clash h = cc
-went_by_end {P} answer closing number player left bytes held pending said (Ok false) none at_end e = (
-  at_end,
-  e.1,
-  ap (run_from answer closing number player) none ∙ run_from-end answer closing number player ∙ ap (closed number player) e.2,
-  e.3,
-)
-went_by_end {P} answer closing number player left bytes held pending said (Err (BadLine n)) none at_end e = (
-  e.0,
-  inr (
-    at_end,
-    ap (run_from answer closing number player) none ∙ run_from-end answer closing number player
-        ∙ ap (closed number player) e.1 ∙ ap (λ m. stopped {P = P} (BadLine m)) (sym e.2),
-  ),
-)
-went_by_end answer closing number player left bytes held pending said (Err Memory) none at_end e = e
-went_by_end answer closing number player left bytes held pending said (Err WriteFault) none at_end e = absurd e
-went_by_end answer closing number player left bytes held pending said (Err ReadFault) none at_end e = absurd e
-went_by_end answer closing number player left bytes held pending said (Err (LineLong n)) none at_end e = absurd e
-went_by_end answer closing number player left bytes held pending said (Err TooMuch) none at_end e = absurd e
-
--- The input ended between lines.
-pub advanced_by_end : {P : Type 0} (answer : P → List ℕ → Result (List ℕ × P) Refused) (closing : P → Option (List ℕ)) (number : ℕ) (player : P)
-    (left left' : Option (List ℕ)) (held held' pending pending' : List ℕ) (result : Result Bool ReplayFault)
-    (read : Result Read LineFault) (what : Read)
-    → NextLine longest_line left left' held read held' → read ≡ Ok what → what ≡ End
-    → EndsInput number (closing player) pending pending' result
-    → Advances answer closing number player player left left' held held' pending pending' result
-advanced_by_end answer closing number player left left' held held' pending pending' result read what n is what_is e =
-    let m = subst (λ r. NextLine longest_line left left' held r held') (is ∙ ap Ok what_is) n in
-    record {
-      taken = m.takes.taken;
-      consumed = m.takes.consumed;
-      went = went_by_end answer closing number player left' (held ++ m.takes.taken) held' pending pending' result (m.takes.goes ∙ m.reads.0) m.reads.1 e;
-    }
-
 -- Too many bytes came with no LF.
-pub advanced_by_long : {P : Type 0} (answer : P → List ℕ → Result (List ℕ × P) Refused) (closing : P → Option (List ℕ)) (number : ℕ) (player : P)
+pub advanced_by_long : {P : Type 0} (answer : P → List ℕ → Result (List ℕ × P) Refused) (closing : P → Option (List ℕ)) (number : ℕ)
+    (player : P)
     (left left' : Option (List ℕ)) (held held' pending : List ℕ)
     (read : Result Read LineFault) (why : LineFault)
     → NextLine longest_line left left' held read held' → read ≡ Err why → why ≡ fault.LineLong
@@ -144,9 +104,11 @@ advanced_by_long answer closing number player left left' held held' pending read
       consumed = m.takes.consumed;
       went = (
         refl,
-        inl (λ rest. ap (λ b. run_from answer closing number player (b ++ rest)) (m.takes.goes ∙ sym (take-append-drop (longest_line + 1) held'))
+        inl (λ rest. ap (λ b. run_from answer closing number player (b ++ rest))
+            (m.takes.goes ∙ sym (take-append-drop (longest_line + 1) held'))
             ∙ ap (run_from answer closing number player) (append_assoc (take (longest_line + 1) held') (drop (longest_line + 1) held') rest)
-            ∙ run_from-long answer closing number player (take (longest_line + 1) held') (drop (longest_line + 1) held' ++ rest) m.reads.unbroken (long_front held' m.reads.long)),
+            ∙ run_from-long answer closing number player (take (longest_line + 1) held') (drop (longest_line + 1) held' ++ rest)
+            m.reads.unbroken (long_front held' m.reads.long)),
       );
     }
   where

@@ -48,7 +48,8 @@ went_behind answer rest number player next left bytes held pending said front (O
     (w.0, w.1, w.2, ap (λ b. front ++ b) w.3 ∙ sym (append_assoc front pending w.1))
 went_behind answer rest number player next left bytes held pending said front (Err ReadFault) w = (ap (λ b. front ++ b) w.0, w.1)
 went_behind answer rest number player next left bytes held pending said front (Err WriteFault) w =
-    for_whole left bytes (λ input. IsFrontOf said (pending ++ (rest input).written)) (λ input. IsFrontOf (front ++ said) ((front ++ pending) ++ (rest input).written))
+    for_whole left bytes (λ input. IsFrontOf said (pending ++ (rest input).written))
+    (λ input. IsFrontOf (front ++ said) ((front ++ pending) ++ (rest input).written))
     (λ input h. subst (λ (b : List ℕ). IsFrontOf (front ++ said) b) (sym (append_assoc front pending (rest input).written))
     (front_after front said (pending ++ (rest input).written) h)) w
 went_behind answer rest number player next left bytes held pending said front (Err Memory) w = ap (λ b. front ++ b) w
@@ -80,7 +81,8 @@ went_cut : {P : Type 0} (answer : P → List ℕ → Result (List ℕ × P) Refu
     → PlayedOn answer (run_from answer closing number player) number player next left bytes held pending said result → IsFrontOf sent said
     → ForWhole left bytes (IsCut (run_from answer closing number player) pending sent)
 went_cut answer closing number player next left bytes held pending said sent (Ok true) w front =
-    inl (λ more. cut_reply pending said sent w.reply (run_from answer closing number player (bytes ++ more)) (run_from answer closing (number + 1) next (held ++ more)) w.said_behind
+    inl (λ more. cut_reply pending said sent w.reply (run_from answer closing number player (bytes ++ more))
+    (run_from answer closing (number + 1) next (held ++ more)) w.said_behind
     (ap (run_from answer closing number player) (ap (λ b. b ++ more) w.cut ∙ append_assoc w.line (10 ∷ held) more)
     ∙ run_from-answered answer closing number player w.line (held ++ more) w.reply next w.unbroken w.short w.answered) front)
 went_cut {P} answer closing number player next left bytes held pending said sent (Ok false) w front =
@@ -91,7 +93,8 @@ went_cut {P} answer closing number player next left bytes held pending said sent
 went_cut answer closing number player next left bytes held pending said sent (Err ReadFault) w front =
     cut_unanswered (run_from answer closing number player) left bytes pending said sent w.0 front
 went_cut answer closing number player next left bytes held pending said sent (Err WriteFault) w front =
-    for_whole left bytes (IsCut (run_from answer closing number player) pending said) (IsCut (run_from answer closing number player) pending sent)
+    for_whole left bytes (IsCut (run_from answer closing number player) pending said)
+    (IsCut (run_from answer closing number player) pending sent)
     (λ input h. front_of_front sent said (pending ++ (run_from answer closing number player input).written) front h) w
 went_cut answer closing number player next left bytes held pending said sent (Err Memory) w front =
     cut_unanswered (run_from answer closing number player) left bytes pending said sent w front
@@ -114,7 +117,8 @@ due_sent received received' pending pending' due done m is =
 
 -- the sink failed before the line was read
 pub turn_cut : {P : Type 0} (answer : P → List ℕ → Result (List ℕ × P) Refused) (closing : P → Option (List ℕ)) (number : ℕ) (player : P)
-    (left : Option (List ℕ)) (held held' : List ℕ) (received received' : Option (List ℕ)) (pending pending' : List ℕ) (due : Result (Unit {0}) write.WriteFault) (fault : write.WriteFault)
+    (left : Option (List ℕ)) (held held' : List ℕ) (received received' : Option (List ℕ)) (pending pending' : List ℕ)
+    (due : Result (Unit {0}) write.WriteFault) (fault : write.WriteFault)
     → SendsDue received received' pending pending' due → due ≡ Err fault
     → PlaysNext answer closing number player player left left held held' received received' pending pending' (Err WriteFault)
 turn_cut answer closing number player left held held' received received' pending pending' due fault m is =
@@ -125,54 +129,39 @@ turn_cut answer closing number player left held held' received received' pending
       sent = m.sent;
       consumed = Consumes-nil left;
       appended = m.appended;
-      went = inl (λ more. front_of_more (m.sent ++ pending') pending _ (subst (λ (b : List ℕ). IsFrontOf b pending) (sym all) (m.unsent, sym m.parts)));
+      went =
+          inl (λ more. front_of_more (m.sent ++ pending') pending _
+          (subst (λ (b : List ℕ). IsFrontOf b pending) (sym all) (m.unsent, sym m.parts)));
       is_sent = none;
-    }
-
--- lines may follow
-pub turn_goes : {P : Type 0} (answer : P → List ℕ → Result (List ℕ × P) Refused) (closing : P → Option (List ℕ)) (number : ℕ) (player next : P)
-    (left left' : Option (List ℕ)) (held here held' : List ℕ) (received received' : Option (List ℕ)) (pending waiting pending' : List ℕ)
-    (due : Result (Unit {0}) write.WriteFault) (done : Unit {0}) (came : Result Bool ReplayFault)
-    → here ≡ held → SendsDue received received' pending waiting due → due ≡ Ok done
-    → Advances answer closing number player next left left' here held' waiting pending' came → came ≡ Ok true
-    → PlaysNext answer closing number player next left left' held held' received received' pending pending' (Ok true)
-turn_goes answer closing number player next left left' held here held' received received' pending waiting pending' due done came same m is a came_is =
-    let rest = run_from answer closing number player in
-    let w = due_sent received received' pending waiting due done m is in
-    let b = subst (λ (h : List ℕ). Advances answer closing number player next left left' h held' waiting pending' came) same a in
-    let went = went_behind answer rest number player next left' (held ++ b.taken) held' waiting pending' w.0 came b.went in
-    record {
-      taken = b.taken;
-      sent = w.0;
-      consumed = b.consumed;
-      appended = w.1;
-      went = subst (λ (r : Result Bool ReplayFault). PlayedOn answer rest number player next left' (held ++ b.taken) held' pending (w.0 ++ pending') r) came_is
-          (subst (λ (p : List ℕ). PlayedOn answer rest number player next left' (held ++ b.taken) held' p (w.0 ++ pending') came) (sym w.2) went);
-      is_sent = tt;
     }
 
 unbroken_front : (held taken : List ℕ) → IsUnbroken (held ++ taken) → IsUnbroken held
 unbroken_front held taken h = subst IsUnbroken (take-append_seam held taken) (All-take (λ (b : ℕ). b ≢ 10) (length held) (held ++ taken) h)
 
 -- the source failed: nothing is pending
-pub turn_unread : {P : Type 0} (answer : P → List ℕ → Result (List ℕ × P) Refused) (closing : P → Option (List ℕ)) (number : ℕ) (player next : P)
+pub turn_unread : {P : Type 0} (answer : P → List ℕ → Result (List ℕ × P) Refused) (closing : P → Option (List ℕ)) (number : ℕ)
+    (player next : P)
     (left left' : Option (List ℕ)) (held here held' : List ℕ) (received received' : Option (List ℕ)) (pending waiting pending' : List ℕ)
     (due : Result (Unit {0}) write.WriteFault) (done : Unit {0}) (came : Result Bool ReplayFault)
     → here ≡ held → SendsDue received received' pending waiting due → (IsUnbroken held → waiting ≡ []) → due ≡ Ok done
     → Advances answer closing number player next left left' here held' waiting pending' came → came ≡ Err ReadFault
     → PlaysNext answer closing number player next left left' held held' received received' pending pending' (Err ReadFault)
-turn_unread answer closing number player next left left' held here held' received received' pending waiting pending' due done came same m none is a came_is =
+turn_unread answer closing number player next left left' held here held' received received' pending waiting pending' due done came same m
+    none is a came_is =
     let rest = run_from answer closing number player in
     let w = due_sent received received' pending waiting due done m is in
     let b = subst (λ (h : List ℕ). Advances answer closing number player next left left' h held' waiting pending' came) same a in
-    let failed = subst (λ (r : Result Bool ReplayFault). PlayedOn answer rest number player next left' (held ++ b.taken) held' waiting pending' r) came_is b.went in
+    let failed = subst (λ (r : Result Bool ReplayFault). PlayedOn answer rest number player next left' (held ++ b.taken) held' waiting
+    pending' r) came_is b.went in
     let went = went_behind answer rest number player next left' (held ++ b.taken) held' waiting pending' w.0 (Err ReadFault) failed in
     record {
       taken = b.taken;
       sent = w.0;
       consumed = b.consumed;
       appended = w.1;
-      went = subst (λ (p : List ℕ). PlayedOn answer rest number player next left' (held ++ b.taken) held' p (w.0 ++ pending') (Err ReadFault)) (sym w.2) went;
+      went =
+          subst (λ (p : List ℕ). PlayedOn answer rest number player next left' (held ++ b.taken) held' p (w.0 ++ pending') (Err ReadFault))
+          (sym w.2) went;
       is_sent = failed.0 ∙ none (unbroken_front held b.taken failed.1.unbroken);
     }
 
@@ -182,17 +171,21 @@ none_is_sent pending (Ok false) none = none
 none_is_sent pending (Err fault) none = none
 
 -- all was sent, or the sink failed
-pub turn_ends : {P : Type 0} (answer : P → List ℕ → Result (List ℕ × P) Refused) (closing : P → Option (List ℕ)) (number : ℕ) (player next : P)
-    (left left' : Option (List ℕ)) (held here held' : List ℕ) (received received' received'' : Option (List ℕ)) (pending waiting more pending' : List ℕ)
+pub turn_ends : {P : Type 0} (answer : P → List ℕ → Result (List ℕ × P) Refused) (closing : P → Option (List ℕ)) (number : ℕ)
+    (player next : P)
+    (left left' : Option (List ℕ)) (held here held' : List ℕ) (received received' received'' : Option (List ℕ))
+    (pending waiting more pending' : List ℕ)
     (due : Result (Unit {0}) write.WriteFault) (done : Unit {0}) (found came result : Result Bool ReplayFault)
     → here ≡ held → SendsDue received received' pending waiting due → due ≡ Ok done
     → Advances answer closing number player next left left' here held' waiting more found → found ≡ came
     → SendsThen came received' received'' more result → pending' ≡ []
     → PlaysNext answer closing number player next left left' held held' received received'' pending pending' result
-turn_ends answer closing number player next left left' held here held' received received' received'' pending waiting more pending' due done found came result same m is a found_is s none =
+turn_ends answer closing number player next left left' held here held' received received' received'' pending waiting more pending' due done
+    found came result same m is a found_is s none =
     let rest = run_from answer closing number player in
     let w = due_sent received received' pending waiting due done m is in
-    let b = subst (λ (r : Result Bool ReplayFault). Advances answer closing number player next left left' held held' waiting more r) found_is
+    let b = subst (λ (r : Result Bool ReplayFault). Advances answer closing number player next left left' held held' waiting more r)
+    found_is
     (subst (λ (h : List ℕ). Advances answer closing number player next left left' h held' waiting more found) same a) in
     let bytes = held ++ b.taken in
     let behind = went_behind answer rest number player next left' bytes held' waiting more w.0 came b.went in
@@ -207,13 +200,16 @@ turn_ends answer closing number player next left left' held here held' received 
         | inl whole ↦
             let sent : w.0 ++ more ≡ (w.0 ++ s.sent) ++ pending' =
             ap (λ p. w.0 ++ p) (s.parts ∙ ap (λ p. s.sent ++ p) whole.1 ∙ append-nil s.sent) ∙ sym all in
-            subst (λ (r : Result Bool ReplayFault). PlayedOn answer rest number player next left' bytes held' pending ((w.0 ++ s.sent) ++ pending') r) (sym whole.0)
+            subst (λ (r : Result Bool ReplayFault). PlayedOn answer rest number player next left' bytes held' pending
+            ((w.0 ++ s.sent) ++ pending') r) (sym whole.0)
             (subst (λ (p : List ℕ). PlayedOn answer rest number player next left' bytes held' pending p came) sent went)
         | inr cut ↦
             let front : IsFrontOf ((w.0 ++ s.sent) ++ pending') (w.0 ++ more) =
             subst (λ (p : List ℕ). IsFrontOf p (w.0 ++ more)) (sym all) (front_after w.0 s.sent more (s.unsent, sym s.parts)) in
-            subst (λ (r : Result Bool ReplayFault). PlayedOn answer rest number player next left' bytes held' pending ((w.0 ++ s.sent) ++ pending') r) (sym cut)
-            (went_cut answer closing number player next left' bytes held' pending (w.0 ++ more) ((w.0 ++ s.sent) ++ pending') came went front)
+            subst (λ (r : Result Bool ReplayFault). PlayedOn answer rest number player next left' bytes held' pending
+            ((w.0 ++ s.sent) ++ pending') r) (sym cut)
+            (went_cut answer closing number player next left' bytes held' pending (w.0 ++ more) ((w.0 ++ s.sent) ++ pending') came went
+            front)
       ];
       is_sent = none_is_sent pending' result none;
     }

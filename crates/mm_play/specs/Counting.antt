@@ -10,8 +10,10 @@ no_answer why reply next h = cc
 
 -- where an answer leads
 pub same_next : {Stage : Type 0} (reply said : List ℕ) (next stage : Stage)
-    → (let r : Result (List ℕ × Stage) Refused = Ok (said, stage) in r ≡ Ok (reply, next)) → stage ≡ next
-same_next {Stage} reply said next stage h = let p : (said, stage) ≡ (reply, next) = cc in ap (λ (q : List ℕ × Stage). q.1) p
+    → (let r : Result (List ℕ × Stage) Refused = Ok (said, stage) in r ≡ Ok (reply, next))
+    → stage ≡ next
+same_next {Stage} reply said next stage h =
+    let p : (said, stage) ≡ (reply, next) = cc in ap (λ (q : List ℕ × Stage). q.1) p
 
 -- of two tests of which none holds the first one doesn't
 pub left_or : (a b : Bool) → (a || b) ≡ false → a ≡ false

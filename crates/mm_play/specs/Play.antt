@@ -1,5 +1,5 @@
--- A run over the lines of an input. A player answers each line, with a reply and the player after it, or refuses it;
--- and says what is written last, where the input may end.
+-- A run over the lines of an input. A player answers each line, with a reply and the player after
+-- it, or refuses it; and says what is written last, where the input may end.
 use Rattle.std.specs.Prelude.{ℕ, ◌+◌, List, [], ◌∷◌, ◌++◌, length, nat_lt, Option, None, Some, Result, Ok, Err, if◌then◌else◌}
 use Rattle.mm_base.specs.Input.{lines_of, tail_of}
 use Rattle.mm_base.specs.declared.replay_fault.ReplayFault.{ReplayFault}
@@ -35,16 +35,21 @@ answered on number (Ok reply) = after_writing reply.0 (on reply.1)
 answered on number (Err refused) = stopped (refusal_at number refused)
 
 -- one line: too long, or refused, or answered
-abbrev pub turn : {P : Type 0} → (P → List ℕ → Result (List ℕ × P) Refused) → (P → Told P) → ℕ → P → List ℕ → Told P
+abbrev pub turn : {P : Type 0} → (P → List ℕ → Result (List ℕ × P) Refused) → (P → Told P) → ℕ → P
+    → List ℕ → Told P
 turn answer on number player line =
-    if nat_lt longest_line (length line) then stopped (LineLong number) else answered on number (answer player line)
+    if nat_lt longest_line (length line) then stopped (LineLong number)
+    else answered on number (answer player line)
 
 -- the run over whole lines, of which the first has this number
-abbrev pub run : {P : Type 0} → (P → List ℕ → Result (List ℕ × P) Refused) → ℕ → P → List (List ℕ) → Told P
+abbrev pub run : {P : Type 0} → (P → List ℕ → Result (List ℕ × P) Refused) → ℕ → P → List (List ℕ)
+    → Told P
 run answer number player [] = told [] (Ok player)
-run answer number player (line ∷ lines) = turn answer (λ next. run answer (number + 1) next lines) number player line
+run answer number player (line ∷ lines) =
+    turn answer (λ next. run answer (number + 1) next lines) number player line
 
--- the input ends where a line of this number would begin: the last lines are written, or a line is missing
+-- the input ends where a line of this number would begin: the last lines are written, or a line is
+-- missing
 abbrev pub closed : {P : Type 0} → ℕ → P → Option (List ℕ) → Told P
 closed number player None = stopped (BadLine number)
 closed number player (Some last) = told last (Ok player)
@@ -53,7 +58,8 @@ closed number player (Some last) = told last (Ok player)
 abbrev pub ended : {P : Type 0} → (P → Option (List ℕ)) → ℕ → List ℕ → P → Told P
 ended closing number [] player = closed number player (closing player)
 ended closing number (byte ∷ bytes) player =
-    if nat_lt longest_line (length (byte ∷ bytes)) then stopped (LineLong number) else stopped (BadLine number)
+    if nat_lt longest_line (length (byte ∷ bytes)) then stopped (LineLong number)
+    else stopped (BadLine number)
 
 -- what comes once these bytes were written, where the lines were all answered
 abbrev pub goes_on : {P : Type 0} → (P → Told P) → List ℕ → Result P ReplayFault → Told P
@@ -64,10 +70,13 @@ abbrev pub and_then : {P : Type 0} → Told P → (P → Told P) → Told P
 and_then t on = goes_on on t.written t.outcome
 
 -- the run over the rest of an input, of which the first line has this number
-abbrev pub run_from : {P : Type 0} → (P → List ℕ → Result (List ℕ × P) Refused) → (P → Option (List ℕ)) → ℕ → P → List ℕ → Told P
+abbrev pub run_from : {P : Type 0} → (P → List ℕ → Result (List ℕ × P) Refused)
+    → (P → Option (List ℕ)) → ℕ → P → List ℕ → Told P
 run_from answer closing number player input =
-    and_then (run answer number player (lines_of input)) (ended closing (number + length (lines_of input)) (tail_of input))
+    and_then (run answer number player (lines_of input))
+    (ended closing (number + length (lines_of input)) (tail_of input))
 
 -- the run over a whole input
-abbrev pub run_of : {P : Type 0} → (P → List ℕ → Result (List ℕ × P) Refused) → (P → Option (List ℕ)) → P → List ℕ → Told P
+abbrev pub run_of : {P : Type 0} → (P → List ℕ → Result (List ℕ × P) Refused)
+    → (P → Option (List ℕ)) → P → List ℕ → Told P
 run_of answer closing player input = run_from answer closing 1 player input

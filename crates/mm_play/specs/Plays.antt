@@ -10,37 +10,44 @@ use Rattle.mm_play.specs.declared.player.Refused.{Refused}
 use Rattle.mm_play.specs.Play.{Told, told, run, run_of}
 use Rattle.mm_play.specs.Takes.{IsFrontOf}
 
--- It holds of the whole input, of which these bytes were taken: whatever follows them, or nothing, where the source
--- is at its end.
+-- It holds of the whole input, of which these bytes were taken: whatever follows them, or nothing,
+-- where the source is at its end.
 abbrev pub ForWhole : Option (List ℕ) → List ℕ → (List ℕ → Type 0) → Type 0
 ForWhole left taken holds = ((rest : List ℕ) → holds (taken ++ rest)) ⊎ (IsAtEnd left × holds taken)
 
--- What stands behind the last LF may still grow into a line: a longer one is told as such, and no more of it is read.
+-- What stands behind the last LF may still grow into a line: a longer one is told as such, and no
+-- more of it is read.
 abbrev pub IsTailShort : List ℕ → Type 0
 IsTailShort taken = length (tail_of taken) ≤ longest_line
 
--- How the answer fits what was taken of the input and written. `lines` is the run over whole lines, `whole` that
--- over a whole input.
-abbrev pub Settles : {P T : Type 0} → (List (List ℕ) → Told P) → (List ℕ → Told P) → P → Option (List ℕ) → List ℕ → List ℕ
+-- How the answer fits what was taken of the input and written. `lines` is the run over whole lines,
+-- `whole` that over a whole input.
+abbrev pub Settles : {P T : Type 0} → (List (List ℕ) → Told P) → (List ℕ → Told P) → P
+    → Option (List ℕ) → List ℕ → List ℕ
     → Result T ReplayFault → Type 0
 -- Ok: the input was taken to its end, and the run over it was written whole.
 Settles lines whole next left taken sent (Ok _) = IsAtEnd left × (whole taken ≡ told sent (Ok next))
--- The source failed: each whole line that was taken is answered, and nothing else; and the bytes behind them may be a line's.
+-- The source failed: each whole line that was taken is answered, and nothing else; and the bytes
+-- behind them may be a line's.
 Settles {P} lines whole next left taken sent (Err ReadFault) =
     IsTailShort taken × ((after : P) × (lines (lines_of taken) ≡ told sent (Ok after)))
 -- The sink failed: what went out is a front of what the run writes.
-Settles lines whole next left taken sent (Err WriteFault) = ForWhole left taken (λ input. IsFrontOf sent (whole input).written)
+Settles lines whole next left taken sent (Err WriteFault) =
+    ForWhole left taken (λ input. IsFrontOf sent (whole input).written)
 -- Want of memory: some first lines are answered.
 Settles {P} lines whole next left taken sent (Err Memory) =
-    (front : List ℕ) × IsFrontOf front taken × (after : P) × (lines (lines_of front) ≡ told sent (Ok after))
+    (front : List ℕ) × IsFrontOf front taken × (after : P)
+    × (lines (lines_of front) ≡ told sent (Ok after))
 -- Else the run stops so.
 Settles lines whole next left taken sent (Err (BadLine number)) =
     ForWhole left taken (λ input. whole input ≡ told sent (Err (BadLine number)))
 Settles lines whole next left taken sent (Err (LineLong number)) =
     ForWhole left taken (λ input. whole input ≡ told sent (Err (LineLong number)))
-Settles lines whole next left taken sent (Err TooMuch) = ForWhole left taken (λ input. whole input ≡ told sent (Err TooMuch))
+Settles lines whole next left taken sent (Err TooMuch) =
+    ForWhole left taken (λ input. whole input ≡ told sent (Err TooMuch))
 
--- A count of faults rose exactly where it is to blame for the answer, and then by exactly one: no call follows one that failed.
+-- A count of faults rose exactly where it is to blame for the answer, and then by exactly one: no
+-- call follows one that failed.
 abbrev pub IsBlamed : Bool → ℕ → ℕ → Type 0
 IsBlamed true before now = Rose before now
 IsBlamed false before now = now ≡ before
@@ -74,10 +81,12 @@ IsUnrefused (Err (LineLong number)) = ⊥
 IsUnrefused (Err TooMuch) = ⊥
 
 -- A call took these bytes of the input and wrote those, and its answer fits.
-pub record Plays {P T : Type 0} (answer : P → List ℕ → Result (List ℕ × P) Refused) (closing : P → Option (List ℕ)) (player next : P)
+pub record Plays {P T : Type 0} (answer : P → List ℕ → Result (List ℕ × P) Refused)
+    (closing : P → Option (List ℕ)) (player next : P)
     (left left' received received' : Option (List ℕ)) (result : Result T ReplayFault) : Type 0 where
   pub taken : List ℕ
   pub sent : List ℕ
   pub consumed : Consumes left left' taken
   pub appended : Appends received received' sent
-  pub settled : Settles (run answer 1 player) (run_of answer closing player) next left' taken sent result
+  pub settled : Settles (run answer 1 player) (run_of answer closing player) next left' taken sent
+      result

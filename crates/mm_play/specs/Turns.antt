@@ -1,5 +1,5 @@
--- What one turn does: it reads a line and has it answered, or meets the end of the input. Replies that are not sent yet
--- are pending.
+-- What one turn does: it reads a line and has it answered, or meets the end of the input. Replies
+-- that are not sent yet are pending.
 use Rattle.std.specs.Prelude.{◌≡◌, ℕ, ◌≤◌, List, [], ◌∷◌, ◌++◌, length, Option, Some, None, Result, Ok, Err, OnOk, OnErr, Bool, true, false, ◌⊎◌}
 use Rattle.std.specs.Io.KnownBytes.{Appends, Consumes, IsAtEnd}
 use Rattle.mm_base.specs.Input.{IsUnbroken}
@@ -14,20 +14,26 @@ use Rattle.mm_play.specs.Takes.{IsFrontOf}
 use Rattle.mm_play.specs.Plays.{ForWhole}
 
 -- A player answered a line, the turn's, or didn't: by what is pending before it and behind it.
-abbrev pub Answers : {P : Type 0} → ℕ → Result (List ℕ × P) Refused → P → List ℕ → List ℕ → Result Bool ReplayFault → Type 0
-Answers number answer next old new (Ok goes_on) = (goes_on ≡ true) × (reply : List ℕ) × (answer ≡ Ok (reply, next)) × (new ≡ old ++ reply)
+abbrev pub Answers : {P : Type 0} → ℕ → Result (List ℕ × P) Refused → P → List ℕ → List ℕ
+    → Result Bool ReplayFault → Type 0
+Answers number answer next old new (Ok goes_on) =
+    (goes_on ≡ true) × (reply : List ℕ) × (answer ≡ Ok (reply, next)) × (new ≡ old ++ reply)
 Answers number answer next old new (Err Memory) = new ≡ old
 Answers number answer next old new (Err ReadFault) = ⊥
 Answers number answer next old new (Err WriteFault) = ⊥
 Answers number answer next old new (Err (LineLong line)) = ⊥
-Answers number answer next old new (Err (BadLine line)) = (new ≡ old) × (why : Refused) × (answer ≡ Err why)
+Answers number answer next old new (Err (BadLine line)) =
+    (new ≡ old) × (why : Refused) × (answer ≡ Err why)
     × (refusal_at number why ≡ BadLine line)
-Answers number answer next old new (Err TooMuch) = (new ≡ old) × (why : Refused) × (answer ≡ Err why) × (refusal_at number why ≡ TooMuch)
+Answers number answer next old new (Err TooMuch) =
+    (new ≡ old) × (why : Refused) × (answer ≡ Err why) × (refusal_at number why ≡ TooMuch)
 
 -- A player met the end of the input, with these last lines, if it may end here.
 abbrev pub EndsInput : ℕ → Option (List ℕ) → List ℕ → List ℕ → Result Bool ReplayFault → Type 0
-EndsInput number closing old new (Ok goes_on) = (goes_on ≡ false) × (last : List ℕ) × (closing ≡ Some last) × (new ≡ old ++ last)
-EndsInput number closing old new (Err (BadLine line)) = (new ≡ old) × (closing ≡ None) × (line ≡ number)
+EndsInput number closing old new (Ok goes_on) =
+    (goes_on ≡ false) × (last : List ℕ) × (closing ≡ Some last) × (new ≡ old ++ last)
+EndsInput number closing old new (Err (BadLine line)) =
+    (new ≡ old) × (closing ≡ None) × (line ≡ number)
 EndsInput number closing old new (Err Memory) = new ≡ old
 EndsInput number closing old new (Err WriteFault) = ⊥
 EndsInput number closing old new (Err ReadFault) = ⊥
@@ -35,7 +41,8 @@ EndsInput number closing old new (Err (LineLong line)) = ⊥
 EndsInput number closing old new (Err TooMuch) = ⊥
 
 -- A line of this number was read and answered, and its reply stands behind what was pending.
-pub record AnswersLine {P : Type 0} (answer : P → List ℕ → Result (List ℕ × P) Refused) (number : ℕ) (player next : P)
+pub record AnswersLine {P : Type 0} (answer : P → List ℕ → Result (List ℕ × P) Refused) (number : ℕ)
+    (player next : P)
     (bytes held pending said : List ℕ) : Type 0 where
   pub line : List ℕ
   pub reply : List ℕ
@@ -45,33 +52,41 @@ pub record AnswersLine {P : Type 0} (answer : P → List ℕ → Result (List �
   pub answered : answer player line ≡ Ok (reply, next)
   pub said_behind : said ≡ pending ++ reply
 
--- By the answer: `bytes` are those held before and those taken, `held` those held after, and `rest` is the run over the
--- input that begins with `bytes`; `pending` is what was pending, and `said` what was sent of it and of the turn's
--- replies, and what is pending still.
-abbrev pub PlayedOn : {P : Type 0} → (P → List ℕ → Result (List ℕ × P) Refused) → (List ℕ → Told P) → ℕ → P → P → Option (List ℕ) → List ℕ
+-- By the answer: `bytes` are those held before and those taken, `held` those held after, and `rest`
+-- is the run over the input that begins with `bytes`; `pending` is what was pending, and `said`
+-- what was sent of it and of the turn's replies, and what is pending still.
+abbrev pub PlayedOn : {P : Type 0} → (P → List ℕ → Result (List ℕ × P) Refused) → (List ℕ → Told P)
+    → ℕ → P → P → Option (List ℕ) → List ℕ
     → List ℕ → List ℕ → List ℕ → Result Bool ReplayFault → Type 0
 PlayedOn answer rest number player next left bytes held pending said (Ok true) =
     AnswersLine answer number player next bytes held pending said
 PlayedOn answer rest number player next left bytes held pending said (Ok false) =
     IsAtEnd left × (last : List ℕ) × (rest bytes ≡ told last (Ok next)) × (said ≡ pending ++ last)
-PlayedOn answer rest number player next left bytes held pending said (Err ReadFault) = (said ≡ pending) × MayGrow longest_line bytes
+PlayedOn answer rest number player next left bytes held pending said (Err ReadFault) =
+    (said ≡ pending) × MayGrow longest_line bytes
 PlayedOn answer rest number player next left bytes held pending said (Err WriteFault) =
     ForWhole left bytes (λ input. IsFrontOf said (pending ++ (rest input).written))
 PlayedOn answer rest number player next left bytes held pending said (Err Memory) = said ≡ pending
-PlayedOn answer rest number player next left bytes held pending said (Err (BadLine line)) = (said ≡ pending)
+PlayedOn answer rest number player next left bytes held pending said (Err (BadLine line)) =
+    (said ≡ pending)
     × ForWhole left bytes (λ input. rest input ≡ stopped (BadLine line))
-PlayedOn answer rest number player next left bytes held pending said (Err (LineLong line)) = (said ≡ pending)
+PlayedOn answer rest number player next left bytes held pending said (Err (LineLong line)) =
+    (said ≡ pending)
     × ForWhole left bytes (λ input. rest input ≡ stopped (LineLong line))
-PlayedOn answer rest number player next left bytes held pending said (Err TooMuch) = (said ≡ pending)
+PlayedOn answer rest number player next left bytes held pending said (Err TooMuch) =
+    (said ≡ pending)
     × ForWhole left bytes (λ input. rest input ≡ stopped TooMuch)
 
 -- A line was read and answered, or not, and nothing was sent.
-pub record Advances {P : Type 0} (answer : P → List ℕ → Result (List ℕ × P) Refused) (closing : P → Option (List ℕ)) (number : ℕ)
+pub record Advances {P : Type 0} (answer : P → List ℕ → Result (List ℕ × P) Refused)
+    (closing : P → Option (List ℕ)) (number : ℕ)
     (player next : P)
-    (left left' : Option (List ℕ)) (held held' pending pending' : List ℕ) (result : Result Bool ReplayFault) : Type 0 where
+    (left left' : Option (List ℕ)) (held held' pending pending' : List ℕ)
+    (result : Result Bool ReplayFault) : Type 0 where
   pub taken : List ℕ
   pub consumed : Consumes left left' taken
-  pub went : PlayedOn answer (run_from answer closing number player) number player next left' (held ++ taken) held' pending pending' result
+  pub went : PlayedOn answer (run_from answer closing number player) number player next left'
+      (held ++ taken) held' pending pending' result
 
 -- What was pending was sent, or is pending still; where the sink failed, a front of it was sent.
 pub record SendsDue (received received' : Option (List ℕ)) (pending pending' : List ℕ)
@@ -83,8 +98,10 @@ pub record SendsDue (received received' : Option (List ℕ)) (pending pending' :
   pub kept : OnOk result (unsent ≡ pending')
   pub lost : OnErr result (pending' ≡ [])
 
--- What was pending was sent, and the answer is what came before; or a front of it was sent, and the sink failed.
-pub record SendsThen (came : Result Bool ReplayFault) (received received' : Option (List ℕ)) (pending : List ℕ)
+-- What was pending was sent, and the answer is what came before; or a front of it was sent, and the
+-- sink failed.
+pub record SendsThen (came : Result Bool ReplayFault) (received received' : Option (List ℕ))
+    (pending : List ℕ)
     (result : Result Bool ReplayFault) : Type 0 where
   pub sent : List ℕ
   pub unsent : List ℕ
@@ -98,15 +115,18 @@ IsSent pending (Ok true) = Unit {0}
 IsSent pending (Ok false) = pending ≡ []
 IsSent pending (Err fault) = pending ≡ []
 
-pub record PlaysNext {P : Type 0} (answer : P → List ℕ → Result (List ℕ × P) Refused) (closing : P → Option (List ℕ)) (number : ℕ)
+pub record PlaysNext {P : Type 0} (answer : P → List ℕ → Result (List ℕ × P) Refused)
+    (closing : P → Option (List ℕ)) (number : ℕ)
     (player next : P)
-    (left left' : Option (List ℕ)) (held held' : List ℕ) (received received' : Option (List ℕ)) (pending pending' : List ℕ)
+    (left left' : Option (List ℕ)) (held held' : List ℕ) (received received' : Option (List ℕ))
+    (pending pending' : List ℕ)
     (result : Result Bool ReplayFault) : Type 0 where
   pub taken : List ℕ
   pub sent : List ℕ
   pub consumed : Consumes left left' taken
   pub appended : Appends received received' sent
-  pub went : PlayedOn answer (run_from answer closing number player) number player next left' (held ++ taken) held' pending
+  pub went : PlayedOn answer (run_from answer closing number player) number player next left'
+      (held ++ taken) held' pending
       (sent ++ pending')
       result
   pub is_sent : IsSent pending' result

@@ -17,7 +17,8 @@ use Rattle.mm_call.specs.Levels.{by_digests}
 use Rattle.mm_run.specs.Folds.{Followed, followed}
 use Rattle.mm_run.specs.Held.{world_of}
 use Rattle.mm_replay.specs.Schedule.{Running, most_kept, is_too_much, running_outcome, after_event, ReplayStage, InEvents, event_answer, schedule_answer}
-use Rattle.mm_replay.specs.Text.{text_of_replies, texts_of}
+use Rattle.mm_replay.specs.Text.{texts_of}
+use Rattle.mm_replay.specs.TextWords.{text_of_replies}
 
 abbrev pub followed_in : Running → List Event → Followed Digests
 followed_in r events = followed (world_of r.header) (by_digests (world_of r.header)) r.digests r.issued events
@@ -51,7 +52,8 @@ pub over_of : (r : Running) (line : List ℕ) → is_too_much r line ≡ true
     → (most_events ≤ r.events) ⊎ (most_kept < r.read + length line + sum_by length r.issued)
 over_of r line h = by_first (nat_le most_events r.events) refl h
   where
-    by_first : (many : Bool) → nat_le most_events r.events ≡ many → (many || nat_lt most_kept (r.read + length line + sum_by length r.issued)) ≡ true
+    by_first : (many : Bool) → nat_le most_events r.events ≡ many
+        → (many || nat_lt most_kept (r.read + length line + sum_by length r.issued)) ≡ true
         → (most_events ≤ r.events) ⊎ (most_kept < r.read + length line + sum_by length r.issued)
     by_first true is h = inl (grind (arith, nat_tests))
     by_first false is h = inr (grind (arith, nat_tests))
@@ -60,7 +62,8 @@ not_over : (r : Running) (line : List ℕ) → is_too_much r line ≡ false
     → (most_events ≤ r.events) ⊎ (most_kept < r.read + length line + sum_by length r.issued) → ⊥
 not_over r line h over = by_first (nat_le most_events r.events) refl h
   where
-    by_first : (many : Bool) → nat_le most_events r.events ≡ many → (many || nat_lt most_kept (r.read + length line + sum_by length r.issued)) ≡ false → ⊥
+    by_first : (many : Bool) → nat_le most_events r.events ≡ many
+        → (many || nat_lt most_kept (r.read + length line + sum_by length r.issued)) ≡ false → ⊥
     by_first true is h = cc
     by_first false is h = elim over [ inl few ↦ grind (arith, nat_tests) | inr few ↦ grind (arith, nat_tests) ]
 
@@ -92,19 +95,24 @@ same_event : (a b : Event) → Some a ≡ Some b → a ≡ b
 same_event a b h = cc
 
 -- the first line was not one too many, and none behind it
-within_more : (r : Running) (line : List ℕ) (lines : List (List ℕ)) (event : Event) → event_at line ≡ Some event → is_too_much r line ≡ false
+within_more : (r : Running) (line : List ℕ) (lines : List (List ℕ)) (event : Event) → event_at line ≡ Some event
+    → is_too_much r line ≡ false
     → IsWithinFrom (after_event r line event) lines → IsWithinFrom r (line ∷ lines)
 within_more r line lines event is few on [] l after [] split read over =
-    not_over r line few (subst (λ (x : List ℕ). (most_events ≤ r.events) ⊎ (most_kept < r.read + length x + sum_by length r.issued)) (sym (same_head line l lines after split))
+    not_over r line few (subst (λ (x : List ℕ). (most_events ≤ r.events) ⊎ (most_kept < r.read + length x + sum_by length r.issued))
+    (sym (same_head line l lines after split))
     (elim over [ inl h ↦ inl (omega (arith, h)) | inr h ↦ inr (omega (arith, h)) ]))
 within_more r line lines event is few on [] l after (e ∷ events) split read over = cc
 within_more r line lines event is few on (first ∷ before) l after [] split read over = cc
 within_more r line lines event is few on (first ∷ before) l after (e ∷ events) split read over =
     let head : line ≡ first = same_head line first lines (before ++ l ∷ after) split in
-    let same : e ≡ event = same_event e event (sym (event_head (event_at first) (Some e) (map event_at before) (map Some events) read) ∙ ap event_at (sym head) ∙ is) in
+    let same : e ≡ event = same_event e event (sym (event_head (event_at first) (Some e) (map event_at before) (map Some events) read)
+    ∙ ap event_at (sym head) ∙ is) in
     let next = after_event r line event in
-    let issued : (followed_in r (e ∷ events)).issued ≡ (followed_in next events).issued = ap (λ (x : Event). (followed_in r (x ∷ events)).issued) same in
-    let sums : sum_by length (first ∷ before) ≡ length line + sum_by length before = sums_more first before ∙ ap (λ (x : List ℕ). length x + sum_by length before) (sym head) in
+    let issued : (followed_in r (e ∷ events)).issued ≡ (followed_in next events).issued = ap
+    (λ (x : Event). (followed_in r (x ∷ events)).issued) same in
+    let sums : sum_by length (first ∷ before) ≡ length line + sum_by length before = sums_more first before
+    ∙ ap (λ (x : List ℕ). length x + sum_by length before) (sym head) in
     on before l after events (same_tail line first lines (before ++ l ∷ after) split)
     (event_tail (event_at first) (Some e) (map event_at before) (map Some events) read)
     (elim over [
@@ -121,7 +129,8 @@ written_of t u h = ap (λ (x : Told ReplayStage). x.written) h
 outcome_is : (t u : Told ReplayStage) → t ≡ u → t.outcome ≡ u.outcome
 outcome_is t u h = ap (λ (x : Told ReplayStage). x.outcome) h
 
-told_both : (t : Told ReplayStage) (written : List ℕ) (outcome : Result ReplayStage ReplayFault) → t.written ≡ written → t.outcome ≡ outcome → t ≡ told written outcome
+told_both : (t : Told ReplayStage) (written : List ℕ) (outcome : Result ReplayStage ReplayFault) → t.written ≡ written → t.outcome ≡ outcome
+    → t ≡ told written outcome
 told_both t written outcome w o = λ i. told (w i) (o i)
 
 -- one more line was answered in front
@@ -145,14 +154,16 @@ answers_more r line lines event written p is few a = record {
 -- what comes behind the line's event
 abbrev Onward : (List ℕ → Option Header) → Running → List ℕ → List (List ℕ) → ℕ → Type 0
 Onward heading r line lines number =
-    (event : Event) (written : List ℕ) (p : ReplayStage) → rest_of heading lines number (InEvents (after_event r line event)) ≡ told written (Ok p)
+    (event : Event) (written : List ℕ) (p : ReplayStage)
+    → rest_of heading lines number (InEvents (after_event r line event)) ≡ told written (Ok p)
     → AnswersFrom (after_event r line event) lines written p
 
 not_stopped : (why : ReplayFault) (written : List ℕ) (p : ReplayStage) → stopped why ≡ told written (Ok p) → ⊥
 not_stopped why written p h = not_ok why p (outcome_is (stopped why) (told written (Ok p)) h)
 
 -- by whether the event is one too many
-answers_event : (heading : List ℕ → Option Header) (r : Running) (line : List ℕ) (lines : List (List ℕ)) (number : ℕ) (event : Event) (written : List ℕ) (p : ReplayStage) (much : Bool)
+answers_event : (heading : List ℕ → Option Header) (r : Running) (line : List ℕ) (lines : List (List ℕ)) (number : ℕ) (event : Event)
+    (written : List ℕ) (p : ReplayStage) (much : Bool)
     → is_too_much r line ≡ much → event_at line ≡ Some event → Onward heading r line lines number
     → answered (rest_of heading lines number) number
     (cond much (Err Much) (Ok (text_of_replies (running_outcome r event).reply, InEvents (after_event r line event)))) ≡ told written (Ok p)
@@ -166,7 +177,8 @@ answers_event heading r line lines number event written p false full is on h =
     (answers_more r line lines event t.written p is full (on event t.written p went))
 
 -- by what event the line is
-answers_found : (heading : List ℕ → Option Header) (r : Running) (line : List ℕ) (lines : List (List ℕ)) (number : ℕ) (written : List ℕ) (p : ReplayStage) (found : Option Event)
+answers_found : (heading : List ℕ → Option Header) (r : Running) (line : List ℕ) (lines : List (List ℕ)) (number : ℕ) (written : List ℕ)
+    (p : ReplayStage) (found : Option Event)
     → event_at line ≡ found → Onward heading r line lines number
     → answered (rest_of heading lines number) number (event_answer r line found) ≡ told written (Ok p)
     → AnswersFrom r (line ∷ lines) written p
@@ -175,14 +187,18 @@ answers_found heading r line lines number written p (Some event) is on h =
     answers_event heading r line lines number event written p (is_too_much r line) refl is on h
 
 -- by whether the line is too long
-answers_line : (heading : List ℕ → Option Header) (r : Running) (line : List ℕ) (lines : List (List ℕ)) (number : ℕ) (written : List ℕ) (p : ReplayStage) (long : Bool)
+answers_line : (heading : List ℕ → Option Header) (r : Running) (line : List ℕ) (lines : List (List ℕ)) (number : ℕ) (written : List ℕ)
+    (p : ReplayStage) (long : Bool)
     → Onward heading r line lines number
-    → cond long (stopped (LineLong number)) (answered (rest_of heading lines number) number (event_answer r line (event_at line))) ≡ told written (Ok p)
+    → cond long (stopped (LineLong number)) (answered (rest_of heading lines number) number (event_answer r line (event_at line))) ≡ told
+    written (Ok p)
     → AnswersFrom r (line ∷ lines) written p
 answers_line heading r line lines number written p true on h = absurd (not_stopped (LineLong number) written p h)
-answers_line heading r line lines number written p false on h = answers_found heading r line lines number written p (event_at line) refl on h
+answers_line heading r line lines number written p false on h =
+    answers_found heading r line lines number written p (event_at line) refl on h
 
-pub answers_from : (heading : List ℕ → Option Header) (lines : List (List ℕ)) (number : ℕ) (r : Running) (written : List ℕ) (p : ReplayStage)
+pub answers_from : (heading : List ℕ → Option Header) (lines : List (List ℕ)) (number : ℕ) (r : Running) (written : List ℕ)
+    (p : ReplayStage)
     → run (schedule_answer heading) number (InEvents r) lines ≡ told written (Ok p) → AnswersFrom r lines written p
 answers_from heading [] number r written p h = record {
   events = [];

@@ -37,17 +37,20 @@ pub record Leaves (old new : Held) (event : Event) : Type 0 where
   pub fits : new.digests.count ≤ old.digests.count + most_members
   pub issues : Issues old.issued new.issued
 
-pub leaves : (old new : Held) (event : Event) (said : Reply) → old.digests.count < 2 ^ 63 → (held.outcome_in old event).state.count ≤ old.digests.count + most_members
+pub leaves : (old new : Held) (event : Event) (said : Reply) → old.digests.count < 2 ^ 63
+    → (held.outcome_in old event).state.count ≤ old.digests.count + most_members
     → Follows (held.outcome_in old event) old new said → Leaves old new event
 leaves old new event said few more f =
-    let same : within_bits (held.outcome_in old event).state ≡ (held.outcome_in old event).state = within-small (held.outcome_in old event).state (omega (arith, few, more)) in
+    let same : within_bits (held.outcome_in old event).state ≡ (held.outcome_in old event).state = within-small
+    (held.outcome_in old event).state (omega (arith, few, more)) in
     let is = f.digests ∙ same in
     record {
       header = f.header;
       digests = is;
       issued = f.issued;
       fits = subst (λ (d : Digests). d.count ≤ old.digests.count + most_members) (sym is) more;
-      issues = subst (λ (s : List (List ℕ)). Issues old.issued s) (sym f.issued) (outcome_issues (instance_of old) old.digests old.issued event);
+      issues =
+          subst (λ (s : List (List ℕ)). Issues old.issued s) (sym f.issued) (outcome_issues (instance_of old) old.digests old.issued event);
     }
 
 -- what an event leaves where memory was wanting
@@ -76,7 +79,14 @@ stays (Extend value) old new e = same_stays old new e
 
 -- what stands after it
 pub stands_after : (old new : Held) (event : Event) (line : List ℕ) (events read : ℕ) → Leaves old new event
-    → (let now : Running = record { header = new.header; digests = new.digests; issued = new.issued; events = events + 1; read = read + length line } in
+    → (let now : Running = record {
+      header = new.header;
+      digests = new.digests;
+      issued = new.issued;
+      events = events + 1;
+      read = read +
+          length line;
+    } in
     let before : Running = record { header = old.header; digests = old.digests; issued = old.issued; events = events; read = read } in
     now ≡ after_event before line event)
 stands_after old new event line events read l =
@@ -101,13 +111,16 @@ counted_on old new count n added w len some none is = elim w [
     by_none : new ≡ old → count + added ≡ sum_by length new
     by_none same =
         let at : slice_get new n ≡ None =
-        ap (slice_get new) len ∙ ap (λ (s : List (List ℕ)). slice_get s (length old)) same ∙ slice_get_past old (length old) (omega arith) in
+        ap (slice_get new) len ∙ ap (λ (s : List (List ℕ)). slice_get s (length old)) same
+        ∙ slice_get_past old (length old) (omega arith) in
         let sums : sum_by length new ≡ sum_by length old = ap (sum_by length) same in
         omega (arith, none at, is, sums)
 
     by_more : (x : List ℕ) → new ≡ old ++ x ∷ [] → count + added ≡ sum_by length new
     by_more x same =
-        let at : slice_get new n ≡ Some x = ap (slice_get new) len ∙ ap (λ (s : List (List ℕ)). slice_get s (length old)) same ∙ last_of old x in
+        let at : slice_get new n ≡ Some x = ap (slice_get new) len ∙ ap (λ (s : List (List ℕ)). slice_get s (length old)) same
+        ∙ last_of old x in
         let one : sum_by length (x ∷ []) ≡ length x = omega arith in
-        let sums : sum_by length new ≡ sum_by length old + sum_by length (x ∷ []) = ap (sum_by length) same ∙ sum_by-append length old (x ∷ []) in
+        let sums : sum_by length new ≡ sum_by length old + sum_by length (x ∷ []) = ap (sum_by length) same
+        ∙ sum_by-append length old (x ∷ []) in
         omega (arith, some x at, is, sums, one)

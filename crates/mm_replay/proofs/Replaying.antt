@@ -17,12 +17,14 @@ lines_run lines = run (schedule_answer header_at) 1 AtHeader lines
 abbrev whole_run : List ℕ → Told ReplayStage
 whole_run input = run_of (schedule_answer header_at) schedule_closing AtHeader input
 
-pub replays_ok : (law : BasicIsExpected × OptIsExpected) (runs : ExpectedRuns) (first : ReplayStage) → first ≡ AtHeader → (left left' received received' : Option (List ℕ)) (next : ReplayStage) (report : Report)
+pub replays_ok : (law : BasicIsExpected × OptIsExpected) (runs : ExpectedRuns) (first : ReplayStage) → first ≡ AtHeader
+    → (left left' received received' : Option (List ℕ)) (next : ReplayStage) (report : Report)
     (result : Result (Unit {0}) ReplayFault) (done : Unit {0})
     → Plays (schedule_answer header_at) schedule_closing first next left left' received received' result → result ≡ Ok done
     → Reports next report → Replays left left' received received' (Ok report)
 replays_ok law runs first is_first left left' received received' next report result done played is reported =
-    let p = subst (λ (it : ReplayStage). Plays (schedule_answer header_at) schedule_closing it next left left' received received' result) is_first played in
+    let p = subst (λ (it : ReplayStage). Plays (schedule_answer header_at) schedule_closing it next left left' received received' result)
+    is_first played in
     let s = subst (λ (r : Result (Unit {0}) ReplayFault). Settles lines_run whole_run next left' p.taken p.sent r) is p.settled in
     let answer : Result Report ReplayFault = Ok report in
     record {
@@ -36,12 +38,14 @@ replays_ok law runs first is_first left left' received received' next report res
       reported = reported;
     }
 
-pub replays_err : (law : BasicIsExpected × OptIsExpected) (runs : ExpectedRuns) (first : ReplayStage) → first ≡ AtHeader → (left left' received received' : Option (List ℕ)) (next : ReplayStage)
+pub replays_err : (law : BasicIsExpected × OptIsExpected) (runs : ExpectedRuns) (first : ReplayStage) → first ≡ AtHeader
+    → (left left' received received' : Option (List ℕ)) (next : ReplayStage)
     (result : Result (Unit {0}) ReplayFault) (fault : ReplayFault)
     → Plays (schedule_answer header_at) schedule_closing first next left left' received received' result → result ≡ Err fault
     → Replays left left' received received' (Err fault)
 replays_err law runs first is_first left left' received received' next result fault played is =
-    let p = subst (λ (it : ReplayStage). Plays (schedule_answer header_at) schedule_closing it next left left' received received' result) is_first played in
+    let p = subst (λ (it : ReplayStage). Plays (schedule_answer header_at) schedule_closing it next left left' received received' result)
+    is_first played in
     let s = subst (λ (r : Result (Unit {0}) ReplayFault). Settles lines_run whole_run next left' p.taken p.sent r) is p.settled in
     let answer : Result Report ReplayFault = Err fault in
     let t = settles_err (Unit {0}) Report lines_run whole_run next left' p.taken p.sent fault s in
@@ -57,7 +61,9 @@ replays_err law runs first is_first left left' received received' next result fa
     }
 
 -- a schedule within the grammar and the limits is not refused
-pub unrefused : (left left' received received' : Option (List ℕ)) (result : Result Report ReplayFault) → Replays left left' received received' result
-    → (bytes : List ℕ) (end : ReplayStage) → left ≡ Some bytes → (run_of (schedule_answer header_at) schedule_closing AtHeader bytes).outcome ≡ Ok end → IsUnrefused result
+pub unrefused : (left left' received received' : Option (List ℕ)) (result : Result Report ReplayFault)
+    → Replays left left' received received' result
+    → (bytes : List ℕ) (end : ReplayStage) → left ≡ Some bytes
+    → (run_of (schedule_answer header_at) schedule_closing AtHeader bytes).outcome ≡ Ok end → IsUnrefused result
 unrefused left left' received received' result r bytes end is ran =
     completed lines_run whole_run r.next left left' r.taken r.sent result r.consumed r.settled bytes end is ran

@@ -23,12 +23,14 @@ use Rattle.mm_schedule.specs.Machine.{Runs}
 use Rattle.mm_schedule.specs.Replies.{end_line}
 use Rattle.mm_schedule.proofs.PromiseLaws.{promises-kept}
 use Rattle.mm_run.specs.Folds.{expected, replies_by_digests}
-use Rattle.mm_run.specs.Held.{world_key, world_barrier, world_of}
+use Rattle.mm_run.specs.Held.{world_of}
+use Rattle.mm_run.specs.HeldWords.{world_key, world_barrier}
 use Rattle.mm_run.specs.Premises.{IsClearRun, IsGenuineRun}
 use Rattle.mm_run.specs.Laws.{AgreesThroughout, BasicIsExpected, OptIsExpected, ExpectedRuns}
 use Rattle.mm_call.specs.Standing.{instance_by}
 use Rattle.mm_replay.specs.Schedule.{Running, begun, is_too_much, running_outcome, after_event, ReplayStage, AtHeader, InEvents, event_answer, header_answer, schedule_answer, schedule_closing}
-use Rattle.mm_replay.specs.Text.{text_of_replies, texts_of}
+use Rattle.mm_replay.specs.Text.{texts_of}
+use Rattle.mm_replay.specs.TextWords.{text_of_replies}
 use Rattle.mm_replay.specs.Headline.{IsContinuous, IsWithinLimits, AnswersEvents, AnswersLines, AnswersAll, IsTooMuch, IsOut, unended}
 use Rattle.mm_replay.proofs.Answering.{AnswersFrom, answers_from, over_of}
 
@@ -49,7 +51,8 @@ continuous law runs header events = λ clear genuine.
     let a = agrees law header.variant (meaning_of header.«module») events clear genuine in
     let requests = requests_of (expected (world_of header) events).state.batches in
     let told = subst (λ rs. Runs (world_of header).meaning [] events rs requests) (sym a.replies) (runs (world_of header) events) in
-    let ran = subst (λ m. Runs m [] events (replies_by_digests (world_of header) events).replies requests) (meaning_is header.variant (meaning_of header.«module»)) told in
+    let ran = subst (λ m. Runs m [] events (replies_by_digests (world_of header) events).replies requests)
+    (meaning_is header.variant (meaning_of header.«module»)) told in
     record {
       requests = requests;
       runs = ran;
@@ -75,7 +78,8 @@ Headed heading lines written p = ((lines ≡ []) × (written ≡ []) × (p ≡ A
 outcome_is : (t u : Told ReplayStage) → t ≡ u → t.outcome ≡ u.outcome
 outcome_is t u h = ap (λ (x : Told ReplayStage). x.outcome) h
 
-headed_found : (heading : List ℕ → Option Header) (first : List ℕ) (others : List (List ℕ)) (written : List ℕ) (p : ReplayStage) (found : Option Header) → heading first ≡ found
+headed_found : (heading : List ℕ → Option Header) (first : List ℕ) (others : List (List ℕ)) (written : List ℕ) (p : ReplayStage)
+    (found : Option Header) → heading first ≡ found
     → answered (λ next. run (schedule_answer heading) (1 + 1) next others) 1 (header_answer found) ≡ told written (Ok p)
     → Headed heading (first ∷ others) written p
 headed_found heading first others written p None is h =
@@ -89,8 +93,10 @@ headed_found heading first others written p (Some header) is h = inr (record {
   answers = answers_from heading others (1 + 1) (begun header) written p h;
 })
 
-headed_line : (heading : List ℕ → Option Header) (first : List ℕ) (others : List (List ℕ)) (written : List ℕ) (p : ReplayStage) (long : Bool)
-    → cond long (stopped (LineLong 1)) (answered (λ next. run (schedule_answer heading) (1 + 1) next others) 1 (header_answer (heading first))) ≡ told written (Ok p)
+headed_line : (heading : List ℕ → Option Header) (first : List ℕ) (others : List (List ℕ)) (written : List ℕ) (p : ReplayStage)
+    (long : Bool)
+    → cond long (stopped (LineLong 1))
+    (answered (λ next. run (schedule_answer heading) (1 + 1) next others) 1 (header_answer (heading first))) ≡ told written (Ok p)
     → Headed heading (first ∷ others) written p
 headed_line heading first others written p true h =
     absurd (not_ok (LineLong 1) p (outcome_is (stopped (LineLong 1)) (told written (Ok p)) h))
@@ -106,12 +112,14 @@ headed heading [] written p h = inl (
 headed heading (first ∷ others) written p h = headed_line heading first others written p (nat_lt longest_line (length first)) h
 
 -- the limits, from the header on
-within_limits : (header : Header) (others : List (List ℕ)) (written : List ℕ) (p : ReplayStage) → AnswersFrom (begun header) others written p → IsWithinLimits header others
+within_limits : (header : Header) (others : List (List ℕ)) (written : List ℕ) (p : ReplayStage)
+    → AnswersFrom (begun header) others written p → IsWithinLimits header others
 within_limits header others written p a before line after events split read over =
     a.within before line after events split read (elim over [ inl h ↦ inl (omega (arith, h)) | inr h ↦ inr (omega (arith, h)) ])
 
 -- these lines were answered: what was written, and what any last line adds
-answers_events : (law : BasicIsExpected × OptIsExpected) (runs : ExpectedRuns) (heading : List ℕ → Option Header) (lines : List (List ℕ)) (said written : List ℕ) (p : ReplayStage) (last : ℕ → ℕ → List ℕ)
+answers_events : (law : BasicIsExpected × OptIsExpected) (runs : ExpectedRuns) (heading : List ℕ → Option Header) (lines : List (List ℕ))
+    (said written : List ℕ) (p : ReplayStage) (last : ℕ → ℕ → List ℕ)
     (h : HeadedFrom heading lines said p)
     → written ≡ said ++ last h.answers.last.digests.count (length h.answers.last.issued)
     → AnswersEvents heading lines written last
@@ -128,12 +136,14 @@ answers_events law runs heading lines said written p last h whole =
       read = a.read;
       told = whole ∙ ap (λ (w : List ℕ). w ++ last a.last.digests.count (length a.last.issued)) a.sent
           ∙ ap (λ (n : List ℕ). texts_of r.replies ++ n)
-          (ap (λ (n : ℕ). last n (length a.last.issued)) (ap (λ d. d.count) a.state) ∙ ap (λ (ss : List (List ℕ)). last r.state.count (length ss)) a.issued);
+          (ap (λ (n : ℕ). last n (length a.last.issued)) (ap (λ d. d.count) a.state)
+          ∙ ap (λ (ss : List (List ℕ)). last r.state.count (length ss)) a.issued);
       within = within_limits h.header h.others said p a;
       headline = continuous law runs h.header a.events;
     }
 
-answers_lines : (law : BasicIsExpected × OptIsExpected) (runs : ExpectedRuns) (heading : List ℕ → Option Header) (lines : List (List ℕ)) (written : List ℕ)
+answers_lines : (law : BasicIsExpected × OptIsExpected) (runs : ExpectedRuns) (heading : List ℕ → Option Header) (lines : List (List ℕ))
+    (written : List ℕ)
     → Answered (schedule_answer heading) AtHeader lines written → AnswersLines heading lines written
 answers_lines law runs heading lines written a = elim (headed heading lines written a.0 a.1) [
   | inl none ↦ inl (none.0, none.1)
@@ -145,13 +155,15 @@ closes_none : (p : ReplayStage) (last : List ℕ) → p ≡ AtHeader → schedul
 closes_none AtHeader last is h = cc
 closes_none (InEvents r) last is h = cc
 
-closes_with : (r : Running) (p : ReplayStage) (last : List ℕ) → p ≡ InEvents r → schedule_closing p ≡ Some last → last ≡ end_line r.digests.count (length r.issued)
+closes_with : (r : Running) (p : ReplayStage) (last : List ℕ) → p ≡ InEvents r → schedule_closing p ≡ Some last
+    → last ≡ end_line r.digests.count (length r.issued)
 closes_with r p last is h = some_same (sym h ∙ ap schedule_closing is)
   where
     some_same : Some last ≡ Some (end_line r.digests.count (length r.issued)) → last ≡ end_line r.digests.count (length r.issued)
     some_same e = cc
 
-answers_all : (law : BasicIsExpected × OptIsExpected) (runs : ExpectedRuns) (heading : List ℕ → Option Header) (lines : List (List ℕ)) (written : List ℕ)
+answers_all : (law : BasicIsExpected × OptIsExpected) (runs : ExpectedRuns) (heading : List ℕ → Option Header) (lines : List (List ℕ))
+    (written : List ℕ)
     → Finished (schedule_answer heading) schedule_closing AtHeader lines written → AnswersAll heading lines written
 answers_all law runs heading lines written f = elim (headed heading lines f.said f.next f.ran) [
   | inl none ↦ absurd (closes_none f.next f.last none.2 f.closed)
@@ -165,7 +177,8 @@ header_refuses None h = cc
 header_refuses (Some header) h = cc
 
 full_event : (r : Running) (line : List ℕ) (event : Event) (much : Bool)
-    → (let a : Result (List ℕ × ReplayStage) Refused = cond much (Err Much) (Ok (text_of_replies (running_outcome r event).reply, InEvents (after_event r line event))) in a ≡ Err Much)
+    → (let a : Result (List ℕ × ReplayStage) Refused = cond much (Err Much)
+    (Ok (text_of_replies (running_outcome r event).reply, InEvents (after_event r line event))) in a ≡ Err Much)
     → much ≡ true
 full_event r line event true h = refl
 full_event r line event false h = cc
@@ -175,16 +188,19 @@ refuses_event r line None h = cc
 refuses_event r line (Some event) h = full_event r line event (is_too_much r line) h
 
 -- the next event is one too many
-too_much : (heading : List ℕ → Option Header) (done rest : List (List ℕ)) → RefusesMuch (schedule_answer heading) AtHeader done rest → IsTooMuch heading done rest
+too_much : (heading : List ℕ → Option Header) (done rest : List (List ℕ)) → RefusesMuch (schedule_answer heading) AtHeader done rest
+    → IsTooMuch heading done rest
 too_much heading done rest m = elim (headed heading done m.said m.next m.ran) [
-  | inl none ↦ absurd (header_refuses (heading m.line) (ap (λ (p : ReplayStage). schedule_answer heading p m.line) (sym none.2) ∙ m.refused))
+  | inl none ↦ absurd (header_refuses (heading m.line) (ap (λ (p : ReplayStage). schedule_answer heading p m.line) (sym none.2)
+      ∙ m.refused))
   | inr h ↦ behind h
 ]
   where
     behind : HeadedFrom heading done m.said m.next → IsTooMuch heading done rest
     behind h =
         let a = h.answers in
-        let full = refuses_event a.last m.line (event_at m.line) (ap (λ (p : ReplayStage). schedule_answer heading p m.line) (sym a.stands) ∙ m.refused) in
+        let full = refuses_event a.last m.line (event_at m.line) (ap (λ (p : ReplayStage). schedule_answer heading p m.line) (sym a.stands)
+        ∙ m.refused) in
         record {
           first = h.first;
           others = h.others;
@@ -203,11 +219,14 @@ too_much heading done rest m = elim (headed heading done m.said m.next m.ran) [
         }
 
 -- What is out tells the events.
-pub tells : {T : Type 0} (law : BasicIsExpected × OptIsExpected) (runs : ExpectedRuns) (heading : List ℕ → Option Header) (next : ReplayStage) (left : Option (List ℕ)) (taken sent : List ℕ) (result : Result T ReplayFault)
-    → Settles (run (schedule_answer heading) 1 AtHeader) (run_of (schedule_answer heading) schedule_closing AtHeader) next left taken sent result
+pub tells : {T : Type 0} (law : BasicIsExpected × OptIsExpected) (runs : ExpectedRuns) (heading : List ℕ → Option Header)
+    (next : ReplayStage) (left : Option (List ℕ)) (taken sent : List ℕ) (result : Result T ReplayFault)
+    → Settles (run (schedule_answer heading) 1 AtHeader) (run_of (schedule_answer heading) schedule_closing AtHeader) next left taken sent
+    result
     → IsOut heading left taken sent result
 tells law runs heading next left taken sent result s =
-    tells_more (Answered (schedule_answer heading) AtHeader) (AnswersLines heading) (Finished (schedule_answer heading) schedule_closing AtHeader) (AnswersAll heading)
+    tells_more (Answered (schedule_answer heading) AtHeader) (AnswersLines heading)
+    (Finished (schedule_answer heading) schedule_closing AtHeader) (AnswersAll heading)
     (RefusesMuch (schedule_answer heading) AtHeader) (IsTooMuch heading) left taken sent result
     (answers_lines law runs heading) (answers_all law runs heading) (too_much heading)
     (tells_by (schedule_answer heading) schedule_closing AtHeader next left taken sent result s)

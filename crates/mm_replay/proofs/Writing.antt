@@ -4,7 +4,8 @@ use Rattle.std.specs.List.{concat, slice_get}
 use Rattle.std.proofs.lemmas.Option.{slice_get_within, get_or_from_slice_get}
 
 -- a line and the lines behind it
-pub concat-drop : (lines : List (List ℕ)) (i : ℕ) (line : List ℕ) → slice_get lines i ≡ Some line → concat (drop i lines) ≡ line ++ concat (drop (i + 1) lines)
+pub concat-drop : (lines : List (List ℕ)) (i : ℕ) (line : List ℕ) → slice_get lines i ≡ Some line
+    → concat (drop i lines) ≡ line ++ concat (drop (i + 1) lines)
 concat-drop lines i line at =
     let within : i < length lines = slice_get_within lines i line at in
     ap concat (drop-cons lines i line within)

@@ -18,10 +18,12 @@ use Rattle.mm_run.specs.Premises.{IsClearRun, IsGenuineRun}
 use Rattle.mm_replay.specs.Schedule.{most_kept}
 use Rattle.mm_replay.specs.Text.{texts_of}
 
--- The replies to the events are those of one run of the module on one list of requests, as the verdict on histories
--- gives them; so many requests were committed, and as many snapshots issued as that verdict issues.
--- And what the module promises of a run holds of the requests and of the replies.
-pub record IsOneRun (header : Header) (events : List Event) (replies : List Reply) (committed issued : ℕ) : Type 0 where
+-- The replies to the events are those of one run of the module on one list of requests, as the
+-- verdict on histories gives them; so many requests were committed, and as many snapshots issued as
+-- that verdict issues. And what the module promises of a run holds of the requests and of the
+-- replies.
+pub record IsOneRun (header : Header) (events : List Event) (replies : List Reply)
+    (committed issued : ℕ) : Type 0 where
   pub requests : List (List ℕ)
   pub runs : Runs (meaning_of header.«module») [] events replies requests
   pub judged : replies ≡ (expected (world_of header) events).replies
@@ -29,28 +31,34 @@ pub record IsOneRun (header : Header) (events : List Event) (replies : List Repl
   pub shown : issued ≡ length (expected (world_of header) events).issued
   pub promised : Promises header.«module» requests replies
 
--- The headline: so it is where no two different messages of the run share a digest, no digest is zero, no value that
--- others extend the register by is the guard of a batch, and no tag is forged.
+-- The headline: so it is where no two different messages of the run share a digest, no digest is
+-- zero, no value that others extend the register by is the guard of a batch, and no tag is forged.
 abbrev pub IsContinuous : Header → List Event → Type 0
 IsContinuous header events =
     let i = world_of header in
     IsClearRun i events → IsGenuineRun i events →
-    IsOneRun header events (replies_by_digests i events).replies (replies_by_digests i events).state.count
+    IsOneRun header events (replies_by_digests i events).replies
+    (replies_by_digests i events).state.count
     (length (replies_by_digests i events).issued)
 
--- Behind these event lines, and their events, the line is one too many: it is event 20,001, or the event lines with it
--- and the snapshots issued before it have more than 268,435,456 bytes.
+-- Behind these event lines, and their events, the line is one too many: it is event 20,001, or the
+-- event lines with it and the snapshots issued before it have more than 268,435,456 bytes.
 abbrev pub IsOver : Header → List (List ℕ) → List Event → List ℕ → Type 0
 IsOver header before events line = (most_events ≤ length before)
-    ⊎ (most_kept < sum_by length before + length line + sum_by length (replies_by_digests (world_of header) events).issued)
+    ⊎ (most_kept < sum_by length before + length line + sum_by length
+    (replies_by_digests (world_of header) events).issued)
 
 -- none of these event lines was one too many
 abbrev pub IsWithinLimits : Header → List (List ℕ) → Type 0
-IsWithinLimits header lines = (before : List (List ℕ)) (line : List ℕ) (after : List (List ℕ)) (events : List Event)
-    → lines ≡ before ++ line ∷ after → map event_at before ≡ map Some events → IsOver header before events line → ⊥
+IsWithinLimits header lines =
+    (before : List (List ℕ)) (line : List ℕ) (after : List (List ℕ)) (events : List Event)
+    → lines ≡ before ++ line ∷ after → map event_at before ≡ map Some events
+    → IsOver header before events line → ⊥
 
--- The lines are a header and events. What is written is the replies to the events, by digests, and then the last line.
-pub record AnswersEvents (heading : List ℕ → Option Header) (lines : List (List ℕ)) (written : List ℕ)
+-- The lines are a header and events. What is written is the replies to the events, by digests, and
+-- then the last line.
+pub record AnswersEvents (heading : List ℕ → Option Header) (lines : List (List ℕ))
+    (written : List ℕ)
     (last : ℕ → ℕ → List ℕ) : Type 0 where
   pub first : List ℕ
   pub others : List (List ℕ)
@@ -60,7 +68,8 @@ pub record AnswersEvents (heading : List ℕ → Option Header) (lines : List (L
   pub headed : heading first ≡ Some header
   pub read : map event_at others ≡ map Some events
   pub told : written ≡ texts_of (replies_by_digests (world_of header) events).replies
-      ++ last (replies_by_digests (world_of header) events).state.count (length (replies_by_digests (world_of header) events).issued)
+      ++ last (replies_by_digests (world_of header) events).state.count
+      (length (replies_by_digests (world_of header) events).issued)
   pub within : IsWithinLimits header others
   pub headline : IsContinuous header events
 
@@ -70,7 +79,8 @@ unended committed issued = []
 
 -- Not even a header was answered; or a header and events were.
 abbrev pub AnswersLines : (List ℕ → Option Header) → List (List ℕ) → List ℕ → Type 0
-AnswersLines heading lines written = ((lines ≡ []) × (written ≡ [])) ⊎ AnswersEvents heading lines written unended
+AnswersLines heading lines written =
+    ((lines ≡ []) × (written ≡ [])) ⊎ AnswersEvents heading lines written unended
 
 -- a schedule whole, with its last line
 abbrev pub AnswersAll : (List ℕ → Option Header) → List (List ℕ) → List ℕ → Type 0
@@ -91,5 +101,7 @@ pub record IsTooMuch (heading : List ℕ → Option Header) (done rest : List (L
   pub over : IsOver header others events line
 
 -- What is out, by how a replay ended, where these bytes of the input were taken and those written.
-abbrev pub IsOut : {T : Type 0} → (List ℕ → Option Header) → Option (List ℕ) → List ℕ → List ℕ → Result T ReplayFault → Type 0
-IsOut heading left taken sent result = TellsBy (AnswersLines heading) (AnswersAll heading) (IsTooMuch heading) left taken sent result
+abbrev pub IsOut : {T : Type 0} → (List ℕ → Option Header) → Option (List ℕ) → List ℕ → List ℕ
+    → Result T ReplayFault → Type 0
+IsOut heading left taken sent result =
+    TellsBy (AnswersLines heading) (AnswersAll heading) (IsTooMuch heading) left taken sent result

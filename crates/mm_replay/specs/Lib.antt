@@ -5,3 +5,4 @@ pub mod Counting
 pub mod Issues
 pub mod Progress
 pub mod Replays
+pub mod TextWords

@@ -25,7 +25,8 @@ replay_stage None = AtHeader
 replay_stage (Some progress) = InEvents (running progress)
 
 -- A header line was taken, with this answer.
-abbrev pub BeginsReplay : Result (List ℕ × ReplayStage) Refused → Result Progress ReplyFault → Type 0
+abbrev pub BeginsReplay : Result (List ℕ × ReplayStage) Refused → Result Progress ReplyFault
+    → Type 0
 BeginsReplay answer (Ok progress) = answer ≡ Ok ([], InEvents (running progress))
 BeginsReplay answer (Err fault.Memory) = Unit {0}
 BeginsReplay answer (Err (fault.Refused why)) = answer ≡ Err why
@@ -33,7 +34,9 @@ BeginsReplay answer (Err (fault.Refused why)) = answer ≡ Err why
 -- The event of this line was answered, or it is one too many and nothing has changed.
 abbrev pub AnswersEvent : Running → Running → List ℕ → Event → Result Reply ReplyFault → Type 0
 AnswersEvent old new line event (Ok reply) =
-    (is_too_much old line ≡ false) × (reply ≡ (running_outcome old event).reply) × (new ≡ after_event old line event)
+    (is_too_much old line ≡ false) × (reply ≡ (running_outcome old event).reply)
+    × (new ≡ after_event old line event)
 AnswersEvent old new line event (Err fault.Memory) = Unit {0}
 AnswersEvent old new line event (Err (fault.Refused Bad)) = ⊥
-AnswersEvent old new line event (Err (fault.Refused Much)) = (is_too_much old line ≡ true) × (new ≡ old)
+AnswersEvent old new line event (Err (fault.Refused Much)) =
+    (is_too_much old line ≡ true) × (new ≡ old)

@@ -12,14 +12,14 @@ use Rattle.mm_run.specs.Folds.{Outcome, event_outcome, first_issued, first_diges
 use Rattle.mm_run.specs.Held.{world_of}
 use Rattle.mm_play.specs.declared.player.Refused.{Refused}
 use Rattle.mm_play.specs.declared.player.Refused.TheVariants.{Bad, Much}
-use Rattle.mm_replay.specs.Text.{text_of_replies}
+use Rattle.mm_replay.specs.TextWords.{text_of_replies}
 
 -- the most bytes of event lines and issued snapshots together
 abbrev pub most_kept : ℕ
 most_kept = 268435456
 
--- what stands between two events, by digests: the header, the snapshots issued, the events answered, and the bytes of
--- their lines
+-- what stands between two events, by digests: the header, the snapshots issued, the events
+-- answered, and the bytes of their lines
 pub record Running : Type 0 where
   pub header : Header
   pub digests : Digests
@@ -38,11 +38,13 @@ begun header = record {
 
 -- one event more would be too many, or its line too many bytes
 abbrev pub is_too_much : Running → List ℕ → Bool
-is_too_much r line = nat_le most_events r.events || nat_lt most_kept (r.read + length line + sum_by length r.issued)
+is_too_much r line =
+    nat_le most_events r.events || nat_lt most_kept (r.read + length line + sum_by length r.issued)
 
 -- what an event comes to
 abbrev pub running_outcome : Running → Event → Outcome Digests
-running_outcome r event = event_outcome (world_of r.header) (by_digests (world_of r.header)) r.digests r.issued event
+running_outcome r event =
+    event_outcome (world_of r.header) (by_digests (world_of r.header)) r.digests r.issued event
 
 abbrev pub after_event : Running → List ℕ → Event → Running
 after_event r line event = record {
@@ -61,7 +63,12 @@ pub data ReplayStage : Type 0 where
 abbrev pub event_answer : Running → List ℕ → Option Event → Result (List ℕ × ReplayStage) Refused
 event_answer r line None = Err Bad
 event_answer r line (Some event) =
-    if is_too_much r line then Err Much else Ok (text_of_replies (running_outcome r event).reply, InEvents (after_event r line event))
+    if is_too_much r line then Err Much
+    else Ok (
+      text_of_replies (running_outcome r event).reply,
+      InEvents
+          (after_event r line event),
+    )
 
 -- a header begins the events
 abbrev pub header_answer : Option Header → Result (List ℕ × ReplayStage) Refused
@@ -69,7 +76,8 @@ header_answer None = Err Bad
 header_answer (Some header) = Ok ([], InEvents (begun header))
 
 -- the reply to a line, by what the header line names
-abbrev pub schedule_answer : (List ℕ → Option Header) → ReplayStage → List ℕ → Result (List ℕ × ReplayStage) Refused
+abbrev pub schedule_answer : (List ℕ → Option Header) → ReplayStage → List ℕ
+    → Result (List ℕ × ReplayStage) Refused
 schedule_answer heading AtHeader line = header_answer (heading line)
 schedule_answer heading (InEvents r) line = event_answer r line (event_at line)
 

@@ -5,7 +5,8 @@ use Rattle.mm_digest.specs.Messages.{start_message}
 use Rattle.mm_digest.specs.declared.variant.Variant.TheVariants.{Basic}
 use Rattle.mm_module.specs.Meaning.{Meaning}
 use Rattle.mm_module.specs.Batch.{Batch}
-use Rattle.mm_model.specs.Instance.{Instance, basic}
+use Rattle.mm_model.specs.Instance.{Instance}
+use Rattle.mm_model.specs.InstanceWords.{basic}
 use Rattle.mm_model.specs.History.{History, Foreign, Power as PowerMove, moved, first_history}
 use Rattle.mm_model.specs.Messages.{IsClear}
 use Rattle.mm_model.specs.Moves.{Digests, made}
@@ -16,7 +17,7 @@ use Rattle.mm_call.proofs.BasicLaw.{plain_outside, basic_same}
 use Rattle.mm_call.proofs.Checkpoints.{basic_checkpoint_same}
 use Rattle.mm_model.proofs.Lists.{each_self}
 use Rattle.mm_run.specs.Folds.{course_of, first_issued, first_digests}
-use Rattle.mm_run.specs.Premises.{foreign_values, asked_batches, run_messages}
+use Rattle.mm_run.specs.PremisesWords.{foreign_values, asked_batches, run_messages}
 use Rattle.mm_run.specs.Laws.{BasicIsExpected}
 use Rattle.mm_run.specs.OneEvent.{Keeps, EventsAgree}
 use Rattle.mm_run.proofs.Following.{Variants, event_same, follow_same}
@@ -36,7 +37,8 @@ power_keeps meaning key all others asked_for y d k =
       };
     }
 
-foreign_keeps : (meaning : Meaning) (key : List ℕ) (all others : List (List ℕ)) (asked_for : List Batch) (y : History) (d : Digests) (v : List ℕ)
+foreign_keeps : (meaning : Meaning) (key : List ℕ) (all others : List (List ℕ)) (asked_for : List Batch) (y : History) (d : Digests)
+    (v : List ℕ)
     → Keeps all others asked_for (basic meaning key) y d
     → Keeps all others asked_for (basic meaning key) (moved (basic meaning key) y (Foreign v)) (made (basic meaning key) d (Foreign v))
 foreign_keeps meaning key all others asked_for y d v k =
@@ -63,7 +65,8 @@ basic_gives meaning key all others asked_for clear = record {
   foreign = λ y d v k c messages. foreign_keeps meaning key all others asked_for y d v k;
 }
 
-pub starts : (meaning : Meaning) (key : List ℕ) (all others : List (List ℕ)) (asked_for : List Batch) → Contains all (start_message Basic meaning.id)
+pub starts : (meaning : Meaning) (key : List ℕ) (all others : List (List ℕ)) (asked_for : List Batch)
+    → Contains all (start_message Basic meaning.id)
     → Keeps all others asked_for (basic meaning key) first_history (first_digests (basic meaning key))
 starts meaning key all others asked_for first = record {
   agrees = record { digest = summary-nil meaning.id; flag = refl; register = sym reads_zero; count = refl };
@@ -76,8 +79,10 @@ basic_expected meaning key events clear genuine =
     let all : List (List ℕ) = run_messages i events in
     let self = each_self [] all in
     follow_same all (foreign_values events) (asked_batches events) i
-    (basic_gives meaning key all (foreign_values events) (asked_batches events) clear.clear) events first_history (first_digests i) (first_issued i)
-    (starts meaning key all (foreign_values events) (asked_batches events) self.0) (each_self [] (foreign_values events)) (each_self [] (asked_batches events)) self.1 genuine
+    (basic_gives meaning key all (foreign_values events) (asked_batches events) clear.clear) events first_history (first_digests i)
+    (first_issued i)
+    (starts meaning key all (foreign_values events) (asked_batches events) self.0) (each_self [] (foreign_values events))
+    (each_self [] (asked_batches events)) self.1 genuine
 
 pub basic_events_agree : (meaning : Meaning) (key : List ℕ) → EventsAgree (basic meaning key)
 basic_events_agree meaning key all others asked_for clear apart y d issued event k w =

@@ -23,7 +23,8 @@ use Rattle.mm_seal.specs.Snapshot.{Content, Snapshot}
 use Rattle.mm_seal.proofs.Reading.{le_tells}
 use Rattle.mm_model.specs.Instance.{Instance}
 use Rattle.mm_model.specs.History.{Move, Commit, Foreign, Placed, Reset, Close, Power as PowerMove}
-use Rattle.mm_model.specs.Long.{is_lf, is_long}
+use Rattle.mm_model.specs.Long.{is_long}
+use Rattle.mm_model.specs.LongWords.{is_lf}
 use Rattle.mm_model.specs.Moves.{Digests, made, committing}
 use Rattle.mm_model.specs.Steps.{ask_steps}
 use Rattle.mm_model.specs.declared.refusal.Refusal.{Refusal}
@@ -32,12 +33,15 @@ use Rattle.mm_model.specs.declared.verdict.Verdict.{Verdict}
 use Rattle.mm_model.specs.declared.verdict.Verdict.TheVariants.{Fresh, Again, Lost, Stale}
 use Rattle.mm_modules.specs.Modules.{meaning_of}
 use Rattle.mm_modules.specs.ModulesLaws.{any_is_lawful}
-use Rattle.mm_call.specs.Order.{weighed, examined}
+use Rattle.mm_call.specs.Order.{examined}
+use Rattle.mm_call.specs.OrderWords.{weighed}
 use Rattle.mm_call.specs.Levels.{by_digests, all_made}
-use Rattle.mm_call.specs.Found.{Found, found_with, found_by_verdict, found_at, found_unless_wanting, is_fresh}
+use Rattle.mm_call.specs.Found.{Found, found_by_verdict, found_at}
+use Rattle.mm_call.specs.FoundWords.{found_with, found_unless_wanting, is_fresh}
 use Rattle.mm_call.specs.Courses.{Course, Walked, walk}
 use Rattle.mm_call.specs.Called.{Ending, Answers, Refuses, Breaks, Called, ended_by, seen_at, called}
-use Rattle.mm_call.specs.Checkpoints.{Closing, Closes, HasNone, NoSegment, LostPower, Stops, Checkpointed, checkpointed_with, checkpointed}
+use Rattle.mm_call.specs.Checkpoints.{Closing, Closes, HasNone, NoSegment, LostPower, Stops, Checkpointed, checkpointed}
+use Rattle.mm_call.specs.CheckpointsWords.{checkpointed_with}
 use Rattle.mm_call.specs.Standing.{instance_by}
 use Rattle.mm_call.proofs.Moving.{committed_in}
 use Rattle.mm_call.proofs.Walks.{Commits, nothing, batch, call_commits}
@@ -50,7 +54,8 @@ use Rattle.mm_schedule.specs.declared.reply.Cause.TheVariants as cause
 use Rattle.mm_schedule.specs.declared.reply.Way.{Way}
 use Rattle.mm_run.specs.Offered.{offered_bytes}
 use Rattle.mm_run.specs.Folds.{way_of, after_stop, course_of, reply_of, snapshots_of, moves_then, outcome_by, uncalled, asked, closing_reply, closing_then, closed_outcome, event_outcome}
-use Rattle.mm_run.specs.Held.{Held, world_key, world_barrier, instance_of, outcome_in}
+use Rattle.mm_run.specs.Held.{Held, instance_of, outcome_in}
+use Rattle.mm_run.specs.HeldWords.{world_key, world_barrier}
 
 -- how many requests moves commit
 
@@ -58,12 +63,14 @@ abbrev sizes_of : List Batch → ℕ
 sizes_of [] = 0
 sizes_of (b ∷ batches) = size_of b + sizes_of batches
 
-commit_count : (variant : Variant) (flag : Bool) (i : Instance) (d : Digests) (b : Batch) → (committing variant flag i d b).count ≡ d.count + size_of b
+commit_count : (variant : Variant) (flag : Bool) (i : Instance) (d : Digests) (b : Batch)
+    → (committing variant flag i d b).count ≡ d.count + size_of b
 commit_count Basic flag i d b = refl
 commit_count Opt true i d b = refl
 commit_count Opt false i d b = refl
 
-count-made : (i : Instance) (moves : List Move) (d : Digests) → (all_made (by_digests i) d moves).count ≡ d.count + sizes_of (committed_in moves)
+count-made : (i : Instance) (moves : List Move) (d : Digests)
+    → (all_made (by_digests i) d moves).count ≡ d.count + sizes_of (committed_in moves)
 count-made i [] d = omega arith
 count-made i (Commit b ∷ moves) d = omega (arith, count-made i moves (made i d (Commit b)), commit_count i.variant d.flag i d b)
 count-made i (Foreign v ∷ moves) d = count-made i moves (made i d (Foreign v))
@@ -82,19 +89,22 @@ stop_count i (Cut n) d = refl
 stop_count i (Drop n) d = refl
 stop_count i (Fail n done) d = refl
 
-then_count : (i : Instance) (stop : Stop) (ending : Ending) (d : Digests) → (all_made (by_digests i) d (moves_then stop ending)).count ≡ d.count
+then_count : (i : Instance) (stop : Stop) (ending : Ending) (d : Digests)
+    → (all_made (by_digests i) d (moves_then stop ending)).count ≡ d.count
 then_count i stop (Answers answer) d = refl
 then_count i stop (Refuses why) d = refl
 then_count i stop (Breaks fault kept) d = stop_count i stop d
 
-closing_count : (i : Instance) (stop : Stop) (closing : Closing) (d : Digests) → (all_made (by_digests i) d (closing_then stop closing)).count ≡ d.count
+closing_count : (i : Instance) (stop : Stop) (closing : Closing) (d : Digests)
+    → (all_made (by_digests i) d (closing_then stop closing)).count ≡ d.count
 closing_count i stop Closes d = refl
 closing_count i stop HasNone d = refl
 closing_count i stop NoSegment d = refl
 closing_count i stop LostPower d = refl
 closing_count i stop (Stops fault closed) d = stop_count i stop d
 
-called_few : (i : Instance) (d : Digests) (c : Course) (bytes : List ℕ) (b : Batch) → (called i (by_digests i) d c bytes b).state.count ≤ d.count + size_of b
+called_few : (i : Instance) (d : Digests) (c : Course) (bytes : List ℕ) (b : Batch)
+    → (called i (by_digests i) d c bytes b).state.count ≤ d.count + size_of b
 called_few i d c bytes b =
     let fresh : Bool = is_fresh (found_unless_wanting (found_at i (by_digests i) (seen_at i (by_digests i) d c) b bytes) c.lacks) in
     let w : Walked = walk c.fates 1 (ask_steps i.variant d.flag fresh b) in
@@ -110,35 +120,47 @@ le_of n h = grind (arith, nat_tests)
 
 pub short_size : (b : Batch) → is_long b ≡ false → size_of (normal b) ≤ most_members
 short_size b e =
-    let f : nat_lt most_members (size_of b) ≡ false = last_false (nat_lt longest_request (length (batch_text b))) (list_any is_lf (batch_text b)) (nat_lt most_members (size_of b)) e in
+    let f : nat_lt most_members (size_of b) ≡ false = last_false (nat_lt longest_request (length (batch_text b)))
+    (list_any is_lf (batch_text b)) (nat_lt most_members (size_of b)) e in
     let few : size_of b ≤ most_members = le_of (size_of b) f in
     omega (arith, few, ap (λ (m : List (List ℕ)). length m) (members_of-normal b))
 
 none_more : (n : ℕ) → n ≤ n + most_members
 none_more n = omega arith
 
-outcome_few : (i : Instance) (d : Digests) (issued : List (List ℕ)) (stop : Stop) (o : Called Digests) (n : ℕ) → o.state.count ≤ d.count + n → n ≤ most_members
+outcome_few : (i : Instance) (d : Digests) (issued : List (List ℕ)) (stop : Stop) (o : Called Digests) (n : ℕ) → o.state.count ≤ d.count + n
+    → n ≤ most_members
     → (outcome_by (by_digests i) stop issued o).state.count ≤ d.count + most_members
 outcome_few i d issued stop o n h k = omega (arith, then_count i stop o.ending o.state)
 
-asked_few : (i : Instance) (d : Digests) (issued : List (List ℕ)) (meddles : List Meddle) (stop : Stop) (bytes : List ℕ) (b : Batch) (long : Bool) → is_long b ≡ long
-    → (if long then uncalled d issued (reply.No cause.Long) else outcome_by (by_digests i) stop issued (called i (by_digests i) d (course_of stop meddles) bytes (normal b))).state.count ≤ d.count + most_members
+asked_few : (i : Instance) (d : Digests) (issued : List (List ℕ)) (meddles : List Meddle) (stop : Stop) (bytes : List ℕ) (b : Batch)
+    (long : Bool) → is_long b ≡ long
+    → (if long then uncalled d issued (reply.No cause.Long) else outcome_by (by_digests i) stop issued
+    (called i (by_digests i) d (course_of stop meddles) bytes (normal b))).state.count ≤ d.count + most_members
 asked_few i d issued meddles stop bytes b true e = none_more d.count
 asked_few i d issued meddles stop bytes b false e =
     outcome_few i d issued stop (called i (by_digests i) d (course_of stop meddles) bytes (normal b)) (size_of (normal b))
     (called_few i d (course_of stop meddles) bytes (normal b)) (short_size b e)
 
-bytes_few : (i : Instance) (d : Digests) (issued : List (List ℕ)) (meddles : List Meddle) (stop : Stop) (bytes : Option (List ℕ)) (b : Batch)
+bytes_few : (i : Instance) (d : Digests) (issued : List (List ℕ)) (meddles : List Meddle) (stop : Stop) (bytes : Option (List ℕ))
+    (b : Batch)
     → (asked i (by_digests i) d issued meddles stop bytes b).state.count ≤ d.count + most_members
 bytes_few i d issued meddles stop None b = none_more d.count
 bytes_few i d issued meddles stop (Some bytes) b = asked_few i d issued meddles stop bytes b (is_long b) refl
 
 check_few : (i : Instance) (d : Digests) (issued : List (List ℕ)) (meddles : List Meddle) (stop : Stop) (is_lost : Bool)
-    → (closed_outcome (by_digests i) stop issued (checkpointed_with i (by_digests i) d (course_of stop meddles) is_lost)).state.count ≤ d.count + most_members
+    → (closed_outcome (by_digests i) stop issued (checkpointed_with i (by_digests i) d (course_of stop meddles) is_lost)).state.count ≤
+    d.count + most_members
 check_few i d issued meddles stop is_lost =
     let c : Course = course_of stop meddles in
     let o : Checkpointed Digests = checkpointed_with i (by_digests i) d c is_lost in
-    omega (arith, closing_count i stop o.ending o.state, count-made i o.moves d, ap sizes_of (checkpoint_none i.variant d.flag is_lost c.fates))
+    omega (
+      arith,
+      closing_count i stop o.ending o.state,
+      count-made i o.moves d,
+      ap sizes_of
+          (checkpoint_none i.variant d.flag is_lost c.fates),
+    )
 
 pub few_committed : (i : Instance) (d : Digests) (issued : List (List ℕ)) (event : Event)
     → (event_outcome i (by_digests i) d issued event).state.count ≤ d.count + most_members
@@ -153,7 +175,8 @@ short_outputs : (meaning : Meaning) → IsLawful meaning → (state : List ℕ) 
     → All (λ (output : List ℕ). length output ≤ longest_request) (outputs_from meaning state members)
 short_outputs meaning lawful state [] spelled = All-nil (λ (output : List ℕ). length output ≤ longest_request)
 short_outputs meaning lawful state (request ∷ members) spelled =
-    All-cons (λ (output : List ℕ). length output ≤ longest_request) (meaning.says state request) (outputs_from meaning (meaning.next state request) members)
+    All-cons (λ (output : List ℕ). length output ≤ longest_request) (meaning.says state request)
+    (outputs_from meaning (meaning.next state request) members)
     ((lawful.says_lines state request spelled).short)
     (short_outputs meaning lawful (meaning.next state request) members (lawful.goes_on state request spelled))
 
@@ -176,14 +199,16 @@ accepted true true Again false again e = absurd (cc)
 accepted true true Lost fits again e = absurd (cc)
 accepted true true Stale fits again e = absurd (cc)
 
-well_with : (meaning : Meaning) (b : Batch) (offered : Content) (e : Result Bool Refusal) → ((again : Bool) → e ≡ Ok again → IsAccepted meaning offered b)
+well_with : (meaning : Meaning) (b : Batch) (offered : Content) (e : Result Bool Refusal)
+    → ((again : Bool) → e ≡ Ok again → IsAccepted meaning offered b)
     → IsFoundWell meaning b (found_with offered e)
 well_with meaning b offered (Err why) h = λ (it : Found) (f : Err why ≡ Ok it). absurd (cc)
 well_with meaning b offered (Ok again) h = λ (it : Found) (f : Ok (record { offered = offered; again = again }) ≡ Ok it).
     let same : offered ≡ it.offered = cc in
     subst (λ (x : Content). IsAccepted meaning x b) same (h again refl)
 
-well_from : (i : Instance) (seen : Digests) (b : Batch) (taken : Result Snapshot PartsFault) → IsFoundWell i.meaning b (found_by_verdict i (by_digests i) seen b taken)
+well_from : (i : Instance) (seen : Digests) (b : Batch) (taken : Result Snapshot PartsFault)
+    → IsFoundWell i.meaning b (found_by_verdict i (by_digests i) seen b taken)
 well_from i seen b (Err Form) = λ (it : Found) f. absurd (cc)
 well_from i seen b (Err Kind) = λ (it : Found) f. absurd (cc)
 well_from i seen b (Ok snapshot) =
@@ -197,16 +222,19 @@ well_by : (meaning : Meaning) (b : Batch) (lost : Bool) (why : Refusal) (found :
 well_by meaning b true why found h = λ (it : Found) f. absurd (cc)
 well_by meaning b false why found h = h
 
-well_found : (i : Instance) (seen : Digests) (b : Batch) (bytes : List ℕ) (lacks : Bool) → IsFoundWell i.meaning b (found_unless_wanting (found_at i (by_digests i) seen b bytes) lacks)
+well_found : (i : Instance) (seen : Digests) (b : Batch) (bytes : List ℕ) (lacks : Bool)
+    → IsFoundWell i.meaning b (found_unless_wanting (found_at i (by_digests i) seen b bytes) lacks)
 well_found i seen b bytes lacks = λ (it : Found) e.
-    well_by i.meaning b ((by_digests i).is_lost seen) refusal.Lost (found_by_verdict i (by_digests i) seen b (parts_of i.variant i.meaning.id bytes))
+    well_by i.meaning b ((by_digests i).is_lost seen) refusal.Lost
+    (found_by_verdict i (by_digests i) seen b (parts_of i.variant i.meaning.id bytes))
     (well_from i seen b (parts_of i.variant i.meaning.id bytes)) it (unlacked (found_at i (by_digests i) seen b bytes) lacks it e)
 
 printed_broken : (how : Way) (fault : StepFault) (kept : Option ℕ) → IsPrintable (reply_of how (Breaks fault kept))
 printed_broken how fault None = tt
 printed_broken how fault (Some position) = tt
 
-printed_ended : (i : Instance) → IsLawful i.meaning → (seen s : Digests) (how : Way) (b : Batch) (found : Result Found Refusal) (moves : List Move) (broken : Option StepFault)
+printed_ended : (i : Instance) → IsLawful i.meaning
+    → (seen s : Digests) (how : Way) (b : Batch) (found : Result Found Refusal) (moves : List Move) (broken : Option StepFault)
     → IsFoundWell i.meaning b found → IsPrintable (reply_of how (ended_by (by_digests i) seen s b found moves broken))
 printed_ended i lawful seen s how b (Err why) moves (Some fault) h = printed_broken how fault _
 printed_ended i lawful seen s how b (Ok it) moves (Some fault) h = printed_broken how fault _
@@ -225,12 +253,16 @@ printed_called i lawful d how c bytes b =
     let w : Walked = walk c.fates 1 (ask_steps i.variant d.flag (is_fresh found) b) in
     printed_ended i lawful seen (all_made (by_digests i) d w.moves) how b found w.moves w.broken (well_found i seen b bytes c.lacks)
 
-printed_asked : (i : Instance) → IsLawful i.meaning → (d : Digests) (issued : List (List ℕ)) (meddles : List Meddle) (stop : Stop) (bytes : List ℕ) (b : Batch) (long : Bool)
-    → IsPrintable (if long then uncalled d issued (reply.No cause.Long) else outcome_by (by_digests i) stop issued (called i (by_digests i) d (course_of stop meddles) bytes (normal b))).reply
+printed_asked : (i : Instance) → IsLawful i.meaning
+    → (d : Digests) (issued : List (List ℕ)) (meddles : List Meddle) (stop : Stop) (bytes : List ℕ) (b : Batch) (long : Bool)
+    → IsPrintable (if long then uncalled d issued (reply.No cause.Long) else outcome_by (by_digests i) stop issued
+    (called i (by_digests i) d (course_of stop meddles) bytes (normal b))).reply
 printed_asked i lawful d issued meddles stop bytes b true = tt
-printed_asked i lawful d issued meddles stop bytes b false = printed_called i lawful d (way_of stop) (course_of stop meddles) bytes (normal b)
+printed_asked i lawful d issued meddles stop bytes b false =
+    printed_called i lawful d (way_of stop) (course_of stop meddles) bytes (normal b)
 
-printed_bytes : (i : Instance) → IsLawful i.meaning → (d : Digests) (issued : List (List ℕ)) (meddles : List Meddle) (stop : Stop) (bytes : Option (List ℕ)) (b : Batch)
+printed_bytes : (i : Instance) → IsLawful i.meaning
+    → (d : Digests) (issued : List (List ℕ)) (meddles : List Meddle) (stop : Stop) (bytes : Option (List ℕ)) (b : Batch)
     → IsPrintable (asked i (by_digests i) d issued meddles stop bytes b).reply
 printed_bytes i lawful d issued meddles stop None b = tt
 printed_bytes i lawful d issued meddles stop (Some bytes) b = printed_asked i lawful d issued meddles stop bytes b (is_long b)
@@ -246,7 +278,8 @@ printed_closing how (Stops fault false) = tt
 pub printable : (i : Instance) → IsLawful i.meaning → (d : Digests) (issued : List (List ℕ)) (event : Event)
     → IsPrintable (event_outcome i (by_digests i) d issued event).reply
 printable i lawful d issued (Ask meddles stop offer b) = printed_bytes i lawful d issued meddles stop (offered_bytes issued offer) b
-printable i lawful d issued (Checkpoint meddles stop) = printed_closing (way_of stop) (checkpointed i (by_digests i) d (course_of stop meddles)).ending
+printable i lawful d issued (Checkpoint meddles stop) =
+    printed_closing (way_of stop) (checkpointed i (by_digests i) d (course_of stop meddles)).ending
 printable i lawful d issued Power = tt
 printable i lawful d issued (Extend value) = tt
 
@@ -260,12 +293,16 @@ ending_issues issued (Answers answer) = omega (arith, length-append issued (answ
 ending_issues issued (Refuses why) = omega (arith, length-append issued (snapshots_of (Refuses why)))
 ending_issues issued (Breaks fault kept) = omega (arith, length-append issued (snapshots_of (Breaks fault kept)))
 
-asked_issues : (i : Instance) (d : Digests) (issued : List (List ℕ)) (meddles : List Meddle) (stop : Stop) (bytes : List ℕ) (b : Batch) (long : Bool)
-    → length (if long then uncalled d issued (reply.No cause.Long) else outcome_by (by_digests i) stop issued (called i (by_digests i) d (course_of stop meddles) bytes (normal b))).issued ≤ length issued + 1
+asked_issues : (i : Instance) (d : Digests) (issued : List (List ℕ)) (meddles : List Meddle) (stop : Stop) (bytes : List ℕ) (b : Batch)
+    (long : Bool)
+    → length (if long then uncalled d issued (reply.No cause.Long) else outcome_by (by_digests i) stop issued
+    (called i (by_digests i) d (course_of stop meddles) bytes (normal b))).issued ≤ length issued + 1
 asked_issues i d issued meddles stop bytes b true = no_more (length issued)
-asked_issues i d issued meddles stop bytes b false = ending_issues issued (called i (by_digests i) d (course_of stop meddles) bytes (normal b)).ending
+asked_issues i d issued meddles stop bytes b false =
+    ending_issues issued (called i (by_digests i) d (course_of stop meddles) bytes (normal b)).ending
 
-bytes_issue : (i : Instance) (d : Digests) (issued : List (List ℕ)) (meddles : List Meddle) (stop : Stop) (bytes : Option (List ℕ)) (b : Batch)
+bytes_issue : (i : Instance) (d : Digests) (issued : List (List ℕ)) (meddles : List Meddle) (stop : Stop) (bytes : Option (List ℕ))
+    (b : Batch)
     → length (asked i (by_digests i) d issued meddles stop bytes b).issued ≤ length issued + 1
 bytes_issue i d issued meddles stop None b = no_more (length issued)
 bytes_issue i d issued meddles stop (Some bytes) b = asked_issues i d issued meddles stop bytes b (is_long b)
@@ -285,7 +322,8 @@ meaning_by Opt meaning key barrier = refl
 
 pub printed : (world : Held) (event : Event) → IsPrintable (outcome_in world event).reply
 printed world event =
-    let lawful = subst IsLawful (sym (meaning_by world.header.variant (meaning_of world.header.«module») world_key world_barrier)) (any_is_lawful world.header.«module») in
+    let lawful = subst IsLawful (sym (meaning_by world.header.variant (meaning_of world.header.«module») world_key world_barrier))
+    (any_is_lawful world.header.«module») in
     printable (instance_of world) lawful world.digests world.issued event
 
 pub world_few : (world : Held) (event : Event) → (outcome_in world event).state.count ≤ world.digests.count + most_members

@@ -89,7 +89,8 @@ pub clear_by_first : (all : List (List ℕ)) → all_apart (map (first_byte sha2
 unfolding first_byte
 clear_by_first all e = record {
   apart = λ m n c d same. same_by_first sha256 all e m n c d (ap (λ v. slice_index v 0) same);
-  nonzero = λ m c same. each_at (λ v. first_byte sha256 v ≢ 0) all m (none_zero sha256 all e) c (ap (λ v. slice_index v 0) same ∙ zero_first);
+  nonzero =
+      λ m c same. each_at (λ v. first_byte sha256 v ≢ 0) all m (none_zero sha256 all e) c (ap (λ v. slice_index v 0) same ∙ zero_first);
 }
 
 -- what is asked of a list is asked of each part of it

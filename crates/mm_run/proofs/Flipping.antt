@@ -11,7 +11,8 @@ drop_whole n bytes = ap (λ (m : ℕ). take m (drop n bytes)) (sym (length-drop 
 
 pub flipped_is : (offset : ℕ) (bytes : List ℕ) → 0 < length bytes
     → take (offset % length bytes) bytes
-    ++ (bit_xor (get_or bytes (offset % length bytes) 0) 1 ∷ take (length bytes - (offset % length bytes + 1)) (drop (offset % length bytes + 1) bytes))
+    ++ (bit_xor (get_or bytes (offset % length bytes) 0) 1 ∷ take (length bytes - (offset % length bytes + 1))
+    (drop (offset % length bytes + 1) bytes))
     ≡ flipped offset bytes
 flipped_is offset bytes h =
     let at : ℕ = offset % length bytes in

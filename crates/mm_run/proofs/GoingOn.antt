@@ -9,7 +9,8 @@ use Rattle.mm_call.specs.Asked.{moves_messages}
 use Rattle.mm_run.specs.Premises.{event_messages, moves_of, messages_from}
 use Rattle.mm_run.specs.Laws.{continued}
 
-nothing_first : {S : Type 0} (s : S) (issued : List (List ℕ)) (f : Followed S) → f ≡ continued (record { state = s; issued = issued; replies = []; steps = 0; writes = 0 }) f
+nothing_first : {S : Type 0} (s : S) (issued : List (List ℕ)) (f : Followed S)
+    → f ≡ continued (record { state = s; issued = issued; replies = []; steps = 0; writes = 0 }) f
 nothing_first s issued f = λ j. record {
   state = f.state;
   issued = f.issued;

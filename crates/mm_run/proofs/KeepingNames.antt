@@ -7,7 +7,8 @@ use Rattle.mm_module.specs.Batch.{Batch, normal}
 use Rattle.mm_platform.specs.declared.plan.Meddle.{Meddle}
 use Rattle.mm_platform.specs.declared.plan.Stop.{Stop}
 use Rattle.mm_seal.specs.Snapshot.{Content}
-use Rattle.mm_model.specs.Instance.{Instance, basic, opt}
+use Rattle.mm_model.specs.Instance.{Instance}
+use Rattle.mm_model.specs.InstanceWords.{basic, opt}
 use Rattle.mm_model.specs.History.{History, Move, Foreign, Power as PowerMove, moved}
 use Rattle.mm_model.specs.Life.{life_of, is_lost}
 use Rattle.mm_model.specs.Sound.{IsSound}
@@ -19,7 +20,8 @@ use Rattle.mm_model.proofs.Named.{basic_names, opt_names}
 use Rattle.mm_call.specs.Levels.{by_lists, all_made}
 use Rattle.mm_call.specs.Courses.{Course}
 use Rattle.mm_call.specs.Called.{Called, called}
-use Rattle.mm_call.specs.Checkpoints.{Checkpointed, checkpointed, checkpointed_with}
+use Rattle.mm_call.specs.Checkpoints.{Checkpointed, checkpointed}
+use Rattle.mm_call.specs.CheckpointsWords.{checkpointed_with}
 use Rattle.mm_call.proofs.OptHolding.{foreign_fine, power_fine}
 use Rattle.mm_call.proofs.OptLaw.{before, sight, sight_is}
 use Rattle.mm_call.proofs.OptMay.{AllMay, first_in, ask_may}
@@ -46,7 +48,8 @@ module _ (meaning : Meaning) (key barrier : List ℕ) where
       let i : Instance = opt meaning key barrier in
       let z : History = moved i y m in
       let kept : IsSound z = sound_moved meaning key barrier y m sound may.0 in
-      let first : Lasts i y z = record { sound = kept; names = λ content named. opt_names meaning key barrier y m content sound may.0 named } in
+      let first : Lasts i y
+      z = record { sound = kept; names = λ content named. opt_names meaning key barrier y m content sound may.0 named } in
       lasts_on i y z (all_made (by_lists i) z moves) first (lasts_made moves z kept may.1)
 
   called_lasts : (y : History) (issued : List (List ℕ)) (stop : Stop) (c : Course) (bytes : List ℕ) (b : Batch) → IsSound y
@@ -59,19 +62,22 @@ module _ (meaning : Meaning) (key barrier : List ℕ) where
       lasts_on i y o.state (all_made (by_lists i) o.state (moves_then stop o.ending)) first
       (lasts_made (moves_then stop o.ending) o.state first.sound (then_may meaning key barrier stop o.ending o.state))
 
-  if_lasts : (long : Bool) (y : History) (x z : Outcome History) → Lasts (opt meaning key barrier) y x.state → Lasts (opt meaning key barrier) y z.state
+  if_lasts : (long : Bool) (y : History) (x z : Outcome History) → Lasts (opt meaning key barrier) y x.state
+      → Lasts (opt meaning key barrier) y z.state
       → (let o : Outcome History = (if long then x else z) in Lasts (opt meaning key barrier) y o.state)
   if_lasts true y x z a b = a
   if_lasts false y x z a b = b
 
-  asked_lasts : (y : History) (issued : List (List ℕ)) (meddles : List Meddle) (stop : Stop) (bytes : Option (List ℕ)) (b : Batch) → IsSound y
+  asked_lasts : (y : History) (issued : List (List ℕ)) (meddles : List Meddle) (stop : Stop) (bytes : Option (List ℕ)) (b : Batch)
+      → IsSound y
       → (let i = opt meaning key barrier in
       let o : Outcome History = asked i (by_lists i) y issued meddles stop bytes b in Lasts i y o.state)
   asked_lasts y issued meddles stop None b sound = lasts_made [] y sound tt
   asked_lasts y issued meddles stop (Some bytes) b sound =
       if_lasts (is_long b) y _ _ (lasts_made [] y sound tt) (called_lasts y issued stop (course_of stop meddles) bytes (normal b) sound)
 
-  checkpoint_lasts : (y : History) (issued : List (List ℕ)) (stop : Stop) (c : Course) (lost : Bool) → is_lost (life_of Opt (sight y c)) ≡ lost → IsSound y
+  checkpoint_lasts : (y : History) (issued : List (List ℕ)) (stop : Stop) (c : Course) (lost : Bool)
+      → is_lost (life_of Opt (sight y c)) ≡ lost → IsSound y
       → (let i = opt meaning key barrier in
       let o : Outcome History = closed_outcome (by_lists i) stop issued (checkpointed_with i (by_lists i) y c lost) in Lasts i y o.state)
   checkpoint_lasts y issued stop c lost is sound =
@@ -112,12 +118,14 @@ module _ (meaning : Meaning) (key : List ℕ) where
   basic_made (m ∷ moves) y content named =
       basic_made moves (moved (basic meaning key) y m) content (basic_names meaning key y m content named)
 
-  if_names : (long : Bool) (content : Content) (x z : Outcome History) → Names (basic meaning key) x.state content → Names (basic meaning key) z.state content
+  if_names : (long : Bool) (content : Content) (x z : Outcome History) → Names (basic meaning key) x.state content
+      → Names (basic meaning key) z.state content
       → (let o : Outcome History = (if long then x else z) in Names (basic meaning key) o.state content)
   if_names true content x z a b = a
   if_names false content x z a b = b
 
-  basic_asked : (y : History) (issued : List (List ℕ)) (meddles : List Meddle) (stop : Stop) (bytes : Option (List ℕ)) (b : Batch) (content : Content)
+  basic_asked : (y : History) (issued : List (List ℕ)) (meddles : List Meddle) (stop : Stop) (bytes : Option (List ℕ)) (b : Batch)
+      (content : Content)
       → Names (basic meaning key) y content
       → (let i = basic meaning key in
       let o : Outcome History = asked i (by_lists i) y issued meddles stop bytes b in Names i o.state content)
@@ -130,7 +138,8 @@ module _ (meaning : Meaning) (key : List ℕ) where
   basic_names_last : (y : History) (issued : List (List ℕ)) (event : Event) (content : Content) → Names (basic meaning key) y content
       → (let i = basic meaning key in
       let o : Outcome History = event_outcome i (by_lists i) y issued event in Names i o.state content)
-  basic_names_last y issued (Ask meddles stop offer b) content named = basic_asked y issued meddles stop (offered_bytes issued offer) b content named
+  basic_names_last y issued (Ask meddles stop offer b) content named =
+      basic_asked y issued meddles stop (offered_bytes issued offer) b content named
   basic_names_last y issued (Checkpoint meddles stop) content named =
       let i : Instance = basic meaning key in
       let c : Course = course_of stop meddles in

@@ -16,10 +16,12 @@ use Rattle.mm_schedule.specs.Events.{Ask}
 use Rattle.mm_schedule.specs.declared.event.Offer.TheVariants.{Last}
 use Rattle.mm_model.specs.Long.{is_long}
 use Rattle.mm_model.specs.Chains.{link_message, guard_message, guard, anchor_of}
-use Rattle.mm_model.specs.Instance.{Instance, basic, opt}
+use Rattle.mm_model.specs.Instance.{Instance}
+use Rattle.mm_model.specs.InstanceWords.{basic, opt}
 use Rattle.mm_model.specs.History.{History, first_history, Move}
 use Rattle.mm_model.specs.Messages.{IsClear, Within, form_messages, point_messages, offer_messages}
-use Rattle.mm_model.specs.Places.{Names, anchor_after, digest_of, issued}
+use Rattle.mm_model.specs.Places.{Names, anchor_after, issued}
+use Rattle.mm_model.specs.PlacesWords.{digest_of}
 use Rattle.mm_model.specs.Standing.{IsRight, IsGenuine, issued_bytes}
 use Rattle.mm_model.specs.Steps.{ask_steps}
 use Rattle.mm_model.proofs.Ends.{first_sound}
@@ -31,15 +33,18 @@ use Rattle.mm_seal.specs.declared.snapshot.PartsFault.{PartsFault}
 use Rattle.mm_seal.specs.declared.snapshot.Place.TheVariants.{Opt as InOpt}
 use Rattle.mm_seal.specs.Snapshot.{Content, IsContent, Snapshot, tag_of}
 use Rattle.mm_seal.proofs.SealLaws.{sealed_once}
-use Rattle.mm_call.specs.Found.{found_at, found_unless_wanting, is_fresh, content_if_right, right_content}
-use Rattle.mm_run.specs.Held.{world_barrier, rising_from}
+use Rattle.mm_call.specs.Found.{found_at, right_content}
+use Rattle.mm_call.specs.FoundWords.{found_unless_wanting, is_fresh, content_if_right}
+use Rattle.mm_run.specs.Held.{rising_from}
+use Rattle.mm_run.specs.HeldWords.{world_barrier}
 use Rattle.mm_run.specs.Laws.{one_ask}
 use Rattle.mm_run.specs.Folds.{course_of}
 use Rattle.mm_call.specs.Levels.{by_lists}
 use Rattle.mm_seal.specs.Parts.{parts_of}
 use Rattle.mm_call.specs.Asked.{right_messages, moves_messages}
 use Rattle.mm_run.proofs.FirstBytes.{first_byte, all_apart, clear_by_first, clear_within, digest_is}
-use Rattle.mm_run.specs.Premises.{run_messages, IsClearRun, IsGenuineRun}
+use Rattle.mm_run.specs.Premises.{IsClearRun, IsGenuineRun}
+use Rattle.mm_run.specs.PremisesWords.{run_messages}
 use Rattle.mm_call.specs.Courses.{walk}
 use Rattle.mm_call.proofs.Moving.{summary-nil}
 use Rattle.mm_call.proofs.Reading.{is_right}
@@ -47,7 +52,9 @@ use Rattle.mm_call.proofs.Reading.{is_right}
 -- Basic: the digests of the run's messages
 
 abbrev basic_start : List ℕ
-basic_start = 0xfb ∷ 0xb5 ∷ 0x9e ∷ 0xd1 ∷ 0x0e ∷ 0x9c ∷ 0xd4 ∷ 0xff ∷ 0x45 ∷ 0xa1 ∷ 0x2c ∷ 0x5b ∷ 0xb9 ∷ 0x2c ∷ 0xbd ∷ 0x80 ∷ 0xdf ∷ 0x98 ∷ 0x4b ∷ 0xa1 ∷ 0xfe ∷ 0x60 ∷ 0xf2 ∷ 0x6a ∷ 0x30 ∷ 0xfe ∷ 0xbf ∷ 0x21 ∷ 0x8e ∷ 0x2f ∷ 0x0f ∷ 0x5e ∷ []
+basic_start =
+    0xfb ∷ 0xb5 ∷ 0x9e ∷ 0xd1 ∷ 0x0e ∷ 0x9c ∷ 0xd4 ∷ 0xff ∷ 0x45 ∷ 0xa1 ∷ 0x2c ∷ 0x5b ∷ 0xb9 ∷ 0x2c ∷ 0xbd ∷ 0x80 ∷ 0xdf ∷ 0x98 ∷ 0x4b
+    ∷ 0xa1 ∷ 0xfe ∷ 0x60 ∷ 0xf2 ∷ 0x6a ∷ 0x30 ∷ 0xfe ∷ 0xbf ∷ 0x21 ∷ 0x8e ∷ 0x2f ∷ 0x0f ∷ 0x5e ∷ []
 
 basic_starts : start_of Basic 1 ≡ basic_start
 unfolding start_of first_words rounds digest_bytes
@@ -64,7 +71,8 @@ basic_link_byte = ap (λ d. slice_index d 0) (sym (digest_is (link_message basic
 basic_messages : List (List ℕ)
 basic_messages = start_message Basic 1 ∷ link_message (start_of Basic 1) (One (codes "add 5")) ∷ []
 
-basic_listed : Contains basic_messages (start_message Basic 1) × Contains basic_messages (link_message (start_of Basic 1) (One (codes "add 5")))
+basic_listed : Contains basic_messages (start_message Basic 1) × Contains basic_messages
+    (link_message (start_of Basic 1) (One (codes "add 5")))
 unfolding basic_messages
 basic_listed = ((0, omega arith, refl), (1, omega arith, refl))
 
@@ -80,21 +88,27 @@ basic_clear =
 -- Opt: the digests of the run's messages
 
 abbrev pub opt_start : List ℕ
-opt_start = 0x8d ∷ 0x9f ∷ 0xe7 ∷ 0x31 ∷ 0x7f ∷ 0x06 ∷ 0x6d ∷ 0xea ∷ 0xca ∷ 0x4f ∷ 0xdb ∷ 0x6c ∷ 0x31 ∷ 0x31 ∷ 0x94 ∷ 0xe5 ∷ 0xbb ∷ 0x5d ∷ 0x22 ∷ 0x69 ∷ 0xec ∷ 0xf6 ∷ 0x72 ∷ 0xf1 ∷ 0xaf ∷ 0x9f ∷ 0xc7 ∷ 0x90 ∷ 0xa2 ∷ 0x20 ∷ 0x59 ∷ 0x91 ∷ []
+opt_start =
+    0x8d ∷ 0x9f ∷ 0xe7 ∷ 0x31 ∷ 0x7f ∷ 0x06 ∷ 0x6d ∷ 0xea ∷ 0xca ∷ 0x4f ∷ 0xdb ∷ 0x6c ∷ 0x31 ∷ 0x31 ∷ 0x94 ∷ 0xe5 ∷ 0xbb ∷ 0x5d ∷ 0x22
+    ∷ 0x69 ∷ 0xec ∷ 0xf6 ∷ 0x72 ∷ 0xf1 ∷ 0xaf ∷ 0x9f ∷ 0xc7 ∷ 0x90 ∷ 0xa2 ∷ 0x20 ∷ 0x59 ∷ 0x91 ∷ []
 
 pub opt_starts : start_of Opt 1 ≡ opt_start
 unfolding start_of first_words rounds digest_bytes
 opt_starts = sym (digest_is (start_message Opt 1)) ∙ refl
 
 abbrev pub the_guard : List ℕ
-the_guard = 0x98 ∷ 0xe0 ∷ 0x13 ∷ 0xc5 ∷ 0x85 ∷ 0xfd ∷ 0x16 ∷ 0x27 ∷ 0x0b ∷ 0x69 ∷ 0x8a ∷ 0xd6 ∷ 0xd2 ∷ 0xb6 ∷ 0x16 ∷ 0x4a ∷ 0x92 ∷ 0x44 ∷ 0x12 ∷ 0x7b ∷ 0xda ∷ 0xaf ∷ 0xc7 ∷ 0x7b ∷ 0xf5 ∷ 0xc0 ∷ 0xcc ∷ 0x2f ∷ 0x19 ∷ 0xde ∷ 0x90 ∷ 0xcd ∷ []
+the_guard =
+    0x98 ∷ 0xe0 ∷ 0x13 ∷ 0xc5 ∷ 0x85 ∷ 0xfd ∷ 0x16 ∷ 0x27 ∷ 0x0b ∷ 0x69 ∷ 0x8a ∷ 0xd6 ∷ 0xd2 ∷ 0xb6 ∷ 0x16 ∷ 0x4a ∷ 0x92 ∷ 0x44 ∷ 0x12
+    ∷ 0x7b ∷ 0xda ∷ 0xaf ∷ 0xc7 ∷ 0x7b ∷ 0xf5 ∷ 0xc0 ∷ 0xcc ∷ 0x2f ∷ 0x19 ∷ 0xde ∷ 0x90 ∷ 0xcd ∷ []
 
 pub guards : guard world_barrier (One (codes "add 5")) ≡ the_guard
-unfolding guard world_barrier rising_from first_words rounds digest_bytes
+unfolding guard rising_from first_words rounds digest_bytes
 guards = sym (digest_is (guard_message world_barrier (One (codes "add 5")))) ∙ refl
 
 abbrev pub the_extension : List ℕ
-the_extension = 0x4b ∷ 0x1c ∷ 0x76 ∷ 0x7b ∷ 0x03 ∷ 0x73 ∷ 0x96 ∷ 0x15 ∷ 0xa1 ∷ 0x87 ∷ 0x9a ∷ 0xf1 ∷ 0xe9 ∷ 0x82 ∷ 0x9c ∷ 0x0b ∷ 0x72 ∷ 0xa4 ∷ 0xfc ∷ 0x44 ∷ 0x31 ∷ 0xf2 ∷ 0xbd ∷ 0xf3 ∷ 0xee ∷ 0x13 ∷ 0x78 ∷ 0x0b ∷ 0x81 ∷ 0x9a ∷ 0xe7 ∷ 0x6d ∷ []
+the_extension =
+    0x4b ∷ 0x1c ∷ 0x76 ∷ 0x7b ∷ 0x03 ∷ 0x73 ∷ 0x96 ∷ 0x15 ∷ 0xa1 ∷ 0x87 ∷ 0x9a ∷ 0xf1 ∷ 0xe9 ∷ 0x82 ∷ 0x9c ∷ 0x0b ∷ 0x72 ∷ 0xa4 ∷ 0xfc
+    ∷ 0x44 ∷ 0x31 ∷ 0xf2 ∷ 0xbd ∷ 0xf3 ∷ 0xee ∷ 0x13 ∷ 0x78 ∷ 0x0b ∷ 0x81 ∷ 0x9a ∷ 0xe7 ∷ 0x6d ∷ []
 
 pub extends : extended_of zero_bytes the_guard ≡ the_extension
 unfolding extended_of zero_bytes first_words rounds digest_bytes
@@ -137,13 +151,15 @@ opt_clear =
     let third : f (extended_message zero_bytes v) ≡ 75 = ap (λ g. f (extended_message zero_bytes g)) guards ∙ extension_byte in
     let fourth : f (anchored_message (start_of Opt 1) (extended_of zero_bytes v)) ≡ 41 =
     ap (λ g. f (anchored_message (start_of Opt 1) (extended_of zero_bytes g))) guards
-    ∙ ap (λ e. f (anchored_message (start_of Opt 1) e)) extends ∙ ap (λ a. f (anchored_message a the_extension)) opt_starts ∙ anchored_byte in
+    ∙ ap (λ e. f (anchored_message (start_of Opt 1) e)) extends ∙ ap (λ a. f (anchored_message a the_extension)) opt_starts
+    ∙ anchored_byte in
     clear_by_first
     (start_message Opt 1 ∷ guard_message world_barrier (One (codes "add 5")) ∷ extended_message zero_bytes v
     ∷ anchored_message (start_of Opt 1) (extended_of zero_bytes v) ∷ [])
     (ap (λ a. all_apart (a ∷ f (guard_message world_barrier (One (codes "add 5"))) ∷ f (extended_message zero_bytes v)
     ∷ f (anchored_message (start_of Opt 1) (extended_of zero_bytes v)) ∷ [])) opt_start_byte
-    ∙ ap (λ a. all_apart (141 ∷ a ∷ f (extended_message zero_bytes v) ∷ f (anchored_message (start_of Opt 1) (extended_of zero_bytes v)) ∷ [])) guard_byte
+    ∙ ap (λ a. all_apart
+    (141 ∷ a ∷ f (extended_message zero_bytes v) ∷ f (anchored_message (start_of Opt 1) (extended_of zero_bytes v)) ∷ [])) guard_byte
     ∙ ap (λ a. all_apart (141 ∷ 152 ∷ a ∷ f (anchored_message (start_of Opt 1) (extended_of zero_bytes v)) ∷ [])) third
     ∙ ap (λ a. all_apart (141 ∷ 152 ∷ 75 ∷ a ∷ [])) fourth)
 
@@ -154,7 +170,8 @@ if_within i b all false content h = tt
 
 right_by : (i : Instance) (bytes : List ℕ) (b : Batch) (all : List (List ℕ)) (parts : Result Snapshot PartsFault)
     → parts_of i.variant i.meaning.id bytes ≡ parts
-    → ((c : Content) → IsRight i bytes c → Within (offer_messages i c.place b) all) → Within (right_messages i b (content_if_right i parts)) all
+    → ((c : Content) → IsRight i bytes c → Within (offer_messages i c.place b) all)
+    → Within (right_messages i b (content_if_right i parts)) all
 right_by i bytes b all (Err fault) e h = tt
 right_by i bytes b all (Ok s) e h =
     if_within i b all (i.meaning.is_spelled s.content.state && bytes_eq s.tag (tag_of i.key s.content)) s.content
@@ -171,7 +188,8 @@ right_within i y b all formed h =
     (sealed_once i.key i.key (issued i y) c formed right.formed right.sealed) h)
 
 -- it names a position of a later one
-pub is_genuine : (i : Instance) (y later : History) → IsContent (issued i y) → Names i later (issued i y) → IsGenuine i later (issued_bytes i y)
+pub is_genuine : (i : Instance) (y later : History) → IsContent (issued i y) → Names i later (issued i y)
+    → IsGenuine i later (issued_bytes i y)
 is_genuine i y later formed names content right =
     subst (λ (x : Content). Names i later x) (sealed_once i.key i.key (issued i y) content formed right.formed right.sealed) names
 
@@ -180,7 +198,8 @@ if_short : (all : List (List ℕ)) (long : Bool) (xs : List (List ℕ)) → long
 if_short all true xs e h = tt
 if_short all false xs e h = h
 
-if_moves : (i : Instance) (all : List (List ℕ)) (long : Bool) (moves : List Move) → long ≡ false → Within (moves_messages i first_history moves) all
+if_moves : (i : Instance) (all : List (List ℕ)) (long : Bool) (moves : List Move) → long ≡ false
+    → Within (moves_messages i first_history moves) all
     → Within (moves_messages i first_history (if long then [] else moves)) all
 if_moves i all true moves e h = tt
 if_moves i all false moves e h = h
@@ -195,23 +214,27 @@ basic_formed meaning key lawful = record {
 }
 
 basic_moves : (meaning : Meaning) (key r : List ℕ) (all : List (List ℕ)) (fresh : Bool)
-    → Within (moves_messages (basic meaning key) first_history (walk (course_of Quiet []).fates 1 (ask_steps Basic false fresh (One r))).moves) all
+    → Within (moves_messages (basic meaning key) first_history
+    (walk (course_of Quiet []).fates 1 (ask_steps Basic false fresh (One r))).moves) all
 basic_moves meaning key r all false = tt
 basic_moves meaning key r all true = tt
 
 basic_run : (meaning : Meaning) (key r : List ℕ) (all : List (List ℕ)) → is_long (One r) ≡ false
     → Contains all (start_message Basic meaning.id)
-    → Within (right_messages (basic meaning key) (One r) (right_content (basic meaning key) (issued_bytes (basic meaning key) first_history))) all
+    → Within (right_messages (basic meaning key) (One r)
+    (right_content (basic meaning key) (issued_bytes (basic meaning key) first_history))) all
     → Within (run_messages (basic meaning key) (Ask [] Quiet Last (One r) ∷ [])) all
 basic_run meaning key r all short starts asked =
     let i = basic meaning key in
     let P : List ℕ → Type 0 = Contains all in
     let found = found_unless_wanting (found_at i (by_lists i) first_history (One r) (issued_bytes i first_history)) false in
     let heard = if is_long (One r) then [] else right_messages i (One r) (right_content i (issued_bytes i first_history)) in
-    let made = moves_messages i first_history (if is_long (One r) then [] else (walk (course_of Quiet []).fates 1 (ask_steps Basic false (is_fresh found) (One r))).moves) in (
+    let made = moves_messages i first_history
+    (if is_long (One r) then [] else (walk (course_of Quiet []).fates 1 (ask_steps Basic false (is_fresh found) (One r))).moves) in (
       starts,
       each_append P (heard ++ made) [] (each_append P heard made (if_short all (is_long (One r)) _ short asked)
-          (if_moves i all (is_long (One r)) (walk (course_of Quiet []).fates 1 (ask_steps Basic false (is_fresh found) (One r))).moves short (basic_moves meaning key r all (is_fresh found)))) tt,
+          (if_moves i all (is_long (One r)) (walk (course_of Quiet []).fates 1 (ask_steps Basic false (is_fresh found) (One r))).moves short
+          (basic_moves meaning key r all (is_fresh found)))) tt,
     )
 
 pub basic_met : (key : List ℕ) → IsClearRun (basic counter key) one_ask × IsGenuineRun (basic counter key) one_ask
@@ -219,11 +242,13 @@ basic_met key =
     let i = basic counter key in
     let formed = basic_formed counter key counter_is_lawful in
     let P : List ℕ → Type 0 = λ s. Contains basic_messages (link_message s (One (codes "add 5"))) in
-    let offered : Within (offer_messages i (issued i first_history).place (One (codes "add 5"))) basic_messages = (subst P (summary-nil 1) basic_listed.1, tt) in (
+    let offered : Within (offer_messages i (issued i first_history).place (One (codes "add 5")))
+    basic_messages = (subst P (summary-nil 1) basic_listed.1, tt) in (
       record {
         clear = clear_within basic_messages (run_messages i one_ask) basic_clear
-            (basic_run counter key (codes "add 5") basic_messages refl basic_listed.0 (right_within i first_history (One (codes "add 5")) basic_messages formed offered));
-        apart = tt;
+            (basic_run counter key (codes "add 5") basic_messages refl basic_listed.0
+            (right_within i first_history (One (codes "add 5")) basic_messages formed offered));
+        apart = λ is. cc;
       },
       (is_genuine i first_history first_history formed (basic_issued counter key first_history), tt),
     )
@@ -245,15 +270,18 @@ opt_formed meaning key barrier lawful = record {
   state = lawful.fits meaning.first lawful.begins;
 }
 
-opt_moves : (meaning : Meaning) (key barrier r : List ℕ) (all : List (List ℕ)) (fresh : Bool) → Contains all (extended_message zero_bytes (guard barrier (One r)))
-    → Within (moves_messages (opt meaning key barrier) first_history (walk (course_of Quiet []).fates 1 (ask_steps Opt false fresh (One r))).moves) all
+opt_moves : (meaning : Meaning) (key barrier r : List ℕ) (all : List (List ℕ)) (fresh : Bool)
+    → Contains all (extended_message zero_bytes (guard barrier (One r)))
+    → Within (moves_messages (opt meaning key barrier) first_history
+    (walk (course_of Quiet []).fates 1 (ask_steps Opt false fresh (One r))).moves) all
 opt_moves meaning key barrier r all false listed = tt
 opt_moves meaning key barrier r all true listed =
     let P : List ℕ → Type 0 = λ x. Contains all (extended_message x (guard barrier (One r))) in (subst P (sym reads_zero) listed, tt)
 
 opt_run : (meaning : Meaning) (key barrier r : List ℕ) (all : List (List ℕ)) → is_long (One r) ≡ false
     → Contains all (start_message Opt meaning.id)
-    → Within (right_messages (opt meaning key barrier) (One r) (right_content (opt meaning key barrier) (issued_bytes (opt meaning key barrier) first_history))) all
+    → Within (right_messages (opt meaning key barrier) (One r)
+    (right_content (opt meaning key barrier) (issued_bytes (opt meaning key barrier) first_history))) all
     → Contains all (extended_message zero_bytes (guard barrier (One r)))
     → Within (run_messages (opt meaning key barrier) (Ask [] Quiet Last (One r) ∷ [])) all
 opt_run meaning key barrier r all short starts asked listed =
@@ -261,10 +289,12 @@ opt_run meaning key barrier r all short starts asked listed =
     let P : List ℕ → Type 0 = Contains all in
     let found = found_unless_wanting (found_at i (by_lists i) first_history (One r) (issued_bytes i first_history)) false in
     let heard = if is_long (One r) then [] else right_messages i (One r) (right_content i (issued_bytes i first_history)) in
-    let made = moves_messages i first_history (if is_long (One r) then [] else (walk (course_of Quiet []).fates 1 (ask_steps Opt false (is_fresh found) (One r))).moves) in (
+    let made = moves_messages i first_history
+    (if is_long (One r) then [] else (walk (course_of Quiet []).fates 1 (ask_steps Opt false (is_fresh found) (One r))).moves) in (
       starts,
       each_append P (heard ++ made) [] (each_append P heard made (if_short all (is_long (One r)) _ short asked)
-          (if_moves i all (is_long (One r)) (walk (course_of Quiet []).fates 1 (ask_steps Opt false (is_fresh found) (One r))).moves short (opt_moves meaning key barrier r all (is_fresh found) listed))) tt,
+          (if_moves i all (is_long (One r)) (walk (course_of Quiet []).fates 1 (ask_steps Opt false (is_fresh found) (One r))).moves short
+          (opt_moves meaning key barrier r all (is_fresh found) listed))) tt,
     )
 
 pub opt_offered : (meaning : Meaning) (key barrier r : List ℕ) (all : List (List ℕ)) → Contains all (guard_message barrier (One r))
@@ -274,8 +304,10 @@ pub opt_offered : (meaning : Meaning) (key barrier r : List ℕ) (all : List (Li
 opt_offered meaning key barrier r all guarded extended anchored =
     let v = guard barrier (One r) in
     let start = start_of Opt meaning.id in
-    let P : List ℕ → Type 0 = λ a. Within (offer_messages (opt meaning key barrier) (InOpt (digest_of a) (digest_of zero_bytes)) (One r)) all in
-    let Q : Bool → Type 0 = λ same. Within (if same then [] else anchored_message start zero_bytes ∷ form_messages (anchored_of start zero_bytes) zero_bytes v) all in
+    let P : List ℕ → Type 0 = λ a. Within (offer_messages (opt meaning key barrier) (InOpt (digest_of a) (digest_of zero_bytes)) (One r))
+    all in
+    let Q : Bool → Type 0 = λ same. Within
+    (if same then [] else anchored_message start zero_bytes ∷ form_messages (anchored_of start zero_bytes) zero_bytes v) all in
     let point : Within (point_messages start zero_bytes v) all = (extended, (anchored, subst Q (sym zero_is_zero) tt)) in
     subst P (sym (anchor_nil meaning key barrier)) (guarded, point)
 
@@ -288,7 +320,7 @@ opt_met key =
         clear = clear_within opt_messages (run_messages i one_ask) opt_clear
             (opt_run counter key world_barrier (codes "add 5") opt_messages refl opt_listed.0
             (right_within i first_history (One (codes "add 5")) opt_messages formed offered) opt_listed.2);
-        apart = λ d b c among. absurd (omega (arith, c.1));
+        apart = λ is d b c among. absurd (omega (arith, c.1));
       },
       (is_genuine i first_history first_history formed (opt_issued counter key world_barrier first_history first_sound refl), tt),
     )

@@ -21,12 +21,14 @@ use Rattle.mm_seal.specs.Parts.{parts_of}
 use Rattle.mm_seal.specs.declared.snapshot.Place.TheVariants.{Opt as InOpt}
 use Rattle.mm_seal.proofs.SealLaws.{sealed_parts}
 use Rattle.mm_model.specs.Chains.{guard, guard_message, register_of, anchor_of}
-use Rattle.mm_model.specs.Instance.{Instance, opt}
+use Rattle.mm_model.specs.Instance.{Instance}
+use Rattle.mm_model.specs.InstanceWords.{opt}
 use Rattle.mm_model.specs.History.{History, Own, Value, Move, Commit, Foreign, Placed, Reset, Close, first_history, moved, requests_of, total_of}
 use Rattle.mm_model.specs.Judge.{judge}
 use Rattle.mm_model.specs.Life.{life_of, is_lost}
 use Rattle.mm_model.specs.Messages.{Within, IsClear, AreNoGuards, form_messages, point_messages, offer_messages}
-use Rattle.mm_model.specs.Places.{Names, issued, issued_place, digest_of}
+use Rattle.mm_model.specs.Places.{Names, issued, issued_place}
+use Rattle.mm_model.specs.PlacesWords.{digest_of}
 use Rattle.mm_model.specs.Sound.{IsSound}
 use Rattle.mm_model.specs.Standing.{IsGenuine, issued_bytes}
 use Rattle.mm_model.specs.declared.refusal.Refusal.{Refusal}
@@ -40,14 +42,18 @@ use Rattle.mm_model.proofs.Lists.{each_append}
 use Rattle.mm_model.proofs.Moves.{sound_moved}
 use Rattle.mm_model.proofs.Named.{opt_names, opt_issued}
 use Rattle.mm_call.specs.Asked.{moves_messages, right_messages}
-use Rattle.mm_call.specs.Called.{Called, called, called_with}
-use Rattle.mm_call.specs.Found.{Found, found_at, found_by_verdict, found_with, found_unless_wanting, right_content}
+use Rattle.mm_call.specs.Called.{Called, called}
+use Rattle.mm_call.specs.CalledWords.{called_with}
+use Rattle.mm_call.specs.Found.{Found, found_at, found_by_verdict, right_content}
+use Rattle.mm_call.specs.FoundWords.{found_with, found_unless_wanting}
 use Rattle.mm_call.specs.Levels.{by_lists}
-use Rattle.mm_call.specs.Order.{weighed, admitted, examined}
+use Rattle.mm_call.specs.Order.{admitted, examined}
+use Rattle.mm_call.specs.OrderWords.{weighed}
 use Rattle.mm_run.specs.Folds.{Outcome, Followed, followed, course_of, event_outcome, outcome_by, expected, first_issued}
-use Rattle.mm_run.specs.Held.{world_barrier}
+use Rattle.mm_run.specs.HeldWords.{world_barrier}
 use Rattle.mm_run.specs.Laws.{two_segments, after_two_segments}
-use Rattle.mm_run.specs.Premises.{moves_of, event_messages, messages_from, run_messages, IsGenuineEvent, AreGenuine, IsClearRun, IsGenuineRun}
+use Rattle.mm_run.specs.Premises.{moves_of, event_messages, messages_from, IsGenuineEvent, AreGenuine, IsClearRun, IsGenuineRun}
+use Rattle.mm_run.specs.PremisesWords.{run_messages}
 use Rattle.mm_run.proofs.FirstBytes.{clear_within}
 use Rattle.mm_call.proofs.OptFinding.{each_at}
 use Rattle.mm_run.proofs.MetPremises.{anchor_nil, opt_offered, right_within, is_genuine, guards}
@@ -87,7 +93,8 @@ record Met (all : List (List ℕ)) (i : Instance) (y : History) (issued : List (
 met_none : (all : List (List ℕ)) (i : Instance) (y : History) (issued : List (List ℕ)) → Met all i y issued [] y
 met_none all i y issued = record { within = tt; genuine = tt; ends = refl }
 
-met_first : (all : List (List ℕ)) (i : Instance) (y : History) (issued : List (List ℕ)) (event : Event) (events : List Event) (last : History)
+met_first : (all : List (List ℕ)) (i : Instance) (y : History) (issued : List (List ℕ)) (event : Event) (events : List Event)
+    (last : History)
     (o : Outcome History) (moves : List Move) → event_outcome i (by_lists i) y issued event ≡ o → moves_of i y issued event ≡ moves
     → IsGenuineEvent i y issued event → Within (event_messages i issued event) all → Within (moves_messages i y moves) all
     → Met all i o.state o.issued events last → Met all i y issued (event ∷ events) last
@@ -118,7 +125,14 @@ asked_twice =
 
 abbrev closed_then : History
 closed_then =
-    record { batches = five ∷ five ∷ []; closed = (Own five ∷ Own five ∷ []) ∷ []; current = []; is_open = false; items = Own five ∷ Own five ∷ [] }
+    record {
+      batches = five ∷ five ∷ [];
+      closed = (Own five ∷ Own five ∷ []) ∷ [];
+      current = [];
+      is_open = false;
+      items = Own five
+          ∷ Own five ∷ [];
+    }
 
 abbrev others_then : List ℕ → History
 others_then d = record {
@@ -255,7 +269,8 @@ module _ (meaning : Meaning) (lawful : IsLawful meaning) (key barrier d : List �
       → judge Opt y (total_of offered.batches) five ≡ Fresh → nat_le (total_of offered.batches + 1) last_position ≡ true
       → called here (by_lists here) y (course_of Quiet []) (issued_bytes here offered) five ≡ call offered y
   called_is offered y few live at fits =
-      ap (λ f. called_with here (by_lists here) y y (course_of Quiet []) five (found_unless_wanting f false)) (offered_fresh offered y few live at fits)
+      ap (λ f. called_with here (by_lists here) y y (course_of Quiet []) five (found_unless_wanting f false))
+      (offered_fresh offered y few live at fits)
 
   abbrev first_bytes : List ℕ
   first_bytes = issued_bytes here first_history
@@ -285,7 +300,8 @@ module _ (meaning : Meaning) (lawful : IsLawful meaning) (key barrier d : List �
 
   -- the closing and the value of others
   closed_met : AreListed meaning.id barrier v d all
-      → Met all here asked_twice (first_bytes ∷ once_bytes ∷ twice_bytes ∷ []) (Checkpoint [] Quiet ∷ Extend d ∷ five_asked ∷ []) after_two_segments
+      → Met all here asked_twice (first_bytes ∷ once_bytes ∷ twice_bytes ∷ []) (Checkpoint [] Quiet ∷ Extend d ∷ five_asked ∷ [])
+      after_two_segments
   closed_met l =
       let issued_before : List (List ℕ) = first_bytes ∷ once_bytes ∷ twice_bytes ∷ [] in
       met_first all here asked_twice issued_before (Checkpoint [] Quiet) (Extend d ∷ five_asked ∷ []) after_two_segments
@@ -296,7 +312,8 @@ module _ (meaning : Meaning) (lawful : IsLawful meaning) (key barrier d : List �
 
   -- the request inside the segment
   second_met : AreListed meaning.id barrier v d all
-      → Met all here asked_once (first_bytes ∷ once_bytes ∷ []) (five_asked ∷ Checkpoint [] Quiet ∷ Extend d ∷ five_asked ∷ []) after_two_segments
+      → Met all here asked_once (first_bytes ∷ once_bytes ∷ []) (five_asked ∷ Checkpoint [] Quiet ∷ Extend d ∷ five_asked ∷ [])
+      after_two_segments
   second_met l =
       let same = called_is asked_once asked_once (omega arith) refl refl refl in
       let issued_before : List (List ℕ) = first_bytes ∷ once_bytes ∷ [] in
@@ -311,11 +328,14 @@ module _ (meaning : Meaning) (lawful : IsLawful meaning) (key barrier d : List �
   first_met : AreListed meaning.id barrier v d all → Met all here first_history (first_issued here) (events_with d) after_two_segments
   first_met l =
       let same = called_is first_history first_history (omega arith) refl refl refl in
-      met_first all here first_history (first_issued here) five_asked (five_asked ∷ Checkpoint [] Quiet ∷ Extend d ∷ five_asked ∷ []) after_two_segments
+      met_first all here first_history (first_issued here) five_asked (five_asked ∷ Checkpoint [] Quiet ∷ Extend d ∷ five_asked ∷ [])
+      after_two_segments
       (outcome_by (by_lists here) Quiet (first_issued here) (call first_history first_history)) (Reset ∷ Placed five ∷ Commit five ∷ [])
       (ap (outcome_by (by_lists here) Quiet (first_issued here)) same) (ap (λ (c : Called History). c.moves) same)
-      (is_genuine here first_history first_history (formed first_history (omega arith)) (opt_issued meaning key barrier first_history first_sound refl))
-      (right_within here first_history five all (formed first_history (omega arith)) (opt_offered meaning key barrier (codes "add 5") all l.guarded l.first l.closes_first))
+      (is_genuine here first_history first_history (formed first_history (omega arith))
+      (opt_issued meaning key barrier first_history first_sound refl))
+      (right_within here first_history five all (formed first_history (omega arith))
+      (opt_offered meaning key barrier (codes "add 5") all l.guarded l.first l.closes_first))
       (opening_made first_history refl l, tt)
       (second_met l)
 
@@ -332,14 +352,15 @@ ff_apart b among d has same =
     let number : 255 ≡ 152 = ap (λ g. slice_index g 0) equal ∙ first_of_guard in
     absurd (omega (arith, number))
 
-pub segments_met : (key : List ℕ) → IsClearRun (opt counter key world_barrier) two_segments × IsGenuineRun (opt counter key world_barrier) two_segments
+pub segments_met : (key : List ℕ) → IsClearRun (opt counter key world_barrier) two_segments
+    × IsGenuineRun (opt counter key world_barrier) two_segments
     × ((expected (opt counter key world_barrier) two_segments).state ≡ after_two_segments)
 segments_met key =
     let i = opt counter key world_barrier in
     let met = first_met counter counter_is_lawful key world_barrier ff_bytes segment_messages segments_listed in (
       record {
         clear = clear_within segment_messages (run_messages i two_segments) segments_clear (segments_listed.begins, met.within);
-        apart = λ d b has among. ff_apart b among d has;
+        apart = λ is d b has among. ff_apart b among d has;
       },
       met.genuine,
       met.ends,

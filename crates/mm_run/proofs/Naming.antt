@@ -10,7 +10,8 @@ use Rattle.mm_platform.specs.declared.fault.StepFault.{StepFault}
 use Rattle.mm_platform.specs.declared.plan.Meddle.{Meddle}
 use Rattle.mm_platform.specs.declared.plan.Stop.{Stop}
 use Rattle.mm_platform.specs.declared.plan.Stop.TheVariants.{Quiet, Cut, Drop, Fail}
-use Rattle.mm_model.specs.Instance.{Instance, basic, opt}
+use Rattle.mm_model.specs.Instance.{Instance}
+use Rattle.mm_model.specs.InstanceWords.{basic, opt}
 use Rattle.mm_model.specs.History.{History, Move, Foreign, Close, Power as PowerMove, moved, first_history, joined}
 use Rattle.mm_model.specs.Life.{life_of, has_value, is_lost}
 use Rattle.mm_model.specs.Sound.{IsSound}
@@ -24,10 +25,12 @@ use Rattle.mm_model.proofs.Ends.{first_sound}
 use Rattle.mm_model.proofs.Moves.{sound_moved}
 use Rattle.mm_model.proofs.Named.{basic_names, basic_issued, opt_names, opt_issued}
 use Rattle.mm_call.specs.Levels.{by_lists, all_made}
-use Rattle.mm_call.specs.Found.{Found, found_at, found_unless_wanting, is_fresh}
+use Rattle.mm_call.specs.Found.{Found, found_at}
+use Rattle.mm_call.specs.FoundWords.{found_unless_wanting, is_fresh}
 use Rattle.mm_call.specs.Courses.{Fate, Course, Walked, walk, closes}
 use Rattle.mm_call.specs.Called.{Ending, Answers, Refuses, Breaks, Called, seen_at, ended_by, called}
-use Rattle.mm_call.specs.Checkpoints.{Closing, Closes, HasNone, NoSegment, LostPower, Stops, Checkpointed, checkpointed_with}
+use Rattle.mm_call.specs.Checkpoints.{Closing, Closes, HasNone, NoSegment, LostPower, Stops, Checkpointed}
+use Rattle.mm_call.specs.CheckpointsWords.{checkpointed_with}
 use Rattle.mm_call.specs.Asked.{foreign_in}
 use Rattle.mm_call.proofs.OptFinding.{not_lost, live_found}
 use Rattle.mm_call.proofs.OptHolding.{foreign_fine, power_fine}
@@ -98,18 +101,22 @@ same_issued : (i : Instance) (y : History) (issued : List (List ℕ)) → Named 
 same_issued i y issued h = subst (Named i y) (sym (append-nil issued)) h
 
 -- an answer hands out a snapshot of the history at its end
-ended_named : (meaning : Meaning) (key barrier : List ℕ) (y seen : History) (issued : List (List ℕ)) (b : Batch) (moves : List Move) (broken : Option StepFault)
+ended_named : (meaning : Meaning) (key barrier : List ℕ) (y seen : History) (issued : List (List ℕ)) (b : Batch) (moves : List Move)
+    (broken : Option StepFault)
     (found : Result Found Refusal) → AllMay (opt meaning key barrier) y moves → Named (opt meaning key barrier) y issued
     → closes moves ≡ false → ((f : Found) → found ≡ Ok f → has_value (joined y.closed) ≡ false)
     → (let i = opt meaning key barrier in
     let end : History = all_made (by_lists i) y moves in
     Named i end (issued ++ snapshots_of (ended_by (by_lists i) seen end b found moves broken)))
 ended_named meaning key barrier y seen issued b moves (Some fault) (Err why) may h shut clean =
-    same_issued (opt meaning key barrier) (all_made (by_lists (opt meaning key barrier)) y moves) issued (named_made meaning key barrier moves y issued may h)
+    same_issued (opt meaning key barrier) (all_made (by_lists (opt meaning key barrier)) y moves) issued
+    (named_made meaning key barrier moves y issued may h)
 ended_named meaning key barrier y seen issued b moves (Some fault) (Ok f) may h shut clean =
-    same_issued (opt meaning key barrier) (all_made (by_lists (opt meaning key barrier)) y moves) issued (named_made meaning key barrier moves y issued may h)
+    same_issued (opt meaning key barrier) (all_made (by_lists (opt meaning key barrier)) y moves) issued
+    (named_made meaning key barrier moves y issued may h)
 ended_named meaning key barrier y seen issued b moves None (Err why) may h shut clean =
-    same_issued (opt meaning key barrier) (all_made (by_lists (opt meaning key barrier)) y moves) issued (named_made meaning key barrier moves y issued may h)
+    same_issued (opt meaning key barrier) (all_made (by_lists (opt meaning key barrier)) y moves) issued
+    (named_made meaning key barrier moves y issued may h)
 ended_named meaning key barrier y seen issued b moves None (Ok f) may h shut clean =
     let i = opt meaning key barrier in
     let end : History = all_made (by_lists i) y moves in
@@ -136,10 +143,12 @@ asked_named meaning key barrier y issued stop c bytes b h =
     let walked : Walked = walk c.fates 1 (ask_steps Opt y.is_open (is_fresh found) b) in
     let o : Called History = called i (by_lists i) y c bytes b in
     let n = ended_named meaning key barrier y seen issued b walked.moves walked.broken found (ask_may meaning key barrier y c bytes b) h
-    (ap (λ (steps : List Step). closes (walk c.fates 1 steps).moves) (asks y.is_open (is_fresh found) b) ∙ opt_closes c.fates y.is_open (is_fresh found) b)
+    (ap (λ (steps : List Step). closes (walk c.fates 1 steps).moves) (asks y.is_open (is_fresh found) b)
+    ∙ opt_closes c.fates y.is_open (is_fresh found) b)
     (λ f is. ap (λ (z : History). has_value (joined z.closed)) (sym (sight_is i y c))
     ∙ (live_found meaning key barrier seen b bytes f (unlacked lists c.lacks f is)).clean) in
-    named_made meaning key barrier (moves_then stop o.ending) o.state (issued ++ snapshots_of o.ending) (then_may meaning key barrier stop o.ending o.state) n
+    named_made meaning key barrier (moves_then stop o.ending) o.state (issued ++ snapshots_of o.ending)
+    (then_may meaning key barrier stop o.ending o.state) n
 
 if_named : (i : Instance) (long : Bool) (x z : Outcome History) → Named i x.state x.issued → Named i z.state z.issued
     → (let o : Outcome History = (if long then x else z) in Named i o.state o.issued)
@@ -152,14 +161,16 @@ offered_named : (meaning : Meaning) (key barrier : List ℕ) (y : History) (issu
     let o : Outcome History = asked i (by_lists i) y issued meddles stop bytes b in Named i o.state o.issued)
 offered_named meaning key barrier y issued meddles stop None b h = h
 offered_named meaning key barrier y issued meddles stop (Some bytes) b h =
-    if_named (opt meaning key barrier) (is_long b) _ _ h (asked_named meaning key barrier y issued stop (course_of stop meddles) bytes (normal b) h)
+    if_named (opt meaning key barrier) (is_long b) _ _ h
+    (asked_named meaning key barrier y issued stop (course_of stop meddles) bytes (normal b) h)
 
 -- the step behind the reading steps of a checkpoint
 abbrev pub last_steps : Bool → List Step
 last_steps true = []
 last_steps false = Writes Close ∷ []
 
-ready_last : (meaning : Meaning) (key barrier : List ℕ) (others : List (List ℕ)) (fates : ℕ → Fate) (z : History) (lost : Bool) → z.is_open ≡ true
+ready_last : (meaning : Meaning) (key barrier : List ℕ) (others : List (List ℕ)) (fates : ℕ → Fate) (z : History) (lost : Bool)
+    → z.is_open ≡ true
     → is_lost (life_of Opt z) ≡ lost → Ready [] others [] (opt meaning key barrier) fates 3 (last_steps lost) z
 ready_last meaning key barrier others fates z true e is = tt
 ready_last meaning key barrier others fates z false e is = ready_closing meaning key barrier [] others [] fates z e (not_lost z is e)
@@ -186,17 +197,20 @@ checkpoint_may meaning key barrier y c true lost e is =
     (walk_fine meaning key barrier [] others [] c.fates (checkpoint_steps Opt true lost) 1 y (own_checked true lost) (each_self [] others)
     (subst (λ s. Ready [] others [] i c.fates 1 s y) (sym (last_is lost)) ready))
 
-checkpoint_named : (meaning : Meaning) (key barrier : List ℕ) (y : History) (issued : List (List ℕ)) (stop : Stop) (c : Course) (lost : Bool)
+checkpoint_named : (meaning : Meaning) (key barrier : List ℕ) (y : History) (issued : List (List ℕ)) (stop : Stop) (c : Course)
+    (lost : Bool)
     → is_lost (life_of Opt (sight y c)) ≡ lost → Named (opt meaning key barrier) y issued
     → (let i = opt meaning key barrier in
-    let o : Outcome History = closed_outcome (by_lists i) stop issued (checkpointed_with i (by_lists i) y c lost) in Named i o.state o.issued)
+    let o : Outcome History = closed_outcome (by_lists i) stop issued (checkpointed_with i (by_lists i) y c lost)
+    in Named i o.state o.issued)
 checkpoint_named meaning key barrier y issued stop c lost is h =
     let i = opt meaning key barrier in
     let o : Checkpointed History = checkpointed_with i (by_lists i) y c lost in
     named_made meaning key barrier (closing_then stop o.ending) o.state issued (closing_may meaning key barrier stop o.ending o.state)
     (named_made meaning key barrier o.moves y issued (checkpoint_may meaning key barrier y c y.is_open lost refl is) h)
 
-pub event_named : (meaning : Meaning) (key barrier : List ℕ) (y : History) (issued : List (List ℕ)) (event : Event) → Named (opt meaning key barrier) y issued
+pub event_named : (meaning : Meaning) (key barrier : List ℕ) (y : History) (issued : List (List ℕ)) (event : Event)
+    → Named (opt meaning key barrier) y issued
     → (let i = opt meaning key barrier in
     let o : Outcome History = event_outcome i (by_lists i) y issued event in Named i o.state o.issued)
 event_named meaning key barrier y issued (Ask meddles stop offer b) h =
@@ -209,9 +223,11 @@ event_named meaning key barrier y issued (Checkpoint meddles stop) h =
 event_named meaning key barrier y issued Power h =
     named_made meaning key barrier (PowerMove ∷ []) y issued ((power_fine meaning key barrier [] [] [] y).may, tt) h
 event_named meaning key barrier y issued (Extend value) h =
-    named_made meaning key barrier (Foreign value ∷ []) y issued ((foreign_fine meaning key barrier [] (value ∷ []) [] y value (first_in value [])).may, tt) h
+    named_made meaning key barrier (Foreign value ∷ []) y issued
+    ((foreign_fine meaning key barrier [] (value ∷ []) [] y value (first_in value [])).may, tt) h
 
-follow_named : (meaning : Meaning) (key barrier : List ℕ) (events : List Event) (y : History) (issued : List (List ℕ)) → Named (opt meaning key barrier) y issued
+follow_named : (meaning : Meaning) (key barrier : List ℕ) (events : List Event) (y : History) (issued : List (List ℕ))
+    → Named (opt meaning key barrier) y issued
     → (let i = opt meaning key barrier in
     let f : Followed History = followed i (by_lists i) y issued events in Named i f.state f.issued)
 follow_named meaning key barrier [] y issued h = h
@@ -227,7 +243,12 @@ opt_issued_named meaning key barrier events =
     (record {
       sound = first_sound;
       names = (
-        record { content = content_issued i first_history; sealed = refl; names = opt_issued meaning key barrier first_history first_sound refl },
+        record {
+          content = content_issued i first_history;
+          sealed = refl;
+          names = opt_issued meaning key barrier first_history first_sound
+              refl;
+        },
         tt,
       );
     })).names
@@ -249,32 +270,39 @@ kept_made meaning key [] y xs h = h
 kept_made meaning key (m ∷ moves) y xs h =
     kept_made meaning key moves (moved (basic meaning key) y m) xs (kept_moved meaning key y m xs h)
 
-basic_ended : (meaning : Meaning) (key : List ℕ) (y seen : History) (issued : List (List ℕ)) (b : Batch) (moves : List Move) (broken : Option StepFault)
+basic_ended : (meaning : Meaning) (key : List ℕ) (y seen : History) (issued : List (List ℕ)) (b : Batch) (moves : List Move)
+    (broken : Option StepFault)
     (found : Result Found Refusal) → AllByRecursion (IsIssued (basic meaning key) y) issued
     → (let i = basic meaning key in
     let end : History = all_made (by_lists i) y moves in
     AllByRecursion (IsIssued i end) (issued ++ snapshots_of (ended_by (by_lists i) seen end b found moves broken)))
 basic_ended meaning key y seen issued b moves (Some fault) (Err why) h =
-    subst (AllByRecursion (IsIssued (basic meaning key) (all_made (by_lists (basic meaning key)) y moves))) (sym (append-nil issued)) (kept_made meaning key moves y issued h)
+    subst (AllByRecursion (IsIssued (basic meaning key) (all_made (by_lists (basic meaning key)) y moves))) (sym (append-nil issued))
+    (kept_made meaning key moves y issued h)
 basic_ended meaning key y seen issued b moves (Some fault) (Ok f) h =
-    subst (AllByRecursion (IsIssued (basic meaning key) (all_made (by_lists (basic meaning key)) y moves))) (sym (append-nil issued)) (kept_made meaning key moves y issued h)
+    subst (AllByRecursion (IsIssued (basic meaning key) (all_made (by_lists (basic meaning key)) y moves))) (sym (append-nil issued))
+    (kept_made meaning key moves y issued h)
 basic_ended meaning key y seen issued b moves None (Err why) h =
-    subst (AllByRecursion (IsIssued (basic meaning key) (all_made (by_lists (basic meaning key)) y moves))) (sym (append-nil issued)) (kept_made meaning key moves y issued h)
+    subst (AllByRecursion (IsIssued (basic meaning key) (all_made (by_lists (basic meaning key)) y moves))) (sym (append-nil issued))
+    (kept_made meaning key moves y issued h)
 basic_ended meaning key y seen issued b moves None (Ok f) h =
     let i = basic meaning key in
     let end : History = all_made (by_lists i) y moves in
     all_push (IsIssued i end) issued (issued_bytes i end) (kept_made meaning key moves y issued h)
     (record { content = content_issued i end; sealed = refl; names = basic_issued meaning key end })
 
-if_kept : (i : Instance) (long : Bool) (x z : Outcome History) → AllByRecursion (IsIssued i x.state) x.issued → AllByRecursion (IsIssued i z.state) z.issued
+if_kept : (i : Instance) (long : Bool) (x z : Outcome History) → AllByRecursion (IsIssued i x.state) x.issued
+    → AllByRecursion (IsIssued i z.state) z.issued
     → (let o : Outcome History = (if long then x else z) in AllByRecursion (IsIssued i o.state) o.issued)
 if_kept i true x z a b = a
 if_kept i false x z a b = b
 
-basic_called : (meaning : Meaning) (key : List ℕ) (y : History) (issued : List (List ℕ)) (stop : Stop) (c : Course) (bytes : List ℕ) (b : Batch)
+basic_called : (meaning : Meaning) (key : List ℕ) (y : History) (issued : List (List ℕ)) (stop : Stop) (c : Course) (bytes : List ℕ)
+    (b : Batch)
     → AllByRecursion (IsIssued (basic meaning key) y) issued
     → (let i = basic meaning key in
-    let o : Outcome History = outcome_by (by_lists i) stop issued (called i (by_lists i) y c bytes b) in AllByRecursion (IsIssued i o.state) o.issued)
+    let o : Outcome History = outcome_by (by_lists i) stop issued (called i (by_lists i) y c bytes b)
+    in AllByRecursion (IsIssued i o.state) o.issued)
 basic_called meaning key y issued stop c bytes b h =
     let i = basic meaning key in
     let seen : History = seen_at i (by_lists i) y c in
@@ -295,22 +323,26 @@ basic_asked meaning key y issued meddles stop (Some bytes) b h =
 basic_checked : (meaning : Meaning) (key : List ℕ) (y : History) (issued : List (List ℕ)) (stop : Stop) (c : Course) (lost : Bool)
     → AllByRecursion (IsIssued (basic meaning key) y) issued
     → (let i = basic meaning key in
-    let o : Outcome History = closed_outcome (by_lists i) stop issued (checkpointed_with i (by_lists i) y c lost) in AllByRecursion (IsIssued i o.state) o.issued)
+    let o : Outcome History = closed_outcome (by_lists i) stop issued (checkpointed_with i (by_lists i) y c lost)
+    in AllByRecursion (IsIssued i o.state) o.issued)
 basic_checked meaning key y issued stop c lost h =
     let i = basic meaning key in
     let o : Checkpointed History = checkpointed_with i (by_lists i) y c lost in
     kept_made meaning key (closing_then stop o.ending) o.state issued (kept_made meaning key o.moves y issued h)
 
-pub basic_event : (meaning : Meaning) (key : List ℕ) (y : History) (issued : List (List ℕ)) (event : Event) → AllByRecursion (IsIssued (basic meaning key) y) issued
+pub basic_event : (meaning : Meaning) (key : List ℕ) (y : History) (issued : List (List ℕ)) (event : Event)
+    → AllByRecursion (IsIssued (basic meaning key) y) issued
     → (let i = basic meaning key in
     let o : Outcome History = event_outcome i (by_lists i) y issued event in AllByRecursion (IsIssued i o.state) o.issued)
-basic_event meaning key y issued (Ask meddles stop offer b) h = basic_asked meaning key y issued meddles stop (offered_bytes issued offer) b h
+basic_event meaning key y issued (Ask meddles stop offer b) h =
+    basic_asked meaning key y issued meddles stop (offered_bytes issued offer) b h
 basic_event meaning key y issued (Checkpoint meddles stop) h = basic_checked meaning key y issued stop (course_of stop meddles)
     ((by_lists (basic meaning key)).is_lost (seen_at (basic meaning key) (by_lists (basic meaning key)) y (course_of stop meddles))) h
 basic_event meaning key y issued Power h = kept_made meaning key (PowerMove ∷ []) y issued h
 basic_event meaning key y issued (Extend value) h = kept_made meaning key (Foreign value ∷ []) y issued h
 
-basic_follow : (meaning : Meaning) (key : List ℕ) (events : List Event) (y : History) (issued : List (List ℕ)) → AllByRecursion (IsIssued (basic meaning key) y) issued
+basic_follow : (meaning : Meaning) (key : List ℕ) (events : List Event) (y : History) (issued : List (List ℕ))
+    → AllByRecursion (IsIssued (basic meaning key) y) issued
     → (let i = basic meaning key in
     let f : Followed History = followed i (by_lists i) y issued events in AllByRecursion (IsIssued i f.state) f.issued)
 basic_follow meaning key [] y issued h = h

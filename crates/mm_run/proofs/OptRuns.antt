@@ -9,10 +9,12 @@ use Rattle.mm_module.specs.Meaning.{Meaning}
 use Rattle.mm_module.specs.Batch.{Batch}
 use Rattle.mm_platform.specs.declared.plan.Meddle.{Meddle}
 use Rattle.mm_platform.specs.declared.plan.Stop.{Stop}
-use Rattle.mm_platform.specs.Standing.{due}
-use Rattle.mm_model.specs.Instance.{Instance, opt}
+use Rattle.mm_platform.specs.StandingWords.{due}
+use Rattle.mm_model.specs.Instance.{Instance}
+use Rattle.mm_model.specs.InstanceWords.{opt}
 use Rattle.mm_model.specs.History.{Value, History, Move, Foreign, Reset, Power as PowerMove, moved, first_history}
-use Rattle.mm_model.specs.Messages.{Within, IsClear, AreNoGuards, history_messages, move_messages}
+use Rattle.mm_model.specs.Messages.{Within, IsClear, AreNoGuards, history_messages}
+use Rattle.mm_model.specs.MessagesWords.{move_messages}
 use Rattle.mm_model.specs.Moves.{Digests, made}
 use Rattle.mm_model.specs.Standing.{IsGenuine}
 use Rattle.mm_model.specs.Steps.{Step, Reads, Changes, Writes, ask_steps, checkpoint_steps}
@@ -22,8 +24,10 @@ use Rattle.mm_model.proofs.Moves.{sound_moved}
 use Rattle.mm_model.proofs.Ends.{first_sound, first_outside}
 use Rattle.mm_model.proofs.MovedDigests.{outside_moved}
 use Rattle.mm_call.specs.Levels.{by_lists, by_digests, all_made}
-use Rattle.mm_call.specs.Found.{right_content, is_fresh, found_at, found_unless_wanting}
-use Rattle.mm_call.specs.Courses.{End, Done, Fails, Fate, Course, Walked, made_move, step_moves, after_step, walk}
+use Rattle.mm_call.specs.Found.{right_content, found_at}
+use Rattle.mm_call.specs.FoundWords.{is_fresh, found_unless_wanting}
+use Rattle.mm_call.specs.Courses.{End, Done, Fails, Fate, Course, Walked, step_moves, after_step, walk}
+use Rattle.mm_call.specs.CoursesWords.{made_move}
 use Rattle.mm_call.specs.Called.{called, seen_at}
 use Rattle.mm_call.specs.Checkpoints.{checkpointed, IsSameCheckpoint}
 use Rattle.mm_call.specs.Asked.{counted_part, counted_moves, from_reset, moves_messages, foreign_in, right_messages, IsWithin}
@@ -37,7 +41,7 @@ use Rattle.mm_call.proofs.OptShut.{bare, listed_bare, holds_open, within_of, wit
 use Rattle.mm_call.proofs.OptLaw.{reset_messages, opt_calls_agree_by_lists}
 use Rattle.mm_call.proofs.Checkpoints.{read_moves, opt_checkpoints_agree_by_lists}
 use Rattle.mm_run.specs.Folds.{course_of, first_issued, first_digests}
-use Rattle.mm_run.specs.Premises.{foreign_values, asked_batches, run_messages}
+use Rattle.mm_run.specs.PremisesWords.{foreign_values, asked_batches, run_messages}
 use Rattle.mm_run.specs.Laws.{OptIsExpected}
 use Rattle.mm_run.specs.OneEvent.{Keeps, EventsAgree}
 use Rattle.mm_run.proofs.Following.{Variants, event_same, follow_same}
@@ -50,7 +54,8 @@ due_by : (others : List (List ℕ)) (hit : Bool) (m : Meddle) (xs : List Meddle)
 due_by others true m xs c h = (c, h)
 due_by others false m xs c h = h
 
-due_outside : (others : List (List ℕ)) (meddles : List Meddle) → AllByRecursion (Contains others) (map (λ (m : Meddle). m.value.bytes) meddles)
+due_outside : (others : List (List ℕ)) (meddles : List Meddle)
+    → AllByRecursion (Contains others) (map (λ (m : Meddle). m.value.bytes) meddles)
     → (n : ℕ) → AllByRecursion (Contains others) (due n meddles)
 due_outside others [] h n = tt
 due_outside others (m ∷ meddles) h n =
@@ -69,29 +74,37 @@ module _ (others : List (List ℕ)) where
   reads_among : (made : Bool) (values : List (List ℕ)) → Among values → Among (foreign_in (step_moves Reads made values))
   reads_among made values h = subst Among (sym (foreign_in-foreign values)) h
 
-  changes_among : (made : Bool) (m : Move) (values : List (List ℕ)) → foreign_in (m ∷ []) ≡ [] → Among values → Among (foreign_in (step_moves (Changes m) made values))
+  changes_among : (made : Bool) (m : Move) (values : List (List ℕ)) → foreign_in (m ∷ []) ≡ [] → Among values
+      → Among (foreign_in (step_moves (Changes m) made values))
   changes_among made m values own h =
       subst Among (sym (foreign_in-first values (made_move made m) ∙ ap (λ w. values ++ w) (own_made made m own) ∙ append-nil values)) h
 
-  writes_among : (made : Bool) (m : Move) (values : List (List ℕ)) → foreign_in (m ∷ []) ≡ [] → Among values → Among (foreign_in (step_moves (Writes m) made values))
+  writes_among : (made : Bool) (m : Move) (values : List (List ℕ)) → foreign_in (m ∷ []) ≡ [] → Among values
+      → Among (foreign_in (step_moves (Writes m) made values))
   writes_among made m values own h =
-      subst Among (sym (foreign_in-append (made_move made m) (map Foreign values) ∙ ap (λ w. w ++ foreign_in (map Foreign values)) (own_made made m own) ∙ foreign_in-foreign values)) h
+      subst Among (sym (foreign_in-append (made_move made m) (map Foreign values)
+      ∙ ap (λ w. w ++ foreign_in (map Foreign values)) (own_made made m own) ∙ foreign_in-foreign values)) h
 
-  step_among : (step : Step) (values : List (List ℕ)) (ends : End) (rest : Walked) → ((made : Bool) → Among (foreign_in (step_moves step made values)))
+  step_among : (step : Step) (values : List (List ℕ)) (ends : End) (rest : Walked)
+      → ((made : Bool) → Among (foreign_in (step_moves step made values)))
       → Among (foreign_in rest.moves) → Among (foreign_in (after_step step values ends rest).moves)
   step_among step values Done rest own h =
       subst Among (sym (foreign_in-append (step_moves step true values) rest.moves))
       (each_append (Contains others) (foreign_in (step_moves step true values)) (foreign_in rest.moves) (own true) h)
   step_among step values (Fails fault made) rest own h = own made
 
-  walk_among : (fates : ℕ → Fate) (steps : List Step) (n : ℕ) → AreOwn steps → ((k : ℕ) → Among (fates k).brings) → Among (foreign_in (walk fates n steps).moves)
+  walk_among : (fates : ℕ → Fate) (steps : List Step) (n : ℕ) → AreOwn steps → ((k : ℕ) → Among (fates k).brings)
+      → Among (foreign_in (walk fates n steps).moves)
   walk_among fates [] n own h = tt
   walk_among fates (Reads ∷ steps) n own h =
-      step_among Reads (fates n).brings (fates n).ends (walk fates (n + 1) steps) (λ made. reads_among made (fates n).brings (h n)) (walk_among fates steps (n + 1) own h)
+      step_among Reads (fates n).brings (fates n).ends (walk fates (n + 1) steps) (λ made. reads_among made (fates n).brings (h n))
+      (walk_among fates steps (n + 1) own h)
   walk_among fates (Changes m ∷ steps) n own h =
-      step_among (Changes m) (fates n).brings (fates n).ends (walk fates (n + 1) steps) (λ made. changes_among made m (fates n).brings own.0 (h n)) (walk_among fates steps (n + 1) own.1 h)
+      step_among (Changes m) (fates n).brings (fates n).ends (walk fates (n + 1) steps)
+      (λ made. changes_among made m (fates n).brings own.0 (h n)) (walk_among fates steps (n + 1) own.1 h)
   walk_among fates (Writes m ∷ steps) n own h =
-      step_among (Writes m) (fates n).brings (fates n).ends (walk fates (n + 1) steps) (λ made. writes_among made m (fates n).brings own.0 (h n)) (walk_among fates steps (n + 1) own.1 h)
+      step_among (Writes m) (fates n).brings (fates n).ends (walk fates (n + 1) steps)
+      (λ made. writes_among made m (fates n).brings own.0 (h n)) (walk_among fates steps (n + 1) own.1 h)
 
 -- what counts of moves is listed, where all their messages are
 
@@ -107,14 +120,17 @@ counted_by_flag all others i y moves flag e messages values =
     let Q : Bool → Type 0 = λ f. AllByRecursion (Contains others) (foreign_in (counted_moves f moves)) in
     record { messages = subst P (sym e) messages; values = subst Q (sym e) values }
 
-none_counted : (all others : List (List ℕ)) (i : Instance) (y : History) (values : List (List ℕ)) → y.is_open ≡ false → Counted all others i y (map Foreign values)
+none_counted : (all others : List (List ℕ)) (i : Instance) (y : History) (values : List (List ℕ)) → y.is_open ≡ false
+    → Counted all others i y (map Foreign values)
 none_counted all others i y values e =
-    let none : from_reset (map Foreign values) ≡ [] = ap from_reset (sym (append-nil (map Foreign values))) ∙ from_reset-foreign values [] in
+    let none : from_reset (map Foreign values) ≡ [] = ap from_reset (sym (append-nil (map Foreign values)))
+    ∙ from_reset-foreign values [] in
     counted_by_flag all others i y (map Foreign values) false e
     (subst (λ m. Within (moves_messages i (bare y) m) all) (sym none) tt)
     (subst (λ m. AllByRecursion (Contains others) (foreign_in m)) (sym none) tt)
 
-reset_counted : (meaning : Meaning) (key barrier : List ℕ) (all others : List (List ℕ)) (y : History) (values : List (List ℕ)) (rest : List Move) → y.is_open ≡ false
+reset_counted : (meaning : Meaning) (key barrier : List ℕ) (all others : List (List ℕ)) (y : History) (values : List (List ℕ))
+    (rest : List Move) → y.is_open ≡ false
     → Within (moves_messages (opt meaning key barrier) y (map Foreign values ++ Reset ∷ rest)) all
     → AllByRecursion (Contains others) (foreign_in (map Foreign values ++ Reset ∷ rest))
     → Counted all others (opt meaning key barrier) y (map Foreign values ++ Reset ∷ rest)
@@ -123,18 +139,22 @@ reset_counted meaning key barrier all others y values rest e messages outside =
     let W : List (List ℕ) → Type 0 = λ v. Within v all in
     let begins : from_reset (map Foreign values ++ Reset ∷ rest) ≡ Reset ∷ rest = from_reset-foreign values (Reset ∷ rest) in
     let split = subst W (messages-made i (map Foreign values) (Reset ∷ rest) y) messages in
-    let back = each_right (Contains all) (moves_messages i y (map Foreign values)) (moves_messages i (all_made (by_lists i) y (map Foreign values)) (Reset ∷ rest)) split in
+    let back = each_right (Contains all) (moves_messages i y (map Foreign values))
+    (moves_messages i (all_made (by_lists i) y (map Foreign values)) (Reset ∷ rest)) split in
     let here = subst (λ z. Within (moves_messages i z (Reset ∷ rest)) all) (taking_is i values y) back in
-    let after : Within (moves_messages i (bare y) rest) all = each_right (Contains all) (move_messages i (taking y values) Reset) (moves_messages i (bare y) rest) here in
+    let after : Within (moves_messages i (bare y) rest) all = each_right (Contains all) (move_messages i (taking y values) Reset)
+    (moves_messages i (bare y) rest) here in
     let whole : Within (moves_messages i (bare y) (Reset ∷ rest)) all =
     subst (λ w. Within (w ++ moves_messages i (bare y) rest) all) (sym (reset_messages meaning key barrier (bare y) y.is_open)) after in
     let values_after : AllByRecursion (Contains others) (foreign_in rest) =
-    each_right (Contains others) values (foreign_in rest) (subst (AllByRecursion (Contains others)) (foreign_in-first values (Reset ∷ rest)) outside) in
+    each_right (Contains others) values (foreign_in rest)
+    (subst (AllByRecursion (Contains others)) (foreign_in-first values (Reset ∷ rest)) outside) in
     counted_by_flag all others i y (map Foreign values ++ Reset ∷ rest) false e
     (subst (λ m. Within (moves_messages i (bare y) m) all) (sym begins) whole)
     (subst (λ m. AllByRecursion (Contains others) (foreign_in m)) (sym begins) values_after)
 
-shape_counted : (meaning : Meaning) (key barrier : List ℕ) (all others : List (List ℕ)) (y : History) (fates : ℕ → Fate) (fresh : Bool) (b : Batch) (moves : List Move)
+shape_counted : (meaning : Meaning) (key barrier : List ℕ) (all others : List (List ℕ)) (y : History) (fates : ℕ → Fate) (fresh : Bool)
+    (b : Batch) (moves : List Move)
     → y.is_open ≡ false → Shape fates fresh b moves → Within (moves_messages (opt meaning key barrier) y moves) all
     → AllByRecursion (Contains others) (foreign_in moves) → Counted all others (opt meaning key barrier) y moves
 shape_counted meaning key barrier all others y fates fresh b moves e (still values is) messages outside =
@@ -146,7 +166,8 @@ shape_counted meaning key barrier all others y fates fresh b moves e (reset valu
     (subst (λ m. Within (moves_messages i y m) all) is messages) (subst (λ m. AllByRecursion (Contains others) (foreign_in m)) is outside))
 
 -- the moves of a call, by whether a segment is open
-call_counted : (meaning : Meaning) (key barrier : List ℕ) (all others : List (List ℕ)) (y : History) (fates : ℕ → Fate) (flag fresh : Bool) (b : Batch) → y.is_open ≡ flag
+call_counted : (meaning : Meaning) (key barrier : List ℕ) (all others : List (List ℕ)) (y : History) (fates : ℕ → Fate) (flag fresh : Bool)
+    (b : Batch) → y.is_open ≡ flag
     → (let moves : List Move = (walk fates 1 (ask_steps Opt flag fresh b)).moves in
     Within (moves_messages (opt meaning key barrier) y moves) all → AllByRecursion (Contains others) (foreign_in moves)
     → Counted all others (opt meaning key barrier) y moves)
@@ -157,7 +178,8 @@ call_counted meaning key barrier all others y fates false fresh b e messages out
     shape_counted meaning key barrier all others y fates fresh b (M (ask_steps Opt false fresh b)) e
     (subst (λ s. Shape fates fresh b (M s)) (sym (asks false fresh b)) (shape fates fresh b)) messages outside
 
-checkpoint_counted : (meaning : Meaning) (key barrier : List ℕ) (all others : List (List ℕ)) (y : History) (fates : ℕ → Fate) (flag lost : Bool) → y.is_open ≡ flag
+checkpoint_counted : (meaning : Meaning) (key barrier : List ℕ) (all others : List (List ℕ)) (y : History) (fates : ℕ → Fate)
+    (flag lost : Bool) → y.is_open ≡ flag
     → (let moves : List Move = (walk fates 1 (checkpoint_steps Opt flag lost)).moves in
     Within (moves_messages (opt meaning key barrier) y moves) all → AllByRecursion (Contains others) (foreign_in moves)
     → Counted all others (opt meaning key barrier) y moves)
@@ -177,7 +199,8 @@ power_listed meaning key barrier all y false h = h
 
 module _ (meaning : Meaning) (key barrier : List ℕ) (all others : List (List ℕ)) (asked_for : List Batch) where
   power_keeps : (y : History) (d : Digests) → Keeps all others asked_for (opt meaning key barrier) y d
-      → Keeps all others asked_for (opt meaning key barrier) (moved (opt meaning key barrier) y PowerMove) (made (opt meaning key barrier) d PowerMove)
+      → Keeps all others asked_for (opt meaning key barrier) (moved (opt meaning key barrier) y PowerMove)
+      (made (opt meaning key barrier) d PowerMove)
   power_keeps y d k =
       let i = opt meaning key barrier in
       let may = power_may i y y.is_open in record {
@@ -190,20 +213,23 @@ module _ (meaning : Meaning) (key barrier : List ℕ) (all others : List (List �
         };
       }
 
-  foreign_by : (flag : Bool) (y : History) (d : Digests) (v : List ℕ) → y.is_open ≡ flag → Keeps all others asked_for (opt meaning key barrier) y d → Contains others v
+  foreign_by : (flag : Bool) (y : History) (d : Digests) (v : List ℕ) → y.is_open ≡ flag
+      → Keeps all others asked_for (opt meaning key barrier) y d → Contains others v
       → Within (move_messages (opt meaning key barrier) y (Foreign v)) all
       → IsWithin all others asked_for (opt meaning key barrier) (moved (opt meaning key barrier) y (Foreign v))
   foreign_by true y d v e k c message =
       let i = opt meaning key barrier in
       let h = holds_open meaning key barrier all others asked_for y d e k.agrees k.within in
       within_of meaning key barrier all others asked_for (moved i y (Foreign v)) (made i d (Foreign v))
-      (holds_moved meaning key barrier all others asked_for y d (Foreign v) h (foreign_fine meaning key barrier all others asked_for y v c) message)
+      (holds_moved meaning key barrier all others asked_for y d (Foreign v) h (foreign_fine meaning key barrier all others asked_for y v c)
+      message)
   foreign_by false y d v e k c message =
       within_items meaning key barrier all others asked_for y (y.items ++ Value v ∷ []) e k.within
 
   foreign_keeps : (y : History) (d : Digests) (v : List ℕ) → Keeps all others asked_for (opt meaning key barrier) y d → Contains others v
       → Within (moves_messages (opt meaning key barrier) y (Foreign v ∷ [])) all
-      → Keeps all others asked_for (opt meaning key barrier) (moved (opt meaning key barrier) y (Foreign v)) (made (opt meaning key barrier) d (Foreign v))
+      → Keeps all others asked_for (opt meaning key barrier) (moved (opt meaning key barrier) y (Foreign v))
+      (made (opt meaning key barrier) d (Foreign v))
   foreign_keeps y d v k c messages =
       let i = opt meaning key barrier in record {
         agrees = opt_agrees_moved meaning key barrier y d (Foreign v) (foreign_may i y y.is_open v) k.agrees;
@@ -211,10 +237,13 @@ module _ (meaning : Meaning) (key barrier : List ℕ) (all others : List (List �
       }
 
   calls : IsClear all → AreNoGuards barrier others asked_for
-      → (y : History) (d : Digests) (stop : Stop) (meddles : List Meddle) (bytes : List ℕ) (b : Batch) → Keeps all others asked_for (opt meaning key barrier) y d
+      → (y : History) (d : Digests) (stop : Stop) (meddles : List Meddle) (bytes : List ℕ) (b : Batch)
+      → Keeps all others asked_for (opt meaning key barrier) y d
       → AllByRecursion (Contains others) (map (λ (m : Meddle). m.value.bytes) meddles) → Contains asked_for b
-      → Within (right_messages (opt meaning key barrier) b (right_content (opt meaning key barrier) bytes)) all → IsGenuine (opt meaning key barrier) y bytes
-      → Within (moves_messages (opt meaning key barrier) y (called (opt meaning key barrier) (by_lists (opt meaning key barrier)) y (course_of stop meddles) bytes b).moves) all
+      → Within (right_messages (opt meaning key barrier) b (right_content (opt meaning key barrier) bytes)) all
+      → IsGenuine (opt meaning key barrier) y bytes
+      → Within (moves_messages (opt meaning key barrier) y
+      (called (opt meaning key barrier) (by_lists (opt meaning key barrier)) y (course_of stop meddles) bytes b).moves) all
       → IsSameCall all others asked_for (opt meaning key barrier)
       (called (opt meaning key barrier) (by_lists (opt meaning key barrier)) y (course_of stop meddles) bytes b)
       (called (opt meaning key barrier) (by_digests (opt meaning key barrier)) d (course_of stop meddles) bytes b)
@@ -222,7 +251,8 @@ module _ (meaning : Meaning) (key barrier : List ℕ) (all others : List (List �
       let i = opt meaning key barrier in
       let c : Course = course_of stop meddles in
       let fresh : Bool = is_fresh (found_unless_wanting (found_at i (by_lists i) (seen_at i (by_lists i) y c) b bytes) c.lacks) in
-      let among = walk_among others c.fates (ask_steps Opt y.is_open fresh b) 1 (own_asked y.is_open fresh b) (λ n. due_outside others meddles outside n) in
+      let among = walk_among others c.fates (ask_steps Opt y.is_open fresh b) 1 (own_asked y.is_open fresh b)
+      (λ n. due_outside others meddles outside n) in
       let counts = call_counted meaning key barrier all others y c.fates y.is_open fresh b refl messages among in
       opt_calls_agree_by_lists meaning key barrier all others asked_for y d c bytes b k.agrees (record {
         clear = clear;
@@ -235,9 +265,11 @@ module _ (meaning : Meaning) (key barrier : List ℕ) (all others : List (List �
         values = counts.values;
       })
 
-  checkpoints : IsClear all → (y : History) (d : Digests) (stop : Stop) (meddles : List Meddle) → Keeps all others asked_for (opt meaning key barrier) y d
+  checkpoints : IsClear all → (y : History) (d : Digests) (stop : Stop) (meddles : List Meddle)
+      → Keeps all others asked_for (opt meaning key barrier) y d
       → AllByRecursion (Contains others) (map (λ (m : Meddle). m.value.bytes) meddles)
-      → Within (moves_messages (opt meaning key barrier) y (checkpointed (opt meaning key barrier) (by_lists (opt meaning key barrier)) y (course_of stop meddles)).moves) all
+      → Within (moves_messages (opt meaning key barrier) y
+      (checkpointed (opt meaning key barrier) (by_lists (opt meaning key barrier)) y (course_of stop meddles)).moves) all
       → IsSameCheckpoint all others asked_for (opt meaning key barrier)
       (checkpointed (opt meaning key barrier) (by_lists (opt meaning key barrier)) y (course_of stop meddles))
       (checkpointed (opt meaning key barrier) (by_digests (opt meaning key barrier)) d (course_of stop meddles))
@@ -245,20 +277,24 @@ module _ (meaning : Meaning) (key barrier : List ℕ) (all others : List (List �
       let i = opt meaning key barrier in
       let c : Course = course_of stop meddles in
       let lost : Bool = (by_lists i).is_lost (seen_at i (by_lists i) y c) in
-      let among = walk_among others c.fates (checkpoint_steps Opt y.is_open lost) 1 (own_checked y.is_open lost) (λ n. due_outside others meddles outside n) in
+      let among = walk_among others c.fates (checkpoint_steps Opt y.is_open lost) 1 (own_checked y.is_open lost)
+      (λ n. due_outside others meddles outside n) in
       let counts = checkpoint_counted meaning key barrier all others y c.fates y.is_open lost refl messages among in
       opt_checkpoints_agree_by_lists meaning key barrier all others asked_for y d c k.agrees
       (record { clear = clear; within = k.within; messages = counts.messages; values = counts.values })
 
   pub opt_gives : IsClear all → AreNoGuards barrier others asked_for → Variants all others asked_for (opt meaning key barrier)
   opt_gives clear apart = record {
-    calls = λ y d stop meddles bytes b k outside is_asked listed genuine messages. calls clear apart y d stop meddles bytes b k outside is_asked listed genuine messages;
+    calls =
+        λ y d stop meddles bytes b k outside is_asked listed genuine messages. calls clear apart y d stop meddles bytes b k outside is_asked
+        listed genuine messages;
     checkpoints = λ y d stop meddles k outside messages. checkpoints clear y d stop meddles k outside messages;
     power = λ y d k. power_keeps y d k;
     foreign = λ y d v k c messages. foreign_keeps y d v k c messages;
   }
 
-pub starts : (meaning : Meaning) (key barrier : List ℕ) (all others : List (List ℕ)) (asked_for : List Batch) → Contains all (start_message Opt meaning.id)
+pub starts : (meaning : Meaning) (key barrier : List ℕ) (all others : List (List ℕ)) (asked_for : List Batch)
+    → Contains all (start_message Opt meaning.id)
     → Keeps all others asked_for (opt meaning key barrier) first_history (first_digests (opt meaning key barrier))
 starts meaning key barrier all others asked_for first = record {
   agrees = record { digest = anchor-nil meaning.id; flag = refl; register = sym reads_zero; count = refl };
@@ -272,10 +308,12 @@ opt_expected meaning key barrier events clear genuine =
     let others : List (List ℕ) = foreign_values events in
     let asked_for : List Batch = asked_batches events in
     let self = each_self [] all in
-    follow_same all others asked_for i (opt_gives meaning key barrier all others asked_for clear.clear clear.apart) events first_history (first_digests i) (first_issued i)
+    follow_same all others asked_for i (opt_gives meaning key barrier all others asked_for clear.clear (clear.apart refl)) events
+    first_history (first_digests i) (first_issued i)
     (starts meaning key barrier all others asked_for self.0) (each_self [] others) (each_self [] asked_for) self.1 genuine
 
 pub opt_events_agree : (meaning : Meaning) (key barrier : List ℕ) → EventsAgree (opt meaning key barrier)
 opt_events_agree meaning key barrier all others asked_for clear apart y d issued event k w =
-    event_same all others asked_for (opt meaning key barrier) (opt_gives meaning key barrier all others asked_for clear apart) y d issued event k
+    event_same all others asked_for (opt meaning key barrier) (opt_gives meaning key barrier all others asked_for clear (apart refl)) y d
+    issued event k
     w.outside w.batches w.listed w.genuine w.messages

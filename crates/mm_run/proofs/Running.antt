@@ -27,10 +27,13 @@ use Rattle.mm_model.proofs.Batches.{EndsWith, is_last_tells}
 use Rattle.mm_call.specs.Order.{admitted, examined}
 use Rattle.mm_call.specs.Answers.{answer_on}
 use Rattle.mm_call.specs.Levels.{by_lists, all_made}
-use Rattle.mm_call.specs.Found.{Found, found_by_verdict, found_at, found_unless_wanting, is_fresh}
+use Rattle.mm_call.specs.Found.{Found, found_by_verdict, found_at}
+use Rattle.mm_call.specs.FoundWords.{found_unless_wanting, is_fresh}
 use Rattle.mm_call.specs.Courses.{Course, Walked, walk, seen_in, commits}
-use Rattle.mm_call.specs.Called.{Ending, Answers, Refuses, Breaks, Called, reading_steps, kept_at, ended_by, called}
-use Rattle.mm_call.specs.Checkpoints.{Closing, Closes, HasNone, NoSegment, LostPower, Stops, Checkpointed, checkpointed_with}
+use Rattle.mm_call.specs.Called.{Ending, Answers, Refuses, Breaks, Called, reading_steps, ended_by, called}
+use Rattle.mm_call.specs.CalledWords.{kept_at}
+use Rattle.mm_call.specs.Checkpoints.{Closing, Closes, HasNone, NoSegment, LostPower, Stops, Checkpointed}
+use Rattle.mm_call.specs.CheckpointsWords.{checkpointed_with}
 use Rattle.mm_call.proofs.Moving.{same_batches, more_batches}
 use Rattle.mm_call.proofs.Walks.{Commits, nothing, batch, commits-none, call_commits, commits_batch, seen_none}
 use Rattle.mm_call.proofs.Finding.{admitted_tells, weighed_tells, found_with_tells}
@@ -40,7 +43,7 @@ use Rattle.mm_call.proofs.BasicLaw.{unlacked}
 use Rattle.mm_call.proofs.Along.{checkpoint_none}
 use Rattle.mm_call.proofs.OptFinding.{unless_lost}
 use Rattle.mm_schedule.specs.Events.{Event, Ask, Checkpoint, Power, Extend}
-use Rattle.mm_schedule.specs.Machine.{RunsOn, Repeats, RunsUntold, StepsOn, AsksNone, Steps, Runs}
+use Rattle.mm_schedule.specs.Machine.{IsTold, StepsOn, AsksNone, Steps, Runs}
 use Rattle.mm_schedule.specs.declared.reply.Way.{Way}
 use Rattle.mm_schedule.specs.declared.reply.Reply.{Reply}
 use Rattle.mm_schedule.specs.declared.reply.Reply.TheVariants.{Told, No, Kept, Nothing, Closed, Checkpointed as CheckpointedReply, Power as PowerReply, Extended}
@@ -49,7 +52,8 @@ use Rattle.mm_run.specs.Folds.{Outcome, way_of, after_stop, course_of, reply_of,
 use Rattle.mm_run.specs.Laws.{ExpectedRuns}
 
 -- a repeat that is accepted is one of the last batch, whatever the life of the history
-repeat_admitted : (life : Life) (here repeat fits again : Bool) → admitted (judged life here repeat) fits ≡ Ok again → again ≡ true → repeat ≡ true
+repeat_admitted : (life : Life) (here repeat fits again : Bool) → admitted (judged life here repeat) fits ≡ Ok again → again ≡ true
+    → repeat ≡ true
 repeat_admitted Live here repeat fits again e = (admitted_tells here repeat fits again e).1
 repeat_admitted Spoiled here repeat fits again e = λ _. cc
 repeat_admitted Lost here repeat fits again e = λ _. cc
@@ -60,8 +64,10 @@ repeats_from : (i : Instance) (y : History) (b : Batch) (parts : Result Snapshot
 repeats_from i y b (Err Form) found is again = cc
 repeats_from i y b (Err Kind) found is again = cc
 repeats_from i y b (Ok snapshot) found is again =
-    let t = found_with_tells snapshot.content (examined i.meaning i.key snapshot b (judge i.variant y snapshot.content.position b)) found is in
-    let w = weighed_tells (i.meaning.is_spelled snapshot.content.state) (bytes_eq snapshot.tag (tag_of i.key snapshot.content)) _ _ found.again t.1 in
+    let t = found_with_tells snapshot.content (examined i.meaning i.key snapshot b (judge i.variant y snapshot.content.position b)) found is
+    in
+    let w = weighed_tells (i.meaning.is_spelled snapshot.content.state) (bytes_eq snapshot.tag (tag_of i.key snapshot.content)) _ _
+    found.again t.1 in
     let a = repeat_admitted (life_of i.variant y) (nat_eq snapshot.content.position (total_of y.batches))
     (nat_eq (snapshot.content.position + size_of b) (total_of y.batches) && is_last y.batches b) _ found.again w.2 again in
     is_last_tells y.batches b (and_parts (nat_eq (snapshot.content.position + size_of b) (total_of y.batches)) (is_last y.batches b) a).1
@@ -78,20 +84,23 @@ stop_none i (Cut n) y = refl
 stop_none i (Drop n) y = refl
 stop_none i (Fail n done) y = refl
 
-then_none : (i : Instance) (stop : Stop) (ending : Ending) (y : History) → (all_made (by_lists i) y (moves_then stop ending)).batches ≡ y.batches
+then_none : (i : Instance) (stop : Stop) (ending : Ending) (y : History)
+    → (all_made (by_lists i) y (moves_then stop ending)).batches ≡ y.batches
 then_none i stop (Answers answer) y = refl
 then_none i stop (Refuses why) y = refl
 then_none i stop (Breaks fault kept) y = stop_none i stop y
 
 -- what a call that was broken off says
-broken_steps : (meaning : Meaning) (requests after : List (List ℕ)) (b : Batch) (how : Way) (fault : StepFault) (committed : Bool) (position : ℕ)
-    → (committed ≡ false → after ≡ requests) → (committed ≡ true → RunsUntold requests b position after)
+broken_steps : (meaning : Meaning) (requests after : List (List ℕ)) (b : Batch) (how : Way) (fault : StepFault) (committed : Bool)
+    (position : ℕ)
+    → (committed ≡ false → after ≡ requests) → (committed ≡ true → (after ≡ requests ++ members_of b) × (position ≡ length after))
     → StepsOn meaning requests b (reply_of how (Breaks fault (kept_at committed position))) after
 broken_steps meaning requests after b how fault true position same grown = grown refl
 broken_steps meaning requests after b how fault false position same grown = same refl
 
 told_steps : (meaning : Meaning) (requests after : List (List ℕ)) (b : Batch) (again : Bool) (before : ℕ) (outputs : List (List ℕ))
-    → (again ≡ false → RunsOn meaning requests b before outputs after) → (again ≡ true → Repeats meaning requests b before outputs after)
+    → (again ≡ false → IsTold meaning requests b before outputs after)
+    → (again ≡ true → (earlier : List (List ℕ)) × IsTold meaning earlier b before outputs requests × (after ≡ requests))
     → StepsOn meaning requests b (Told again before outputs) after
 told_steps meaning requests after b true before outputs runs repeats = repeats refl
 told_steps meaning requests after b false before outputs runs repeats = runs refl
@@ -101,12 +110,14 @@ told_before : (meaning : Meaning) (batches named : List Batch) (b : Batch) (outp
     → outputs ≡ outputs_from meaning (state_after meaning (requests_of named)) (members_of b)
     → total_of batches - length outputs ≡ total_of named
 told_before meaning batches named b outputs e said =
-    let size : length outputs ≡ size_of b = ap length said ∙ length-outputs_from meaning (state_after meaning (requests_of named)) (members_of b) in
+    let size : length outputs ≡ size_of b = ap length said
+    ∙ length-outputs_from meaning (state_after meaning (requests_of named)) (members_of b) in
     ap (λ n. total_of batches - n) size ∙ before_last batches named b e
 
 -- the answer by lists, read as the machine's
 told_new : (i : Instance) (y y' : History) (b : Batch) (again : Bool) → y'.batches ≡ y.batches ++ b ∷ []
-    → (let a : BatchAnswer = answer_on i y' b again in RunsOn i.meaning (requests_of y.batches) b (a.position - length a.outputs) a.outputs (requests_of y'.batches))
+    → (let a : BatchAnswer = answer_on i y' b again in IsTold i.meaning (requests_of y.batches) b (a.position - length a.outputs) a.outputs
+    (requests_of y'.batches))
 told_new i y y' b again e =
     let said = said_last i.meaning y'.batches y.batches b e in record {
       position = told_before i.meaning y'.batches y.batches b _ e said;
@@ -115,25 +126,30 @@ told_new i y y' b again e =
     }
 
 told_again : (i : Instance) (y y' : History) (b : Batch) (again : Bool) → y'.batches ≡ y.batches → EndsWith y.batches b
-    → (let a : BatchAnswer = answer_on i y' b again in Repeats i.meaning (requests_of y.batches) b (a.position - length a.outputs) a.outputs (requests_of y'.batches))
+    → (let a : BatchAnswer = answer_on i y' b again in (earlier : List (List ℕ))
+    × IsTold i.meaning earlier b (a.position - length a.outputs) a.outputs (requests_of y.batches)
+    × (requests_of y'.batches ≡ requests_of y.batches))
 told_again i y y' b again e ends =
-    let said = said_last i.meaning y'.batches ends.front b (e ∙ ends.is) in record {
-      earlier = requests_of ends.front;
-      ends = ap requests_of ends.is ∙ requests-push ends.front b;
-      position = told_before i.meaning y'.batches ends.front b _ (e ∙ ends.is) said;
-      said = said;
-      same = ap requests_of e;
-    }
+    let said = said_last i.meaning y'.batches ends.front b (e ∙ ends.is) in (
+      requests_of ends.front,
+      record {
+        position = told_before i.meaning y'.batches ends.front b _ (e ∙ ends.is) said;
+        said = said;
+        grown = ap requests_of ends.is ∙ requests-push ends.front b;
+      },
+      ap requests_of e,
+    )
 
 told_kept : (y y' : History) (b : Batch) → y'.batches ≡ y.batches ++ b ∷ []
-    → RunsUntold (requests_of y.batches) b (total_of y'.batches) (requests_of y'.batches)
-told_kept y y' b e = record { grown = ap requests_of e ∙ requests-push y.batches b; told = refl }
+    → (requests_of y'.batches ≡ requests_of y.batches ++ members_of b) × (total_of y'.batches ≡ length (requests_of y'.batches))
+told_kept y y' b e = (ap requests_of e ∙ requests-push y.batches b, refl)
 
 ended_steps : (i : Instance) (y seen : History) (how : Way) (b : Batch)
     (walked : Walked) (broken : Option StepFault) (found : Result Found Refusal) → walked.broken ≡ broken
     → Commits b (is_fresh found) walked → ((f : Found) → found ≡ Ok f → f.again ≡ true → EndsWith y.batches b)
     → (let end : History = all_made (by_lists i) y walked.moves in
-    StepsOn i.meaning (requests_of y.batches) b (reply_of how (ended_by (by_lists i) seen end b found walked.moves broken)) (requests_of end.batches))
+    StepsOn i.meaning (requests_of y.batches) b (reply_of how (ended_by (by_lists i) seen end b found walked.moves broken))
+    (requests_of end.batches))
 ended_steps i y seen how b walked (Some fault) (Err why) e (nothing none unless) repeat =
     broken_steps i.meaning _ _ b how fault (commits walked.moves) 0
     (λ x. ap requests_of (same_batches i walked.moves y none))
@@ -178,21 +194,21 @@ called_steps i y issued meddles stop bytes b =
     (λ f is again. subst P same (repeats_at i seen b bytes f (unlacked lists c.lacks f is) again)))
 
 -- a step depends on the requests of its batch alone
-members_steps : (meaning : Meaning) (requests after : List (List ℕ)) (b c : Batch) (said : Reply) → members_of b ≡ members_of c
-    → StepsOn meaning requests b said after → StepsOn meaning requests c said after
-members_steps meaning requests after b c (Told true before outputs) e s = record {
-  earlier = s.earlier;
-  ends = s.ends ∙ ap (λ v. s.earlier ++ v) e;
-  position = s.position;
-  said = s.said ∙ ap (λ v. outputs_from meaning (state_after meaning s.earlier) v) e;
-  same = s.same;
-}
-members_steps meaning requests after b c (Told false before outputs) e s = record {
+members_told : (meaning : Meaning) (requests after : List (List ℕ)) (b c : Batch) (before : ℕ) (outputs : List (List ℕ))
+    → members_of b ≡ members_of c
+    → IsTold meaning requests b before outputs after → IsTold meaning requests c before outputs after
+members_told meaning requests after b c before outputs e s = record {
   position = s.position;
   said = s.said ∙ ap (λ v. outputs_from meaning (state_after meaning requests) v) e;
   grown = s.grown ∙ ap (λ v. requests ++ v) e;
 }
-members_steps meaning requests after b c (Kept way position) e s = record { grown = s.grown ∙ ap (λ v. requests ++ v) e; told = s.told }
+
+members_steps : (meaning : Meaning) (requests after : List (List ℕ)) (b c : Batch) (said : Reply) → members_of b ≡ members_of c
+    → StepsOn meaning requests b said after → StepsOn meaning requests c said after
+members_steps meaning requests after b c (Told true before outputs) e s =
+    (s.0, members_told meaning s.0 requests b c before outputs e s.1, s.2)
+members_steps meaning requests after b c (Told false before outputs) e s = members_told meaning requests after b c before outputs e s
+members_steps meaning requests after b c (Kept way position) e s = (s.0 ∙ ap (λ v. requests ++ v) e, s.1)
 members_steps meaning requests after b c (No why) e s = s
 members_steps meaning requests after b c (Nothing way) e s = s
 members_steps meaning requests after b c (Closed way) e s = s
@@ -206,7 +222,8 @@ if_steps : (meaning : Meaning) (requests : List (List ℕ)) (b : Batch) (long : 
 if_steps meaning requests b true x y p q = p
 if_steps meaning requests b false x y p q = q
 
-asked_steps : (i : Instance) (y : History) (issued : List (List ℕ)) (meddles : List Meddle) (stop : Stop) (bytes : Option (List ℕ)) (b : Batch)
+asked_steps : (i : Instance) (y : History) (issued : List (List ℕ)) (meddles : List Meddle) (stop : Stop) (bytes : Option (List ℕ))
+    (b : Batch)
     → (let o : Outcome History = asked i (by_lists i) y issued meddles stop bytes b in
     StepsOn i.meaning (requests_of y.batches) b o.reply (requests_of o.state.batches))
 asked_steps i y issued meddles stop None b = refl
@@ -215,7 +232,8 @@ asked_steps i y issued meddles stop (Some bytes) b =
     (members_steps i.meaning _ _ (normal b) b _ (members_of-normal b) (called_steps i y issued meddles stop bytes (normal b)))
 
 -- what a checkpoint says tells no request
-closing_stays : (how : Way) (closing : Closing) (requests after : List (List ℕ)) → after ≡ requests → AsksNone requests (closing_reply how closing) after
+closing_stays : (how : Way) (closing : Closing) (requests after : List (List ℕ)) → after ≡ requests
+    → AsksNone requests (closing_reply how closing) after
 closing_stays how Closes requests after e = e
 closing_stays how HasNone requests after e = e
 closing_stays how NoSegment requests after e = e
@@ -223,7 +241,8 @@ closing_stays how LostPower requests after e = e
 closing_stays how (Stops fault true) requests after e = e
 closing_stays how (Stops fault false) requests after e = e
 
-closing_none : (i : Instance) (stop : Stop) (closing : Closing) (y : History) → (all_made (by_lists i) y (closing_then stop closing)).batches ≡ y.batches
+closing_none : (i : Instance) (stop : Stop) (closing : Closing) (y : History)
+    → (all_made (by_lists i) y (closing_then stop closing)).batches ≡ y.batches
 closing_none i stop Closes y = refl
 closing_none i stop HasNone y = refl
 closing_none i stop NoSegment y = refl
@@ -231,7 +250,8 @@ closing_none i stop LostPower y = refl
 closing_none i stop (Stops fault closed) y = stop_none i stop y
 
 checkpointed_steps : (i : Instance) (y : History) (issued : List (List ℕ)) (meddles : List Meddle) (stop : Stop) (is_lost : Bool)
-    → (let o : Outcome History = closed_outcome (by_lists i) stop issued (checkpointed_with i (by_lists i) y (course_of stop meddles) is_lost) in
+    → (let o : Outcome History = closed_outcome (by_lists i) stop issued
+    (checkpointed_with i (by_lists i) y (course_of stop meddles) is_lost) in
     AsksNone (requests_of y.batches) o.reply (requests_of o.state.batches))
 checkpointed_steps i y issued meddles stop is_lost =
     let c : Course = course_of stop meddles in

@@ -8,23 +8,31 @@ use Rattle.mm_digest.specs.Messages.{zero_bytes, start_message, start_of, extend
 use Rattle.mm_module.specs.Batch.{One}
 use Rattle.mm_model.specs.Chains.{guard_message, guard}
 use Rattle.mm_model.specs.Messages.{IsClear}
-use Rattle.mm_run.specs.Held.{world_barrier}
+use Rattle.mm_run.specs.HeldWords.{world_barrier}
 use Rattle.mm_run.proofs.FirstBytes.{first_byte, all_apart, clear_by_first, digest_is}
 use Rattle.mm_run.proofs.MetPremises.{opt_start, opt_starts, the_guard, guards, the_extension, extends, opt_start_byte, guard_byte}
 
 -- the digests that later messages hold
 
 abbrev second_extension : List ℕ
-second_extension = 0x36 ∷ 0x52 ∷ 0x6c ∷ 0xbb ∷ 0xc8 ∷ 0xc3 ∷ 0xba ∷ 0xae ∷ 0xb6 ∷ 0xec ∷ 0xa3 ∷ 0x60 ∷ 0xa7 ∷ 0x17 ∷ 0x6e ∷ 0xe6 ∷ 0xc1 ∷ 0xe8 ∷ 0xe2 ∷ 0x92 ∷ 0xf6 ∷ 0x21 ∷ 0xb0 ∷ 0xc5 ∷ 0x5a ∷ 0x96 ∷ 0xb7 ∷ 0xe2 ∷ 0x83 ∷ 0xa0 ∷ 0xa4 ∷ 0x98 ∷ []
+second_extension =
+    0x36 ∷ 0x52 ∷ 0x6c ∷ 0xbb ∷ 0xc8 ∷ 0xc3 ∷ 0xba ∷ 0xae ∷ 0xb6 ∷ 0xec ∷ 0xa3 ∷ 0x60 ∷ 0xa7 ∷ 0x17 ∷ 0x6e ∷ 0xe6 ∷ 0xc1 ∷ 0xe8 ∷ 0xe2
+    ∷ 0x92 ∷ 0xf6 ∷ 0x21 ∷ 0xb0 ∷ 0xc5 ∷ 0x5a ∷ 0x96 ∷ 0xb7 ∷ 0xe2 ∷ 0x83 ∷ 0xa0 ∷ 0xa4 ∷ 0x98 ∷ []
 
 abbrev third_extension : List ℕ
-third_extension = 0xa2 ∷ 0x1f ∷ 0x5f ∷ 0xf3 ∷ 0x84 ∷ 0x9a ∷ 0x93 ∷ 0x6b ∷ 0x38 ∷ 0xf2 ∷ 0xff ∷ 0xf7 ∷ 0x5b ∷ 0x02 ∷ 0x96 ∷ 0x4c ∷ 0x8f ∷ 0x14 ∷ 0xee ∷ 0x0d ∷ 0xc6 ∷ 0xf7 ∷ 0x12 ∷ 0xb3 ∷ 0x32 ∷ 0xbf ∷ 0xb2 ∷ 0xb7 ∷ 0xc6 ∷ 0xac ∷ 0x20 ∷ 0x9c ∷ []
+third_extension =
+    0xa2 ∷ 0x1f ∷ 0x5f ∷ 0xf3 ∷ 0x84 ∷ 0x9a ∷ 0x93 ∷ 0x6b ∷ 0x38 ∷ 0xf2 ∷ 0xff ∷ 0xf7 ∷ 0x5b ∷ 0x02 ∷ 0x96 ∷ 0x4c ∷ 0x8f ∷ 0x14 ∷ 0xee
+    ∷ 0x0d ∷ 0xc6 ∷ 0xf7 ∷ 0x12 ∷ 0xb3 ∷ 0x32 ∷ 0xbf ∷ 0xb2 ∷ 0xb7 ∷ 0xc6 ∷ 0xac ∷ 0x20 ∷ 0x9c ∷ []
 
 abbrev first_anchor : List ℕ
-first_anchor = 0x29 ∷ 0x61 ∷ 0xa3 ∷ 0xdc ∷ 0xce ∷ 0x75 ∷ 0xd9 ∷ 0xd0 ∷ 0x2e ∷ 0xe5 ∷ 0x96 ∷ 0x47 ∷ 0x90 ∷ 0xd1 ∷ 0xad ∷ 0x8b ∷ 0x29 ∷ 0xd0 ∷ 0xee ∷ 0xd7 ∷ 0xb0 ∷ 0x16 ∷ 0x7c ∷ 0x32 ∷ 0xc0 ∷ 0x50 ∷ 0xe3 ∷ 0xb7 ∷ 0x69 ∷ 0x86 ∷ 0xaf ∷ 0xf0 ∷ []
+first_anchor =
+    0x29 ∷ 0x61 ∷ 0xa3 ∷ 0xdc ∷ 0xce ∷ 0x75 ∷ 0xd9 ∷ 0xd0 ∷ 0x2e ∷ 0xe5 ∷ 0x96 ∷ 0x47 ∷ 0x90 ∷ 0xd1 ∷ 0xad ∷ 0x8b ∷ 0x29 ∷ 0xd0 ∷ 0xee
+    ∷ 0xd7 ∷ 0xb0 ∷ 0x16 ∷ 0x7c ∷ 0x32 ∷ 0xc0 ∷ 0x50 ∷ 0xe3 ∷ 0xb7 ∷ 0x69 ∷ 0x86 ∷ 0xaf ∷ 0xf0 ∷ []
 
 abbrev second_anchor : List ℕ
-second_anchor = 0xac ∷ 0xde ∷ 0xea ∷ 0x23 ∷ 0x95 ∷ 0x5c ∷ 0x13 ∷ 0x5b ∷ 0x6b ∷ 0x4b ∷ 0x7e ∷ 0xbc ∷ 0xe2 ∷ 0x74 ∷ 0xda ∷ 0x87 ∷ 0xba ∷ 0xe4 ∷ 0x60 ∷ 0x7c ∷ 0x44 ∷ 0xfc ∷ 0x5c ∷ 0xd7 ∷ 0x34 ∷ 0x44 ∷ 0x6a ∷ 0xbd ∷ 0x89 ∷ 0x9b ∷ 0xe9 ∷ 0xb4 ∷ []
+second_anchor =
+    0xac ∷ 0xde ∷ 0xea ∷ 0x23 ∷ 0x95 ∷ 0x5c ∷ 0x13 ∷ 0x5b ∷ 0x6b ∷ 0x4b ∷ 0x7e ∷ 0xbc ∷ 0xe2 ∷ 0x74 ∷ 0xda ∷ 0x87 ∷ 0xba ∷ 0xe4 ∷ 0x60
+    ∷ 0x7c ∷ 0x44 ∷ 0xfc ∷ 0x5c ∷ 0xd7 ∷ 0x34 ∷ 0x44 ∷ 0x6a ∷ 0xbd ∷ 0x89 ∷ 0x9b ∷ 0xe9 ∷ 0xb4 ∷ []
 
 extends_second : extended_of the_extension the_guard ≡ second_extension
 unfolding extended_of first_words rounds digest_bytes
@@ -77,7 +85,8 @@ anchored_once : anchored_of (start_of Opt 1) (once five_guard) ≡ first_anchor
 anchored_once = both anchored_of (start_of Opt 1) opt_start (once five_guard) the_extension first_anchor opt_starts once_is anchors_first
 
 anchored_twice : anchored_of (start_of Opt 1) (twice five_guard) ≡ second_anchor
-anchored_twice = both anchored_of (start_of Opt 1) opt_start (twice five_guard) second_extension second_anchor opt_starts twice_is anchors_second
+anchored_twice =
+    both anchored_of (start_of Opt 1) opt_start (twice five_guard) second_extension second_anchor opt_starts twice_is anchors_second
 
 -- the first bytes of the digests
 
@@ -127,12 +136,14 @@ extended_first old value = first_byte sha256 (extended_message old value)
 behind_first_byte : first_byte sha256 (anchored_message (anchored_of (start_of Opt 1) (once five_guard)) (once five_guard)) ≡ 214
 unfolding anchored_first
 behind_first_byte =
-    both anchored_first (anchored_of (start_of Opt 1) (once five_guard)) first_anchor (once five_guard) the_extension 214 anchored_once once_is behind_first
+    both anchored_first (anchored_of (start_of Opt 1) (once five_guard)) first_anchor (once five_guard) the_extension 214 anchored_once
+    once_is behind_first
 
 behind_second_byte : first_byte sha256 (anchored_message (anchored_of (start_of Opt 1) (twice five_guard)) (once five_guard)) ≡ 36
 unfolding anchored_first
 behind_second_byte =
-    both anchored_first (anchored_of (start_of Opt 1) (twice five_guard)) second_anchor (once five_guard) the_extension 36 anchored_twice once_is behind_second
+    both anchored_first (anchored_of (start_of Opt 1) (twice five_guard)) second_anchor (once five_guard) the_extension 36 anchored_twice
+    once_is behind_second
 
 by_others_byte : first_byte sha256 (extended_message (twice five_guard) ff_bytes) ≡ 200
 unfolding extended_first
@@ -161,7 +172,8 @@ eleven_apart : (f : List ℕ → ℕ) (a b c d e g h i j k l : List ℕ)
     → f a ≡ 141 → f b ≡ 152 → f c ≡ 75 → f d ≡ 41 → f e ≡ 54 → f g ≡ 172 → f h ≡ 214 → f i ≡ 200 → f j ≡ 162 → f k ≡ 177 → f l ≡ 36
     → all_apart (map f (a ∷ b ∷ c ∷ d ∷ e ∷ g ∷ h ∷ i ∷ j ∷ k ∷ l ∷ [])) ≡ true
 eleven_apart f a b c d e g h i j k l ea eb ec ed ee eg eh ei ej ek el =
-    let same : map f (a ∷ b ∷ c ∷ d ∷ e ∷ g ∷ h ∷ i ∷ j ∷ k ∷ l ∷ []) ≡ 141 ∷ 152 ∷ 75 ∷ 41 ∷ 54 ∷ 172 ∷ 214 ∷ 200 ∷ 162 ∷ 177 ∷ 36 ∷ [] = cc in
+    let same : map f (a ∷ b ∷ c ∷ d ∷ e ∷ g ∷ h ∷ i ∷ j ∷ k ∷ l ∷ []) ≡ 141 ∷ 152 ∷ 75 ∷ 41 ∷ 54 ∷ 172 ∷ 214 ∷ 200 ∷ 162 ∷ 177 ∷ 36
+    ∷ [] = cc in
     ap all_apart same
 
 pub segment_messages : List (List ℕ)

@@ -1,18 +1,17 @@
 -- A schedule followed by a level: each event's reply, and what stands after it.
-use Rattle.std.specs.Prelude.{ℕ, ◌+◌, ◌-◌, Bool, true, false, List, [], ◌∷◌, ◌++◌, length, Option, None, Some, Err, if◌then◌else◌}
+use Rattle.std.specs.Prelude.{ℕ, ◌+◌, ◌-◌, false, List, [], ◌∷◌, ◌++◌, length, Option, None, Some, Err, if◌then◌else◌}
+use Rattle.std.specs.Option.{option_map_or}
 use Rattle.mm_digest.specs.Messages.{zero_bytes, start_of}
 use Rattle.mm_module.specs.Batch.{Batch, One, normal}
 use Rattle.mm_platform.specs.declared.plan.Meddle.{Meddle}
 use Rattle.mm_platform.specs.declared.plan.Stop.{Stop}
 use Rattle.mm_platform.specs.declared.plan.Stop.TheVariants.{Quiet, Cut, Drop, Fail}
-use Rattle.mm_platform.specs.Standing.{Plan}
 use Rattle.mm_model.specs.Instance.{Instance}
 use Rattle.mm_model.specs.History.{History, Move, Foreign, Power as PowerMove, first_history}
 use Rattle.mm_model.specs.Long.{is_long}
 use Rattle.mm_model.specs.Moves.{Digests}
 use Rattle.mm_model.specs.Standing.{issued_bytes}
 use Rattle.mm_model.specs.Steps.{Reads}
-use Rattle.mm_model.specs.declared.answer.BatchAnswer.{BatchAnswer}
 use Rattle.mm_model.specs.declared.refusal.Refusal.{Refusal}
 use Rattle.mm_model.specs.declared.refusal.Refusal.TheVariants as refusal
 use Rattle.mm_call.specs.Levels.{Level, all_made, by_lists, by_digests}
@@ -28,8 +27,8 @@ use Rattle.mm_schedule.specs.declared.reply.Reply.{Reply}
 use Rattle.mm_schedule.specs.declared.reply.Reply.TheVariants as reply
 use Rattle.mm_run.specs.Offered.{offered_bytes}
 
--- what stands after an event, with the snapshots issued so far; its reply; and the steps that it called, and those of
--- them that were to write the cell
+-- what stands after an event, with the snapshots issued so far; its reply; and the steps that it
+-- called, and those of them that were to write the cell
 pub record Outcome (S : Type 0) : Type 0 where
   pub state : S
   pub issued : List (List ℕ)
@@ -52,11 +51,9 @@ after_stop (Drop step) = []
 after_stop (Fail step done) = []
 
 -- the course that a schedule plans for a call
-abbrev pub plan_of : Stop → List Meddle → Plan
-plan_of stop meddles = record { stop = stop; meddles = meddles; at = 0 }
-
 abbrev pub course_of : Stop → List Meddle → Course
-course_of stop meddles = record { fates = planned (plan_of stop meddles); lacks = false }
+course_of stop meddles =
+    record { fates = planned (record { stop = stop; meddles = meddles; at = 0 }); lacks = false }
 
 -- the cause that a reply names. A planned call is refused for no other reason.
 abbrev pub cause_of : Refusal → Cause
@@ -73,19 +70,14 @@ cause_of (refusal.Device fault) = cause.Long
 cause_of refusal.Blank = cause.Blank
 cause_of refusal.Cell = cause.Cell
 
--- a call that was broken off: with the position after its batch, if that was committed
-abbrev pub broken_reply : Way → Option ℕ → Reply
-broken_reply how (Some position) = reply.Kept how position
-broken_reply how None = reply.Nothing how
-
--- the answer's reply tells the position before the batch
-abbrev pub told_reply : BatchAnswer → Reply
-told_reply answer = reply.Told answer.again (answer.position - length answer.outputs) answer.outputs
-
+-- The reply to a call. An answer tells the position before its batch; a call that was broken off
+-- the one after it, if that was committed.
 abbrev pub reply_of : Way → Ending → Reply
-reply_of how (Answers answer) = told_reply answer
+reply_of how (Answers answer) =
+    reply.Told answer.again (answer.position - length answer.outputs) answer.outputs
 reply_of how (Refuses why) = reply.No (cause_of why)
-reply_of how (Breaks fault kept) = broken_reply how kept
+reply_of how (Breaks fault kept) =
+    option_map_or (λ position. reply.Kept how position) kept (reply.Nothing how)
 
 -- an answer hands out a snapshot
 abbrev pub snapshots_of : Ending → List (List ℕ)
@@ -114,34 +106,37 @@ abbrev pub uncalled : {S : Type 0} → S → List (List ℕ) → Reply → Outco
 uncalled s issued said = record { state = s; issued = issued; reply = said; steps = 0; writes = 0 }
 
 -- the number isn't issued, or the batch is too long: then nothing is called, and nothing meddles
-abbrev pub asked : {S : Type 0} → Instance → Level S → S → List (List ℕ) → List Meddle → Stop → Option (List ℕ) → Batch → Outcome S
+abbrev pub asked : {S : Type 0} → Instance → Level S → S → List (List ℕ) → List Meddle → Stop
+    → Option (List ℕ) → Batch → Outcome S
 asked i level s issued meddles stop None b = uncalled s issued (reply.No cause.Snapshot)
 asked i level s issued meddles stop (Some bytes) b =
     if is_long b then uncalled s issued (reply.No cause.Long)
     else outcome_by level stop issued (called i level s (course_of stop meddles) bytes (normal b))
 
--- The cell is none that a call goes on with: the call reads it, makes no further step, and is refused.
-abbrev pub reads_only : {S : Type 0} → Level S → S → List (List ℕ) → List Meddle → Stop → Refusal → Outcome S
+-- The cell is none that a call goes on with: the call reads it, makes no further step, and is
+-- refused.
+abbrev pub reads_only : {S : Type 0} → Level S → S → List (List ℕ) → List Meddle → Stop → Refusal
+    → Outcome S
 reads_only level s issued meddles stop why =
-    outcome_by level stop issued (called_by level s s (One []) (Err why) (walk (course_of stop meddles).fates 1 (Reads ∷ [])))
+    outcome_by level stop issued
+    (called_by level s s (One []) (Err why)
+    (walk (course_of stop meddles).fates 1 (Reads ∷ [])))
 
 -- the same behind the tests for a number that isn't issued and for a batch that is too long
-abbrev pub asked_in_vain : {S : Type 0} → Level S → S → List (List ℕ) → List Meddle → Stop → Refusal → Option (List ℕ) → Batch → Outcome S
+abbrev pub asked_in_vain : {S : Type 0} → Level S → S → List (List ℕ) → List Meddle → Stop → Refusal
+    → Option (List ℕ) → Batch → Outcome S
 asked_in_vain level s issued meddles stop why None b = uncalled s issued (reply.No cause.Snapshot)
 asked_in_vain level s issued meddles stop why (Some bytes) b =
-    if is_long b then uncalled s issued (reply.No cause.Long) else reads_only level s issued meddles stop why
+    if is_long b then uncalled s issued (reply.No cause.Long)
+    else reads_only level s issued meddles stop why
 
--- a checkpoint that was broken off: whether its segment was closed
-abbrev pub stopped_reply : Way → Bool → Reply
-stopped_reply how true = reply.Closed how
-stopped_reply how false = reply.Nothing how
-
+-- The reply to a checkpoint. One that was broken off tells whether its segment was closed.
 abbrev pub closing_reply : Way → Closing → Reply
 closing_reply how Closes = reply.Checkpointed
 closing_reply how HasNone = reply.No cause.Kind
 closing_reply how NoSegment = reply.No cause.Segment
 closing_reply how LostPower = reply.No cause.Lost
-closing_reply how (Stops fault closed) = stopped_reply how closed
+closing_reply how (Stops fault closed) = if closed then reply.Closed how else reply.Nothing how
 
 abbrev pub closing_then : Stop → Closing → List Move
 closing_then stop Closes = []
@@ -151,7 +146,8 @@ closing_then stop LostPower = []
 closing_then stop (Stops fault closed) = after_stop stop
 
 -- what a checkpoint comes to in a schedule
-abbrev pub closed_outcome : {S : Type 0} → Level S → Stop → List (List ℕ) → Checkpointed S → Outcome S
+abbrev pub closed_outcome : {S : Type 0} → Level S → Stop → List (List ℕ) → Checkpointed S
+    → Outcome S
 closed_outcome level stop issued o = record {
   state = all_made level o.state (closing_then stop o.ending);
   issued = issued;
@@ -162,20 +158,26 @@ closed_outcome level stop issued o = record {
 
 -- one event
 abbrev pub event_outcome : {S : Type 0} → Instance → Level S → S → List (List ℕ) → Event → Outcome S
-event_outcome i level s issued (Ask meddles stop offer b) = asked i level s issued meddles stop (offered_bytes issued offer) b
+event_outcome i level s issued (Ask meddles stop offer b) =
+    asked i level s issued meddles stop (offered_bytes issued offer) b
 event_outcome i level s issued (Checkpoint meddles stop) =
     closed_outcome level stop issued (checkpointed i level s (course_of stop meddles))
 event_outcome i level s issued Power = uncalled (level.made s PowerMove) issued reply.Power
-event_outcome i level s issued (Extend value) = uncalled (level.made s (Foreign value)) issued reply.Extended
+event_outcome i level s issued (Extend value) =
+    uncalled (level.made s (Foreign value)) issued reply.Extended
 
 -- one event where the cell is none that a call goes on with
 abbrev pub event_in_vain : {S : Type 0} → Level S → S → List (List ℕ) → Refusal → Event → Outcome S
-event_in_vain level s issued why (Ask meddles stop offer b) = asked_in_vain level s issued meddles stop why (offered_bytes issued offer) b
-event_in_vain level s issued why (Checkpoint meddles stop) = reads_only level s issued meddles stop why
+event_in_vain level s issued why (Ask meddles stop offer b) =
+    asked_in_vain level s issued meddles stop why (offered_bytes issued offer) b
+event_in_vain level s issued why (Checkpoint meddles stop) =
+    reads_only level s issued meddles stop why
 event_in_vain level s issued why Power = uncalled (level.made s PowerMove) issued reply.Power
-event_in_vain level s issued why (Extend value) = uncalled (level.made s (Foreign value)) issued reply.Extended
+event_in_vain level s issued why (Extend value) =
+    uncalled (level.made s (Foreign value)) issued reply.Extended
 
--- What stands after some events, with the replies so far and the counts of steps and of writes of the cell.
+-- What stands after some events, with the replies so far and the counts of steps and of writes of
+-- the cell.
 pub record Followed (S : Type 0) : Type 0 where
   pub state : S
   pub issued : List (List ℕ)
@@ -192,17 +194,26 @@ followed_by o rest = record {
   writes = o.writes + rest.writes;
 }
 
-abbrev pub followed : {S : Type 0} → Instance → Level S → S → List (List ℕ) → List Event → Followed S
-followed i level s issued [] = record { state = s; issued = issued; replies = []; steps = 0; writes = 0 }
+abbrev pub followed : {S : Type 0} → Instance → Level S → S → List (List ℕ) → List Event
+    → Followed S
+followed i level s issued [] =
+    record { state = s; issued = issued; replies = []; steps = 0; writes = 0 }
 followed i level s issued (event ∷ events) =
-    let o = event_outcome i level s issued event in followed_by o (followed i level o.state o.issued events)
+    let o = event_outcome i level s issued event in followed_by o
+    (followed i level o.state o.issued events)
 
 -- the first snapshot of an instance, and its first digests
 abbrev pub first_issued : Instance → List (List ℕ)
 first_issued i = issued_bytes i first_history ∷ []
 
 abbrev pub first_digests : Instance → Digests
-first_digests i = record { digest = start_of i.variant i.meaning.id; flag = false; register = zero_bytes; count = 0 }
+first_digests i =
+    record {
+      digest = start_of i.variant i.meaning.id;
+      flag = false;
+      register = zero_bytes;
+      count = 0;
+    }
 
 -- a schedule from the start: by lists, which gives the expected replies; and by digests
 abbrev pub expected : Instance → List Event → Followed History

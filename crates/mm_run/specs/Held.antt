@@ -18,19 +18,13 @@ use Rattle.mm_run.specs.Folds.{Outcome, course_of, event_outcome, first_issued, 
 unfoldable pub rising_from : ℕ → List ℕ
 rising_from first = range_with_len first 32
 
--- the key of each world, and its barrier
-unfoldable pub world_key : List ℕ
-world_key = rising_from 0x00
-
-unfoldable pub world_barrier : List ℕ
-world_barrier = rising_from 0x20
-
--- the instance that a world with this header is
+-- the instance that a world with this header is, with its key and its barrier
 abbrev pub world_of : Header → Instance
-world_of header = instance_by header.variant (meaning_of header.«module») world_key world_barrier
+world_of header =
+    instance_by header.variant (meaning_of header.«module») (rising_from 0x00) (rising_from 0x20)
 
--- the header; where the world stands by digests; the issued snapshots by their numbers; and how many steps were called,
--- and how many of them were to write the cell
+-- the header; where the world stands by digests; the issued snapshots by their numbers; and how
+-- many steps were called, and how many of them were to write the cell
 pub record Held : Type 0 where
   pub header : Header
   pub digests : Digests
@@ -53,7 +47,9 @@ first_held header = record {
 
 -- what an event comes to in a world
 abbrev pub outcome_in : Held → Event → Outcome Digests
-outcome_in world event = event_outcome (instance_of world) (by_digests (instance_of world)) world.digests world.issued event
+outcome_in world event =
+    event_outcome (instance_of world) (by_digests (instance_of world)) world.digests world.issued
+    event
 
 -- a count of 64 bits stays at the greatest once it is there
 abbrev pub within_bits : Digests → Digests
@@ -71,11 +67,14 @@ pub record Follows (o : Outcome Digests) (old new : Held) (said : Reply) : Type 
 -- a world whose call has made its reading steps, and nothing else
 abbrev pub having_read : Stop → List Meddle → Held → Held
 having_read stop meddles world = record world {
-  digests = seen_at (instance_of world) (by_digests (instance_of world)) world.digests (course_of stop meddles);
+  digests =
+      seen_at (instance_of world) (by_digests (instance_of world)) world.digests
+      (course_of stop meddles);
   steps = counted_by (length (reading_steps (instance_of world).variant)) world.steps;
 }
 
--- Memory was wanting for this event: nothing has changed, but that a call may have made its reading steps.
+-- Memory was wanting for this event: nothing has changed, but that a call may have made its reading
+-- steps.
 abbrev pub Wants : Event → Held → Held → Type 0
 Wants (Ask meddles stop offer b) old new = (new ≡ old) ⊎ (new ≡ having_read stop meddles old)
 Wants (Checkpoint meddles stop) old new = new ≡ old

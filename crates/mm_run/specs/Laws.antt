@@ -5,7 +5,8 @@ use Rattle.mm_module.specs.Meaning.{Meaning}
 use Rattle.mm_module.specs.Batch.{One}
 use Rattle.mm_platform.specs.declared.plan.Stop.TheVariants.{Quiet}
 use Rattle.mm_seal.specs.Snapshot.{Content, sealed_of}
-use Rattle.mm_model.specs.Instance.{Instance, basic, opt}
+use Rattle.mm_model.specs.Instance.{Instance}
+use Rattle.mm_model.specs.InstanceWords.{basic, opt}
 use Rattle.mm_model.specs.History.{History, Own, requests_of}
 use Rattle.mm_model.specs.Places.{Names}
 use Rattle.mm_schedule.specs.Events.{Event, Ask, Checkpoint, Extend}
@@ -16,23 +17,26 @@ use Rattle.mm_call.specs.Levels.{by_lists, by_digests, Agrees}
 use Rattle.mm_run.specs.Folds.{Followed, followed, expected, replies_by_digests}
 use Rattle.mm_run.specs.Premises.{messages_from, IsClearRun, IsGenuineRun}
 
--- Two followings give the same replies, issue the same snapshots and call as many steps and writes; and the digests
--- at the end are those of the history.
-pub record AgreesThroughout (i : Instance) (lists : Followed History) (digests : Followed Digests) : Type 0 where
+-- Two followings give the same replies, issue the same snapshots and call as many steps and writes;
+-- and the digests at the end are those of the history.
+pub record AgreesThroughout (i : Instance) (lists : Followed History)
+    (digests : Followed Digests) : Type 0 where
   pub replies : digests.replies ≡ lists.replies
   pub issued : digests.issued ≡ lists.issued
   pub steps : digests.steps ≡ lists.steps
   pub writes : digests.writes ≡ lists.writes
   pub stands : Agrees i lists.state digests.state
 
--- Where no two messages of the run share a digest and each right offer names a position, what is told by digests is
--- what is expected.
+-- Where no two messages of the run share a digest and each right offer names a position, what is
+-- told by digests is what is expected.
 abbrev pub BasicIsExpected : Type 0
 BasicIsExpected = (meaning : Meaning) (key : List ℕ) (events : List Event) →
     IsClearRun (basic meaning key) events → IsGenuineRun (basic meaning key) events →
-    AgreesThroughout (basic meaning key) (expected (basic meaning key) events) (replies_by_digests (basic meaning key) events)
+    AgreesThroughout (basic meaning key) (expected (basic meaning key) events)
+    (replies_by_digests (basic meaning key) events)
 
--- In both variants, and without a premise, what is expected is one run of the machine, on one list of requests.
+-- In both variants, and without a premise, what is expected is one run of the machine, on one list
+-- of requests.
 abbrev pub ExpectedRuns : Type 0
 ExpectedRuns = (i : Instance) (events : List Event) →
     let lists : Followed History = expected i events in
@@ -48,14 +52,19 @@ continued first second = record {
   writes = first.writes + second.writes;
 }
 
--- A schedule goes on from what stands after its first events, by either level; and so do its messages.
+-- A schedule goes on from what stands after its first events, by either level; and so do its
+-- messages.
 abbrev pub SchedulesGoOn : Type 0
-SchedulesGoOn = (i : Instance) (es fs : List Event) (y : History) (d : Digests) (issued : List (List ℕ)) →
+SchedulesGoOn =
+    (i : Instance) (es fs : List Event) (y : History) (d : Digests) (issued : List (List ℕ)) →
     let lists : Followed History = followed i (by_lists i) y issued es in
     let digests : Followed Digests = followed i (by_digests i) d issued es in
-    (followed i (by_lists i) y issued (es ++ fs) ≡ continued lists (followed i (by_lists i) lists.state lists.issued fs))
-    × (followed i (by_digests i) d issued (es ++ fs) ≡ continued digests (followed i (by_digests i) digests.state digests.issued fs))
-    × (messages_from i y issued (es ++ fs) ≡ messages_from i y issued es ++ messages_from i lists.state lists.issued fs)
+    (followed i (by_lists i) y issued (es ++ fs) ≡ continued lists
+    (followed i (by_lists i) lists.state lists.issued fs))
+    × (followed i (by_digests i) d issued (es ++ fs) ≡ continued digests
+    (followed i (by_digests i) digests.state digests.issued fs))
+    × (messages_from i y issued (es ++ fs) ≡ messages_from i y issued es
+    ++ messages_from i lists.state lists.issued fs)
 
 -- The same for Opt.
 abbrev pub OptIsExpected : Type 0
@@ -73,17 +82,20 @@ pub record IsIssued (i : Instance) (y : History) (bytes : List ℕ) : Type 0 whe
 -- After each schedule every snapshot that was issued names a position of the history.
 abbrev pub IssuedNamePositions : Instance → Type 0
 IssuedNamePositions i = (events : List Event) →
-    let lists : Followed History = expected i events in AllByRecursion (IsIssued i lists.state) lists.issued
+    let lists : Followed History = expected i events
+    in AllByRecursion (IsIssued i lists.state) lists.issued
 
 -- One request is asked once: `ask last add 5`.
 abbrev pub one_ask : List Event
 one_ask = Ask [] Quiet Last (One (codes "add 5")) ∷ []
 
--- `ask last add 5` twice, `checkpoint`, `extend` by 32 bytes ff, and `ask last add 5`: a request is committed inside a segment, the
--- segment is closed, others extend the register, and the last request is fresh behind the closing.
+-- `ask last add 5` twice, `checkpoint`, `extend` by 32 bytes ff, and `ask last add 5`: a request is
+-- committed inside a segment, the segment is closed, others extend the register, and the last
+-- request is fresh behind the closing.
 abbrev pub two_segments : List Event
 two_segments =
-    Ask [] Quiet Last (One (codes "add 5")) ∷ Ask [] Quiet Last (One (codes "add 5")) ∷ Checkpoint [] Quiet ∷ Extend (replicate 32 255)
+    Ask [] Quiet Last (One (codes "add 5")) ∷ Ask [] Quiet Last (One (codes "add 5"))
+    ∷ Checkpoint [] Quiet ∷ Extend (replicate 32 255)
     ∷ Ask [] Quiet Last (One (codes "add 5")) ∷ []
 
 -- where it ends: all three are committed, two of them in the closed segment

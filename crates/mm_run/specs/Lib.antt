@@ -5,3 +5,6 @@ pub mod Premises
 pub mod Held
 pub mod Laws
 pub mod OneEvent
+pub mod HeldWords
+pub mod PremisesWords
+pub mod FoldsWords

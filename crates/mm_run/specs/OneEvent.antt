@@ -17,15 +17,19 @@ use Rattle.mm_schedule.specs.Events.{Event}
 use Rattle.mm_schedule.specs.Machine.{Steps}
 use Rattle.mm_run.specs.Folds.{Outcome, event_outcome}
 use Rattle.mm_run.specs.Laws.{IsIssued}
-use Rattle.mm_run.specs.Premises.{moves_of, event_messages, foreign_of, batches_of, AreApartIn, IsGenuineEvent}
+use Rattle.mm_run.specs.Premises.{moves_of, event_messages, foreign_of, batches_of, IsGenuineEvent}
+use Rattle.mm_run.specs.PremisesWords.{AreApartIn}
 
 -- the digests are those of the history, which is within the list
-pub record Keeps (all others : List (List ℕ)) (asked_for : List Batch) (i : Instance) (y : History) (d : Digests) : Type 0 where
+pub record Keeps (all others : List (List ℕ)) (asked_for : List Batch) (i : Instance) (y : History)
+    (d : Digests) : Type 0 where
   pub agrees : Agrees i y d
   pub within : IsWithin all others asked_for i y
 
--- Two outcomes are the same, but for what stands after them: those digests are the history's, which is within the list.
-pub record IsSameOutcome (all others : List (List ℕ)) (asked_for : List Batch) (i : Instance) (lists : Outcome History)
+-- Two outcomes are the same, but for what stands after them: those digests are the history's, which
+-- is within the list.
+pub record IsSameOutcome (all others : List (List ℕ)) (asked_for : List Batch) (i : Instance)
+    (lists : Outcome History)
     (digests : Outcome Digests) : Type 0 where
   pub reply : digests.reply ≡ lists.reply
   pub issued : digests.issued ≡ lists.issued
@@ -33,9 +37,10 @@ pub record IsSameOutcome (all others : List (List ℕ)) (asked_for : List Batch)
   pub writes : digests.writes ≡ lists.writes
   pub keeps : Keeps all others asked_for i lists.state digests.state
 
--- What is asked of an event: its values of others, its batch and its messages are in the lists, and a right offer names a
--- position of the history.
-pub record IsEventWithin (all others : List (List ℕ)) (asked_for : List Batch) (i : Instance) (y : History)
+-- What is asked of an event: its values of others, its batch and its messages are in the lists, and
+-- a right offer names a position of the history.
+pub record IsEventWithin (all others : List (List ℕ)) (asked_for : List Batch) (i : Instance)
+    (y : History)
     (issued : List (List ℕ)) (event : Event) : Type 0 where
   pub outside : AllByRecursion (Contains others) (foreign_of event)
   pub batches : AllByRecursion (Contains asked_for) (batches_of event)
@@ -45,10 +50,14 @@ pub record IsEventWithin (all others : List (List ℕ)) (asked_for : List Batch)
 
 -- An event comes by digests to what it comes to by lists.
 abbrev pub EventsAgree : Instance → Type 0
-EventsAgree i = (all others : List (List ℕ)) (asked_for : List Batch) → IsClear all → AreApartIn i.variant i others asked_for
-    → (y : History) (d : Digests) (issued : List (List ℕ)) (event : Event) → Keeps all others asked_for i y d
+EventsAgree i =
+    (all others : List (List ℕ)) (asked_for : List Batch) → IsClear all
+    → AreApartIn i.variant i others asked_for
+    → (y : History) (d : Digests) (issued : List (List ℕ)) (event : Event)
+    → Keeps all others asked_for i y d
     → IsEventWithin all others asked_for i y issued event
-    → IsSameOutcome all others asked_for i (event_outcome i (by_lists i) y issued event) (event_outcome i (by_digests i) d issued event)
+    → IsSameOutcome all others asked_for i (event_outcome i (by_lists i) y issued event)
+    (event_outcome i (by_digests i) d issued event)
 
 -- Without a premise, an event is one step of the machine, on the requests of the history.
 abbrev pub EventsStep : Type 0
@@ -61,8 +70,8 @@ abbrev pub IsSoundIn : Variant → History → Type 0
 IsSoundIn Basic y = Unit {0}
 IsSoundIn Opt y = IsSound y
 
--- From one history to another: it stays sound, what names a position names one afterwards, and so do the snapshots that
--- were issued.
+-- From one history to another: it stays sound, what names a position names one afterwards, and so
+-- do the snapshots that were issued.
 pub record KeepsNames (i : Instance) (y z : History) (before after : List (List ℕ)) : Type 0 where
   pub sound : IsSoundIn i.variant z
   pub names : (content : Content) → Names i y content → Names i z content

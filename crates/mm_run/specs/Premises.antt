@@ -1,16 +1,15 @@
--- The messages that a run of events hashes, as far as a proof looks at them, and what is asked of the run.
-use Rattle.std.specs.Prelude.{ℕ, List, [], ◌∷◌, ◌++◌, Option, None, Some, map, if◌then◌else◌}
-use Rattle.mm_digest.specs.declared.variant.Variant.{Variant}
-use Rattle.mm_digest.specs.declared.variant.Variant.TheVariants.{Basic, Opt}
+-- The messages that a run of events hashes, as far as a proof looks at them, and what is asked of
+-- the run.
+use Rattle.std.specs.Prelude.{◌≡◌, ℕ, List, [], ◌∷◌, ◌++◌, IfSome, map, flat_map, if◌then◌else◌}
+use Rattle.std.specs.Option.{option_map_or}
+use Rattle.mm_digest.specs.declared.variant.Variant.TheVariants.{Opt}
 use Rattle.mm_digest.specs.Messages.{start_message}
 use Rattle.mm_module.specs.Batch.{Batch, normal}
-use Rattle.mm_platform.specs.declared.plan.Meddle.{Meddle}
-use Rattle.mm_platform.specs.declared.plan.Stop.{Stop}
 use Rattle.mm_model.specs.Instance.{Instance}
 use Rattle.mm_model.specs.History.{History, Move, Foreign, Power as PowerMove, first_history}
 use Rattle.mm_model.specs.Long.{is_long}
 use Rattle.mm_model.specs.Messages.{IsClear, AreNoGuards}
-use Rattle.mm_model.specs.Standing.{IsGenuine}
+use Rattle.mm_model.specs.Standing.{issued_bytes, IsGenuine}
 use Rattle.mm_call.specs.Levels.{by_lists}
 use Rattle.mm_call.specs.Found.{right_content}
 use Rattle.mm_call.specs.Called.{called}
@@ -18,40 +17,37 @@ use Rattle.mm_call.specs.Checkpoints.{checkpointed}
 use Rattle.mm_call.specs.Asked.{moves_messages, right_messages}
 use Rattle.mm_schedule.specs.Events.{Event, Ask, Checkpoint, Power, Extend}
 use Rattle.mm_run.specs.Offered.{offered_bytes}
-use Rattle.mm_run.specs.Folds.{course_of, event_outcome, first_issued}
+use Rattle.mm_run.specs.Folds.{course_of, event_outcome}
 
 -- the moves of an event's call, by lists. The loss of power after one that was cut has no messages.
-abbrev pub ask_moves : Instance → History → List Meddle → Stop → Option (List ℕ) → Batch → List Move
-ask_moves i y meddles stop None b = []
-ask_moves i y meddles stop (Some bytes) b =
-    if is_long b then [] else (called i (by_lists i) y (course_of stop meddles) bytes (normal b)).moves
-
 abbrev pub moves_of : Instance → History → List (List ℕ) → Event → List Move
-moves_of i y issued (Ask meddles stop offer b) = ask_moves i y meddles stop (offered_bytes issued offer) b
-moves_of i y issued (Checkpoint meddles stop) = (checkpointed i (by_lists i) y (course_of stop meddles)).moves
+moves_of i y issued (Ask meddles stop offer b) =
+    option_map_or (λ bytes. if is_long b then []
+    else (called i (by_lists i) y (course_of stop meddles) bytes (normal b)).moves)
+    (offered_bytes issued offer) []
+moves_of i y issued (Checkpoint meddles stop) =
+    (checkpointed i (by_lists i) y (course_of stop meddles)).moves
 moves_of i y issued Power = PowerMove ∷ []
 moves_of i y issued (Extend value) = Foreign value ∷ []
 
 -- the messages of what is asked of a right offer, where the batch isn't too long
-abbrev pub asking_messages : Instance → Option (List ℕ) → Batch → List (List ℕ)
-asking_messages i None b = []
-asking_messages i (Some bytes) b = if is_long b then [] else right_messages i (normal b) (right_content i bytes)
-
 abbrev pub event_messages : Instance → List (List ℕ) → Event → List (List ℕ)
-event_messages i issued (Ask meddles stop offer b) = asking_messages i (offered_bytes issued offer) b
+event_messages i issued (Ask meddles stop offer b) =
+    option_map_or (λ bytes. if is_long b then []
+    else right_messages i (normal b) (right_content i bytes))
+    (offered_bytes issued offer) []
 event_messages i issued (Checkpoint meddles stop) = []
 event_messages i issued Power = []
 event_messages i issued (Extend value) = []
 
--- the messages of events from a history on, event by event: those of what is asked, then those of the moves
+-- the messages of events from a history on, event by event: those of what is asked, then those of
+-- the moves
 abbrev pub messages_from : Instance → History → List (List ℕ) → List Event → List (List ℕ)
 messages_from i y issued [] = []
 messages_from i y issued (event ∷ events) =
     let o = event_outcome i (by_lists i) y issued event in
-    event_messages i issued event ++ moves_messages i y (moves_of i y issued event) ++ messages_from i o.state o.issued events
-
-abbrev pub run_messages : Instance → List Event → List (List ℕ)
-run_messages i events = start_message i.variant i.meaning.id ∷ messages_from i first_history (first_issued i) events
+    event_messages i issued event ++ moves_messages i y (moves_of i y issued event)
+    ++ messages_from i o.state o.issued events
 
 -- the values by which others extend the register, whether the step is reached or not
 abbrev pub foreign_of : Event → List (List ℕ)
@@ -60,10 +56,6 @@ foreign_of (Checkpoint meddles stop) = map (λ m. m.value.bytes) meddles
 foreign_of Power = []
 foreign_of (Extend value) = value ∷ []
 
-abbrev pub foreign_values : List Event → List (List ℕ)
-foreign_values [] = []
-foreign_values (event ∷ events) = foreign_of event ++ foreign_values events
-
 -- the batches asked that aren't too long, of whatever offer
 abbrev pub batches_of : Event → List Batch
 batches_of (Ask meddles stop offer b) = if is_long b then [] else normal b ∷ []
@@ -71,32 +63,18 @@ batches_of (Checkpoint meddles stop) = []
 batches_of Power = []
 batches_of (Extend value) = []
 
-abbrev pub asked_batches : List Event → List Batch
-asked_batches [] = []
-asked_batches (event ∷ events) = batches_of event ++ asked_batches events
-
--- in Opt, none of the values is the guard of one of the batches
-abbrev pub AreApartIn : Variant → Instance → List (List ℕ) → List Batch → Type 0
-AreApartIn Basic i others batches = Unit {0}
-AreApartIn Opt i others batches = AreNoGuards i.barrier others batches
-
--- in Opt, no value that others extend the register by is the guard of a batch that is asked
-abbrev pub AreApart : Variant → Instance → List Event → Type 0
-AreApart variant i events = AreApartIn variant i (foreign_values events) (asked_batches events)
-
--- What is asked of the digests: no two messages of the run share one, none is zero, and no value of others is the
--- guard of a batch.
+-- What is asked of the digests: no two messages of the run share one, and none is zero. In Opt, no
+-- value that others extend the register by is the guard of a batch that is asked.
 pub record IsClearRun (i : Instance) (events : List Event) : Type 0 where
-  pub clear : IsClear (run_messages i events)
-  pub apart : AreApart i.variant i events
+  pub clear : IsClear (start_message i.variant i.meaning.id
+      ∷ messages_from i first_history (issued_bytes i first_history ∷ []) events)
+  pub apart : i.variant ≡ Opt
+      → AreNoGuards i.barrier (flat_map foreign_of events) (flat_map batches_of events)
 
 -- each right offer names a position of the history before its event: nobody else sealed it
-abbrev pub IsGenuineOffer : Instance → History → Option (List ℕ) → Type 0
-IsGenuineOffer i y None = Unit {0}
-IsGenuineOffer i y (Some bytes) = IsGenuine i y bytes
-
 abbrev pub IsGenuineEvent : Instance → History → List (List ℕ) → Event → Type 0
-IsGenuineEvent i y issued (Ask meddles stop offer b) = IsGenuineOffer i y (offered_bytes issued offer)
+IsGenuineEvent i y issued (Ask meddles stop offer b) =
+    IfSome (offered_bytes issued offer) (λ bytes. IsGenuine i y bytes)
 IsGenuineEvent i y issued (Checkpoint meddles stop) = Unit {0}
 IsGenuineEvent i y issued Power = Unit {0}
 IsGenuineEvent i y issued (Extend value) = Unit {0}
@@ -108,4 +86,4 @@ AreGenuine i y issued (event ∷ events) =
     IsGenuineEvent i y issued event × AreGenuine i o.state o.issued events
 
 abbrev pub IsGenuineRun : Instance → List Event → Type 0
-IsGenuineRun i events = AreGenuine i first_history (first_issued i) events
+IsGenuineRun i events = AreGenuine i first_history (issued_bytes i first_history ∷ []) events

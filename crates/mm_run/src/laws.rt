@@ -3,8 +3,8 @@
 ghost use Rattle.std.specs.Prelude.{◌≡◌, ℕ, List};
 ghost use Rattle.mm_module.specs.Meaning.{Meaning};
 ghost use Rattle.mm_module.specs.CounterTable.{counter};
-ghost use Rattle.mm_model.specs.Instance.{basic, opt};
-ghost use Rattle.mm_run.specs.Held.{world_barrier};
+ghost use Rattle.mm_model.specs.InstanceWords.{basic, opt};
+ghost use Rattle.mm_run.specs.HeldWords.{world_barrier};
 ghost use Rattle.mm_run.specs.Folds.{expected};
 ghost use Rattle.mm_run.specs.Premises.{IsClearRun, IsGenuineRun};
 ghost use Rattle.mm_run.specs.Laws.{BasicIsExpected, OptIsExpected, ExpectedRuns, SchedulesGoOn, IssuedNamePositions, one_ask, two_segments, after_two_segments};

@@ -42,6 +42,7 @@ bytes_by word bytes is true none =
 bytes_by word bytes is false none = rw is refl
 
 -- the bytes that digits spell
-pub digits_give : (word bytes : List ℕ) → bytes_eq word (codes "-") ≡ false → decode_of word ≡ Ok bytes → unwrap_or (bytes_at word) [] ≡ bytes
+pub digits_give : (word bytes : List ℕ) → bytes_eq word (codes "-") ≡ false → decode_of word ≡ Ok bytes
+    → unwrap_or (bytes_at word) [] ≡ bytes
 unfolding bytes_at
 digits_give word bytes dash is = rw dash (bytes_by word bytes is (length word == 0) refl)

@@ -28,7 +28,8 @@ unfolding meddles_at
 over front room rest least line some none = rw (some, none) (behind_none front line)
 
 -- what stands there is no meddle
-pub bad : (front : List Meddle) (room rest least : ℕ) (line words : List ℕ) → room ≡ suc rest → after_prefix (codes "meddle ") line ≡ Some words
+pub bad : (front : List Meddle) (room rest least : ℕ) (line words : List ℕ) → room ≡ suc rest
+    → after_prefix (codes "meddle ") line ≡ Some words
     → meddle_at least words ≡ None → None ≡ behind front (meddles_at room least line)
 unfolding meddles_at
 bad front room rest least line words some found none = rw (some, found, none) refl
@@ -38,4 +39,5 @@ pub more : (front : List Meddle) (room rest least : ℕ) (line words later : Lis
     → after_prefix (codes "meddle ") line ≡ Some words → meddle_at least words ≡ Some (first, later)
     → behind (front ++ first ∷ []) (meddles_at rest first.step later) ≡ behind front (meddles_at room least line)
 unfolding meddles_at
-more front room rest least line words later first some found read = rw (some, found, read) (behind_one front first (meddles_at rest first.step later))
+more front room rest least line words later first some found read =
+    rw (some, found, read) (behind_one front first (meddles_at rest first.step later))

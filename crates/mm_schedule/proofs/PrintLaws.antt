@@ -3,9 +3,11 @@ use Rattle.std.proofs.Common.{◌≡◌, ◌+◌, ◌<◌, ℕ, zero, suc, Bool,
 use Rattle.std.proofs.Math.Seq.{take-append-add, take-append_seam}
 use Rattle.std.specs.Option.{option_map}
 use Rattle.std.specs.Prelude.{Some, None, slice_get}
-use Rattle.mm_schedule.specs.Replies.{told_line, told_lines}
+use Rattle.mm_schedule.specs.Replies.{told_lines}
+use Rattle.mm_schedule.specs.RepliesWords.{told_line}
 
-pub put-behind : (front piece rest : List ℕ) (at : ℕ) → length front ≡ at → take (at + length piece) (front ++ (piece ++ rest)) ≡ front ++ piece
+pub put-behind : (front piece rest : List ℕ) (at : ℕ) → length front ≡ at
+    → take (at + length piece) (front ++ (piece ++ rest)) ≡ front ++ piece
 put-behind front piece rest at is =
     rw (← is) (take-append-add front (piece ++ rest) (length piece) ∙ ap (λ (back : List ℕ). front ++ back) (take-append_seam piece rest))
 

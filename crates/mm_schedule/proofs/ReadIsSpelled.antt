@@ -19,17 +19,19 @@ use Rattle.mm_module.specs.Batch.{One, Many}
 use Rattle.mm_platform.specs.declared.plan.Meddle.{Meddle}
 use Rattle.mm_platform.specs.declared.plan.Stop.{Stop}
 use Rattle.mm_platform.specs.declared.plan.Stop.TheVariants.{Fail}
-use Rattle.mm_module.specs.Words.{is_space}
+use Rattle.mm_module.specs.WordsWords.{is_space}
 use Rattle.mm_schedule.specs.declared.event.Offer.{Offer}
 use Rattle.mm_schedule.specs.declared.event.Offer.TheVariants.{Last}
 use Rattle.mm_schedule.specs.Events.{Event, Checkpoint, Power}
-use Rattle.mm_schedule.specs.Grammar.{call_at, event_at, failing_at, flip_at, meddle_at, meddles_at, offer_at, prefixed_at, raw_at, stop_at, stop_step_at}
+use Rattle.mm_schedule.specs.Grammar.{call_at, event_at, failing_at, meddle_at, meddles_at, offer_at, prefixed_at, raw_at, stop_at, stop_step_at}
+use Rattle.mm_schedule.specs.GrammarWords.{flip_at}
 use Rattle.mm_schedule.specs.Spelling.{SpellsBytes, SpellsEvent, SpellsMeddles, SpellsNumber, SpellsOffer, SpellsPrefix, SpellsStep, SpellsStop, SpellsValue, asks}
 use Rattle.mm_module.specs.Values.{value_at}
 use Rattle.mm_schedule.specs.Words.{◌>>=◌, after_prefix, bytes_at, number_at, step_at, word_at}
 
 -- a reading that gave something gave something at its first part
-pub bind-some : {A B : Type 0} (first : Option A) (then : A → Option B) (y : B) → (first >>= then) ≡ Some y → (x : A) × (first ≡ Some x) × (then x ≡ Some y)
+pub bind-some : {A B : Type 0} (first : Option A) (then : A → Option B) (y : B) → (first >>= then) ≡ Some y
+    → (x : A) × (first ≡ Some x) × (then x ≡ Some y)
 bind-some None then y is = cc
 bind-some (Some x) then y is = (x, refl, is)
 
@@ -160,12 +162,14 @@ record ReadsMeddles (room least : ℕ) (line : List ℕ) (read : List Meddle × 
   few : length read.0 ≤ room
   parts : line ≡ text ++ read.1
 
-no-meddles : (room least : ℕ) (line : List ℕ) (read : List Meddle × List ℕ) → Some ([], line) ≡ Some read → ReadsMeddles room least line read
+no-meddles : (room least : ℕ) (line : List ℕ) (read : List Meddle × List ℕ) → Some ([], line) ≡ Some read
+    → ReadsMeddles room least line read
 no-meddles room least line read is =
     subst (λ (r : List Meddle × List ℕ). ReadsMeddles room least line r) (some-same ([], line) read is)
     (record { text = []; spelled = refl; few = omega arith; parts = refl })
 
-meddles-spelled : (room least : ℕ) (line : List ℕ) (read : List Meddle × List ℕ) → meddles_at room least line ≡ Some read → ReadsMeddles room least line read
+meddles-spelled : (room least : ℕ) (line : List ℕ) (read : List Meddle × List ℕ) → meddles_at room least line ≡ Some read
+    → ReadsMeddles room least line read
 unfolding meddles_at
 meddles-spelled zero least line read is = no-meddles zero least line read is
 meddles-spelled (suc room) least line read is =
@@ -214,18 +218,21 @@ failing-spelled line read is =
     let b = bind-some (word_at a.0.1) _ read a.2 in
     let at = stop_step-spelled line a.0 a.1 in
     let word = word-front a.0.1 b.0.0 b.0.1 b.1 in
-    let Goal : Stop × List ℕ → Type 0 = λ (r : Stop × List ℕ). (text : List ℕ) × SpellsStop r.0 (codes "fail " ++ text) × (line ≡ text ++ r.1) in
+    let Goal : Stop × List ℕ → Type 0 = λ (r : Stop × List ℕ). (text : List ℕ) × SpellsStop r.0 (codes "fail " ++ text)
+    × (line ≡ text ++ r.1) in
     elim (chosen (bytes_eq b.0.0 (codes "done")) (Some (Fail a.0.0 true, b.0.1)) _ read b.2) [
       | inl w ↦ subst Goal (some-same _ read w.1) (
         at.step ++ codes " done ",
         (at.step, at.stepped, simp append_assoc),
-        at.parts ∙ ap (λ (back : List ℕ). at.step ++ 32 ∷ back) (word ∙ ap (λ (first : List ℕ). first ++ 32 ∷ b.0.1) (text_is _ _ w.0)) ∙ simp append_assoc,
+        at.parts ∙ ap (λ (back : List ℕ). at.step ++ 32 ∷ back) (word ∙ ap (λ (first : List ℕ). first ++ 32 ∷ b.0.1) (text_is _ _ w.0))
+            ∙ simp append_assoc,
       )
       | inr w ↦ elim (chosen (bytes_eq b.0.0 (codes "undone")) (Some (Fail a.0.0 false, b.0.1)) None read w.1) [
         | inl v ↦ subst Goal (some-same _ read v.1) (
           at.step ++ codes " undone ",
           (at.step, at.stepped, simp append_assoc),
-          at.parts ∙ ap (λ (back : List ℕ). at.step ++ 32 ∷ back) (word ∙ ap (λ (first : List ℕ). first ++ 32 ∷ b.0.1) (text_is _ _ v.0)) ∙ simp append_assoc,
+          at.parts ∙ ap (λ (back : List ℕ). at.step ++ 32 ∷ back) (word ∙ ap (λ (first : List ℕ). first ++ 32 ∷ b.0.1) (text_is _ _ v.0))
+              ∙ simp append_assoc,
         )
         | inr v ↦ cc
       ]
@@ -257,7 +264,8 @@ stop-spelled line read is =
               let failing = failing-spelled u.0 read u.2 in record {
                 text = codes "fail " ++ failing.0;
                 spelled = failing.1;
-                parts = after-front (codes "fail ") line u.0 u.1 ∙ ap (λ (back : List ℕ). codes "fail " ++ back) failing.2 ∙ simp append_assoc;
+                parts =
+                    after-front (codes "fail ") line u.0 u.1 ∙ ap (λ (back : List ℕ). codes "fail " ++ back) failing.2 ∙ simp append_assoc;
               }
           | inr u ↦ subst (ReadsStop line) (some-same _ read u.1) (record { text = []; spelled = refl; parts = refl })
         ]
@@ -277,7 +285,8 @@ flip-spelled line read is =
     let b = bind-some (number_at a.0.0) _ read a.2 in
     let c = bind-some (word_at a.0.1) _ read b.2 in
     let d = bind-some (number_at c.0.0) _ read c.2 in
-    subst (λ (r : Offer × List ℕ). (text : List ℕ) × SpellsOffer r.0 (codes "flip " ++ text) × (line ≡ text ++ 32 ∷ r.1)) (some-same _ read d.2) (
+    subst (λ (r : Offer × List ℕ). (text : List ℕ) × SpellsOffer r.0 (codes "flip " ++ text) × (line ≡ text ++ 32 ∷ r.1))
+    (some-same _ read d.2) (
       a.0.0 ++ 32 ∷ c.0.0,
       (a.0.0, c.0.0, number-spelled a.0.0 b.0 b.1, number-spelled c.0.0 d.0 d.1, simp append_assoc),
       word-front line a.0.0 a.0.1 a.1 ∙ ap (λ (back : List ℕ). a.0.0 ++ 32 ∷ back) (word-front a.0.1 c.0.0 c.0.1 c.1) ∙ simp append_assoc,
@@ -289,14 +298,15 @@ unfolding raw_at
 raw-spelled line read is =
     let a = bind-some (word_at line) _ read is in
     let b = bind-some (bytes_at a.0.0) _ read a.2 in
-    subst (λ (r : Offer × List ℕ). (text : List ℕ) × SpellsOffer r.0 (codes "raw " ++ text) × (line ≡ text ++ 32 ∷ r.1)) (some-same _ read b.2) (
+    subst (λ (r : Offer × List ℕ). (text : List ℕ) × SpellsOffer r.0 (codes "raw " ++ text) × (line ≡ text ++ 32 ∷ r.1))
+    (some-same _ read b.2) (
       a.0.0,
       (a.0.0, bytes-spelled a.0.0 b.0 b.1, refl),
       word-front line a.0.0 a.0.1 a.1,
     )
 
 offer-spelled : (line : List ℕ) (read : Offer × List ℕ) → offer_at line ≡ Some read → ReadsOffer line read
-unfolding offer_at
+unfolding offer_at flip_at
 offer-spelled line read is =
     let a = bind-some (word_at line) _ read is in
     let first = word-front line a.0.0 a.0.1 a.1 in
@@ -320,7 +330,8 @@ offer-spelled line read is =
               }
           | inr u ↦
               let b = bind-some (number_at a.0.0) _ read u.1 in
-              subst (ReadsOffer line) (some-same _ read b.2) (record { text = a.0.0; spelled = number-spelled a.0.0 b.0 b.1; parts = first })
+              subst (ReadsOffer line) (some-same _ read b.2)
+              (record { text = a.0.0; spelled = number-spelled a.0.0 b.0 b.1; parts = first })
         ]
       ]
     ]

@@ -10,8 +10,8 @@ use Rattle.mm_schedule.specs.Machine.{Runs, Steps, StepsOn, AsksNone}
 asked-fixed : (meaning : Meaning) (requests : List (List ℕ)) (batch : Batch) (reply : Reply) (a b : List (List ℕ))
     → StepsOn meaning requests batch reply a → StepsOn meaning requests batch reply b → a ≡ b
 asked-fixed meaning requests batch (Told false before outputs) a b one two = one.grown ∙ sym two.grown
-asked-fixed meaning requests batch (Told true before outputs) a b one two = one.same ∙ sym two.same
-asked-fixed meaning requests batch (Kept way position) a b one two = one.grown ∙ sym two.grown
+asked-fixed meaning requests batch (Told true before outputs) a b one two = one.2 ∙ sym two.2
+asked-fixed meaning requests batch (Kept way position) a b one two = one.0 ∙ sym two.0
 asked-fixed meaning requests batch (No cause) a b one two = one ∙ sym two
 asked-fixed meaning requests batch (Nothing way) a b one two = one ∙ sym two
 asked-fixed meaning requests batch (Closed way) a b one two = one ∙ sym two
@@ -19,7 +19,8 @@ asked-fixed meaning requests batch Checkpointed a b one two = one ∙ sym two
 asked-fixed meaning requests batch Power a b one two = one ∙ sym two
 asked-fixed meaning requests batch Extended a b one two = one ∙ sym two
 
-stays-fixed : (requests : List (List ℕ)) (reply : Reply) (a b : List (List ℕ)) → AsksNone requests reply a → AsksNone requests reply b → a ≡ b
+stays-fixed : (requests : List (List ℕ)) (reply : Reply) (a b : List (List ℕ)) → AsksNone requests reply a → AsksNone requests reply b
+    → a ≡ b
 stays-fixed requests (Told again before outputs) a b one two = absurd one
 stays-fixed requests (Kept way position) a b one two = absurd one
 stays-fixed requests (No cause) a b one two = one ∙ sym two
@@ -48,7 +49,8 @@ run-fixed meaning requests a b (event ∷ es) (reply ∷ replies) one two =
 pub runs-on : (meaning : Meaning) (requests between after : List (List ℕ)) (es more : List events.Event) (replies others : List Reply)
     → Runs meaning requests es replies between → Runs meaning between more others after
     → Runs meaning requests (es ++ more) (replies ++ others) after
-runs-on meaning requests between after [] more [] others one two = subst (λ (start : List (List ℕ)). Runs meaning start more others after) one two
+runs-on meaning requests between after [] more [] others one two =
+    subst (λ (start : List (List ℕ)). Runs meaning start more others after) one two
 runs-on meaning requests between after [] more (reply ∷ replies) others one two = absurd one
 runs-on meaning requests between after (event ∷ es) more [] others one two = absurd one
 runs-on meaning requests between after (event ∷ es) more (reply ∷ replies) others one two =

@@ -20,18 +20,19 @@ use Rattle.mm_module.specs.Batch.{Batch, One, Many}
 use Rattle.mm_platform.specs.declared.plan.Meddle.{Meddle}
 use Rattle.mm_platform.specs.declared.plan.Stop.{Stop}
 use Rattle.mm_platform.specs.declared.plan.Stop.TheVariants.{Quiet, Cut, Drop, Fail}
-use Rattle.mm_module.specs.Words.{is_space}
+use Rattle.mm_module.specs.WordsWords.{is_space}
 use Rattle.mm_schedule.specs.declared.event.Offer.{Offer}
 use Rattle.mm_schedule.specs.declared.event.Offer.TheVariants.{Number, Last, Flip, Raw}
 use Rattle.mm_schedule.specs.Events.{Event, Ask, Checkpoint, Power, Extend}
-use Rattle.mm_schedule.specs.Grammar.{call_at, event_at, failing_at, flip_at, meddle_at, meddles_at, offer_at, prefixed_at, raw_at, stop_at, stop_step_at}
+use Rattle.mm_schedule.specs.Grammar.{call_at, event_at, failing_at, meddle_at, meddles_at, offer_at, prefixed_at, raw_at, stop_at, stop_step_at}
+use Rattle.mm_schedule.specs.GrammarWords.{flip_at}
 use Rattle.mm_schedule.specs.Spelling.{SpellsBytes, SpellsEvent, SpellsMeddles, SpellsNumber, SpellsOffer, SpellsPrefix, SpellsStep, SpellsStop, SpellsValue, asks}
 use Rattle.mm_module.specs.Values.{value_at}
 use Rattle.mm_schedule.specs.Words.{after_prefix, bytes_at, number_at, step_at, word_at}
 use Rattle.mm_schedule.proofs.ReadIsSpelled.{after-front, text_is}
 
 -- no space is among the bytes
-abbrev NoSpace : List ℕ → Type 0
+abbrev pub NoSpace : List ℕ → Type 0
 NoSpace [] = Unit {0}
 NoSpace (byte ∷ bytes) = (byte ≢ 32) × NoSpace bytes
 
@@ -41,7 +42,7 @@ first-space (byte ∷ word) rest none =
     let one : 1 + length word ≡ suc (length word) = omega arith in
     rw (ne_eqb byte 32 none.0) (ap (λ (n : ℕ). 1 + n) (first-space word rest none.1) ∙ one)
 
-word-again : (word rest : List ℕ) → NoSpace word → word_at (word ++ 32 ∷ rest) ≡ Some (word, rest)
+pub word-again : (word rest : List ℕ) → NoSpace word → word_at (word ++ 32 ∷ rest) ≡ Some (word, rest)
 unfolding word_at
 word-again word rest none =
     let within : length word < length (word ++ 32 ∷ rest) = omega (arith, length-append word (32 ∷ rest)) in
@@ -73,7 +74,7 @@ value-spaceless value word spelled =
     let size = decode_sized-ok word 32 value spelled in
     hex-spaceless word (decode_of-ok word value (sym (decode_sized-twice word 32 size) ∙ spelled)).1
 
-letters : (word : List ℕ) → list_all (λ (b : ℕ). not (b == 32)) word ≡ true → NoSpace word
+pub letters : (word : List ℕ) → list_all (λ (b : ℕ). not (b == 32)) word ≡ true → NoSpace word
 letters [] all = tt
 letters (c ∷ word) all =
     let first : not (c == 32) ≡ true = grind (arith, nat_tests) in
@@ -187,12 +188,14 @@ stop_step-again : (at : ℕ) (step rest : List ℕ) → SpellsStep at step → s
 unfolding stop_step_at
 stop_step-again at step rest stepped = rw (word-again step rest (step-spaceless at step stepped), step-again at step stepped) refl
 
-done-again : (at : ℕ) (step rest : List ℕ) → SpellsStep at step → failing_at (step ++ 32 ∷ (codes "done" ++ 32 ∷ rest)) ≡ Some (Fail at true, rest)
+done-again : (at : ℕ) (step rest : List ℕ) → SpellsStep at step
+    → failing_at (step ++ 32 ∷ (codes "done" ++ 32 ∷ rest)) ≡ Some (Fail at true, rest)
 unfolding failing_at
 done-again at step rest stepped =
     rw (stop_step-again at step (codes "done" ++ 32 ∷ rest) stepped, word-again (codes "done") rest done-word) refl
 
-undone-again : (at : ℕ) (step rest : List ℕ) → SpellsStep at step → failing_at (step ++ 32 ∷ (codes "undone" ++ 32 ∷ rest)) ≡ Some (Fail at false, rest)
+undone-again : (at : ℕ) (step rest : List ℕ) → SpellsStep at step
+    → failing_at (step ++ 32 ∷ (codes "undone" ++ 32 ∷ rest)) ≡ Some (Fail at false, rest)
 unfolding failing_at
 undone-again at step rest stepped =
     rw (stop_step-again at step (codes "undone" ++ 32 ∷ rest) stepped, word-again (codes "undone") rest undone-word) refl
@@ -201,10 +204,12 @@ stop-again : (stop : Stop) (text call : List ℕ) → SpellsStop stop text → I
 unfolding stop_at after_prefix
 stop-again Quiet text call spelled over = rw (spelled, over.cut, over.dropped, over.failed) refl
 stop-again (Cut at) text call spelled over =
-    let words : text ++ call ≡ codes "cut " ++ (spelled.0 ++ 32 ∷ call) = ap (λ (front : List ℕ). front ++ call) spelled.2 ∙ simp append_assoc in
+    let words : text ++ call ≡ codes "cut " ++ (spelled.0 ++ 32 ∷ call) = ap (λ (front : List ℕ). front ++ call) spelled.2
+    ∙ simp append_assoc in
     rw (words, stop_step-again at spelled.0 call spelled.1) refl
 stop-again (Drop at) text call spelled over =
-    let words : text ++ call ≡ codes "drop " ++ (spelled.0 ++ 32 ∷ call) = ap (λ (front : List ℕ). front ++ call) spelled.2 ∙ simp append_assoc in
+    let words : text ++ call ≡ codes "drop " ++ (spelled.0 ++ 32 ∷ call) = ap (λ (front : List ℕ). front ++ call) spelled.2
+    ∙ simp append_assoc in
     rw (words, stop_step-again at spelled.0 call spelled.1) refl
 stop-again (Fail at true) text call spelled over =
     let words : text ++ call ≡ codes "fail " ++ (spelled.0 ++ 32 ∷ (codes "done" ++ 32 ∷ call)) =
@@ -216,7 +221,8 @@ stop-again (Fail at false) text call spelled over =
     rw (words, undone-again at spelled.0 call spelled.1) refl
 
 -- a number is none of the words that begin other offers
-not_word : (word other : List ℕ) (number : ℕ) (same : Bool) → bytes_eq word other ≡ same → number_at word ≡ Some number → number_at other ≡ None → same ≡ false
+not_word : (word other : List ℕ) (number : ℕ) (same : Bool) → bytes_eq word other ≡ same → number_at word ≡ Some number
+    → number_at other ≡ None → same ≡ false
 not_word word other number true same is none =
     let clash : Some number ≡ None = sym is ∙ ap number_at (text_is word other same) ∙ none in cc
 not_word word other number false same is none = refl
@@ -249,7 +255,7 @@ unfolding raw_at
 raw-again bytes word rest spelled = rw (word-again word rest (bytes-spaceless bytes word spelled), bytes-again bytes word spelled) refl
 
 offer-again : (offer : Offer) (text rest : List ℕ) → SpellsOffer offer text → offer_at (text ++ 32 ∷ rest) ≡ Some (offer, rest)
-unfolding offer_at
+unfolding offer_at flip_at
 offer-again (Number number) text rest spelled =
     let read = number-again number text spelled in
     rw (
@@ -293,7 +299,8 @@ no-extend line None shut is = refl
 no-extend line (Some rest) shut is = let clash : true ≡ false = sym (ap opens (after-front (codes "extend ") line rest is)) ∙ shut in cc
 
 -- a prefix with a call that doesn't open so doesn't either
-prefix-shut : (meddles : List Meddle) (stop : Stop) (extensions ending call : List ℕ) → SpellsMeddles 0 meddles extensions → SpellsStop stop ending
+prefix-shut : (meddles : List Meddle) (stop : Stop) (extensions ending call : List ℕ) → SpellsMeddles 0 meddles extensions
+    → SpellsStop stop ending
     → opens call ≡ false → opens (extensions ++ ending ++ call) ≡ false
 prefix-shut [] Quiet extensions ending call one two shut = rw (one, two) shut
 prefix-shut [] (Cut at) extensions ending call one two shut = rw (one, two.2) refl
@@ -303,7 +310,8 @@ prefix-shut [] (Fail at false) extensions ending call one two shut = rw (one, tw
 prefix-shut (meddle ∷ meddles) stop extensions ending call one two shut = rw one.7 refl
 
 -- a stop or a call is no meddle
-no-meddle : (stop : Stop) (ending call : List ℕ) → SpellsStop stop ending → after_prefix (codes "meddle ") call ≡ None → after_prefix (codes "meddle ") (ending ++ call) ≡ None
+no-meddle : (stop : Stop) (ending call : List ℕ) → SpellsStop stop ending → after_prefix (codes "meddle ") call ≡ None
+    → after_prefix (codes "meddle ") (ending ++ call) ≡ None
 unfolding after_prefix
 no-meddle Quiet ending call spelled over = rw spelled over
 no-meddle (Cut at) ending call spelled over = rw spelled.2 refl
@@ -363,7 +371,8 @@ checkpoint-call meddles stop = record {
 pub spelled_is_read : (line : List ℕ) (event : Event) → SpellsEvent event line → event_at line ≡ Some event
 unfolding event_at after_prefix
 spelled_is_read line (Ask meddles stop offer batch) spelled =
-    prefixed-again meddles stop line (asks batch spelled.0) (Ask meddles stop offer batch) spelled.2 (ask-call meddles stop offer spelled.0 batch spelled.1)
+    prefixed-again meddles stop line (asks batch spelled.0) (Ask meddles stop offer batch) spelled.2
+    (ask-call meddles stop offer spelled.0 batch spelled.1)
 spelled_is_read line (Checkpoint meddles stop) spelled =
     prefixed-again meddles stop line (codes "checkpoint") (Checkpoint meddles stop) spelled (checkpoint-call meddles stop)
 spelled_is_read line Power spelled = rw spelled refl

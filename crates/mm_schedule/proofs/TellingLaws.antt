@@ -1,30 +1,17 @@
 -- Replies tell what was said: a run only grows its requests, and a batch's outputs stand behind those before it.
-use Rattle.std.proofs.Common.{◌≡◌, ℕ, suc, zero, ◌+◌, true, false, List, [], ◌∷◌, ◌++◌, length, drop, refl, sym, ◌∙◌, ap, add-one, append_assoc, append-nil}
+use Rattle.std.proofs.Common.{◌≡◌, ℕ, ◌+◌, true, false, List, [], ◌∷◌, ◌++◌, length, drop, refl, sym, ◌∙◌, ap, append_assoc, append-nil}
 use Rattle.std.specs.Prelude.{slice_get}
 use Rattle.std.specs.List.{AllByRecursion}
 use Rattle.mm_module.specs.Batch.{Batch, members_of}
 use Rattle.mm_module.specs.Meaning.{Meaning, state_after, outputs_from}
 use Rattle.mm_module.proofs.RunLaws.{outputs_from-append, length-outputs_from}
+use Rattle.mm_listing.specs.Tellings.{Telling, WasSaid}
+use Rattle.mm_listing.specs.TellingLaws.{drop-next, slice_get-drop}
 use Rattle.mm_schedule.specs.declared.reply.Reply.{Reply}
 use Rattle.mm_schedule.specs.declared.reply.Reply.TheVariants.{Told, No, Kept, Nothing, Closed, Checkpointed, Power, Extended}
 use Rattle.mm_schedule.specs.Events as events
-use Rattle.mm_schedule.specs.Machine.{Runs, Steps, StepsOn, AsksNone, said_to}
-use Rattle.mm_schedule.specs.Tellings.{Telling, tellings_from, tellings_of, tellings_in, WasSaid, TellsWhatWasSaid}
-
--- the first item behind a front of a list
-pub slice_get-drop : (xs : List (List ℕ)) (k : ℕ) → slice_get xs k ≡ slice_get (drop k xs) 0
-slice_get-drop xs zero = refl
-slice_get-drop [] (suc k) = refl
-slice_get-drop (x ∷ xs) (suc k) = slice_get-drop xs k
-
-drop-suc : (xs : List (List ℕ)) (k : ℕ) → drop (suc k) xs ≡ drop 1 (drop k xs)
-drop-suc xs zero = refl
-drop-suc [] (suc k) = refl
-drop-suc (x ∷ xs) (suc k) = drop-suc xs k
-
--- the rest behind it
-pub drop-next : (xs : List (List ℕ)) (k : ℕ) → drop (k + 1) xs ≡ drop 1 (drop k xs)
-drop-next xs k = ap (λ j. drop j xs) (add-one k) ∙ drop-suc xs k
+use Rattle.mm_schedule.specs.Machine.{Runs, Steps, StepsOn, AsksNone}
+use Rattle.mm_schedule.specs.Tellings.{tellings_from, tellings_of, tellings_in, TellsWhatWasSaid}
 
 drop-length : (front rest : List (List ℕ)) → drop (length front) (front ++ rest) ≡ rest
 drop-length [] rest = refl
@@ -35,7 +22,8 @@ all-append P [] ys one two = two
 all-append P (x ∷ xs) ys one two = (one.0, all-append P xs ys one.1 two)
 
 -- outputs that stand behind so many of all outputs are told as they were said
-tellings-inside : (all outputs rest : List (List ℕ)) (before : ℕ) → drop before all ≡ outputs ++ rest → AllByRecursion (WasSaid all) (tellings_from before outputs)
+tellings-inside : (all outputs rest : List (List ℕ)) (before : ℕ) → drop before all ≡ outputs ++ rest
+    → AllByRecursion (WasSaid all) (tellings_from before outputs)
 tellings-inside all [] rest before is = tt
 tellings-inside all (output ∷ outputs) rest before is = (
   slice_get-drop all before ∙ ap (λ (l : List (List ℕ)). slice_get l 0) is,
@@ -45,14 +33,19 @@ tellings-inside all (output ∷ outputs) rest before is = (
 -- the outputs of all requests, from those of the first ones, a batch and more
 outputs-parts : (meaning : Meaning) (earlier members more : List (List ℕ))
     → outputs_from meaning meaning.first ((earlier ++ members) ++ more)
-    ≡ outputs_from meaning meaning.first earlier ++ (outputs_from meaning (state_after meaning earlier) members ++ outputs_from meaning (state_after meaning (earlier ++ members)) more)
+    ≡ outputs_from meaning meaning.first earlier
+    ++ (outputs_from meaning (state_after meaning earlier) members ++ outputs_from meaning (state_after meaning (earlier ++ members))
+    more)
 outputs-parts meaning earlier members more =
     outputs_from-append meaning meaning.first (earlier ++ members) more
-    ∙ ap (λ (l : List (List ℕ)). l ++ outputs_from meaning (state_after meaning (earlier ++ members)) more) (outputs_from-append meaning meaning.first earlier members)
-    ∙ append_assoc (outputs_from meaning meaning.first earlier) (outputs_from meaning (state_after meaning earlier) members) (outputs_from meaning (state_after meaning (earlier ++ members)) more)
+    ∙ ap (λ (l : List (List ℕ)). l ++ outputs_from meaning (state_after meaning (earlier ++ members)) more)
+    (outputs_from-append meaning meaning.first earlier members)
+    ∙ append_assoc (outputs_from meaning meaning.first earlier) (outputs_from meaning (state_after meaning earlier) members)
+    (outputs_from meaning (state_after meaning (earlier ++ members)) more)
 
 batch-said : (meaning : Meaning) (earlier : List (List ℕ)) (batch : Batch) (before : ℕ) (outputs more after : List (List ℕ))
-    → before ≡ length earlier → outputs ≡ said_to meaning earlier batch → after ≡ (earlier ++ members_of batch) ++ more
+    → before ≡ length earlier → outputs ≡ outputs_from meaning (state_after meaning earlier) (members_of batch)
+    → after ≡ (earlier ++ members_of batch) ++ more
     → AllByRecursion (WasSaid (outputs_from meaning meaning.first after)) (tellings_from before outputs)
 batch-said meaning earlier batch before outputs more after place said is =
     let members = members_of batch in
@@ -72,10 +65,11 @@ Grows requests after = (more : List (List ℕ)) × (after ≡ requests ++ more)
 same-grows : (requests after : List (List ℕ)) → after ≡ requests → Grows requests after
 same-grows requests after is = ([], is ∙ sym (append-nil requests))
 
-asked-grows : (meaning : Meaning) (requests : List (List ℕ)) (batch : Batch) (reply : Reply) (after : List (List ℕ)) → StepsOn meaning requests batch reply after → Grows requests after
+asked-grows : (meaning : Meaning) (requests : List (List ℕ)) (batch : Batch) (reply : Reply) (after : List (List ℕ))
+    → StepsOn meaning requests batch reply after → Grows requests after
 asked-grows meaning requests batch (Told false before outputs) after s = (members_of batch, s.grown)
-asked-grows meaning requests batch (Told true before outputs) after s = same-grows requests after s.same
-asked-grows meaning requests batch (Kept way position) after s = (members_of batch, s.grown)
+asked-grows meaning requests batch (Told true before outputs) after s = same-grows requests after s.2
+asked-grows meaning requests batch (Kept way position) after s = (members_of batch, s.0)
 asked-grows meaning requests batch (No cause) after s = same-grows requests after s
 asked-grows meaning requests batch (Nothing way) after s = same-grows requests after s
 asked-grows meaning requests batch (Closed way) after s = same-grows requests after s
@@ -93,13 +87,15 @@ stays-grows requests Checkpointed after s = same-grows requests after s
 stays-grows requests Power after s = same-grows requests after s
 stays-grows requests Extended after s = same-grows requests after s
 
-step-grows : (meaning : Meaning) (requests : List (List ℕ)) (event : events.Event) (reply : Reply) (after : List (List ℕ)) → Steps meaning requests event reply after → Grows requests after
+step-grows : (meaning : Meaning) (requests : List (List ℕ)) (event : events.Event) (reply : Reply) (after : List (List ℕ))
+    → Steps meaning requests event reply after → Grows requests after
 step-grows meaning requests (events.Ask meddles stop offer batch) reply after s = asked-grows meaning requests batch reply after s
 step-grows meaning requests (events.Checkpoint meddles stop) reply after s = stays-grows requests reply after s
 step-grows meaning requests events.Power reply after s = stays-grows requests reply after s
 step-grows meaning requests (events.Extend value) reply after s = stays-grows requests reply after s
 
-run-grows : (meaning : Meaning) (requests : List (List ℕ)) (es : List events.Event) (replies : List Reply) (after : List (List ℕ)) → Runs meaning requests es replies after → Grows requests after
+run-grows : (meaning : Meaning) (requests : List (List ℕ)) (es : List events.Event) (replies : List Reply) (after : List (List ℕ))
+    → Runs meaning requests es replies after → Grows requests after
 run-grows meaning requests [] [] after r = same-grows requests after r
 run-grows meaning requests [] (reply ∷ replies) after r = absurd r
 run-grows meaning requests (event ∷ es) [] after r = absurd r
@@ -115,7 +111,8 @@ asked-tells : (meaning : Meaning) (requests : List (List ℕ)) (batch : Batch) (
 asked-tells meaning requests batch (Told false before outputs) between more after s is =
     batch-said meaning requests batch before outputs more after s.position s.said (is ∙ ap (λ (l : List (List ℕ)). l ++ more) s.grown)
 asked-tells meaning requests batch (Told true before outputs) between more after s is =
-    batch-said meaning s.earlier batch before outputs more after s.position s.said (is ∙ ap (λ (l : List (List ℕ)). l ++ more) (s.same ∙ s.ends))
+    batch-said meaning s.0 batch before outputs more after s.1.position s.1.said
+    (is ∙ ap (λ (l : List (List ℕ)). l ++ more) (s.2 ∙ s.1.grown))
 asked-tells meaning requests batch (Kept way position) between more after s is = tt
 asked-tells meaning requests batch (No cause) between more after s is = tt
 asked-tells meaning requests batch (Nothing way) between more after s is = tt
@@ -124,7 +121,8 @@ asked-tells meaning requests batch Checkpointed between more after s is = tt
 asked-tells meaning requests batch Power between more after s is = tt
 asked-tells meaning requests batch Extended between more after s is = tt
 
-stays-tells : (outputs requests : List (List ℕ)) (reply : Reply) (after : List (List ℕ)) → AsksNone requests reply after → AllByRecursion (WasSaid outputs) (tellings_of reply)
+stays-tells : (outputs requests : List (List ℕ)) (reply : Reply) (after : List (List ℕ)) → AsksNone requests reply after
+    → AllByRecursion (WasSaid outputs) (tellings_of reply)
 stays-tells outputs requests (Told again before said) after s = absurd s
 stays-tells outputs requests (Kept way position) after s = tt
 stays-tells outputs requests (No cause) after s = tt
@@ -137,12 +135,17 @@ stays-tells outputs requests Extended after s = tt
 step-tells : (meaning : Meaning) (requests : List (List ℕ)) (event : events.Event) (reply : Reply) (between more after : List (List ℕ))
     → Steps meaning requests event reply between → after ≡ between ++ more
     → AllByRecursion (WasSaid (outputs_from meaning meaning.first after)) (tellings_of reply)
-step-tells meaning requests (events.Ask meddles stop offer batch) reply between more after s is = asked-tells meaning requests batch reply between more after s is
-step-tells meaning requests (events.Checkpoint meddles stop) reply between more after s is = stays-tells (outputs_from meaning meaning.first after) requests reply between s
-step-tells meaning requests events.Power reply between more after s is = stays-tells (outputs_from meaning meaning.first after) requests reply between s
-step-tells meaning requests (events.Extend value) reply between more after s is = stays-tells (outputs_from meaning meaning.first after) requests reply between s
+step-tells meaning requests (events.Ask meddles stop offer batch) reply between more after s is =
+    asked-tells meaning requests batch reply between more after s is
+step-tells meaning requests (events.Checkpoint meddles stop) reply between more after s is =
+    stays-tells (outputs_from meaning meaning.first after) requests reply between s
+step-tells meaning requests events.Power reply between more after s is =
+    stays-tells (outputs_from meaning meaning.first after) requests reply between s
+step-tells meaning requests (events.Extend value) reply between more after s is =
+    stays-tells (outputs_from meaning meaning.first after) requests reply between s
 
-run-tells : (meaning : Meaning) (requests : List (List ℕ)) (es : List events.Event) (replies : List Reply) (after : List (List ℕ)) → Runs meaning requests es replies after
+run-tells : (meaning : Meaning) (requests : List (List ℕ)) (es : List events.Event) (replies : List Reply) (after : List (List ℕ))
+    → Runs meaning requests es replies after
     → AllByRecursion (WasSaid (outputs_from meaning meaning.first after)) (tellings_in replies)
 run-tells meaning requests [] [] after r = tt
 run-tells meaning requests [] (reply ∷ replies) after r = absurd r

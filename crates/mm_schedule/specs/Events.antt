@@ -8,8 +8,9 @@ use Rattle.mm_schedule.specs.declared.event.Event.TheVariants as code
 use Rattle.mm_schedule.specs.declared.event.Meddles.{Meddles}
 use Rattle.mm_schedule.specs.declared.event.Offer.{Offer}
 
--- A batch is asked of an offer, or a segment is closed: others extend the register just before certain steps of the
--- call, and it may be stopped at a step. Or power is lost and returns. Or others extend the register.
+-- A batch is asked of an offer, or a segment is closed: others extend the register just before
+-- certain steps of the call, and it may be stopped at a step. Or power is lost and returns. Or
+-- others extend the register.
 pub data Event : Type 0 where
   Ask : (meddles : List Meddle) (stop : Stop) (offer : Offer) (batch : Batch) → Event
   Checkpoint : (meddles : List Meddle) (stop : Stop) → Event

@@ -2,7 +2,7 @@
 use Rattle.std.specs.Prelude.{ℕ, zero, suc, true, false, nat_lt, List, [], ◌∷◌, Option, Some, None, if◌then◌else◌, codes}
 use Rattle.std.specs.Option.{option_map_or}
 use Rattle.std.specs.Str.{bytes_eq}
-use Rattle.mm_module.specs.Batch.{Batch, One, Many}
+use Rattle.mm_module.specs.Batch.{One, Many}
 use Rattle.mm_platform.specs.declared.plan.Meddle.{Meddle}
 use Rattle.mm_platform.specs.declared.plan.Stop.{Stop}
 use Rattle.mm_platform.specs.declared.plan.Stop.TheVariants.{Quiet, Cut, Drop, Fail}
@@ -26,7 +26,8 @@ unfoldable pub meddles_at : ℕ → ℕ → List ℕ → Option (List Meddle × 
 meddles_at zero least line = Some ([], line)
 meddles_at (suc room) least line =
     option_map_or
-    (λ words. meddle_at least words >>= λ first. meddles_at room first.0.step first.1 >>= λ others. Some (first.0 ∷ others.0, others.1))
+    (λ words. meddle_at least words >>= λ first. meddles_at room first.0.step first.1
+    >>= λ others. Some (first.0 ∷ others.0, others.1))
     (after_prefix (codes "meddle ") line) (Some ([], line))
 
 -- A step behind `cut` or `drop`.
@@ -45,49 +46,44 @@ failing_at line =
 -- At most one stop, and what follows it.
 unfoldable pub stop_at : List ℕ → Option (Stop × List ℕ)
 stop_at line =
-    option_map_or (λ words. stop_step_at words >>= λ at. Some (Cut at.0, at.1)) (after_prefix (codes "cut ") line)
-    (option_map_or (λ words. stop_step_at words >>= λ at. Some (Drop at.0, at.1)) (after_prefix (codes "drop ") line)
+    option_map_or (λ words. stop_step_at words >>= λ at. Some (Cut at.0, at.1))
+    (after_prefix (codes "cut ") line)
+    (option_map_or (λ words. stop_step_at words >>= λ at. Some (Drop at.0, at.1))
+    (after_prefix (codes "drop ") line)
     (option_map_or failing_at (after_prefix (codes "fail ") line) (Some (Quiet, line))))
-
--- Two numbers behind `flip`.
-unfoldable pub flip_at : List ℕ → Option (Offer × List ℕ)
-flip_at line =
-    word_at line >>= λ first.
-    number_at first.0 >>= λ number.
-    word_at first.1 >>= λ second.
-    number_at second.0 >>= λ byte.
-    Some (Flip number byte, second.1)
 
 -- Bytes behind `raw`.
 unfoldable pub raw_at : List ℕ → Option (Offer × List ℕ)
 raw_at line = word_at line >>= λ word. bytes_at word.0 >>= λ bytes. Some (Raw bytes, word.1)
 
--- An offer and its space, and what follows them.
+-- An offer and its space, and what follows them. Two numbers stand behind `flip`.
 unfoldable pub offer_at : List ℕ → Option (Offer × List ℕ)
 offer_at line =
     word_at line >>= λ first.
     if bytes_eq first.0 (codes "last") then Some (Last, first.1)
-    else if bytes_eq first.0 (codes "flip") then flip_at first.1
+    else if bytes_eq first.0 (codes "flip") then
+    (word_at first.1 >>= λ second. number_at second.0 >>= λ number.
+    word_at second.1 >>= λ third. number_at third.0 >>= λ byte. Some (Flip number byte, third.1))
     else if bytes_eq first.0 (codes "raw") then raw_at first.1
     else (number_at first.0 >>= λ number. Some (Number number, first.1))
 
--- What is asked of an offer, behind the meddles and the stop.
-abbrev pub asked_at : List Meddle → Stop → (List ℕ → Batch) → List ℕ → Option Event
-asked_at meddles stop batch line = offer_at line >>= λ offer. Some (Ask meddles stop offer.0 (batch offer.1))
-
--- The call behind its meddles and its stop.
+-- The call behind its meddles and its stop: a checkpoint, or what is asked of an offer.
 unfoldable pub call_at : List Meddle → Stop → List ℕ → Option Event
 call_at meddles stop line =
     if bytes_eq line (codes "checkpoint") then Some (Checkpoint meddles stop)
-    else option_map_or (asked_at meddles stop One) (after_prefix (codes "ask ") line)
-    (option_map_or (asked_at meddles stop Many) (after_prefix (codes "batch ") line) None)
+    else option_map_or (λ words. offer_at words >>= λ it. Some (Ask meddles stop it.0 (One it.1)))
+    (after_prefix (codes "ask ") line)
+    (option_map_or (λ words. offer_at words >>= λ it. Some (Ask meddles stop it.0 (Many it.1)))
+    (after_prefix (codes "batch ") line) None)
 
 -- A call with what comes before it.
 unfoldable pub prefixed_at : List ℕ → Option Event
-prefixed_at line = meddles_at 8 0 line >>= λ meddles. stop_at meddles.1 >>= λ stop. call_at meddles.0 stop.0 stop.1
+prefixed_at line =
+    meddles_at 8 0 line >>= λ meddles. stop_at meddles.1 >>= λ stop. call_at meddles.0 stop.0 stop.1
 
 -- The event of a line.
 unfoldable pub event_at : List ℕ → Option Event
 event_at line =
     if bytes_eq line (codes "power") then Some Power
-    else option_map_or (λ word. value_at word >>= λ value. Some (Extend value)) (after_prefix (codes "extend ") line) (prefixed_at line)
+    else option_map_or (λ word. value_at word >>= λ value. Some (Extend value))
+    (after_prefix (codes "extend ") line) (prefixed_at line)

@@ -19,16 +19,12 @@ head_text head = variant_text head.variant ++ 32 ∷ name_of head.module
 abbrev pub header_text : Header → List ℕ
 header_text header = codes "memoir 1 " ++ head_text header
 
-abbrev pub variant_at : List ℕ → Option Variant
-variant_at word =
-    if bytes_eq word (codes "basic") then Some Basic
-    else (if bytes_eq word (codes "opt") then Some Opt else None)
-
 -- the header that two words are read as
 unfoldable pub head_at : List ℕ → Option Header
 head_at words =
     word_at words >>= λ variant_word.
-    variant_at variant_word.0 >>= λ variant.
+    (if bytes_eq variant_word.0 (codes "basic") then Some Basic
+    else (if bytes_eq variant_word.0 (codes "opt") then Some Opt else None)) >>= λ variant.
     module_named variant_word.1 >>= λ module_read.
     Some (record { variant = variant; «module» = module_read })
 

@@ -9,15 +9,21 @@ use Rattle.mm_schedule.specs.Spelling.{SpellsEvent}
 
 -- the events and the replies fix the requests that are run
 abbrev pub RunIsFixed : Type 0
-RunIsFixed = (meaning : Meaning) (requests after other : List (List ℕ)) (events : List Event) (replies : List Reply)
-    → Runs meaning requests events replies after → Runs meaning requests events replies other → after ≡ other
+RunIsFixed =
+    (meaning : Meaning) (requests after other : List (List ℕ)) (events : List Event)
+    (replies : List Reply)
+    → Runs meaning requests events replies after → Runs meaning requests events replies other
+    → after ≡ other
 
 -- a run goes on where another ended
 abbrev pub RunsGoOn : Type 0
-RunsGoOn = (meaning : Meaning) (requests between after : List (List ℕ)) (events more : List Event) (replies others : List Reply)
+RunsGoOn =
+    (meaning : Meaning) (requests between after : List (List ℕ)) (events more : List Event)
+    (replies others : List Reply)
     → Runs meaning requests events replies between → Runs meaning between more others after
     → Runs meaning requests (events ++ more) (replies ++ others) after
 
 -- what is spelled in a line is read of it
 abbrev pub SpelledIsRead : Type 0
-SpelledIsRead = (line : List ℕ) (event : Event) → SpellsEvent event line → event_at line ≡ Some event
+SpelledIsRead =
+    (line : List ℕ) (event : Event) → SpellsEvent event line → event_at line ≡ Some event

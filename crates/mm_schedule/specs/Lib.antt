@@ -9,3 +9,6 @@ pub mod Spelling
 pub mod Tellings
 pub mod Texts
 pub mod Words
+pub mod HeadersWords
+pub mod RepliesWords
+pub mod GrammarWords

@@ -1,5 +1,5 @@
 -- The lines that answer events.
-use Rattle.std.specs.Prelude.{ℕ, ◌+◌, Bool, true, false, List, [], ◌∷◌, ◌++◌, ◌≤◌, All, length, codes}
+use Rattle.std.specs.Prelude.{ℕ, ◌+◌, Bool, List, [], ◌∷◌, ◌++◌, ◌≤◌, All, length, if◌then◌else◌, codes}
 use Rattle.std.specs.Fmt.{decimal}
 use Rattle.mm_base.specs.Limits.{last_position, longest_request}
 use Rattle.mm_schedule.specs.declared.reply.Cause.{Cause}
@@ -30,25 +30,21 @@ way_text Cut = codes "cut"
 way_text Drop = codes "drop"
 way_text Fault = codes "fault"
 
--- whether a request is told for the first time
-abbrev pub told_text : Bool → List ℕ
-told_text true = codes "again "
-told_text false = codes "ok "
-
--- the line of a position and an output
-abbrev pub told_line : Bool → ℕ → List ℕ → List ℕ
-told_line again position output = told_text again ++ decimal position ++ 32 ∷ [] ++ output ++ 10 ∷ []
-
--- the lines of a batch, the first with the position after this one
+-- the lines of a batch, the first with the position after this one: whether it is told again, the
+-- position, the output
 abbrev pub told_lines : Bool → ℕ → List (List ℕ) → List (List ℕ)
 told_lines again before [] = []
-told_lines again before (output ∷ outputs) = told_line again (before + 1) output ∷ told_lines again (before + 1) outputs
+told_lines again before (output ∷ outputs) =
+    ((if again then codes "again " else codes "ok ") ++ decimal (before + 1)
+    ++ 32 ∷ [] ++ output ++ 10 ∷ [])
+    ∷ told_lines again (before + 1) outputs
 
 -- the lines of a reply, each with its LF
 abbrev pub lines_of_reply : Reply → List (List ℕ)
 lines_of_reply (Told again before outputs) = told_lines again before outputs
 lines_of_reply (No cause) = (codes "no " ++ cause_text cause ++ 10 ∷ []) ∷ []
-lines_of_reply (Kept way position) = (way_text way ++ codes " kept " ++ decimal position ++ 10 ∷ []) ∷ []
+lines_of_reply (Kept way position) =
+    (way_text way ++ codes " kept " ++ decimal position ++ 10 ∷ []) ∷ []
 lines_of_reply (Nothing way) = (way_text way ++ codes " lost" ++ 10 ∷ []) ∷ []
 lines_of_reply (Closed way) = (way_text way ++ codes " closed" ++ 10 ∷ []) ∷ []
 lines_of_reply Checkpointed = (codes "checkpointed" ++ 10 ∷ []) ∷ []
@@ -57,11 +53,13 @@ lines_of_reply Extended = (codes "extended" ++ 10 ∷ []) ∷ []
 
 -- the line `end N K`: how many requests were committed, and how many snapshots issued
 abbrev pub end_line : ℕ → ℕ → List ℕ
-end_line committed issued = codes "end " ++ decimal committed ++ 32 ∷ [] ++ decimal issued ++ 10 ∷ []
+end_line committed issued =
+    codes "end " ++ decimal committed ++ 32 ∷ [] ++ decimal issued ++ 10 ∷ []
 
 -- what a reply has to meet to be printed: short outputs, and positions of at most 2^48
 abbrev pub IsPrintable : Reply → Type 0
-IsPrintable (Told again before outputs) = (All (λ (output : List ℕ). length output ≤ longest_request) outputs)
+IsPrintable (Told again before outputs) =
+    (All (λ (output : List ℕ). length output ≤ longest_request) outputs)
     × (before + length outputs ≤ last_position)
 IsPrintable (No cause) = Unit {0}
 IsPrintable (Kept way position) = Unit {0}

@@ -1,4 +1,5 @@
--- The spellings of event lines: the grammar from the side of the events, apart from how a line is read.
+-- The spellings of event lines: the grammar from the side of the events, apart from how a line is
+-- read.
 use Rattle.std.specs.Prelude.{◌≡◌, ℕ, ◌≤◌, ◌<◌, ◌⊎◌, true, false, List, [], ◌∷◌, ◌++◌, length, Ok, codes}
 use Rattle.std.specs.Fmt.{decimal}
 use Rattle.hex.specs.Hex.{decode_of, decode_sized}
@@ -16,7 +17,8 @@ SpellsValue value text = decode_sized text 32 ≡ Ok value
 
 -- `-` for no bytes, or two hexadecimal digits for each byte, at least one
 abbrev pub SpellsBytes : List ℕ → List ℕ → Type 0
-SpellsBytes bytes text = ((bytes ≡ []) × (text ≡ codes "-")) ⊎ ((0 < length text) × (decode_of text ≡ Ok bytes))
+SpellsBytes bytes text =
+    ((bytes ≡ []) × (text ≡ codes "-")) ⊎ ((0 < length text) × (decode_of text ≡ Ok bytes))
 
 -- a step's number, one digit
 pub record SpellsStep (step : ℕ) (text : List ℕ) : Type 0 where
@@ -32,23 +34,31 @@ pub record SpellsNumber (number : ℕ) (text : List ℕ) : Type 0 where
 abbrev pub SpellsMeddles : ℕ → List Meddle → List ℕ → Type 0
 SpellsMeddles least [] text = text ≡ []
 SpellsMeddles least (meddle ∷ meddles) text =
-    (step value rest : List ℕ) × (least ≤ meddle.step) × SpellsStep meddle.step step × SpellsValue meddle.value.bytes value
-    × SpellsMeddles meddle.step meddles rest × (text ≡ codes "meddle " ++ step ++ 32 ∷ value ++ 32 ∷ rest)
+    (step value rest : List ℕ) × (least ≤ meddle.step) × SpellsStep meddle.step step
+    × SpellsValue meddle.value.bytes value
+    × SpellsMeddles meddle.step meddles rest
+    × (text ≡ codes "meddle " ++ step ++ 32 ∷ value ++ 32 ∷ rest)
 
 -- what ends the call: its step, where it has one
 abbrev pub SpellsStop : Stop → List ℕ → Type 0
 SpellsStop Quiet text = text ≡ []
-SpellsStop (Cut at) text = (step : List ℕ) × SpellsStep at step × (text ≡ codes "cut " ++ step ++ 32 ∷ [])
-SpellsStop (Drop at) text = (step : List ℕ) × SpellsStep at step × (text ≡ codes "drop " ++ step ++ 32 ∷ [])
-SpellsStop (Fail at true) text = (step : List ℕ) × SpellsStep at step × (text ≡ codes "fail " ++ step ++ codes " done ")
-SpellsStop (Fail at false) text = (step : List ℕ) × SpellsStep at step × (text ≡ codes "fail " ++ step ++ codes " undone ")
+SpellsStop (Cut at) text =
+    (step : List ℕ) × SpellsStep at step × (text ≡ codes "cut " ++ step ++ 32 ∷ [])
+SpellsStop (Drop at) text =
+    (step : List ℕ) × SpellsStep at step × (text ≡ codes "drop " ++ step ++ 32 ∷ [])
+SpellsStop (Fail at true) text =
+    (step : List ℕ) × SpellsStep at step × (text ≡ codes "fail " ++ step ++ codes " done ")
+SpellsStop (Fail at false) text =
+    (step : List ℕ) × SpellsStep at step × (text ≡ codes "fail " ++ step ++ codes " undone ")
 
 abbrev pub SpellsOffer : Offer → List ℕ → Type 0
 SpellsOffer (Number number) text = SpellsNumber number text
 SpellsOffer Last text = text ≡ codes "last"
 SpellsOffer (Flip number byte) text =
-    (first second : List ℕ) × SpellsNumber number first × SpellsNumber byte second × (text ≡ codes "flip " ++ first ++ 32 ∷ second)
-SpellsOffer (Raw bytes) text = (word : List ℕ) × SpellsBytes bytes word × (text ≡ codes "raw " ++ word)
+    (first second : List ℕ) × SpellsNumber number first × SpellsNumber byte second
+    × (text ≡ codes "flip " ++ first ++ 32 ∷ second)
+SpellsOffer (Raw bytes) text =
+    (word : List ℕ) × SpellsBytes bytes word × (text ≡ codes "raw " ++ word)
 
 -- what is asked of an offer, behind its words
 abbrev pub asks : Batch → List ℕ → List ℕ
@@ -70,4 +80,5 @@ SpellsEvent (Ask meddles stop offer batch) line =
     (from : List ℕ) × SpellsOffer offer from × SpellsPrefix meddles stop line (asks batch from)
 SpellsEvent (Checkpoint meddles stop) line = SpellsPrefix meddles stop line (codes "checkpoint")
 SpellsEvent Power line = line ≡ codes "power"
-SpellsEvent (Extend value) line = (word : List ℕ) × SpellsValue value word × (line ≡ codes "extend " ++ word)
+SpellsEvent (Extend value) line =
+    (word : List ℕ) × SpellsValue value word × (line ≡ codes "extend " ++ word)

@@ -1,21 +1,18 @@
 -- What replies tell of the requests of a run, each by the requests before it.
-use Rattle.std.specs.Prelude.{◌≡◌, ℕ, ◌+◌, List, [], ◌∷◌, ◌++◌, Some, slice_get}
+use Rattle.std.specs.Prelude.{ℕ, ◌+◌, List, [], ◌∷◌, ◌++◌}
 use Rattle.std.specs.List.{AllByRecursion}
 use Rattle.mm_module.specs.Meaning.{Meaning, outputs_from}
+use Rattle.mm_listing.specs.Tellings.{Telling, WasSaid}
 use Rattle.mm_schedule.specs.declared.reply.Reply.{Reply}
 use Rattle.mm_schedule.specs.declared.reply.Reply.TheVariants.{Told, No, Kept, Nothing, Closed, Checkpointed, Power, Extended}
 use Rattle.mm_schedule.specs.Events.{Event}
 use Rattle.mm_schedule.specs.Machine.{Runs}
 
--- One line `ok` or `again`: how many requests come before the one that it names, and what it says of that one.
-pub record Telling : Type 0 where
-  pub before : ℕ
-  pub output : List ℕ
-
 -- the lines of a batch that comes behind so many requests
 abbrev pub tellings_from : ℕ → List (List ℕ) → List Telling
 tellings_from before [] = []
-tellings_from before (output ∷ outputs) = record { before = before; output = output } ∷ tellings_from (before + 1) outputs
+tellings_from before (output ∷ outputs) =
+    record { before = before; output = output } ∷ tellings_from (before + 1) outputs
 
 -- the lines of a reply
 abbrev pub tellings_of : Reply → List Telling
@@ -33,12 +30,10 @@ abbrev pub tellings_in : List Reply → List Telling
 tellings_in [] = []
 tellings_in (reply ∷ replies) = tellings_of reply ++ tellings_in replies
 
--- the line says what was said to the request that it names, where these are the outputs of all requests
-abbrev pub WasSaid : List (List ℕ) → Telling → Type 0
-WasSaid outputs telling = slice_get outputs telling.before ≡ Some telling.output
-
--- Each line of a run says what the module said when the request was run, once, on the one list of requests.
+-- Each line of a run says what the module said when the request was run, once, on the one list of
+-- requests.
 abbrev pub TellsWhatWasSaid : Type 0
-TellsWhatWasSaid = (meaning : Meaning) (events : List Event) (replies : List Reply) (requests : List (List ℕ))
+TellsWhatWasSaid =
+    (meaning : Meaning) (events : List Event) (replies : List Reply) (requests : List (List ℕ))
     → Runs meaning [] events replies requests
     → AllByRecursion (WasSaid (outputs_from meaning meaning.first requests)) (tellings_in replies)

@@ -23,8 +23,10 @@ offer_of (offer_text.Raw word) = offer.Raw (unwrap_or (bytes_at word.now) [])
 
 -- the event that stands in a line
 abbrev pub event_in : EventText → Event
-event_in (text.Ask meddles stop from request) = Ask (meddles_of meddles) stop (offer_of from) (One request.now)
-event_in (text.Batch meddles stop from members) = Ask (meddles_of meddles) stop (offer_of from) (Many members.now)
+event_in (text.Ask meddles stop from request) =
+    Ask (meddles_of meddles) stop (offer_of from) (One request.now)
+event_in (text.Batch meddles stop from members) =
+    Ask (meddles_of meddles) stop (offer_of from) (Many members.now)
 event_in (text.Checkpoint meddles stop) = Checkpoint (meddles_of meddles) stop
 event_in text.Power = Power
 event_in (text.Extend value) = Extend value.bytes

@@ -1,12 +1,12 @@
 -- The words of a line, and what they stand for.
-use Rattle.std.specs.Prelude.{ℕ, ◌+◌, ◌-◌, Bool, ◌&&◌, ◌==◌, nat_lt, List, [], ◌∷◌, length, take, drop, Option, Some, None, if◌then◌else◌, codes}
+use Rattle.std.specs.Prelude.{ℕ, ◌+◌, ◌-◌, ◌&&◌, ◌==◌, nat_lt, List, [], ◌∷◌, length, take, drop, Option, Some, None, if◌then◌else◌, codes}
 use Rattle.std.specs.List.{position}
 use Rattle.std.specs.Result.{result_ok}
 use Rattle.std.specs.Str.{bytes_eq}
 use Rattle.std.specs.Borrow.{Bor}
 use Rattle.hex.specs.Hex.{decode_of}
 use Rattle.mm_base.specs.Decimals.{decimal_number}
-use Rattle.mm_module.specs.Words.{is_space}
+use Rattle.mm_module.specs.WordsWords.{is_space}
 
 -- one reading after another
 infixl 10 ◌>>=◌
@@ -20,7 +20,8 @@ in_place parts = (parts.0.now, parts.1.now)
 
 -- what follows a prefix
 unfoldable pub after_prefix : List ℕ → List ℕ → Option (List ℕ)
-after_prefix prefix line = if bytes_eq (take (length prefix) line) prefix then Some (drop (length prefix) line) else None
+after_prefix prefix line =
+    if bytes_eq (take (length prefix) line) prefix then Some (drop (length prefix) line) else None
 
 -- the first word, and what follows the space behind it
 unfoldable pub word_at : List ℕ → Option (List ℕ × List ℕ)
@@ -34,7 +35,8 @@ step_at (digit ∷ next ∷ rest) = None
 
 -- a decimal of at most 999999999
 unfoldable pub number_at : List ℕ → Option ℕ
-number_at word = decimal_number word >>= λ number. if nat_lt 999999999 number then None else Some number
+number_at word =
+    decimal_number word >>= λ number. if nat_lt 999999999 number then None else Some number
 
 -- bytes in hexadecimal digits, or `-` for none
 unfoldable pub bytes_at : List ℕ → Option (List ℕ)

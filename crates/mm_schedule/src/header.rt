@@ -1,11 +1,13 @@
 //! The first line of a schedule.
 
 ghost use Rattle.std.specs.Prelude.{◌≡◌, ◌++◌, Some, IfSome, OnOk};
-ghost use Rattle.mm_schedule.specs.Headers.{head_at, head_text, header_at, header_text, variant_at, variant_text};
+ghost use Rattle.mm_schedule.specs.Headers.{head_at, head_text, header_at, header_text, variant_text};
+ghost use Rattle.mm_schedule.specs.HeadersWords.{variant_at};
 
 use crate::words::{after, is_text, word_in};
 use mm_base::{Bytes, Memory};
 use mm_digest::Variant;
+use mm_listing::Listed;
 use mm_modules::{AnyModule, by_name};
 
 /// What a schedule runs.
@@ -59,7 +61,7 @@ pub fn put_header(into: &mut Bytes, header: &Header) -> Result<(), Memory>
     into.append(b"memoir 1 ")?;
     into.append(variant_word(header.variant))?;
     into.append(b" ")?;
-    into.append(header.module.name())
+    header.module.put_name(into)
 }
 
 /// The word of a variant: `basic` or `opt`.

@@ -5,14 +5,14 @@ ghost use Rattle.mm_schedule.specs.Replies.{cause_text, way_text};
 
 use mm_module::Outputs;
 
-/// How a call was disturbed.
+/// How a call was disturbed, by a cut, a drop or a fault: the word that its reply begins with.
 #[derive(Clone, Copy, Debug, PartialEq, Eq)]
 pub enum Way {
     /// Power was lost and came back.
     Cut,
-    /// The call was broken off.
+    /// The call was broken off without a loss of power.
     Drop,
-    /// A step failed.
+    /// A device answered that its step failed.
     Fault,
 }
 
@@ -61,7 +61,9 @@ pub enum Reply {
         way: Way,
         position: u64,
     },
-    /// A call was disturbed, and nothing was committed or closed.
+    /// A call was disturbed, and nothing was committed or closed. This is the line `cut lost`, `drop lost` or
+    /// `fault lost`: what the call would have done is lost. The cause `lost` is another thing, an open segment that lost
+    /// its power.
     Nothing {
         way: Way,
     },

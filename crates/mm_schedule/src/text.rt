@@ -3,7 +3,8 @@
 ghost use Rattle.std.specs.Prelude.{◌≡◌, ◌+◌, ◌-◌, ◌<◌, ◌≤◌, ℕ, List, [], ◌∷◌, ◌++◌, Some, IfOk, unwrap_or};
 ghost use Rattle.std.specs.Option.{option_map};
 ghost use Rattle.mm_schedule.specs.Events.{event_of, meddles_of};
-ghost use Rattle.mm_schedule.specs.Grammar.{call_at, event_at, failing_at, flip_at, meddle_at, meddles_at, offer_at, prefixed_at, raw_at, stop_at, stop_step_at};
+ghost use Rattle.mm_schedule.specs.Grammar.{call_at, event_at, failing_at, meddle_at, meddles_at, offer_at, prefixed_at, raw_at, stop_at, stop_step_at};
+ghost use Rattle.mm_schedule.specs.GrammarWords.{flip_at};
 ghost use Rattle.mm_schedule.specs.Texts as texts;
 ghost use Rattle.mm_schedule.specs.Words.{bytes_at};
 
@@ -99,7 +100,7 @@ fn call_in(meddles: Meddles, stop: Stop, line: &[u8]) -> Option<EventText<'_>>
 }
 
 /// The offer that a line begins with, and what follows the space behind it. None where it begins with none.
-#[tactic(auto, unfolding(crate::specs::Grammar::offer_at))]
+#[tactic(auto, unfolding(crate::specs::Grammar::offer_at, crate::specs::GrammarWords::flip_at))]
 pub fn offer_in(line: &[u8]) -> Option<(OfferText<'_>, &[u8])>
     ensures { option_map (λ (x : _). (texts.offer_of x.0, x.1.now)) result ≡ offer_at line.now }
 {
@@ -118,7 +119,7 @@ pub fn offer_in(line: &[u8]) -> Option<(OfferText<'_>, &[u8])>
 }
 
 /// Two numbers behind `flip`.
-#[tactic(auto, unfolding(crate::specs::Grammar::flip_at))]
+#[tactic(auto, unfolding(crate::specs::GrammarWords::flip_at))]
 fn flip_in(line: &[u8]) -> Option<(OfferText<'_>, &[u8])>
     ensures { option_map (λ (x : _). (texts.offer_of x.0, x.1.now)) result ≡ flip_at line.now }
 {

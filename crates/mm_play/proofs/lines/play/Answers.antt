@@ -12,11 +12,14 @@ pub returns-in_err-play_next-clause-plays : goal.returns-in_err-play_next-clause
 returns-in_err-play_next-clause-plays g c =
     let p = err_from_is_err_and c.from_residual-in_err-play_next.result c.from_residual-in_err-play_next.ensures.1 in
     rw (p.1, p.2) (plays_stopped g.P.Player.answer g.P.Player.closing c.args.player.now c.lines.player c.play_next.new.player c.lines.number
-    _ _ _ _ _ _ c.lines.reader c.play_next.new.reader c.lines.pending c.play_next.new.pending c.play_next.result _ c.lines.invariant.stands c.play_next.ensures.turns c.in_err-play_next.was)
+    _ _ _ _ _ _ c.lines.reader c.play_next.new.reader c.lines.pending c.play_next.new.pending c.play_next.result _ c.lines.invariant.stands
+    c.play_next.ensures.turns c.in_err-play_next.was)
 
 pub lines-init : goal.lines-init
 lines-init g c = record {
-  stands = stands_first g.P.Player.answer c.args.player.now _ _ c.in_ok-reader.reader c.new-pending.result c.in_ok-reader.ensures c.new-pending.ensures;
+  stands =
+      stands_first g.P.Player.answer c.args.player.now _ _ c.in_ok-reader.reader c.new-pending.result c.in_ok-reader.ensures
+      c.new-pending.ensures;
   input = refl;
   output = refl;
   few = omega (arith, g.met.P.Player.few c.args.player.now);
@@ -26,9 +29,11 @@ pub lines-preserved : goal.lines-preserved
 lines-preserved g c =
     let went = c.in_ok-play_next.was ∙ ap Ok c.if-branch.true in
     let s = stands_on g.P.Player.answer g.P.Player.closing c.args.player.now c.lines.player c.play_next.new.player c.lines.number
-    _ _ _ _ _ _ c.lines.reader c.play_next.new.reader c.lines.pending c.play_next.new.pending c.play_next.result c.lines.invariant.stands c.play_next.ensures.turns went in
+    _ _ _ _ _ _ c.lines.reader c.play_next.new.reader c.lines.pending c.play_next.new.pending c.play_next.result c.lines.invariant.stands
+    c.play_next.ensures.turns went in
     let a = answered_line g.P.Player.answer g.P.Player.closing c.lines.player c.play_next.new.player c.lines.number
-    _ _ _ _ c.lines.reader c.play_next.new.reader c.lines.pending c.play_next.new.pending c.play_next.result c.play_next.ensures.turns went in
+    _ _ _ _ c.lines.reader c.play_next.new.reader c.lines.pending c.play_next.new.pending c.play_next.result c.play_next.ensures.turns went
+    in
     let fewer : g.P.Player.lines_left c.play_next.new.player < g.P.Player.lines_left c.lines.player =
     g.met.P.Player.counts_down c.lines.player c.play_next.new.player a.0 a.1 a.2 in
     record {
@@ -41,4 +46,5 @@ lines-preserved g c =
 pub returns-clause-plays : goal.returns-clause-plays
 returns-clause-plays g c =
     plays_ended g.P.Player.answer g.P.Player.closing c.args.player.now c.lines.player c.play_next.new.player c.lines.number
-    _ _ _ _ _ _ c.lines.reader c.play_next.new.reader c.lines.pending c.play_next.new.pending c.play_next.result c.lines.invariant.stands c.play_next.ensures.turns (c.in_ok-play_next.was ∙ ap Ok c.if-branch.false)
+    _ _ _ _ _ _ c.lines.reader c.play_next.new.reader c.lines.pending c.play_next.new.pending c.play_next.result c.lines.invariant.stands
+    c.play_next.ensures.turns (c.in_ok-play_next.was ∙ ap Ok c.if-branch.false)

@@ -13,7 +13,8 @@ returns-in-Ok-false-clause-turns g c =
     c.args.reader.now c.send_due.new.reader c.read_and_reply.new.reader _ _ _
     c.args.pending.now c.send_due.new.pending c.read_and_reply.new.pending c.send_then.new.pending
     c.send_due.result c.in-Ok.field-0 c.read_and_reply.result (Ok false) c.send_then.result
-    c.send_due.ensures.same c.send_due.ensures.sent c.in-Ok.is c.read_and_reply.ensures.advances (c.in-Ok-false.is ∙ ap Ok c.in-Ok-false.field-0-test)
+    c.send_due.ensures.same c.send_due.ensures.sent c.in-Ok.is c.read_and_reply.ensures.advances
+    (c.in-Ok-false.is ∙ ap Ok c.in-Ok-false.field-0-test)
     c.send_then.ensures.sent c.send_then.ensures.none
 
 pub returns-in-ReadFault-clause-turns : goal.returns-in-ReadFault-clause-turns

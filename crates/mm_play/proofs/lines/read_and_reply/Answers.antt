@@ -3,8 +3,10 @@ use Rattle.mm_play.proofs.lines.read_and_reply.Goals as goal
 
 pub returns-in-Ok-Line-clause-advances : goal.returns-in-Ok-Line-clause-advances
 returns-in-Ok-Line-clause-advances g c =
-    advanced_by_line g.P.Player.answer g.P.Player.closing c.args.number c.args.player.now c.queue_reply.new.player _ _ _ _ _ _ c.queue_reply.result
-    c.next.result c.in-Ok-Line.field-0 c.in-Ok-Line.line c.next.follows.holds-at-none c.in-Ok-Line.is c.in-Ok-Line.field-0-is c.queue_reply.ensures
+    advanced_by_line g.P.Player.answer g.P.Player.closing c.args.number c.args.player.now c.queue_reply.new.player _ _ _ _ _ _
+    c.queue_reply.result
+    c.next.result c.in-Ok-Line.field-0 c.in-Ok-Line.line c.next.follows.holds-at-none c.in-Ok-Line.is c.in-Ok-Line.field-0-is
+    c.queue_reply.ensures
 
 pub returns-in-Ok-Tail-clause-advances : goal.returns-in-Ok-Tail-clause-advances
 returns-in-Ok-Tail-clause-advances g c =
