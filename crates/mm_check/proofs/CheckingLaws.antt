@@ -39,7 +39,8 @@ replies_ran : (heading : List ℕ → Option Header) (lines : List (List ℕ)) (
 replies_ran heading [] n c p h = sym (ok_same (InReplies c) p h)
 replies_ran heading (line ∷ lines) n c p h =
     replies_ran heading lines (n + 1) (after_compared c line) p
-    (compare_ran (nat_lt longest_line (length line)) (nat_le most_recorded c.count) (λ next. run (check_answer heading) (n + 1) next lines) n c line p h)
+    (compare_ran (nat_lt longest_line (length line)) (nat_le most_recorded c.count) (λ next. run (check_answer heading) (n + 1) next lines)
+    n c line p h)
 
 -- among the events
 
@@ -47,7 +48,8 @@ replies_ran heading (line ∷ lines) n c p h =
 abbrev EndsIn : Read → List (List ℕ) → CheckStage → Type 0
 EndsIn last section p =
     ((section ≡ []) × (p ≡ InEvents last))
-    ⊎ ((recorded : List (List ℕ)) × (section ≡ section_line ∷ recorded) × (p ≡ InReplies (fold after_compared (first_compared last) recorded)))
+    ⊎ ((recorded : List (List ℕ)) × (section ≡ section_line ∷ recorded)
+    × (p ≡ InReplies (fold after_compared (first_compared last) recorded)))
 
 record Behind (r : Read) (lines : List (List ℕ)) (p : CheckStage) : Type 0 where
   others : List (List ℕ)
@@ -75,7 +77,8 @@ event_first r line lines event p is b = record {
 }
 
 much_ran : (much : Bool) (on : CheckStage → Told CheckStage) (n : ℕ) (r : Read) (line : List ℕ) (event : Event) (p : CheckStage)
-    → (answered on n (cond much (Err Much) (Ok ([], InEvents (with_event r line event))))).outcome ≡ Ok p → (on (InEvents (with_event r line event))).outcome ≡ Ok p
+    → (answered on n (cond much (Err Much) (Ok ([], InEvents (with_event r line event))))).outcome ≡ Ok p
+    → (on (InEvents (with_event r line event))).outcome ≡ Ok p
 much_ran true on n r line event p h = absurd (not_ok (refusal_at n Much) p h)
 much_ran false on n r line event p h = h
 
@@ -83,17 +86,22 @@ much_ran false on n r line event p h = h
 abbrev GoesOn : (heading : List ℕ → Option Header) → List (List ℕ) → ℕ → CheckStage → Type 0
 GoesOn heading lines n p = (r : Read) → (run (check_answer heading) n (InEvents r) lines).outcome ≡ Ok p → Behind r lines p
 
-found_ran : (heading : List ℕ → Option Header) (lines : List (List ℕ)) (n : ℕ) (r : Read) (line : List ℕ) (found : Option Event) (p : CheckStage) → event_at line ≡ found
+found_ran : (heading : List ℕ → Option Header) (lines : List (List ℕ)) (n : ℕ) (r : Read) (line : List ℕ) (found : Option Event)
+    (p : CheckStage) → event_at line ≡ found
     → GoesOn heading lines (n + 1) p
-    → (answered (λ next. run (check_answer heading) (n + 1) next lines) n (read_event r line found)).outcome ≡ Ok p → Behind r (line ∷ lines) p
+    → (answered (λ next. run (check_answer heading) (n + 1) next lines) n (read_event r line found)).outcome ≡ Ok p
+    → Behind r (line ∷ lines) p
 found_ran heading lines n r line None p is on h = absurd (not_ok (refusal_at n Bad) p h)
 found_ran heading lines n r line (Some event) p is on h =
     event_first r line lines event p is
-    (on (with_event r line event) (much_ran (is_too_much r.running line) (λ next. run (check_answer heading) (n + 1) next lines) n r line event p h))
+    (on (with_event r line event)
+    (much_ran (is_too_much r.running line) (λ next. run (check_answer heading) (n + 1) next lines) n r line event p h))
 
-section_ran : (heading : List ℕ → Option Header) (lines : List (List ℕ)) (n : ℕ) (r : Read) (line : List ℕ) (section : Bool) (p : CheckStage) → bytes_eq line section_line ≡ section
+section_ran : (heading : List ℕ → Option Header) (lines : List (List ℕ)) (n : ℕ) (r : Read) (line : List ℕ) (section : Bool)
+    (p : CheckStage) → bytes_eq line section_line ≡ section
     → GoesOn heading lines (n + 1) p
-    → (answered (λ next. run (check_answer heading) (n + 1) next lines) n (cond section (Ok ([], InReplies (first_compared r))) (read_event r line (event_at line)))).outcome ≡ Ok p
+    → (answered (λ next. run (check_answer heading) (n + 1) next lines) n
+    (cond section (Ok ([], InReplies (first_compared r))) (read_event r line (event_at line)))).outcome ≡ Ok p
     → Behind r (line ∷ lines) p
 section_ran heading lines n r line true p is on h = record {
   others = [];
@@ -104,13 +112,20 @@ section_ran heading lines n r line true p is on h = record {
   read = refl;
   same = refl;
   grown = sym (append-nil r.events);
-  ends = inr (lines, ap (λ (l : List ℕ). l ∷ lines) ((bytes_eq-Decides line section_line).0 is), replies_ran heading lines (n + 1) (first_compared r) p h);
+  ends =
+      inr (
+        lines,
+        ap (λ (l : List ℕ). l ∷ lines) ((bytes_eq-Decides line section_line).0 is),
+        replies_ran heading lines (n + 1)
+            (first_compared r) p h,
+      );
 }
 section_ran heading lines n r line false p is on h = found_ran heading lines n r line (event_at line) p refl on h
 
 line_ran : (heading : List ℕ → Option Header) (lines : List (List ℕ)) (n : ℕ) (r : Read) (line : List ℕ) (long : Bool) (p : CheckStage)
     → GoesOn heading lines (n + 1) p
-    → (cond long (stopped (LineLong n)) (answered (λ next. run (check_answer heading) (n + 1) next lines) n (read_line r line))).outcome ≡ Ok p
+    → (cond long (stopped (LineLong n)) (answered (λ next. run (check_answer heading) (n + 1) next lines) n (read_line r line))).outcome ≡
+    Ok p
     → Behind r (line ∷ lines) p
 line_ran heading lines n r line true p on h = absurd (not_ok (LineLong n) p h)
 line_ran heading lines n r line false p on h = section_ran heading lines n r line (bytes_eq line section_line) p refl on h
@@ -127,16 +142,23 @@ events_ran heading [] n p r h = record {
   grown = sym (append-nil r.events);
   ends = inl (refl, sym (ok_same (InEvents r) p h));
 }
-events_ran heading (line ∷ lines) n p r h = line_ran heading lines n r line (nat_lt longest_line (length line)) p (events_ran heading lines (n + 1) p) h
+events_ran heading (line ∷ lines) n p r h =
+    line_ran heading lines n r line (nat_lt longest_line (length line)) p (events_ran heading lines (n + 1) p) h
 
 -- the verdicts, by where the run ends
-verdicts_by : (header : Header) (events : List Event) (last : Read) (section : List (List ℕ)) (p : CheckStage) (it : Verdicts) → last.header ≡ header → last.events ≡ events
-    → EndsIn last section p → Concludes p it → (tested : List (List ℕ)) × AreTested header events section tested × AreVerdicts header events tested it
+verdicts_by : (header : Header) (events : List Event) (last : Read) (section : List (List ℕ)) (p : CheckStage) (it : Verdicts)
+    → last.header ≡ header → last.events ≡ events
+    → EndsIn last section p → Concludes p it → (tested : List (List ℕ)) × AreTested header events section tested
+    × AreVerdicts header events tested it
 verdicts_by header events last section p it is es ends c = elim ends [
   | inl e ↦
       let a = subst (λ (s : CheckStage). Concludes s it) e.1 c in
-      let b = subst (λ (x : Header). AreVerdicts x last.events (run_lines (world_of x) last.events) it) is a in
-      (run_lines (world_of header) events, inl (e.0, refl), subst (λ (l : List Event). AreVerdicts header l (run_lines (world_of header) l) it) es b)
+      let b = subst (λ (x : Header). AreVerdicts x last.events (run_lines (world_of x) last.events) it) is a in (
+        run_lines (world_of header) events,
+        inl (e.0, refl),
+        subst
+            (λ (l : List Event). AreVerdicts header l (run_lines (world_of header) l) it) es b,
+      )
   | inr e ↦
       let a = subst (λ (s : CheckStage). Concludes s it) e.2 c in
       let b = verdicts_on last.header last.events e.0 it a in
@@ -144,7 +166,8 @@ verdicts_by header events last section p it is es ends c = elim ends [
       (map with_end e.0, inr (e.0, e.1, refl), subst (λ (l : List Event). AreVerdicts header l (map with_end e.0) it) es d)
 ]
 
-checked_by : (first : List ℕ) (lines : List (List ℕ)) (header : Header) (p : CheckStage) (it : Verdicts) → header_at first ≡ Some header → Behind (first_read header) lines p
+checked_by : (first : List ℕ) (lines : List (List ℕ)) (header : Header) (p : CheckStage) (it : Verdicts) → header_at first ≡ Some header
+    → Behind (first_read header) lines p
     → Concludes p it → IsChecked (first ∷ lines) it
 checked_by first lines header p it is b c =
     let v = verdicts_by header b.events b.last b.section p it b.same b.grown b.ends c in
@@ -163,28 +186,34 @@ checked_by first lines header p it is b c =
     }
 
 header_ran : (first : List ℕ) (lines : List (List ℕ)) (found : Option Header) (p : CheckStage) (it : Verdicts) → header_at first ≡ found
-    → (answered (λ next. run (check_answer header_at) (1 + 1) next lines) 1 (headed found)).outcome ≡ Ok p → Concludes p it → IsChecked (first ∷ lines) it
+    → (answered (λ next. run (check_answer header_at) (1 + 1) next lines) 1 (headed found)).outcome ≡ Ok p → Concludes p it
+    → IsChecked (first ∷ lines) it
 header_ran first lines None p it is h c = absurd (not_ok (refusal_at 1 Bad) p h)
-header_ran first lines (Some header) p it is h c = checked_by first lines header p it is (events_ran header_at lines (1 + 1) p (first_read header) h) c
+header_ran first lines (Some header) p it is h c =
+    checked_by first lines header p it is (events_ran header_at lines (1 + 1) p (first_read header) h) c
 
 first_ran : (first : List ℕ) (lines : List (List ℕ)) (long : Bool) (p : CheckStage) (it : Verdicts)
-    → (cond long (stopped (LineLong 1)) (answered (λ next. run (check_answer header_at) (1 + 1) next lines) 1 (headed (header_at first)))).outcome ≡ Ok p
+    → (cond long (stopped (LineLong 1))
+    (answered (λ next. run (check_answer header_at) (1 + 1) next lines) 1 (headed (header_at first)))).outcome ≡ Ok p
     → Concludes p it → IsChecked (first ∷ lines) it
 first_ran first lines true p it h c = absurd (not_ok (LineLong 1) p h)
 first_ran first lines false p it h c = header_ran first lines (header_at first) p it refl h c
 
 -- whole lines that were all answered, and the verdicts at their end
-pub lines_checked : (lines : List (List ℕ)) (p : CheckStage) (it : Verdicts) → (check_lines lines).outcome ≡ Ok p → Concludes p it → IsChecked lines it
+pub lines_checked : (lines : List (List ℕ)) (p : CheckStage) (it : Verdicts) → (check_lines lines).outcome ≡ Ok p → Concludes p it
+    → IsChecked lines it
 lines_checked [] p it h c = absurd (subst (λ (s : CheckStage). Concludes s it) (sym (ok_same AtHeader p h)) c)
 lines_checked (first ∷ lines) p it h c = first_ran first lines (nat_lt longest_line (length first)) p it h c
 
 -- an input that was answered to its end
 
-closed_ran : (n : ℕ) (q p : CheckStage) (last : Option (List ℕ)) → check_closing q ≡ last → (closed n q last).outcome ≡ Ok p → (q ≡ p) × ((l : List ℕ) × (check_closing p ≡ Some l))
+closed_ran : (n : ℕ) (q p : CheckStage) (last : Option (List ℕ)) → check_closing q ≡ last → (closed n q last).outcome ≡ Ok p
+    → (q ≡ p) × ((l : List ℕ) × (check_closing p ≡ Some l))
 closed_ran n q p None is h = absurd (not_ok (BadLine n) p h)
 closed_ran n q p (Some l) is h = let same = ok_same q p h in (same, (l, subst (λ (s : CheckStage). check_closing s ≡ Some l) same is))
 
-tail_ran : (n : ℕ) (tail : List ℕ) (q p : CheckStage) → (ended check_closing n tail q).outcome ≡ Ok p → (q ≡ p) × ((l : List ℕ) × (check_closing p ≡ Some l))
+tail_ran : (n : ℕ) (tail : List ℕ) (q p : CheckStage) → (ended check_closing n tail q).outcome ≡ Ok p
+    → (q ≡ p) × ((l : List ℕ) × (check_closing p ≡ Some l))
 tail_ran n [] q p h = closed_ran n q p (check_closing q) refl h
 tail_ran n (b ∷ tail) q p h = absurd (by_length (nat_lt longest_line (length (b ∷ tail))) h)
   where
@@ -192,13 +221,17 @@ tail_ran n (b ∷ tail) q p h = absurd (by_length (nat_lt longest_line (length (
     by_length true e = not_ok (LineLong n) p e
     by_length false e = not_ok (BadLine n) p e
 
-whole_ran : (n : ℕ) (tail written : List ℕ) (outcome : Result CheckStage ReplayFault) (p : CheckStage) → (goes_on (ended check_closing n tail) written outcome).outcome ≡ Ok p
+whole_ran : (n : ℕ) (tail written : List ℕ) (outcome : Result CheckStage ReplayFault) (p : CheckStage)
+    → (goes_on (ended check_closing n tail) written outcome).outcome ≡ Ok p
     → (outcome ≡ Ok p) × ((l : List ℕ) × (check_closing p ≡ Some l))
 whole_ran n tail written (Err fault) p h = absurd (not_ok fault p h)
 whole_ran n tail written (Ok q) p h = let t = tail_ran n tail q p h in (ap Ok t.0, t.1)
 
-pub input_ran : (input : List ℕ) (p : CheckStage) → (check_run input).outcome ≡ Ok p → ((check_lines (lines_of input)).outcome ≡ Ok p) × ((l : List ℕ) × (check_closing p ≡ Some l))
-input_ran input p h = whole_ran (1 + length (lines_of input)) (tail_of input) (check_lines (lines_of input)).written (check_lines (lines_of input)).outcome p h
+pub input_ran : (input : List ℕ) (p : CheckStage) → (check_run input).outcome ≡ Ok p
+    → ((check_lines (lines_of input)).outcome ≡ Ok p) × ((l : List ℕ) × (check_closing p ≡ Some l))
+input_ran input p h =
+    whole_ran (1 + length (lines_of input)) (tail_of input) (check_lines (lines_of input)).written (check_lines (lines_of input)).outcome p
+    h
 
 pub closes_behind : (p : CheckStage) (l : List ℕ) → check_closing p ≡ Some l → p ≡ AtHeader → ⊥
 closes_behind AtHeader l h is = cc
@@ -210,10 +243,14 @@ closes_behind (InReplies c) l h is = cc
 outcome_is : (t u : Told CheckStage) → t ≡ u → t.outcome ≡ u.outcome
 outcome_is t u h = ap (λ (x : Told CheckStage). x.outcome) h
 
-pub judged_ok : (first : CheckStage) → first ≡ AtHeader → (left left' received received' : Option (List ℕ)) (next : CheckStage) (it : Verdicts) (result : Result (Unit {0}) ReplayFault) (done : Unit {0})
-    → Plays (check_answer header_at) check_closing first next left left' received received' result → result ≡ Ok done → Concludes next it → Judges left left' (Ok it)
+pub judged_ok : (first : CheckStage) → first ≡ AtHeader
+    → (left left' received received' : Option (List ℕ)) (next : CheckStage) (it : Verdicts) (result : Result (Unit {0}) ReplayFault)
+    (done : Unit {0})
+    → Plays (check_answer header_at) check_closing first next left left' received received' result → result ≡ Ok done → Concludes next it
+    → Judges left left' (Ok it)
 judged_ok first is_first left left' received received' next it result done played is c =
-    let p = subst (λ (s : CheckStage). Plays (check_answer header_at) check_closing s next left left' received received' result) is_first played in
+    let p = subst (λ (s : CheckStage). Plays (check_answer header_at) check_closing s next left left' received received' result) is_first
+    played in
     let s = subst (λ (r : Result (Unit {0}) ReplayFault). Settles check_lines check_run next left' p.taken p.sent r) is p.settled in
     let answered = outcome_is (check_run p.taken) (told p.sent (Ok next)) s.1 in
     let ran = input_ran p.taken next answered in
@@ -223,22 +260,26 @@ judged_ok first is_first left left' received received' next it result done playe
       settled = record { ended = s.0; after = next; answered = answered; checked = lines_checked (lines_of p.taken) next it ran.0 c };
     }
 
-pub is_behind : (first : CheckStage) → first ≡ AtHeader → (left left' received received' : Option (List ℕ)) (next : CheckStage) (result : Result (Unit {0}) ReplayFault) (done : Unit {0})
+pub is_behind : (first : CheckStage) → first ≡ AtHeader
+    → (left left' received received' : Option (List ℕ)) (next : CheckStage) (result : Result (Unit {0}) ReplayFault) (done : Unit {0})
     → Plays (check_answer header_at) check_closing first next left left' received received' result → result ≡ Ok done → next ≡ AtHeader → ⊥
 is_behind first is_first left left' received received' next result done played is at =
-    let p = subst (λ (s : CheckStage). Plays (check_answer header_at) check_closing s next left left' received received' result) is_first played in
+    let p = subst (λ (s : CheckStage). Plays (check_answer header_at) check_closing s next left left' received received' result) is_first
+    played in
     let s = subst (λ (r : Result (Unit {0}) ReplayFault). Settles check_lines check_run next left' p.taken p.sent r) is p.settled in
     let ran = input_ran p.taken next (outcome_is (check_run p.taken) (told p.sent (Ok next)) s.1) in
     closes_behind next ran.1.0 ran.1.1 at
 
-stops_so : (left : Option (List ℕ)) (taken sent : List ℕ) (fault : ReplayFault) → ForWhole left taken (λ input. check_run input ≡ told sent (Err fault))
+stops_so : (left : Option (List ℕ)) (taken sent : List ℕ) (fault : ReplayFault)
+    → ForWhole left taken (λ input. check_run input ≡ told sent (Err fault))
     → ForWhole left taken (λ input. (check_run input).outcome ≡ Err fault)
 stops_so left taken sent fault h =
     for_whole left taken (λ input. check_run input ≡ told sent (Err fault)) (λ input. (check_run input).outcome ≡ Err fault)
     (λ input e. outcome_is (check_run input) (told sent (Err fault)) e) h
 
 judges_by : (next : CheckStage) (left : Option (List ℕ)) (taken sent : List ℕ) (fault : ReplayFault) → (fault ≡ WriteFault → ⊥)
-    → (let r : Result (Unit {0}) ReplayFault = Err fault in Settles check_lines check_run next left taken sent r) → JudgesBy left taken (Err fault)
+    → (let r : Result (Unit {0}) ReplayFault = Err fault in Settles check_lines check_run next left taken sent r)
+    → JudgesBy left taken (Err fault)
 judges_by next left taken sent Memory wrote s = tt
 judges_by next left taken sent ReadFault wrote s = (s.0, (s.1.0, outcome_is (check_lines (lines_of taken)) (told sent (Ok s.1.0)) s.1.1))
 judges_by next left taken sent WriteFault wrote s = absurd (wrote refl)
@@ -247,16 +288,20 @@ judges_by next left taken sent (LineLong n) wrote s = stops_so left taken sent (
 judges_by next left taken sent TooMuch wrote s = stops_so left taken sent TooMuch s
 
 -- a sink whose count stays at 0 didn't fail
-not_written : (result : Result (Unit {0}) ReplayFault) (fault : ReplayFault) → IsBlamed (is_write_fault result) 0 0 → result ≡ Err fault → fault ≡ WriteFault → ⊥
+not_written : (result : Result (Unit {0}) ReplayFault) (fault : ReplayFault) → IsBlamed (is_write_fault result) 0 0 → result ≡ Err fault
+    → fault ≡ WriteFault → ⊥
 not_written result fault h is same =
     let rose = subst (λ (r : Result (Unit {0}) ReplayFault). IsBlamed (is_write_fault r) 0 0) (is ∙ ap Err same) h in
     absurd (omega (arith, rose))
 
-pub judged_err : (first : CheckStage) → first ≡ AtHeader → (left left' received received' : Option (List ℕ)) (next : CheckStage) (result : Result (Unit {0}) ReplayFault) (fault : ReplayFault)
-    → Plays (check_answer header_at) check_closing first next left left' received received' result → IsBlamed (is_write_fault result) 0 0 → result ≡ Err fault
+pub judged_err : (first : CheckStage) → first ≡ AtHeader
+    → (left left' received received' : Option (List ℕ)) (next : CheckStage) (result : Result (Unit {0}) ReplayFault) (fault : ReplayFault)
+    → Plays (check_answer header_at) check_closing first next left left' received received' result → IsBlamed (is_write_fault result) 0 0
+    → result ≡ Err fault
     → Judges left left' (Err fault)
 judged_err first is_first left left' received received' next result fault played blamed is =
-    let p = subst (λ (s : CheckStage). Plays (check_answer header_at) check_closing s next left left' received received' result) is_first played in
+    let p = subst (λ (s : CheckStage). Plays (check_answer header_at) check_closing s next left left' received received' result) is_first
+    played in
     let s = subst (λ (r : Result (Unit {0}) ReplayFault). Settles check_lines check_run next left' p.taken p.sent r) is p.settled in
     record {
       taken = p.taken;
@@ -270,7 +315,8 @@ appends_nothing : (received : Option (List ℕ)) → Appends received received [
 appends_nothing None = tt
 appends_nothing (Some bytes) = sym (append-nil bytes)
 
-checks_by : (left : Option (List ℕ)) (taken : List ℕ) (fault : ReplayFault) → JudgesBy left taken (Err fault) → ChecksRunBy left taken [] (Err fault)
+checks_by : (left : Option (List ℕ)) (taken : List ℕ) (fault : ReplayFault) → JudgesBy left taken (Err fault)
+    → ChecksRunBy left taken [] (Err fault)
 checks_by left taken Memory s = refl
 checks_by left taken ReadFault s = (refl, s.0, s.1)
 checks_by left taken WriteFault s = absurd s
@@ -278,7 +324,8 @@ checks_by left taken (BadLine n) s = (refl, s)
 checks_by left taken (LineLong n) s = (refl, s)
 checks_by left taken TooMuch s = (refl, s)
 
-pub checked_err : (left left' received : Option (List ℕ)) (fault : ReplayFault) → Judges left left' (Err fault) → ChecksRun left left' received received (Err fault)
+pub checked_err : (left left' received : Option (List ℕ)) (fault : ReplayFault) → Judges left left' (Err fault)
+    → ChecksRun left left' received received (Err fault)
 checked_err left left' received fault j = record {
   taken = j.taken;
   sent = [];

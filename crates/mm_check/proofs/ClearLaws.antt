@@ -10,12 +10,14 @@ use Rattle.sha2.specs.Sha256.{sha256}
 use Rattle.mm_digest.specs.Messages.{zero_bytes, start_message}
 use Rattle.mm_model.specs.Instance.{Instance}
 use Rattle.mm_model.specs.History.{History, Move, Commit, Foreign, Placed, Reset, Close, Power as PowerMove, moved, first_history}
-use Rattle.mm_model.specs.Messages.{IsClear, move_messages}
+use Rattle.mm_model.specs.Messages.{IsClear}
+use Rattle.mm_model.specs.MessagesWords.{move_messages}
 use Rattle.mm_call.specs.Asked.{moves_messages}
 use Rattle.mm_call.specs.Levels.{by_lists}
 use Rattle.mm_schedule.specs.Events.{Event}
 use Rattle.mm_run.specs.Folds.{event_outcome, first_issued}
-use Rattle.mm_run.specs.Premises.{event_messages, moves_of, messages_from, run_messages}
+use Rattle.mm_run.specs.Premises.{event_messages, moves_of, messages_from}
+use Rattle.mm_run.specs.PremisesWords.{run_messages}
 use Rattle.mm_expect.specs.Numbered.{messages_if, messages_where, numbered_event}
 use Rattle.mm_check.specs.Listing.{first_where, listed, message_digests, shared_with, shared_in, is_zero, zero_in}
 use Rattle.mm_check.specs.Numbering.{numbered_from, numbered}
@@ -44,11 +46,13 @@ none_more : (o : Option ℕ) → option_map (λ n. n + 1) o ≡ None → o ≡ N
 none_more None h = refl
 none_more (Some n) h = absurd (cc)
 
-pub first_none : (here : Bool) (o : Option ℕ) → (let w : Option ℕ = cond here (Some 1) (option_map (λ n. n + 1) o) in w ≡ None) → (here ≡ false) × (o ≡ None)
+pub first_none : (here : Bool) (o : Option ℕ) → (let w : Option ℕ = cond here (Some 1) (option_map (λ n. n + 1) o) in w ≡ None)
+    → (here ≡ false) × (o ≡ None)
 first_none true o h = absurd (cc)
 first_none false o h = (refl, none_more o h)
 
-found_none : (p : List ℕ → Bool) (ms : List (List ℕ)) (m : List ℕ) → Contains ms m → p (sha256 m) ≡ true → first_where p (message_digests ms) ≡ None → ⊥
+found_none : (p : List ℕ → Bool) (ms : List (List ℕ)) (m : List ℕ) → Contains ms m → p (sha256 m) ≡ true
+    → first_where p (message_digests ms) ≡ None → ⊥
 found_none p [] m h pass none = none_in m h
 found_none p (x ∷ ms) m h pass none =
     let parts = first_none (p (sha256 x)) (first_where p (message_digests ms)) none in
@@ -70,7 +74,8 @@ pairs_none None (Some pair) h = absurd (cc)
 same_digest : (a b : List ℕ) → a ≡ b → bytes_eq a b ≡ true
 same_digest a b e = (bytes_eq-Decides a b).1 e
 
-pub pairs_apart : (ms : List (List ℕ)) → shared_in (message_digests ms) ≡ None → (m n : List ℕ) → Contains ms m → Contains ms n → sha256 m ≡ sha256 n → m ≡ n
+pub pairs_apart : (ms : List (List ℕ)) → shared_in (message_digests ms) ≡ None → (m n : List ℕ) → Contains ms m → Contains ms n
+    → sha256 m ≡ sha256 n → m ≡ n
 pairs_apart [] none m n hm hn e = absurd (none_in m hm)
 pairs_apart (x ∷ ms) none m n hm hn e =
     let parts = pairs_none (first_where (bytes_eq (sha256 x)) (message_digests ms)) (shared_in (message_digests ms)) none in
@@ -164,7 +169,8 @@ later_in a b ext clo m h = elim (Contains-append_cases ext clo m h) [
   | inr c ↦ Contains-append_right (a ++ ext) (b ++ clo) m (Contains-append_right b clo m c)
 ]
 
-moves_in : (i : Instance) (moves : List Move) (y : History) → IsIn (moves_messages i y moves) (messages_where false i y moves ++ messages_where true i y moves)
+moves_in : (i : Instance) (moves : List Move) (y : History)
+    → IsIn (moves_messages i y moves) (messages_where false i y moves ++ messages_where true i y moves)
 moves_in i [] y m h = absurd (none_in m h)
 moves_in i (v ∷ moves) y m h =
     let here = move_messages i y v in
@@ -187,14 +193,17 @@ event_in i y issued event m h =
       | inr b ↦ Contains-append_right asks parts m (moves_in i moves y m b)
     ]
 
-events_in : (i : Instance) (events : List Event) (y : History) (issued : List (List ℕ)) → IsIn (messages_from i y issued events) (numbered_from i y issued events)
+events_in : (i : Instance) (events : List Event) (y : History) (issued : List (List ℕ))
+    → IsIn (messages_from i y issued events) (numbered_from i y issued events)
 events_in i [] y issued m h = absurd (none_in m h)
 events_in i (event ∷ events) y issued m h =
     let o = event_outcome i (by_lists i) y issued event in
     let here = event_messages i issued event ++ moves_messages i y (moves_of i y issued event) in
     elim (Contains-append_cases here (messages_from i o.state o.issued events) m h) [
-      | inl now ↦ Contains-append_left (numbered_event i y issued event) (numbered_from i o.state o.issued events) m (event_in i y issued event m now)
-      | inr later ↦ Contains-append_right (numbered_event i y issued event) (numbered_from i o.state o.issued events) m (events_in i events o.state o.issued m later)
+      | inl now ↦ Contains-append_left (numbered_event i y issued event) (numbered_from i o.state o.issued events) m
+          (event_in i y issued event m now)
+      | inr later ↦ Contains-append_right (numbered_event i y issued event) (numbered_from i o.state o.issued events) m
+          (events_in i events o.state o.issued m later)
     ]
 
 run_in : (i : Instance) (events : List Event) → IsIn (run_messages i events) (numbered i events)
@@ -207,7 +216,8 @@ run_in i events m h =
     ]
 
 -- the run is clear where the numbers tell nothing else
-pub clear_run : (i : Instance) (events : List Event) → shared_in (message_digests (numbered i events)) ≡ None → zero_in (message_digests (numbered i events)) ≡ None
+pub clear_run : (i : Instance) (events : List Event) → shared_in (message_digests (numbered i events)) ≡ None
+    → zero_in (message_digests (numbered i events)) ≡ None
     → IsClear (run_messages i events)
 clear_run i events none zero =
     clear_of_fewer (run_messages i events) (numbered i events) (run_in i events) (clear_from (numbered i events) none zero)

@@ -36,7 +36,8 @@ get_none : (count : ℕ) → (let e : List (List ℕ) = [] in slice_get e count 
 get_none zero = refl
 get_none (suc count) = refl
 
-end_at : (expected : List (List ℕ)) (count n : ℕ) → differs_then None (nat_le (length expected) count) n ≡ difference_from n [] (drop count expected)
+end_at : (expected : List (List ℕ)) (count n : ℕ)
+    → differs_then None (nat_le (length expected) count) n ≡ difference_from n [] (drop count expected)
 end_at [] count n = ap (λ (b : Bool). differs_then None b n) (zero_le count) ∙ sym (ap (difference_from n []) (drop_none count))
 end_at (e ∷ expected) zero n = ap (λ (b : Bool). differs_then None b n) (le_zero (length expected))
 end_at (e ∷ expected) (suc count) n = ap (λ (b : Bool). differs_then None b n) (le_suc (length expected) count) ∙ end_at expected count n
@@ -49,12 +50,14 @@ step_at : (expected : List (List ℕ)) (count n : ℕ) (line : List ℕ) (rest :
     → settled (differs_then None (is_line line (slice_get expected count)) n) (difference_from (n + 1) rest (drop (count + 1) expected))
     ≡ difference_from n (with_end line ∷ rest) (drop count expected)
 step_at [] count n line rest =
-    ap (λ (o : Option (List ℕ)). settled (differs_then None (is_line line o) n) (difference_from (n + 1) rest (drop (count + 1) []))) (get_none count)
+    ap (λ (o : Option (List ℕ)). settled (differs_then None (is_line line o) n) (difference_from (n + 1) rest (drop (count + 1) [])))
+    (get_none count)
     ∙ sym (ap (difference_from n (with_end line ∷ rest)) (drop_none count))
 step_at (e ∷ expected) zero n line rest = same_step (bytes_eq (with_end line) e) n (difference_from (n + 1) rest expected)
 step_at (e ∷ expected) (suc count) n line rest =
     let next : suc count + 1 ≡ suc (count + 1) = omega arith in
-    ap (λ (k : ℕ). settled (differs_then None (is_line line (slice_get expected count)) n) (difference_from (n + 1) rest (drop k (e ∷ expected)))) next
+    ap (λ (k : ℕ). settled (differs_then None (is_line line (slice_get expected count)) n)
+    (difference_from (n + 1) rest (drop k (e ∷ expected)))) next
     ∙ step_at expected count n line rest
 
 abbrev at : Header → List Event → ℕ → Option ℕ → Compared

@@ -21,12 +21,15 @@ pub record Adds (old new : Digests) (x : List ℕ) : Type 0 where
 one_longer : (ds : List (List ℕ)) (x : List ℕ) (n : ℕ) → n ≡ length ds → n + 1 ≡ length (ds ++ x ∷ [])
 one_longer ds x n e = omega (arith, length-append ds (x ∷ []))
 
-zero_goes : (ds : List (List ℕ)) (old new : Digests) (x : List ℕ) → CountsDigests ds old → Adds old new x → new.zero ≡ zero_in (ds ++ x ∷ [])
+zero_goes : (ds : List (List ℕ)) (old new : Digests) (x : List ℕ) → CountsDigests ds old → Adds old new x
+    → new.zero ≡ zero_in (ds ++ x ∷ [])
 zero_goes ds old new x h a =
-    a.zero ∙ ap (λ (o : Option ℕ). zero_then o x (old.count + 1)) h.zero ∙ ap (λ (n : ℕ). zero_then (zero_in ds) x (n + 1)) h.count ∙ sym (zero_in-push ds x)
+    a.zero ∙ ap (λ (o : Option ℕ). zero_then o x (old.count + 1)) h.zero ∙ ap (λ (n : ℕ). zero_then (zero_in ds) x (n + 1)) h.count
+    ∙ sym (zero_in-push ds x)
 
 pub counts-known : (ds : List (List ℕ)) (old new : Digests) (x : List ℕ) (n : ℕ) → CountsDigests ds old → Adds old new x
-    → number_at old x ≡ Some n → new.firsts ≡ old.firsts → pair_of new.shared ≡ lower (pair_of old.shared) n (old.count + 1) → CountsDigests (ds ++ x ∷ []) new
+    → number_at old x ≡ Some n → new.firsts ≡ old.firsts → pair_of new.shared ≡ lower (pair_of old.shared) n (old.count + 1)
+    → CountsDigests (ds ++ x ∷ []) new
 counts-known ds old new x n h a found same shared = record {
   firsts = λ (d : List ℕ). ap (λ m. tree.get (slice_cmp nat_cmp) m d) same ∙ finds-known (number_at old) ds x n h.firsts found d;
   count = a.count ∙ one_longer ds x old.count h.count;
@@ -36,7 +39,8 @@ counts-known ds old new x n h a found same shared = record {
 }
 
 pub counts-new : (ds : List (List ℕ)) (old new : Digests) (x : List ℕ) → CountsDigests ds old → Adds old new x
-    → number_at old x ≡ None → ((d : List ℕ) → number_at new d ≡ cond (is_eq (slice_cmp nat_cmp x d)) (Some (old.count + 1)) (number_at old d))
+    → number_at old x ≡ None
+    → ((d : List ℕ) → number_at new d ≡ cond (is_eq (slice_cmp nat_cmp x d)) (Some (old.count + 1)) (number_at old d))
     → new.shared ≡ old.shared → CountsDigests (ds ++ x ∷ []) new
 counts-new ds old new x h a none goes same = record {
   firsts = finds-new (number_at old) (number_at new) ds x h.firsts none (λ (d : List ℕ).

@@ -16,7 +16,8 @@ use Rattle.mm_base.specs.Limits.{most_events}
 use Rattle.mm_schedule.specs.declared.event.Event.{Event as CodeEvent}
 use Rattle.mm_module.specs.Meaning.{Meaning}
 use Rattle.mm_modules.specs.Modules.{meaning_of}
-use Rattle.mm_model.specs.Chains.{guard, own_values}
+use Rattle.mm_model.specs.Chains.{guard}
+use Rattle.mm_model.specs.ChainsWords.{own_values}
 use Rattle.mm_model.specs.Instance.{Instance}
 use Rattle.mm_model.specs.History.{History, first_history, total_of}
 use Rattle.mm_schedule.specs.declared.header.Header.{Header}
@@ -26,10 +27,12 @@ use Rattle.mm_schedule.specs.Replies.{lines_of_reply, end_line}
 use Rattle.mm_call.specs.Levels.{by_lists}
 use Rattle.mm_call.specs.Standing.{instance_by}
 use Rattle.mm_run.specs.Folds.{Followed, followed, event_outcome, first_issued, expected}
-use Rattle.mm_run.specs.Held.{world_key, world_barrier, world_of}
+use Rattle.mm_run.specs.Held.{world_of}
+use Rattle.mm_run.specs.HeldWords.{world_key, world_barrier}
 use Rattle.mm_run.specs.Laws.{continued}
 use Rattle.mm_model.specs.Messages.{AreNoGuards}
-use Rattle.mm_run.specs.Premises.{foreign_of, foreign_values, asked_batches, IsGenuineEvent, AreGenuine, AreApart}
+use Rattle.mm_run.specs.Premises.{foreign_of, IsGenuineEvent, AreGenuine}
+use Rattle.mm_run.specs.PremisesWords.{foreign_values, asked_batches, AreApart}
 use Rattle.mm_run.proofs.GoingOn.{goes_on}
 use Rattle.mm_expect.specs.Hears.{Hears}
 use Rattle.mm_expect.specs.Naming.{IsDecided}
@@ -53,7 +56,8 @@ pub record IsHeard (i : Instance) (before : Followed History) (event : Event) (h
   pub genuine : IsDecided heard.is_genuine (IsGenuineEvent i before.state before.issued event)
 
 pub heard_after : (header : Header) (es : List Event) (it : Traced) (e : Event) (heard : Heard) → IsAfter header es it
-    → Hears (world_of it.header) it.history it.issued e heard → IsDecided heard.is_genuine (IsGenuineEvent (world_of header) it.history it.issued e)
+    → Hears (world_of it.header) it.history it.issued e heard
+    → IsDecided heard.is_genuine (IsGenuineEvent (world_of header) it.history it.issued e)
     → IsHeard (world_of header) (expected (world_of header) es) e heard
 heard_after header es it e heard after hears genuine =
     let i = world_of header in
@@ -89,15 +93,19 @@ pub numbered-push : (i : Instance) (es : List Event) (e : Event)
 numbered-push i es e =
     let start = start_message i.variant i.meaning.id ∷ [] in
     ap (λ (l : List (List ℕ)). fold listed start l) (from_push i es e first_history (first_issued i))
-    ∙ fold-append listed start (numbered_from i first_history (first_issued i) es) (numbered_event i (expected i es).state (expected i es).issued e)
+    ∙ fold-append listed start (numbered_from i first_history (first_issued i) es)
+    (numbered_event i (expected i es).state (expected i es).issued e)
 
 pub lines_of_all-append : (xs ys : List Reply) → lines_of_all (xs ++ ys) ≡ lines_of_all xs ++ lines_of_all ys
 lines_of_all-append [] ys = refl
-lines_of_all-append (x ∷ xs) ys = ap (λ (l : List (List ℕ)). lines_of_reply x ++ l) (lines_of_all-append xs ys) ∙ sym (append_assoc (lines_of_reply x) (lines_of_all xs) (lines_of_all ys))
+lines_of_all-append (x ∷ xs) ys =
+    ap (λ (l : List (List ℕ)). lines_of_reply x ++ l) (lines_of_all-append xs ys)
+    ∙ sym (append_assoc (lines_of_reply x) (lines_of_all xs) (lines_of_all ys))
 
 lines-push : (i : Instance) (es : List Event) (e : Event)
     → (let f : Followed History = expected i es in
-    lines_of_all (expected i (es ++ e ∷ [])).replies ≡ lines_of_all f.replies ++ lines_of_reply (event_outcome i (by_lists i) f.state f.issued e).reply)
+    lines_of_all (expected i (es ++ e ∷ [])).replies ≡ lines_of_all f.replies
+    ++ lines_of_reply (event_outcome i (by_lists i) f.state f.issued e).reply)
 lines-push i es e =
     let f = expected i es in
     let said = (event_outcome i (by_lists i) f.state f.issued e).reply in
@@ -158,7 +166,8 @@ any_map p f [] = refl
 any_map p f (x ∷ xs) = ap (λ (b : Bool). p (f x) || b) (any_map p f xs)
 
 -- no event brings a guard
-foreign_apart : (guards : List (List ℕ)) (es : List Event) (d : List ℕ) → first_where (is_secured guards) es ≡ None → Contains (foreign_values es) d
+foreign_apart : (guards : List (List ℕ)) (es : List Event) (d : List ℕ) → first_where (is_secured guards) es ≡ None
+    → Contains (foreign_values es) d
     → list_any (bytes_eq d) guards ≡ true → ⊥
 foreign_apart guards [] d none h is = let few = h.1 in absurd (omega arith)
 foreign_apart guards (e ∷ es) d none h is =
@@ -172,12 +181,13 @@ no_guards : (barrier : List ℕ) (es : List Event) → first_where (is_secured (
     → AreNoGuards barrier (foreign_values es) (asked_batches es)
 no_guards barrier es none d b hd hb same =
     foreign_apart (own_values barrier (asked_batches es)) es d none hd
-    (any_map (bytes_eq d) (guard barrier) (asked_batches es) ∙ any_in (λ c. bytes_eq d (guard barrier c)) (asked_batches es) b hb ((bytes_eq-Decides d (guard barrier b)).1 same))
+    (any_map (bytes_eq d) (guard barrier) (asked_batches es)
+    ∙ any_in (λ c. bytes_eq d (guard barrier c)) (asked_batches es) b hb ((bytes_eq-Decides d (guard barrier b)).1 same))
 
 apart_by : (variant : Variant) (meaning : Meaning) (es : List Event) → secured_by variant world_barrier es ≡ None
     → (let i : Instance = instance_by variant meaning world_key world_barrier in AreApart i.variant i es)
-apart_by Basic meaning es none = tt
-apart_by Opt meaning es none = no_guards world_barrier es none
+apart_by Basic meaning es none = λ is. cc
+apart_by Opt meaning es none = λ is. no_guards world_barrier es none
 
 secured_told : (variant : Variant) (meaning : Meaning) (es : List Event) (n : ℕ) → secured_by variant world_barrier es ≡ Some n
     → (let i : Instance = instance_by variant meaning world_key world_barrier in (i.variant ≡ Opt) × (secured_in i es ≡ Some n))
@@ -186,7 +196,8 @@ secured_told Opt meaning es n is = (refl, is)
 
 decided_by : (variant : Variant) (meaning : Meaning) (es : List Event) (pair : Option (ℕ × ℕ)) (zero secured forged : Option ℕ)
     → (let i : Instance = instance_by variant meaning world_key world_barrier in
-    pair ≡ shared_in (message_digests (numbered i es)) → zero ≡ zero_in (message_digests (numbered i es)) → secured ≡ secured_by variant world_barrier es
+    pair ≡ shared_in (message_digests (numbered i es)) → zero ≡ zero_in (message_digests (numbered i es))
+    → secured ≡ secured_by variant world_barrier es
     → IsFirstForged i es forged → Decides i es (premise_by pair zero secured forged))
 decided_by variant meaning es (Some pair) zero secured forged p z s f = sym p
 decided_by variant meaning es None (Some message) secured forged p z s f = (sym p, sym z)
@@ -201,7 +212,8 @@ decided_by variant meaning es None None None None p z s f =
     let i = instance_by variant meaning world_key world_barrier in
     (record { clear = clear_run i es (sym p) (sym z); apart = apart_by variant meaning es (sym s) }, f)
 
-pub decided : (header : Header) (es : List Event) (it : Deciding) (secured : Option ℕ) → StandsBehind header es it → secured ≡ secured_by header.variant world_barrier es
+pub decided : (header : Header) (es : List Event) (it : Deciding) (secured : Option ℕ) → StandsBehind header es it
+    → secured ≡ secured_by header.variant world_barrier es
     → Decides (world_of header) es (premise_by (pair_of it.numbers.digests.shared) it.numbers.digests.zero secured it.forged)
 decided header es it secured h s =
     decided_by header.variant (meaning_of header.«module») es (pair_of it.numbers.digests.shared) it.numbers.digests.zero secured it.forged
@@ -210,12 +222,15 @@ decided header es it secured h s =
 -- at the first event
 
 start_by : (variant : Variant) (meaning : Meaning)
-    → (let i : Instance = instance_by variant meaning world_key world_barrier in start_message i.variant i.meaning.id ≡ 0 ∷ variant_byte variant ∷ meaning.id ∷ [])
+    → (let i : Instance = instance_by variant meaning world_key world_barrier in start_message i.variant i.meaning.id ≡ 0
+    ∷ variant_byte variant ∷ meaning.id ∷ [])
 start_by Basic meaning = refl
 start_by Opt meaning = refl
 
-pub stands_first : (header : Header) (it : Deciding) (message : List ℕ) → IsAfter header [] it.expecting → Lists (listed [] message) it.numbers
-    → message ≡ 0 ∷ variant_byte header.variant ∷ (meaning_of header.«module»).id ∷ [] → it.lines.items ≡ [] → it.forged ≡ None → StandsBehind header [] it
+pub stands_first : (header : Header) (it : Deciding) (message : List ℕ) → IsAfter header [] it.expecting
+    → Lists (listed [] message) it.numbers
+    → message ≡ 0 ∷ variant_byte header.variant ∷ (meaning_of header.«module»).id ∷ [] → it.lines.items ≡ [] → it.forged ≡ None
+    → StandsBehind header [] it
 stands_first header it message after lists is lines forged =
     let i = world_of header in
     record {
@@ -228,7 +243,8 @@ stands_first header it message after lists is lines forged =
 
 -- at the last one
 
-pub lines_end : (header : Header) (es : List Event) (it : Deciding) (committed issued : ℕ) (lines : List (List ℕ)) → StandsBehind header es it
+pub lines_end : (header : Header) (es : List Event) (it : Deciding) (committed issued : ℕ) (lines : List (List ℕ))
+    → StandsBehind header es it
     → committed ≡ total_of it.expecting.history.batches → issued ≡ length it.expecting.issued
     → lines ≡ it.lines.items ++ end_line committed issued ∷ [] → lines ≡ expected_lines (world_of header) es
 lines_end header es it committed issued lines h n k is =
@@ -242,8 +258,10 @@ lines_end header es it committed issued lines h n k is =
 few_taken : (es : List CodeEvent) (index : ℕ) → length es ≤ most_events → length (take index es) ≤ most_events
 few_taken es index few = omega (arith, few, length-take index es)
 
-pub room_for : (header : Header) (es : List CodeEvent) (index : ℕ) (event : CodeEvent) (it : Deciding) (heard : Heard) → length es ≤ most_events
-    → StandsBehind header (events_of (take index es)) it → IsHeard (world_of header) (expected (world_of header) (events_of (take index es))) (event_of event) heard
+pub room_for : (header : Header) (es : List CodeEvent) (index : ℕ) (event : CodeEvent) (it : Deciding) (heard : Heard)
+    → length es ≤ most_events
+    → StandsBehind header (events_of (take index es)) it
+    → IsHeard (world_of header) (expected (world_of header) (events_of (take index es))) (event_of event) heard
     → it.numbers.digests.count + length heard.messages.items < 4294967295
 room_for header es index event it heard few h hears =
     let i = world_of header in
@@ -258,12 +276,9 @@ room_for header es index event it heard few h hears =
       heard_few i f.state f.issued event,
     )
 
-pub issues_few : (header : Header) (es : List CodeEvent) (index : ℕ) (it : Deciding) → length es ≤ most_events → StandsBehind header (events_of (take index es)) it
-    → length it.expecting.issued < 4294967295
-issues_few header es index it few h = omega (arith, h.few, few_taken es index few, length-map (take index es) event_of)
-
 -- the event of this index was followed
-pub stands_after : (header : Header) (es : List CodeEvent) (index : ℕ) (event : CodeEvent) (old new : Deciding) (heard : Heard) → index < length es → event ≡ get_or es index event
+pub stands_after : (header : Header) (es : List CodeEvent) (index : ℕ) (event : CodeEvent) (old new : Deciding) (heard : Heard)
+    → index < length es → event ≡ get_or es index event
     → StandsBehind header (events_of (take index es)) old
     → IsHeard (world_of header) (expected (world_of header) (events_of (take index es))) (event_of event) heard
     → IsAfter header (events_of (take index es) ++ event_of event ∷ []) new.expecting

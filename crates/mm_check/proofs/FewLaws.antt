@@ -10,7 +10,7 @@ use Rattle.mm_digest.specs.Messages.{zero_bytes, anchored_message, anchored_of, 
 use Rattle.mm_module.specs.Batch.{Batch, normal}
 use Rattle.mm_platform.specs.declared.plan.Meddle.{Meddle}
 use Rattle.mm_platform.specs.declared.plan.Stop.{Stop}
-use Rattle.mm_platform.specs.Standing.{due}
+use Rattle.mm_platform.specs.StandingWords.{due}
 use Rattle.mm_seal.specs.declared.snapshot.Place.{Place}
 use Rattle.mm_seal.specs.declared.snapshot.Place.TheVariants.{Basic as InBasic, Opt as InOpt}
 use Rattle.mm_seal.specs.Snapshot.{Content}
@@ -21,7 +21,8 @@ use Rattle.mm_model.specs.Long.{is_long}
 use Rattle.mm_model.specs.Messages.{moving_messages, form_messages, offer_messages}
 use Rattle.mm_model.specs.Steps.{Step, Reads, Changes, Writes, ask_steps, checkpoint_steps}
 use Rattle.mm_call.specs.Asked.{right_messages}
-use Rattle.mm_call.specs.Courses.{End, Done, Fails, Fate, Walked, made_move, step_moves, after_step, walk}
+use Rattle.mm_call.specs.Courses.{End, Done, Fails, Fate, Walked, step_moves, after_step, walk}
+use Rattle.mm_call.specs.CoursesWords.{made_move}
 use Rattle.mm_call.specs.Found.{right_content}
 use Rattle.mm_call.specs.Levels.{by_lists}
 use Rattle.mm_schedule.specs.declared.event.Event.{Event as CodeEvent}
@@ -30,7 +31,8 @@ use Rattle.mm_schedule.specs.declared.event.Meddles.{Meddles}
 use Rattle.mm_schedule.specs.Events.{Event, Ask, Checkpoint, Power, Extend, event_of, meddles_of}
 use Rattle.mm_run.specs.Offered.{offered_bytes}
 use Rattle.mm_run.specs.Folds.{course_of, event_outcome, first_issued}
-use Rattle.mm_run.specs.Premises.{ask_moves, moves_of, asking_messages, event_messages}
+use Rattle.mm_run.specs.Premises.{moves_of, event_messages}
+use Rattle.mm_run.specs.PremisesWords.{ask_moves, asking_messages}
 use Rattle.mm_expect.specs.Numbered.{messages_if, messages_where, numbered_event}
 use Rattle.mm_check.specs.Listing.{listed}
 use Rattle.mm_check.specs.Numbering.{numbered_from, numbered}
@@ -38,7 +40,8 @@ use Rattle.mm_check.specs.Guards.{events_of}
 
 -- the values before a step
 
-filter_one : {A : Type 0} (here : Bool) (x : A) (xs rest : List A) → length rest ≤ length xs → length (cond here (x ∷ rest) rest) ≤ length (x ∷ xs)
+filter_one : {A : Type 0} (here : Bool) (x : A) (xs rest : List A) → length rest ≤ length xs
+    → length (cond here (x ∷ rest) rest) ≤ length (x ∷ xs)
 filter_one true x xs rest h = omega arith
 filter_one false x xs rest h = omega arith
 
@@ -48,7 +51,13 @@ filter_few p (x ∷ xs) = filter_one (p x) x xs (filter p xs) (filter_few p xs)
 
 due_few : (n : ℕ) (meddles : List Meddle) → length meddles ≤ 8 → length (due n meddles) ≤ 8
 due_few n meddles few =
-    omega (arith, few, length-map (filter (λ (m : Meddle). m.step == n) meddles) (λ (m : Meddle). m.value.bytes), filter_few (λ (m : Meddle). m.step == n) meddles)
+    omega (
+      arith,
+      few,
+      length-map (filter (λ (m : Meddle). m.step == n) meddles) (λ (m : Meddle). m.value.bytes),
+      filter_few
+          (λ (m : Meddle). m.step == n) meddles,
+    )
 
 -- the moves of a walk
 
@@ -58,17 +67,23 @@ made_few false m = omega arith
 
 step_few : (step : Step) (made : Bool) (values : List (List ℕ)) → length values ≤ 8 → length (step_moves step made values) ≤ 9
 step_few Reads made values h = omega (arith, h, length-map values Foreign)
-step_few (Changes m) made values h = omega (arith, h, length-map values Foreign, made_few made m, length-append (map Foreign values) (made_move made m))
-step_few (Writes m) made values h = omega (arith, h, length-map values Foreign, made_few made m, length-append (made_move made m) (map Foreign values))
+step_few (Changes m) made values h =
+    omega (arith, h, length-map values Foreign, made_few made m, length-append (map Foreign values) (made_move made m))
+step_few (Writes m) made values h =
+    omega (arith, h, length-map values Foreign, made_few made m, length-append (made_move made m) (map Foreign values))
 
-ends_few : (step : Step) (values : List (List ℕ)) (ends : End) (rest : Walked) (steps : List Step) → length values ≤ 8 → length rest.moves ≤ 9 * length steps
+ends_few : (step : Step) (values : List (List ℕ)) (ends : End) (rest : Walked) (steps : List Step) → length values ≤ 8
+    → length rest.moves ≤ 9 * length steps
     → length (after_step step values ends rest).moves ≤ 9 * length (step ∷ steps)
-ends_few step values Done rest steps h k = omega (arith, h, k, step_few step true values h, length-append (step_moves step true values) rest.moves)
+ends_few step values Done rest steps h k =
+    omega (arith, h, k, step_few step true values h, length-append (step_moves step true values) rest.moves)
 ends_few step values (Fails fault made) rest steps h k = omega (arith, h, k, step_few step made values h)
 
-walk_few : (fates : ℕ → Fate) → ((n : ℕ) → length (fates n).brings ≤ 8) → (steps : List Step) (n : ℕ) → length (walk fates n steps).moves ≤ 9 * length steps
+walk_few : (fates : ℕ → Fate) → ((n : ℕ) → length (fates n).brings ≤ 8) → (steps : List Step) (n : ℕ)
+    → length (walk fates n steps).moves ≤ 9 * length steps
 walk_few fates h [] n = omega arith
-walk_few fates h (step ∷ steps) n = ends_few step (fates n).brings (fates n).ends (walk fates (n + 1) steps) steps (h n) (walk_few fates h steps (n + 1))
+walk_few fates h (step ∷ steps) n =
+    ends_few step (fates n).brings (fates n).ends (walk fates (n + 1) steps) steps (h n) (walk_few fates h steps (n + 1))
 
 ask_few : (variant : Variant) (flag fresh : Bool) (b : Batch) → length (ask_steps variant flag fresh b) ≤ 5
 ask_few Basic flag true b = omega arith
@@ -84,7 +99,8 @@ close_few Opt false zero = omega arith
 close_few Opt true true = omega arith
 close_few Opt true false = omega arith
 
-walked_few : (stop : Stop) (meddles : List Meddle) (steps : List Step) → length meddles ≤ 8 → length steps ≤ 5 → length (walk (course_of stop meddles).fates 1 steps).moves ≤ 45
+walked_few : (stop : Stop) (meddles : List Meddle) (steps : List Step) → length meddles ≤ 8 → length steps ≤ 5
+    → length (walk (course_of stop meddles).fates 1 steps).moves ≤ 45
 walked_few stop meddles steps few h = omega (arith, h, walk_few (course_of stop meddles).fates (λ n. due_few n meddles few) steps 1)
 
 -- an event with few meddles
@@ -102,11 +118,14 @@ asked_few : (i : Instance) (y : History) (meddles : List Meddle) (stop : Stop) (
     → length (ask_moves i y meddles stop bytes b) ≤ 45
 asked_few i y meddles stop None b few = omega arith
 asked_few i y meddles stop (Some bytes) b few =
-    long_few (is_long b) _ (walked_few stop meddles (ask_steps i.variant y.is_open _ (normal b)) few (ask_few i.variant y.is_open _ (normal b)))
+    long_few (is_long b) _
+    (walked_few stop meddles (ask_steps i.variant y.is_open _ (normal b)) few (ask_few i.variant y.is_open _ (normal b)))
 
-moves_few : (i : Instance) (y : History) (issued : List (List ℕ)) (event : Event) → FewMeddles event → length (moves_of i y issued event) ≤ 45
+moves_few : (i : Instance) (y : History) (issued : List (List ℕ)) (event : Event) → FewMeddles event
+    → length (moves_of i y issued event) ≤ 45
 moves_few i y issued (Ask meddles stop offer b) few = asked_few i y meddles stop (offered_bytes issued offer) b few
-moves_few i y issued (Checkpoint meddles stop) few = walked_few stop meddles (checkpoint_steps i.variant y.is_open _) few (close_few i.variant y.is_open _)
+moves_few i y issued (Checkpoint meddles stop) few =
+    walked_few stop meddles (checkpoint_steps i.variant y.is_open _) few (close_few i.variant y.is_open _)
 moves_few i y issued Power few = omega arith
 moves_few i y issued (Extend value) few = omega arith
 
@@ -151,7 +170,8 @@ where_few closing i y (m ∷ moves) =
       length-append (messages_if closing i y m) (messages_where closing i (moved i y m) moves),
     )
 
-second_few : (none : Bool) (a e v : List ℕ) → length (form_messages a e v ++ cond none [] (anchored_message a e ∷ form_messages (anchored_of a e) zero_bytes v)) ≤ 5
+second_few : (none : Bool) (a e v : List ℕ)
+    → length (form_messages a e v ++ cond none [] (anchored_message a e ∷ form_messages (anchored_of a e) zero_bytes v)) ≤ 5
 second_few true a e v = omega arith
 second_few false a e v = omega arith
 
@@ -169,7 +189,8 @@ short_few false xs h = h
 
 asking_few : (i : Instance) (bytes : Option (List ℕ)) (b : Batch) → length (asking_messages i bytes b) ≤ 6
 asking_few i None b = omega arith
-asking_few i (Some bytes) b = short_few (is_long b) (right_messages i (normal b) (right_content i bytes)) (right_few i (normal b) (right_content i bytes))
+asking_few i (Some bytes) b =
+    short_few (is_long b) (right_messages i (normal b) (right_content i bytes)) (right_few i (normal b) (right_content i bytes))
 
 asks_few : (i : Instance) (issued : List (List ℕ)) (event : Event) → length (event_messages i issued event) ≤ 6
 asks_few i issued (Ask meddles stop offer b) = asking_few i (offered_bytes issued offer) b
@@ -177,7 +198,8 @@ asks_few i issued (Checkpoint meddles stop) = omega arith
 asks_few i issued Power = omega arith
 asks_few i issued (Extend value) = omega arith
 
-event_few : (i : Instance) (y : History) (issued : List (List ℕ)) (event : Event) → FewMeddles event → length (numbered_event i y issued event) ≤ 96
+event_few : (i : Instance) (y : History) (issued : List (List ℕ)) (event : Event) → FewMeddles event
+    → length (numbered_event i y issued event) ≤ 96
 event_few i y issued event few =
     let moves = moves_of i y issued event in
     let asks = event_messages i issued event in
@@ -203,10 +225,12 @@ code_few (code.Checkpoint meddles stop) = counted_few meddles
 code_few code.Power = tt
 code_few (code.Extend value) = tt
 
-pub heard_few : (i : Instance) (y : History) (issued : List (List ℕ)) (event : CodeEvent) → length (numbered_event i y issued (event_of event)) ≤ 96
+pub heard_few : (i : Instance) (y : History) (issued : List (List ℕ)) (event : CodeEvent)
+    → length (numbered_event i y issued (event_of event)) ≤ 96
 heard_few i y issued event = event_few i y issued (event_of event) (code_few event)
 
-from_few : (i : Instance) (y : History) (issued : List (List ℕ)) (events : List CodeEvent) → length (numbered_from i y issued (events_of events)) ≤ 96 * length events
+from_few : (i : Instance) (y : History) (issued : List (List ℕ)) (events : List CodeEvent)
+    → length (numbered_from i y issued (events_of events)) ≤ 96 * length events
 from_few i y issued [] = omega arith
 from_few i y issued (event ∷ events) =
     let o = event_outcome i (by_lists i) y issued (event_of event) in

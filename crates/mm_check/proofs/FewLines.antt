@@ -13,20 +13,23 @@ use Rattle.mm_model.specs.Instance.{Instance}
 use Rattle.mm_model.specs.History.{History, Move, requests_of, total_of, first_history}
 use Rattle.mm_model.specs.Long.{is_long}
 use Rattle.mm_model.specs.declared.refusal.Refusal.{Refusal}
-use Rattle.mm_call.specs.Answers.{last_outputs}
+use Rattle.mm_call.specs.AnswersWords.{last_outputs}
 use Rattle.mm_call.specs.Courses.{Course, Walked, walk, commits}
-use Rattle.mm_call.specs.Found.{Found, found_at, found_unless_wanting, is_fresh}
+use Rattle.mm_call.specs.Found.{Found, found_at}
+use Rattle.mm_call.specs.FoundWords.{found_unless_wanting, is_fresh}
 use Rattle.mm_model.specs.Steps.{ask_steps}
 use Rattle.mm_schedule.specs.declared.reply.Reply.TheVariants as reply
 use Rattle.mm_schedule.specs.declared.reply.Cause.TheVariants as cause
 use Rattle.mm_call.specs.Levels.{by_lists, all_made}
-use Rattle.mm_call.specs.Called.{ended_by, position_of, kept_at, seen_at, called}
+use Rattle.mm_call.specs.Called.{ended_by, position_of, seen_at, called}
+use Rattle.mm_call.specs.CalledWords.{kept_at}
 use Rattle.mm_call.specs.Checkpoints.{Closing, Closes, HasNone, NoSegment, LostPower, Stops, checkpointed}
 use Rattle.mm_schedule.specs.Events.{Event, Ask, Checkpoint, Power, Extend}
 use Rattle.mm_schedule.specs.Replies.{told_lines, lines_of_reply, end_line}
 use Rattle.mm_schedule.specs.declared.reply.Way.{Way}
 use Rattle.mm_run.specs.Offered.{offered_bytes}
-use Rattle.mm_run.specs.Folds.{way_of, course_of, reply_of, broken_reply, closing_reply, uncalled, outcome_by, asked, event_outcome, followed, first_issued, expected}
+use Rattle.mm_run.specs.Folds.{way_of, course_of, reply_of, closing_reply, uncalled, outcome_by, asked, event_outcome, followed, first_issued, expected}
+use Rattle.mm_run.specs.FoldsWords.{broken_reply}
 use Rattle.mm_run.proofs.Counting.{short_size}
 use Rattle.mm_check.specs.Numbering.{lines_of_all, expected_lines}
 
@@ -43,13 +46,21 @@ broken_few : (how : Way) (kept : Option ℕ) → length (lines_of_reply (broken_
 broken_few how None = omega arith
 broken_few how (Some position) = omega arith
 
-ended_few : (i : Instance) (seen y : History) (how : Way) (b : Batch) (found : Result Found Refusal) (moves : List Move) (broken : Option StepFault) → size_of b ≤ most_members
+ended_few : (i : Instance) (seen y : History) (how : Way) (b : Batch) (found : Result Found Refusal) (moves : List Move)
+    (broken : Option StepFault) → size_of b ≤ most_members
     → length (lines_of_reply (reply_of how (ended_by (by_lists i) seen y b found moves broken))) ≤ most_members
-ended_few i seen y how b (Err why) moves (Some fault) h = broken_few how (kept_at (commits moves) (position_of (by_lists i) seen y b (Err why)))
+ended_few i seen y how b (Err why) moves (Some fault) h =
+    broken_few how (kept_at (commits moves) (position_of (by_lists i) seen y b (Err why)))
 ended_few i seen y how b (Ok it) moves (Some fault) h = broken_few how (kept_at (commits moves) (position_of (by_lists i) seen y b (Ok it)))
 ended_few i seen y how b (Err why) moves None h = omega arith
 ended_few i seen y how b (Ok it) moves None h =
-    omega (arith, h, last_few i y (size_of b), told_length it.again (total_of y.batches - length (last_outputs i.meaning y (size_of b))) (last_outputs i.meaning y (size_of b)))
+    omega (
+      arith,
+      h,
+      last_few i y (size_of b),
+      told_length it.again (total_of y.batches - length (last_outputs i.meaning y (size_of b)))
+          (last_outputs i.meaning y (size_of b)),
+    )
 
 called_few : (i : Instance) (y : History) (how : Way) (c : Course) (bytes : List ℕ) (b : Batch) → size_of b ≤ most_members
     → length (lines_of_reply (reply_of how (called i (by_lists i) y c bytes b).ending)) ≤ most_members
@@ -59,12 +70,16 @@ called_few i y how c bytes b h =
     let w : Walked = walk c.fates 1 (ask_steps i.variant y.is_open (is_fresh found) b) in
     ended_few i seen (all_made (by_lists i) y w.moves) how b found w.moves w.broken h
 
-long_few : (i : Instance) (y : History) (issued : List (List ℕ)) (meddles : List Meddle) (stop : Stop) (bytes : List ℕ) (b : Batch) (long : Bool) → is_long b ≡ long
-    → length (lines_of_reply (if long then uncalled y issued (reply.No cause.Long) else outcome_by (by_lists i) stop issued (called i (by_lists i) y (course_of stop meddles) bytes (normal b))).reply) ≤ most_members
+long_few : (i : Instance) (y : History) (issued : List (List ℕ)) (meddles : List Meddle) (stop : Stop) (bytes : List ℕ) (b : Batch)
+    (long : Bool) → is_long b ≡ long
+    → length (lines_of_reply
+    (if long then uncalled y issued (reply.No cause.Long) else outcome_by (by_lists i) stop issued
+    (called i (by_lists i) y (course_of stop meddles) bytes (normal b))).reply) ≤ most_members
 long_few i y issued meddles stop bytes b true e = omega arith
 long_few i y issued meddles stop bytes b false e = called_few i y (way_of stop) (course_of stop meddles) bytes (normal b) (short_size b e)
 
-asked_few : (i : Instance) (y : History) (issued : List (List ℕ)) (meddles : List Meddle) (stop : Stop) (bytes : Option (List ℕ)) (b : Batch)
+asked_few : (i : Instance) (y : History) (issued : List (List ℕ)) (meddles : List Meddle) (stop : Stop) (bytes : Option (List ℕ))
+    (b : Batch)
     → length (lines_of_reply (asked i (by_lists i) y issued meddles stop bytes b).reply) ≤ most_members
 asked_few i y issued meddles stop None b = omega arith
 asked_few i y issued meddles stop (Some bytes) b = long_few i y issued meddles stop bytes b (is_long b) refl
@@ -77,13 +92,16 @@ closing_few how LostPower = omega arith
 closing_few how (Stops fault true) = omega arith
 closing_few how (Stops fault false) = omega arith
 
-event_lines_few : (i : Instance) (y : History) (issued : List (List ℕ)) (event : Event) → length (lines_of_reply (event_outcome i (by_lists i) y issued event).reply) ≤ most_members
+event_lines_few : (i : Instance) (y : History) (issued : List (List ℕ)) (event : Event)
+    → length (lines_of_reply (event_outcome i (by_lists i) y issued event).reply) ≤ most_members
 event_lines_few i y issued (Ask meddles stop offer b) = asked_few i y issued meddles stop (offered_bytes issued offer) b
-event_lines_few i y issued (Checkpoint meddles stop) = closing_few (way_of stop) (checkpointed i (by_lists i) y (course_of stop meddles)).ending
+event_lines_few i y issued (Checkpoint meddles stop) =
+    closing_few (way_of stop) (checkpointed i (by_lists i) y (course_of stop meddles)).ending
 event_lines_few i y issued Power = omega arith
 event_lines_few i y issued (Extend value) = omega arith
 
-replies_few : (i : Instance) (events : List Event) (y : History) (issued : List (List ℕ)) → length (lines_of_all (followed i (by_lists i) y issued events).replies) ≤ most_members * length events
+replies_few : (i : Instance) (events : List Event) (y : History) (issued : List (List ℕ))
+    → length (lines_of_all (followed i (by_lists i) y issued events).replies) ≤ most_members * length events
 replies_few i [] y issued = omega arith
 replies_few i (event ∷ events) y issued =
     let o = event_outcome i (by_lists i) y issued event in
@@ -96,4 +114,9 @@ replies_few i (event ∷ events) y issued =
 
 pub expected_few : (i : Instance) (events : List Event) → length (expected_lines i events) ≤ most_members * length events + 1
 expected_few i events =
-    omega (arith, replies_few i events first_history (first_issued i), length-append (lines_of_all (expected i events).replies) (end_line (total_of (expected i events).state.batches) (length (expected i events).issued) ∷ []))
+    omega (
+      arith,
+      replies_few i events first_history (first_issued i),
+      length-append (lines_of_all (expected i events).replies)
+          (end_line (total_of (expected i events).state.batches) (length (expected i events).issued) ∷ []),
+    )

@@ -11,15 +11,18 @@ use Rattle.mm_digest.specs.declared.variant.Variant.{Variant}
 use Rattle.mm_digest.specs.declared.variant.Variant.TheVariants.{Basic, Opt}
 use Rattle.mm_digest.specs.Messages.{zero_bytes, start_message}
 use Rattle.mm_module.specs.Batch.{Batch}
-use Rattle.mm_model.specs.Chains.{guard, own_values}
+use Rattle.mm_model.specs.Chains.{guard}
+use Rattle.mm_model.specs.ChainsWords.{own_values}
 use Rattle.mm_model.specs.Instance.{Instance}
 use Rattle.mm_model.specs.History.{History, Move, moved, first_history}
-use Rattle.mm_model.specs.Messages.{IsClear, move_messages}
+use Rattle.mm_model.specs.Messages.{IsClear}
+use Rattle.mm_model.specs.MessagesWords.{move_messages}
 use Rattle.mm_call.specs.Asked.{moves_messages}
 use Rattle.mm_call.specs.Levels.{by_lists}
 use Rattle.mm_schedule.specs.Events.{Event}
 use Rattle.mm_run.specs.Folds.{Followed, followed, event_outcome, first_issued}
-use Rattle.mm_run.specs.Premises.{event_messages, moves_of, messages_from, run_messages, foreign_of, foreign_values, asked_batches, AreApart, IsGenuineEvent, AreGenuine, IsGenuineRun}
+use Rattle.mm_run.specs.Premises.{event_messages, moves_of, messages_from, foreign_of, IsGenuineEvent, AreGenuine, IsGenuineRun}
+use Rattle.mm_run.specs.PremisesWords.{run_messages, foreign_values, asked_batches, AreApart}
 use Rattle.mm_expect.specs.Numbered.{messages_where, numbered_event}
 use Rattle.mm_check.specs.Listing.{first_where, listed, message_digests, shared_with, shared_in, is_zero, zero_in}
 use Rattle.mm_check.specs.Numbering.{numbered_from, numbered, is_secured, IsForgedAt, Decides}
@@ -40,7 +43,8 @@ once_push [] x once new = (λ h. none_in x h, tt)
 once_push (y ∷ xs) x once new = (
   λ h. elim (Contains-append_cases xs (x ∷ []) y h) [
     | inl before ↦ once.0 before
-    | inr last ↦ elim (cons_cases x [] y last) [ inl same ↦ new (subst (λ (l : List ℕ). Contains (y ∷ xs) l) (sym same) (first_in y xs)) | inr none ↦ none_in y none ]
+    | inr last ↦ elim (cons_cases x [] y last)
+        [ inl same ↦ new (subst (λ (l : List ℕ). Contains (y ∷ xs) l) (sym same) (first_in y xs)) | inr none ↦ none_in y none ]
   ],
   once_push xs x once.1 (λ h. new (Contains-append_right (y ∷ []) xs x h)),
 )
@@ -59,7 +63,8 @@ any_there (y ∷ seen) x h = elim (cons_cases y seen x h) [
     or_right true b e = refl
     or_right false b e = e
 
-listed_once : (seen : List (List ℕ)) (x : List ℕ) (has : Bool) → list_any (bytes_eq x) seen ≡ has → IsOnce seen → IsOnce (cond has seen (seen ++ x ∷ []))
+listed_once : (seen : List (List ℕ)) (x : List ℕ) (has : Bool) → list_any (bytes_eq x) seen ≡ has → IsOnce seen
+    → IsOnce (cond has seen (seen ++ x ∷ []))
 listed_once seen x true e once = once
 listed_once seen x false e once = once_push seen x once (λ h. true_false (list_any (bytes_eq x) seen) (any_there seen x h) e)
 
@@ -73,11 +78,13 @@ found_more : (o : Option ℕ) (n : ℕ) → option_map (λ k. k + 1) o ≡ Some 
 found_more (Some k) n h = (k, refl)
 found_more None n h = absurd (cc)
 
-found_here : (here : Bool) (o : Option ℕ) (n : ℕ) → (let w : Option ℕ = cond here (Some 1) (option_map (λ k. k + 1) o) in w ≡ Some n) → (here ≡ true) ⊎ ((k : ℕ) × (o ≡ Some k))
+found_here : (here : Bool) (o : Option ℕ) (n : ℕ) → (let w : Option ℕ = cond here (Some 1) (option_map (λ k. k + 1) o) in w ≡ Some n)
+    → (here ≡ true) ⊎ ((k : ℕ) × (o ≡ Some k))
 found_here true o n h = inl refl
 found_here false o n h = inr (found_more o n h)
 
-found_some : (p : List ℕ → Bool) (ms : List (List ℕ)) (n : ℕ) → first_where p (message_digests ms) ≡ Some n → (m : List ℕ) × Contains ms m × (p (sha256 m) ≡ true)
+found_some : (p : List ℕ → Bool) (ms : List (List ℕ)) (n : ℕ) → first_where p (message_digests ms) ≡ Some n
+    → (m : List ℕ) × Contains ms m × (p (sha256 m) ≡ true)
 found_some p [] n h = absurd (cc)
 found_some p (x ∷ ms) n h = elim (found_here (p (sha256 x)) (first_where p (message_digests ms)) n h) [
   | inl here ↦ (x, Contains-append_left (x ∷ []) ms x (Contains-push [] x), here)
@@ -110,7 +117,8 @@ clear_no_zero ms clear = none_or (zero_in (message_digests ms)) (λ n h.
 
 -- what is listed is a message of the run
 
-part_in : (closing : Bool) (here later : List (List ℕ)) (ext clo : List (List ℕ)) → IsIn (ext ++ clo) later → IsIn (cond closing [] here ++ ext ++ (cond closing here [] ++ clo)) (here ++ later)
+part_in : (closing : Bool) (here later : List (List ℕ)) (ext clo : List (List ℕ)) → IsIn (ext ++ clo) later
+    → IsIn (cond closing [] here ++ ext ++ (cond closing here [] ++ clo)) (here ++ later)
 part_in true here later ext clo rest m h = elim (Contains-append_cases ([] ++ ext) (here ++ clo) m h) [
   | inl e ↦ Contains-append_right here later m (rest m (Contains-append_left ext clo m e))
   | inr b ↦ elim (Contains-append_cases here clo m b) [
@@ -126,7 +134,8 @@ part_in false here later ext clo rest m h = elim (Contains-append_cases (here ++
   ]
 ]
 
-parts_in : (i : Instance) (moves : List Move) (y : History) → IsIn (messages_where false i y moves ++ messages_where true i y moves) (moves_messages i y moves)
+parts_in : (i : Instance) (moves : List Move) (y : History)
+    → IsIn (messages_where false i y moves ++ messages_where true i y moves) (moves_messages i y moves)
 parts_in i [] y m h = absurd (none_in m h)
 parts_in i (v ∷ moves) y m h =
     let ext = messages_where false i (moved i y v) moves in
@@ -144,7 +153,8 @@ event_back i y issued event m h =
       | inr b ↦ Contains-append_right asks (moves_messages i y moves) m (parts_in i moves y m b)
     ]
 
-events_back : (i : Instance) (events : List Event) (y : History) (issued : List (List ℕ)) → IsIn (numbered_from i y issued events) (messages_from i y issued events)
+events_back : (i : Instance) (events : List Event) (y : History) (issued : List (List ℕ))
+    → IsIn (numbered_from i y issued events) (messages_from i y issued events)
 events_back i [] y issued m h = absurd (none_in m h)
 events_back i (event ∷ events) y issued m h =
     let o = event_outcome i (by_lists i) y issued event in
@@ -184,7 +194,9 @@ clear_numbers i events clear = clear_of_fewer (numbered i events) (run_messages 
 unshared : (i : Instance) (events : List Event) → IsClear (run_messages i events) → shared_in (message_digests (numbered i events)) ≡ None
 unshared i events clear =
     let start = start_message i.variant i.meaning.id in
-    clear_none (numbered i events) (all_once (numbered_from i first_history (first_issued i) events) (start ∷ []) (λ h. none_in start h, tt)) (clear_numbers i events clear)
+    clear_none (numbered i events)
+    (all_once (numbered_from i first_history (first_issued i) events) (start ∷ []) (λ h. none_in start h, tt))
+    (clear_numbers i events clear)
 
 no_zero : (i : Instance) (events : List Event) → IsClear (run_messages i events) → zero_in (message_digests (numbered i events)) ≡ None
 no_zero i events clear = clear_no_zero (numbered i events) (clear_numbers i events clear)
@@ -192,7 +204,8 @@ no_zero i events clear = clear_no_zero (numbered i events) (clear_numbers i even
 -- what others bring
 
 any_first : (p : List ℕ → Bool) (x : List ℕ) (xs : List (List ℕ)) (here : Bool) → p x ≡ here
-    → (list_any p xs ≡ true → (y : List ℕ) × Contains xs y × (p y ≡ true)) → (here || list_any p xs) ≡ true → (y : List ℕ) × Contains (x ∷ xs) y × (p y ≡ true)
+    → (list_any p xs ≡ true → (y : List ℕ) × Contains xs y × (p y ≡ true)) → (here || list_any p xs) ≡ true
+    → (y : List ℕ) × Contains (x ∷ xs) y × (p y ≡ true)
 any_first p x xs true e later g = (x, Contains-append_left (x ∷ []) xs x (Contains-push [] x), e)
 any_first p x xs false e later g = let f = later g in (f.0, Contains-append_right (x ∷ []) xs f.0 f.1, f.2)
 
@@ -203,10 +216,12 @@ any_some p (x ∷ xs) h = any_first p x xs (p x) refl (any_some p xs) h
 guard_first : (barrier d : List ℕ) (b : Batch) (batches : List Batch) (here : Bool) → bytes_eq d (guard barrier b) ≡ here
     → (list_any (bytes_eq d) (own_values barrier batches) ≡ true → (c : Batch) × Contains batches c × (d ≡ guard barrier c))
     → (here || list_any (bytes_eq d) (own_values barrier batches)) ≡ true → (c : Batch) × Contains (b ∷ batches) c × (d ≡ guard barrier c)
-guard_first barrier d b batches true e later g = (b, Contains-append_left (b ∷ []) batches b (Contains-push [] b), (bytes_eq-Decides d (guard barrier b)).0 e)
+guard_first barrier d b batches true e later g =
+    (b, Contains-append_left (b ∷ []) batches b (Contains-push [] b), (bytes_eq-Decides d (guard barrier b)).0 e)
 guard_first barrier d b batches false e later g = let f = later g in (f.0, Contains-append_right (b ∷ []) batches f.0 f.1, f.2)
 
-guard_some : (barrier d : List ℕ) (batches : List Batch) → list_any (bytes_eq d) (own_values barrier batches) ≡ true → (b : Batch) × Contains batches b × (d ≡ guard barrier b)
+guard_some : (barrier d : List ℕ) (batches : List Batch) → list_any (bytes_eq d) (own_values barrier batches) ≡ true
+    → (b : Batch) × Contains batches b × (d ≡ guard barrier b)
 guard_some barrier d [] h = absurd (cc)
 guard_some barrier d (b ∷ batches) h = guard_first barrier d b batches (bytes_eq d (guard barrier b)) refl (guard_some barrier d batches) h
 
@@ -226,11 +241,12 @@ apart_none Basic i es apart = refl
 apart_none Opt i es apart = none_or (secured_by Opt i.barrier es) (λ n h.
     let f = secured_some (own_values i.barrier (asked_batches es)) es n h in
     let g = guard_some i.barrier f.0 (asked_batches es) f.2 in
-    apart f.0 g.0 f.1 g.1 g.2)
+    apart refl f.0 g.0 f.1 g.1 g.2)
 
 -- the first event that isn't genuine
 
-genuine_at : (i : Instance) (before : List Event) (e : Event) (after : List Event) (y : History) (issued : List (List ℕ)) → AreGenuine i y issued (before ++ e ∷ after)
+genuine_at : (i : Instance) (before : List Event) (e : Event) (after : List Event) (y : History) (issued : List (List ℕ))
+    → AreGenuine i y issued (before ++ e ∷ after)
     → (let f : Followed History = followed i (by_lists i) y issued before in IsGenuineEvent i f.state f.issued e)
 genuine_at i [] e after y issued h = h.0
 genuine_at i (x ∷ before) e after y issued h =
@@ -251,7 +267,8 @@ earlier (y ∷ b) e a (x ∷ c) f d h less =
     let r = earlier b e a c f d later (omega arith) in
     (r.0, ap (λ (z : Event). z ∷ c) same ∙ ap (λ (l : List Event). y ∷ l) r.1)
 
-not_before : (i : Instance) (es : List Event) (m n : ℕ) (h : IsForgedAt i es m) (k : IsForgedAt i es n) → length h.before < length k.before → ⊥
+not_before : (i : Instance) (es : List Event) (m n : ℕ) (h : IsForgedAt i es m) (k : IsForgedAt i es n) → length h.before < length k.before
+    → ⊥
 not_before i es m n h k less =
     let r = earlier h.before h.event h.after k.before k.event k.after (sym h.split ∙ k.split) less in
     h.forged (genuine_at i h.before h.event r.0 first_history (first_issued i)
@@ -275,17 +292,22 @@ first_same i es (Some m) (Some n) h k = ap Some (same_number i es m n h k)
 -- what is told follows from these facts
 record Facts (i : Instance) (es : List Event) (p : Premise) : Type 0 where
   forged : Option ℕ
-  is : p ≡ premise_by (shared_in (message_digests (numbered i es))) (zero_in (message_digests (numbered i es))) (secured_by i.variant i.barrier es) forged
-  first : shared_in (message_digests (numbered i es)) ≡ None → zero_in (message_digests (numbered i es)) ≡ None → secured_by i.variant i.barrier es ≡ None → IsFirstForged i es forged
+  is : p ≡ premise_by (shared_in (message_digests (numbered i es))) (zero_in (message_digests (numbered i es)))
+      (secured_by i.variant i.barrier es) forged
+  first : shared_in (message_digests (numbered i es)) ≡ None → zero_in (message_digests (numbered i es)) ≡ None
+      → secured_by i.variant i.barrier es ≡ None → IsFirstForged i es forged
 
 some_none : {A : Type 0} (o : Option A) (x : A) → o ≡ Some x → o ≡ None → ⊥
 some_none o x s n = cc
 
-told_shared : (pair : Option (ℕ × ℕ)) (nought secured forged : Option ℕ) (first second : ℕ) → pair ≡ Some (first, second) → Shared first second ≡ premise_by pair nought secured forged
+told_shared : (pair : Option (ℕ × ℕ)) (nought secured forged : Option ℕ) (first second : ℕ) → pair ≡ Some (first, second)
+    → Shared first second ≡ premise_by pair nought secured forged
 told_shared pair nought secured forged first second e = sym (ap (λ (o : Option (ℕ × ℕ)). premise_by o nought secured forged) e)
 
-told_zero : (pair : Option (ℕ × ℕ)) (nought secured forged : Option ℕ) (m : ℕ) → pair ≡ None → nought ≡ Some m → Zero m ≡ premise_by pair nought secured forged
-told_zero pair nought secured forged m p z = sym (ap (λ (o : Option (ℕ × ℕ)). premise_by o nought secured forged) p ∙ ap (λ (o : Option ℕ). premise_by None o secured forged) z)
+told_zero : (pair : Option (ℕ × ℕ)) (nought secured forged : Option ℕ) (m : ℕ) → pair ≡ None → nought ≡ Some m
+    → Zero m ≡ premise_by pair nought secured forged
+told_zero pair nought secured forged m p z =
+    sym (ap (λ (o : Option (ℕ × ℕ)). premise_by o nought secured forged) p ∙ ap (λ (o : Option ℕ). premise_by None o secured forged) z)
 
 told_later : (pair : Option (ℕ × ℕ)) (nought secured found forged : Option ℕ) → pair ≡ None → nought ≡ None → secured ≡ found
     → premise_by None None found forged ≡ premise_by pair nought secured forged
@@ -293,38 +315,49 @@ told_later pair nought secured found forged p z s =
     sym (ap (λ (o : Option (ℕ × ℕ)). premise_by o nought secured forged) p ∙ ap (λ (o : Option ℕ). premise_by None o secured forged) z
     ∙ ap (λ (o : Option ℕ). premise_by None None o forged) s)
 
-secured_opt : (variant : Variant) (barrier : List ℕ) (es : List Event) (n : ℕ) → variant ≡ Opt → first_where (is_secured (own_values barrier (asked_batches es))) es ≡ Some n
+secured_opt : (variant : Variant) (barrier : List ℕ) (es : List Event) (n : ℕ) → variant ≡ Opt
+    → first_where (is_secured (own_values barrier (asked_batches es))) es ≡ Some n
     → secured_by variant barrier es ≡ Some n
 secured_opt variant barrier es n is h = ap (λ (v : Variant). secured_by v barrier es) is ∙ h
 
 facts_of : (i : Instance) (es : List Event) (p : Premise) → Decides i es p → Facts i es p
 facts_of i es (Shared first second) h = record {
   forged = None;
-  is = told_shared (shared_in (message_digests (numbered i es))) (zero_in (message_digests (numbered i es))) (secured_by i.variant i.barrier es) None first second h;
+  is =
+      told_shared (shared_in (message_digests (numbered i es))) (zero_in (message_digests (numbered i es)))
+      (secured_by i.variant i.barrier es) None first second h;
   first = λ s z g. absurd (some_none (shared_in (message_digests (numbered i es))) (first, second) h s);
 }
 facts_of i es (Zero message) h = record {
   forged = None;
-  is = told_zero (shared_in (message_digests (numbered i es))) (zero_in (message_digests (numbered i es))) (secured_by i.variant i.barrier es) None message h.0 h.1;
+  is =
+      told_zero (shared_in (message_digests (numbered i es))) (zero_in (message_digests (numbered i es)))
+      (secured_by i.variant i.barrier es) None message h.0 h.1;
   first = λ s z g. absurd (some_none (zero_in (message_digests (numbered i es))) message h.1 z);
 }
 facts_of i es (Secured event) h =
     let sec = secured_opt i.variant i.barrier es event h.1 h.2 in
     record {
       forged = None;
-      is = told_later (shared_in (message_digests (numbered i es))) (zero_in (message_digests (numbered i es))) (secured_by i.variant i.barrier es) (Some event) None
+      is =
+          told_later (shared_in (message_digests (numbered i es))) (zero_in (message_digests (numbered i es)))
+          (secured_by i.variant i.barrier es) (Some event) None
           (unshared i es h.0) (no_zero i es h.0) sec;
       first = λ s z g. absurd (some_none (secured_by i.variant i.barrier es) event sec g);
     }
 facts_of i es (Forged event) h = record {
   forged = Some event;
-  is = told_later (shared_in (message_digests (numbered i es))) (zero_in (message_digests (numbered i es))) (secured_by i.variant i.barrier es) None (Some event)
+  is =
+      told_later (shared_in (message_digests (numbered i es))) (zero_in (message_digests (numbered i es)))
+      (secured_by i.variant i.barrier es) None (Some event)
       (unshared i es h.0.clear) (no_zero i es h.0.clear) (apart_none i.variant i es h.0.apart);
   first = λ s z g. h.1;
 }
 facts_of i es Held h = record {
   forged = None;
-  is = told_later (shared_in (message_digests (numbered i es))) (zero_in (message_digests (numbered i es))) (secured_by i.variant i.barrier es) None None
+  is =
+      told_later (shared_in (message_digests (numbered i es))) (zero_in (message_digests (numbered i es)))
+      (secured_by i.variant i.barrier es) None None
       (unshared i es h.0.clear) (no_zero i es h.0.clear) (apart_none i.variant i es h.0.apart);
   first = λ s z g. h.1;
 }
@@ -340,6 +373,7 @@ pub premise_fixed : (i : Instance) (es : List Event) (p q : Premise) → Decides
 premise_fixed i es p q hp hq =
     let a = facts_of i es p hp in
     let b = facts_of i es q hq in
-    a.is ∙ same_premise (shared_in (message_digests (numbered i es))) (zero_in (message_digests (numbered i es))) (secured_by i.variant i.barrier es) a.forged b.forged
+    a.is ∙ same_premise (shared_in (message_digests (numbered i es))) (zero_in (message_digests (numbered i es)))
+    (secured_by i.variant i.barrier es) a.forged b.forged
     (λ s z g. first_same i es a.forged b.forged (a.first s z g) (b.first s z g))
     ∙ sym b.is

@@ -13,14 +13,16 @@ use Rattle.std.proofs.lemmas.Map.Text.{is_eq-slice_cmp}
 use Rattle.mm_platform.specs.declared.plan.Meddle.{Meddle}
 use Rattle.mm_schedule.specs.declared.event.Event.{Event as CodeEvent}
 use Rattle.mm_schedule.specs.Events.{Event, event_of}
-use Rattle.mm_model.specs.Chains.{own_values}
+use Rattle.mm_model.specs.ChainsWords.{own_values}
 use Rattle.mm_module.specs.Batch.{Batch}
-use Rattle.mm_run.specs.Premises.{batches_of, asked_batches}
+use Rattle.mm_run.specs.Premises.{batches_of}
+use Rattle.mm_run.specs.PremisesWords.{asked_batches}
 use Rattle.mm_check.specs.Listing.{first_where}
 use Rattle.mm_check.specs.Guards.{events_of, HasAll}
 use Rattle.mm_check.proofs.ListingLaws.{or_here, bytes_eq-flip, first_where-push}
-use Rattle.mm_digest.specs.Messages.{secured_of, secured_batch_of}
-use Rattle.mm_module.specs.Batch.{One, Many, has_tab, normal}
+use Rattle.mm_digest.specs.MessagesWords.{secured_of, secured_batch_of}
+use Rattle.mm_module.specs.Batch.{One, Many, normal}
+use Rattle.mm_module.specs.BatchWords.{has_tab}
 use Rattle.mm_model.specs.Chains.{guard}
 
 pub guard_one : (barrier request : List ℕ) → guard barrier (One request) ≡ secured_of barrier request
@@ -42,7 +44,8 @@ guard_no_tab barrier text h = ap (λ (t : Bool). guard barrier (if t then Many t
 pub ruleset guards = (guard_one, guard_tab, guard_no_tab)
 
 -- a value among those that others bring
-pub any_value : (p : List ℕ → Bool) (meddles : List Meddle) → list_any p (map (λ (m : Meddle). m.value.bytes) meddles) ≡ list_any (λ (m : Meddle). p m.value.bytes) meddles
+pub any_value : (p : List ℕ → Bool) (meddles : List Meddle)
+    → list_any p (map (λ (m : Meddle). m.value.bytes) meddles) ≡ list_any (λ (m : Meddle). p m.value.bytes) meddles
 any_value p [] = refl
 any_value p (m ∷ meddles) = ap (λ (b : Bool). p m.value.bytes || b) (any_value p meddles)
 
@@ -51,7 +54,8 @@ or_is true rest = refl
 or_is false rest = refl
 
 -- one digest more in a set
-pub put_at : (digest d : List ℕ) (new old : Bool) → new ≡ cond (is_eq (slice_cmp nat_cmp digest d)) true old → new ≡ (bytes_eq d digest || old)
+pub put_at : (digest d : List ℕ) (new old : Bool) → new ≡ cond (is_eq (slice_cmp nat_cmp digest d)) true old
+    → new ≡ (bytes_eq d digest || old)
 put_at digest d new old e =
     e ∙ ap (λ (b : Bool). cond b true old) (is_eq-slice_cmp digest d ∙ bytes_eq-flip digest d) ∙ or_is (bytes_eq d digest) old
 
@@ -62,7 +66,8 @@ or_flip false true = refl
 or_flip false false = refl
 
 pub has_more : (known : List (List ℕ)) (old new : BTreeSet (List ℕ)) (g : List ℕ) (more : List (List ℕ)) → HasAll known old
-    → ((d : List ℕ) → contains (slice_cmp nat_cmp) new d ≡ (bytes_eq d g || contains (slice_cmp nat_cmp) old d)) → g ∷ [] ≡ more → HasAll (known ++ more) new
+    → ((d : List ℕ) → contains (slice_cmp nat_cmp) new d ≡ (bytes_eq d g || contains (slice_cmp nat_cmp) old d)) → g ∷ [] ≡ more
+    → HasAll (known ++ more) new
 has_more known old new g more h goes is d =
     goes d ∙ ap (λ (b : Bool). bytes_eq d g || b) (h d) ∙ or_flip (bytes_eq d g) (list_any (bytes_eq d) known)
     ∙ sym (list_any-append (bytes_eq d) known (g ∷ [])) ∙ ap (λ (l : List (List ℕ)). list_any (bytes_eq d) (known ++ l)) is
@@ -71,9 +76,12 @@ has_more known old new g more h goes is d =
 
 asked_append : (xs ys : List Event) → asked_batches (xs ++ ys) ≡ asked_batches xs ++ asked_batches ys
 asked_append [] ys = refl
-asked_append (x ∷ xs) ys = ap (λ (l : List Batch). batches_of x ++ l) (asked_append xs ys) ∙ sym (append_assoc (batches_of x) (asked_batches xs) (asked_batches ys))
+asked_append (x ∷ xs) ys =
+    ap (λ (l : List Batch). batches_of x ++ l) (asked_append xs ys)
+    ∙ sym (append_assoc (batches_of x) (asked_batches xs) (asked_batches ys))
 
-pub events_more : (es : List CodeEvent) (i : ℕ) (d : CodeEvent) → i < length es → events_of (take (i + 1) es) ≡ events_of (take i es) ++ event_of (get_or es i d) ∷ []
+pub events_more : (es : List CodeEvent) (i : ℕ) (d : CodeEvent) → i < length es
+    → events_of (take (i + 1) es) ≡ events_of (take i es) ++ event_of (get_or es i d) ∷ []
 events_more es i d h = ap events_of (take_more es i d h) ∙ map-append event_of (take i es) (get_or es i d ∷ [])
 
 pub guards_more : (barrier : List ℕ) (es : List CodeEvent) (i : ℕ) (d : CodeEvent) → i < length es
@@ -83,14 +91,17 @@ guards_more barrier es i d h =
     let e = event_of (get_or es i d) in
     let before = events_of (take i es) in
     sym (ap (λ (l : List Event). own_values barrier (asked_batches l)) (events_more es i d h)
-    ∙ ap (own_values barrier) (asked_append before (e ∷ []) ∙ ap (λ (l : List Batch). asked_batches before ++ l) (append-nil (batches_of e)))
+    ∙ ap (own_values barrier)
+    (asked_append before (e ∷ []) ∙ ap (λ (l : List Batch). asked_batches before ++ l) (append-nil (batches_of e)))
     ∙ map-append (guard barrier) (asked_batches before) (batches_of e))
 
-pub guards_more_at : (barrier : List ℕ) (es : List CodeEvent) (i : ℕ) (e : CodeEvent) → i < length es → e ≡ get_or es i e → (set : BTreeSet (List ℕ))
+pub guards_more_at : (barrier : List ℕ) (es : List CodeEvent) (i : ℕ) (e : CodeEvent) → i < length es → e ≡ get_or es i e
+    → (set : BTreeSet (List ℕ))
     → HasAll (own_values barrier (asked_batches (events_of (take i es))) ++ own_values barrier (batches_of (event_of e))) set
     → HasAll (own_values barrier (asked_batches (events_of (take (i + 1) es)))) set
 guards_more_at barrier es i e h is set has d =
-    has d ∙ ap (λ (x : CodeEvent). list_any (bytes_eq d) (own_values barrier (asked_batches (events_of (take i es))) ++ own_values barrier (batches_of (event_of x)))) is
+    has d ∙ ap (λ (x : CodeEvent). list_any (bytes_eq d)
+    (own_values barrier (asked_batches (events_of (take i es))) ++ own_values barrier (batches_of (event_of x)))) is
     ∙ ap (list_any (bytes_eq d)) (guards_more barrier es i e h)
 
 -- the first event that passes
@@ -99,7 +110,8 @@ none_before : (o : Option ℕ) → option_map (λ n. n + 1) o ≡ None → o ≡
 none_before None h = refl
 none_before (Some n) h = absurd (cc)
 
-first_none : (here : Bool) (o : Option ℕ) → (let w : Option ℕ = cond here (Some 1) (option_map (λ n. n + 1) o) in w ≡ None) → (here ≡ false) × (o ≡ None)
+first_none : (here : Bool) (o : Option ℕ) → (let w : Option ℕ = cond here (Some 1) (option_map (λ n. n + 1) o) in w ≡ None)
+    → (here ≡ false) × (o ≡ None)
 first_none true o h = absurd (cc)
 first_none false o h = (refl, none_before o h)
 
@@ -107,25 +119,29 @@ first_now : (here : Bool) (o : Option ℕ) → here ≡ true → (let w : Option
 first_now true o h = refl
 first_now false o h = absurd (cc)
 
-first_later : (here : Bool) (o : Option ℕ) (n : ℕ) → here ≡ false → Some n ≡ o → (let w : Option ℕ = cond here (Some 1) (option_map (λ k. k + 1) o) in Some (n + 1) ≡ w)
+first_later : (here : Bool) (o : Option ℕ) (n : ℕ) → here ≡ false → Some n ≡ o
+    → (let w : Option ℕ = cond here (Some 1) (option_map (λ k. k + 1) o) in Some (n + 1) ≡ w)
 first_later true o n h e = absurd (cc)
 first_later false o n h e = ap (option_map (λ k. k + 1)) e
 
-pub first_at : (p : Event → Bool) (es : List CodeEvent) (i : ℕ) (d : CodeEvent) → i < length es → first_where p (events_of (take i es)) ≡ None
+pub first_at : (p : Event → Bool) (es : List CodeEvent) (i : ℕ) (d : CodeEvent) → i < length es
+    → first_where p (events_of (take i es)) ≡ None
     → p (event_of (get_or es i d)) ≡ true → Some (i + 1) ≡ first_where p (events_of es)
 first_at p [] i d h none here = absurd (omega arith)
 first_at p (e ∷ es) zero d h none here = first_now (p (event_of e)) _ here
 first_at p (e ∷ es) (suc i) d h none here =
     let parts = first_none (p (event_of e)) (first_where p (events_of (take i es))) none in
     let number : suc i + 1 ≡ (i + 1) + 1 = omega arith in
-    ap Some number ∙ first_later (p (event_of e)) (first_where p (events_of es)) (i + 1) parts.0 (first_at p es i d (omega arith) parts.1 here)
+    ap Some number ∙ first_later (p (event_of e)) (first_where p (events_of es)) (i + 1) parts.0
+    (first_at p es i d (omega arith) parts.1 here)
 
 nothing_here : (found : Option ℕ) (here : Bool) (last : ℕ) → found ≡ None → here ≡ false → or_here found here last ≡ None
 nothing_here None false last f h = refl
 nothing_here None true last f h = absurd (cc)
 nothing_here (Some n) here last f h = absurd (cc)
 
-pub none_more : (p : Event → Bool) (es : List CodeEvent) (i : ℕ) (d : CodeEvent) → i < length es → first_where p (events_of (take i es)) ≡ None
+pub none_more : (p : Event → Bool) (es : List CodeEvent) (i : ℕ) (d : CodeEvent) → i < length es
+    → first_where p (events_of (take i es)) ≡ None
     → p (event_of (get_or es i d)) ≡ false → first_where p (events_of (take (i + 1) es)) ≡ None
 none_more p es i d h none here =
     ap (first_where p) (events_more es i d h) ∙ first_where-push p (events_of (take i es)) (event_of (get_or es i d))
@@ -136,4 +152,5 @@ pub secured_same : (known : List (List ℕ)) (set : BTreeSet (List ℕ)) (values
     → list_any (contains (slice_cmp nat_cmp) set) values ≡ list_any (λ v. list_any (bytes_eq v) known) values
 secured_same known set [] h = refl
 secured_same known set (v ∷ values) h =
-    ap (λ (b : Bool). b || list_any (contains (slice_cmp nat_cmp) set) values) (h v) ∙ ap (λ (b : Bool). list_any (bytes_eq v) known || b) (secured_same known set values h)
+    ap (λ (b : Bool). b || list_any (contains (slice_cmp nat_cmp) set) values) (h v)
+    ∙ ap (λ (b : Bool). list_any (bytes_eq v) known || b) (secured_same known set values h)

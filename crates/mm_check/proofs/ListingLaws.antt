@@ -22,13 +22,16 @@ first_one : (here : Bool) → (let o : Option ℕ = cond here (Some 1) (option_m
 first_one true = refl
 first_one false = refl
 
-first_pass : {A : Type 0} (p : A → Bool) (y : A) (pass : Bool) (xs : List A) (x : A) → first_where p (xs ++ x ∷ []) ≡ or_here (first_where p xs) (p x) (length xs + 1)
+first_pass : {A : Type 0} (p : A → Bool) (y : A) (pass : Bool) (xs : List A) (x : A)
+    → first_where p (xs ++ x ∷ []) ≡ or_here (first_where p xs) (p x) (length xs + 1)
     → (let o : Option ℕ = cond pass (Some 1) (option_map (λ n. n + 1) (first_where p (xs ++ x ∷ []))) in
     let w : Option ℕ = cond pass (Some 1) (option_map (λ n. n + 1) (first_where p xs)) in o ≡ or_here w (p x) (length (y ∷ xs) + 1))
 first_pass p y true xs x e = refl
-first_pass p y false xs x e = ap (option_map (λ n. n + 1)) e ∙ more_here (first_where p xs) (p x) (length xs + 1) (length (y ∷ xs) + 1) (omega arith)
+first_pass p y false xs x e =
+    ap (option_map (λ n. n + 1)) e ∙ more_here (first_where p xs) (p x) (length xs + 1) (length (y ∷ xs) + 1) (omega arith)
 
-pub first_where-push : {A : Type 0} (p : A → Bool) (xs : List A) (x : A) → first_where p (xs ++ x ∷ []) ≡ or_here (first_where p xs) (p x) (length xs + 1)
+pub first_where-push : {A : Type 0} (p : A → Bool) (xs : List A) (x : A)
+    → first_where p (xs ++ x ∷ []) ≡ or_here (first_where p xs) (p x) (length xs + 1)
 first_where-push p [] x = first_one (p x)
 first_where-push p (y ∷ xs) x = first_pass p y (p y) xs x (first_where-push p xs x)
 
@@ -71,7 +74,8 @@ chosen_same : (test : Bool) (a : ℕ × ℕ) (first second : ℕ) → test ≡ f
 chosen_same true a first second e = absurd (cc)
 chosen_same false a first second e = refl
 
-chosen_new : (test : Bool) (a : ℕ × ℕ) (first second next : ℕ) → test ≡ true → second ≡ next → Some (first, second) ≡ cond test (Some (first, next)) (Some a)
+chosen_new : (test : Bool) (a : ℕ × ℕ) (first second next : ℕ) → test ≡ true → second ≡ next
+    → Some (first, second) ≡ cond test (Some (first, next)) (Some a)
 chosen_new true a first second next e s = ap (λ (n : ℕ). Some (first, n)) s
 chosen_new false a first second next e s = absurd (cc)
 
@@ -102,18 +106,22 @@ later_step None (Some m) last next e = ap (λ (n : ℕ). Some (m + 1, n)) e
 later_step (Some a) (Some m) last next e = chosen_more (nat_lt m a.0) (nat_lt (m + 1) (a.0 + 1)) a m last next (lt_more m a.0) e
 
 shared_step : (found : Option ℕ) (s : Option (ℕ × ℕ)) (x : Option ℕ) (here : Bool) (last next : ℕ) → FromOne s → last + 1 ≡ next
-    → shared_with (or_here found here last) (lower_if s x last) ≡ lower_if (shared_with found s) (cond here (Some 1) (option_map (λ k. k + 1) x)) next
+    → shared_with (or_here found here last) (lower_if s x last) ≡ lower_if (shared_with found s)
+    (cond here (Some 1) (option_map (λ k. k + 1) x)) next
 shared_step (Some n) s x here last next h e = again_step n 0 next here x
 shared_step None s x true last next h e = now_step s last next h e
 shared_step None s x false last next h e = later_step s x last next e
 
-shared_in-push : (ds : List (List ℕ)) (x : List ℕ) → shared_in (ds ++ x ∷ []) ≡ lower_if (shared_in ds) (first_where (bytes_eq x) ds) (length ds + 1)
+shared_in-push : (ds : List (List ℕ)) (x : List ℕ)
+    → shared_in (ds ++ x ∷ []) ≡ lower_if (shared_in ds) (first_where (bytes_eq x) ds) (length ds + 1)
 shared_in-push [] x = refl
 shared_in-push (d ∷ ds) x =
-    let found = first_where-push (bytes_eq d) ds x ∙ ap (λ (b : Bool). or_here (first_where (bytes_eq d) ds) b (length ds + 1)) (bytes_eq-flip d x) in
+    let found = first_where-push (bytes_eq d) ds x
+    ∙ ap (λ (b : Bool). or_here (first_where (bytes_eq d) ds) b (length ds + 1)) (bytes_eq-flip d x) in
     ap (λ (o : Option ℕ). shared_with o (shared_in (ds ++ x ∷ []))) found
     ∙ ap (shared_with (or_here (first_where (bytes_eq d) ds) (bytes_eq x d) (length ds + 1))) (shared_in-push ds x)
-    ∙ shared_step (first_where (bytes_eq d) ds) (shared_in ds) (first_where (bytes_eq x) ds) (bytes_eq x d) (length ds + 1) (length (d ∷ ds) + 1)
+    ∙ shared_step (first_where (bytes_eq d) ds) (shared_in ds) (first_where (bytes_eq x) ds) (bytes_eq x d) (length ds + 1)
+    (length (d ∷ ds) + 1)
     (shared_in-from_one ds) (omega arith)
 
 -- the look-ups after one more digest: of one that has come before, and of a new one
@@ -129,7 +137,8 @@ here_not : (found : Option ℕ) (last : ℕ) → found ≡ or_here found false l
 here_not (Some k) last = refl
 here_not None last = refl
 
-known_at : (f : List ℕ → Option ℕ) (ds : List (List ℕ)) (x d : List ℕ) (n : ℕ) (same : Bool) → Finds f ds → f x ≡ Some n → bytes_eq d x ≡ same
+known_at : (f : List ℕ → Option ℕ) (ds : List (List ℕ)) (x d : List ℕ) (n : ℕ) (same : Bool) → Finds f ds → f x ≡ Some n
+    → bytes_eq d x ≡ same
     → first_where (bytes_eq d) ds ≡ or_here (first_where (bytes_eq d) ds) same (length ds + 1)
 known_at f ds x d n false h is e = here_not (first_where (bytes_eq d) ds) (length ds + 1)
 known_at f ds x d n true h is e =
@@ -153,7 +162,8 @@ pub shared-known : (f : List ℕ → Option ℕ) (ds : List (List ℕ)) (x : Lis
     → shared_in (ds ++ x ∷ []) ≡ lower (shared_in ds) n (length ds + 1)
 shared-known f ds x n h is = shared_in-push ds x ∙ ap (λ (o : Option ℕ). lower_if (shared_in ds) o (length ds + 1)) (sym (h x) ∙ is)
 
-pub shared-new : (f : List ℕ → Option ℕ) (ds : List (List ℕ)) (x : List ℕ) → Finds f ds → f x ≡ None → shared_in (ds ++ x ∷ []) ≡ shared_in ds
+pub shared-new : (f : List ℕ → Option ℕ) (ds : List (List ℕ)) (x : List ℕ) → Finds f ds → f x ≡ None
+    → shared_in (ds ++ x ∷ []) ≡ shared_in ds
 shared-new f ds x h is = shared_in-push ds x ∙ ap (λ (o : Option ℕ). lower_if (shared_in ds) o (length ds + 1)) (sym (h x) ∙ is)
 
 -- the first zero

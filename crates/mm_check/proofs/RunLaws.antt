@@ -20,18 +20,16 @@ use Rattle.mm_check.specs.declared.verdicts.Agreement.{Agreement}
 use Rattle.mm_check.proofs.DecidingLaws.{lines_of_all-append}
 use Rattle.mm_check.proofs.FewLines.{expected_few}
 
-pub is_run_first : (header : Header) (running : Running) → running ≡ begun header → RunsBehind header running [] []
-is_run_first header running is = subst (λ (r : Running). RunsBehind header r [] []) (sym is)
-    (record { same = refl; digests = refl; issued = refl; lines = refl; count = refl; few = omega arith })
-
-outcome_same : (header : Header) (r : Running) (f : Followed Digests) (event : Event) → r.header ≡ header → r.digests ≡ f.state → r.issued ≡ f.issued
+outcome_same : (header : Header) (r : Running) (f : Followed Digests) (event : Event) → r.header ≡ header → r.digests ≡ f.state
+    → r.issued ≡ f.issued
     → running_outcome r event ≡ event_outcome (world_of header) (by_digests (world_of header)) f.state f.issued event
 outcome_same header r f event h d s =
     ap (λ (x : Header). event_outcome (world_of x) (by_digests (world_of x)) r.digests r.issued event) h
     ∙ ap (λ (x : Digests). event_outcome (world_of header) (by_digests (world_of header)) x r.issued event) d
     ∙ ap (λ (x : List (List ℕ)). event_outcome (world_of header) (by_digests (world_of header)) f.state x event) s
 
-next_run : (header : Header) (r : Running) (events : List Event) (told : List (List ℕ)) (line : List ℕ) (event : Event) → RunsBehind header r events told → is_too_much r line ≡ false
+next_run : (header : Header) (r : Running) (events : List Event) (told : List (List ℕ)) (line : List ℕ) (event : Event)
+    → RunsBehind header r events told → is_too_much r line ≡ false
     → RunsBehind header (after_event r line event) (events ++ event ∷ []) (told ++ lines_of_reply (running_outcome r event).reply)
 next_run header r events told line event h room =
     let i = world_of header in
@@ -55,31 +53,23 @@ pub events_push : (events : List CodeEvent) (event : CodeEvent) → events_of (e
 events_push events event = map-append event_of events (event ∷ [])
 
 -- one event more, as the code has it
-pub is_run_next : (header : Header) (r next : Running) (events longer : List CodeEvent) (told more : List (List ℕ)) (line : List ℕ) (event : CodeEvent) (reply : Reply)
-    → RunsBehind header r (events_of events) told → is_too_much r line ≡ false → reply ≡ (running_outcome r (event_of event)).reply → next ≡ after_event r line (event_of event)
+pub is_run_next : (header : Header) (r next : Running) (events longer : List CodeEvent) (told more : List (List ℕ)) (line : List ℕ)
+    (event : CodeEvent) (reply : Reply)
+    → RunsBehind header r (events_of events) told → is_too_much r line ≡ false → reply ≡ (running_outcome r (event_of event)).reply
+    → next ≡ after_event r line (event_of event)
     → longer ≡ events ++ event ∷ [] → more ≡ told ++ lines_of_reply reply → RunsBehind header next (events_of longer) more
 is_run_next header r next events longer told more line event reply h room said is grown lines =
     let a = next_run header r (events_of events) told line (event_of event) h room in
-    let b = subst (λ (l : List (List ℕ)). RunsBehind header (after_event r line (event_of event)) (events_of events ++ event_of event ∷ []) l)
+    let b = subst (λ (l : List (List ℕ)). RunsBehind header (after_event r line (event_of event)) (events_of events ++ event_of event ∷ [])
+    l)
     (sym (lines ∙ ap (λ (x : Reply). told ++ lines_of_reply x) said)) a in
-    let d = subst (λ (es : List Event). RunsBehind header (after_event r line (event_of event)) es more) (sym (ap events_of grown ∙ events_push events event)) b in
+    let d = subst (λ (es : List Event). RunsBehind header (after_event r line (event_of event)) es more)
+    (sym (ap events_of grown ∙ events_push events event)) b in
     subst (λ (x : Running). RunsBehind header x (events_of longer) more) (sym is) d
 
--- the lines that the run gives, with its last line
-pub run_end : (header : Header) (r : Running) (events : List Event) (told whole : List (List ℕ)) (committed issued : ℕ) → RunsBehind header r events told
-    → committed ≡ r.digests.count → issued ≡ length r.issued → whole ≡ told ++ end_line committed issued ∷ [] → whole ≡ run_lines (world_of header) events
-run_end header r events told whole committed issued h n k is =
-    let f = replies_by_digests (world_of header) events in
-    is ∙ ap (λ (l : List (List ℕ)). l ++ end_line committed issued ∷ []) h.lines
-    ∙ ap (λ (m : ℕ). lines_of_all f.replies ++ end_line m issued ∷ []) (n ∙ ap (λ (d : Digests). d.count) h.digests)
-    ∙ ap (λ (m : ℕ). lines_of_all f.replies ++ end_line f.state.count m ∷ []) (k ∙ ap length h.issued)
-
-pub agreement_is : (result : Agreement) (a b c d : List (List ℕ)) → result ≡ agreement_of (first_difference a b) → a ≡ c → b ≡ d → result ≡ agreement_of (first_difference c d)
-agreement_is result a b c d is p q =
-    is ∙ ap (λ (l : List (List ℕ)). agreement_of (first_difference l b)) p ∙ ap (λ (l : List (List ℕ)). agreement_of (first_difference c l)) q
-
 -- few lines are expected
-pub expected_short : (header : Header) (running : Running) (es seen : List Event) (told lines slice : List (List ℕ)) → RunsBehind header running es told → seen ≡ es
+pub expected_short : (header : Header) (running : Running) (es seen : List Event) (told lines slice : List (List ℕ))
+    → RunsBehind header running es told → seen ≡ es
     → lines ≡ expected_lines (world_of header) seen → slice ≡ lines → length slice < 4294967295
 expected_short header running es seen told lines slice h same is at =
     omega (arith, h.few, h.count, ap (λ (l : List Event). length l) same, ap length is, ap length at, expected_few (world_of header) seen)

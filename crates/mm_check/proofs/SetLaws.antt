@@ -12,7 +12,8 @@ use Rattle.std.proofs.lemmas.Map.Lookups.{exact_bytes}
 use Rattle.std.proofs.lemmas.Map.Text.{is_eq-slice_cmp}
 use Rattle.mm_check.specs.Lists.{has_message}
 
-pub has_compared : {A : Type 0} (m : List ℕ) (keys : List (Vec ℕ A)) → list_any (λ (k : Vec ℕ A). is_eq (slice_cmp nat_cmp m k.items)) keys ≡ has_message keys m
+pub has_compared : {A : Type 0} (m : List ℕ) (keys : List (Vec ℕ A))
+    → list_any (λ (k : Vec ℕ A). is_eq (slice_cmp nat_cmp m k.items)) keys ≡ has_message keys m
 has_compared m [] = refl
 has_compared m (k ∷ keys) = ap (λ (b : Bool). b || list_any (λ k. is_eq (slice_cmp nat_cmp m k.items)) keys) (is_eq-slice_cmp m k.items)
     ∙ ap (λ (b : Bool). bytes_eq m k.items || b) (has_compared m keys)
@@ -32,12 +33,15 @@ has_step : {A : Type 0} (m : List ℕ) (key x : Vec ℕ A) (keys rest : List (Ve
     → has_message (match_ordering o (key ∷ x ∷ keys) (x ∷ keys) (x ∷ rest)) m ≡ (bytes_eq m key.items || has_message (x ∷ keys) m)
 has_step m key x keys rest Less e h = refl
 has_step m key x keys rest Equal e h =
-    or_same (bytes_eq m x.items) (has_message keys m) ∙ ap (λ (l : List ℕ). bytes_eq m l || has_message (x ∷ keys) m) (sym (exact_bytes key.items x.items e))
+    or_same (bytes_eq m x.items) (has_message keys m)
+    ∙ ap (λ (l : List ℕ). bytes_eq m l || has_message (x ∷ keys) m) (sym (exact_bytes key.items x.items e))
 has_step m key x keys rest Greater e h =
     ap (λ (b : Bool). bytes_eq m x.items || b) h ∙ or_swap (bytes_eq m x.items) (bytes_eq m key.items) (has_message keys m)
 
 pub has_inserted : {A : Type 0} (m : List ℕ) (key : Vec ℕ A) (keys : List (Vec ℕ A))
-    → has_message (insert_key (λ (x y : Vec ℕ A). slice_cmp nat_cmp x.items y.items) keys key) m ≡ (bytes_eq m key.items || has_message keys m)
+    → has_message (insert_key (λ (x y : Vec ℕ A). slice_cmp nat_cmp x.items y.items) keys key)
+    m ≡ (bytes_eq m key.items || has_message keys m)
 has_inserted m key [] = refl
 has_inserted {A} m key (x ∷ keys) =
-    has_step m key x keys (insert_key (λ (x y : Vec ℕ A). slice_cmp nat_cmp x.items y.items) keys key) (slice_cmp nat_cmp key.items x.items) refl (has_inserted m key keys)
+    has_step m key x keys (insert_key (λ (x y : Vec ℕ A). slice_cmp nat_cmp x.items y.items) keys key) (slice_cmp nat_cmp key.items x.items)
+    refl (has_inserted m key keys)

@@ -1,4 +1,5 @@
--- A recorded run line by line: the header, the events, and at will the line `replies` and the recorded lines.
+-- A recorded run line by line: the header, the events, and at will the line `replies` and the
+-- recorded lines.
 use Rattle.std.specs.Prelude.{ℕ, ◌+◌, ◌-◌, Bool, true, false, nat_le, List, [], ◌∷◌, ◌++◌, codes, Option, None, Some, Result, Ok, Err, if◌then◌else◌}
 use Rattle.std.specs.List.{slice_get}
 use Rattle.std.specs.Str.{bytes_eq}
@@ -21,7 +22,8 @@ section_line = codes "replies"
 abbrev pub most_recorded : ℕ
 most_recorded = 1280001
 
--- what was read: where the run itself stands, its events, and the lines that it writes, each with its LF
+-- what was read: where the run itself stands, its events, and the lines that it writes, each with
+-- its LF
 pub record Read : Type 0 where
   pub header : Header
   pub running : Running
@@ -39,7 +41,8 @@ with_event r line event = record {
   told = r.told ++ lines_of_reply (running_outcome r.running event).reply;
 }
 
--- the header and the events, how many recorded lines were compared, and the number of the first that differs
+-- the header and the events, how many recorded lines were compared, and the number of the first
+-- that differs
 pub record Compared : Type 0 where
   pub header : Header
   pub events : List Event
@@ -65,7 +68,10 @@ after_compared c line = record {
   header = c.header;
   events = c.events;
   count = c.count + 1;
-  differs = differs_then c.differs (is_line line (slice_get (expected_lines (world_of c.header) c.events) c.count)) (c.count + 1);
+  differs =
+      differs_then c.differs
+      (is_line line (slice_get (expected_lines (world_of c.header) c.events) c.count))
+      (c.count + 1);
 }
 
 -- before the header; among the events; among the recorded lines
@@ -80,17 +86,22 @@ headed (Some header) = Ok ([], InEvents (first_read header))
 
 abbrev pub read_event : Read → List ℕ → Option Event → Result (List ℕ × CheckStage) Refused
 read_event r line None = Err Bad
-read_event r line (Some event) = if is_too_much r.running line then Err Much else Ok ([], InEvents (with_event r line event))
+read_event r line (Some event) =
+    if is_too_much r.running line then Err Much else Ok ([], InEvents (with_event r line event))
 
 -- a line among the events
 abbrev pub read_line : Read → List ℕ → Result (List ℕ × CheckStage) Refused
-read_line r line = if bytes_eq line section_line then Ok ([], InReplies (first_compared r)) else read_event r line (event_at line)
+read_line r line =
+    if bytes_eq line section_line then Ok ([], InReplies (first_compared r))
+    else read_event r line (event_at line)
 
 abbrev pub compare_line : Compared → List ℕ → Result (List ℕ × CheckStage) Refused
-compare_line c line = if nat_le most_recorded c.count then Err Much else Ok ([], InReplies (after_compared c line))
+compare_line c line =
+    if nat_le most_recorded c.count then Err Much else Ok ([], InReplies (after_compared c line))
 
 -- what a line is answered: nothing is written, or it is refused. By what the header line names
-abbrev pub check_answer : (List ℕ → Option Header) → CheckStage → List ℕ → Result (List ℕ × CheckStage) Refused
+abbrev pub check_answer : (List ℕ → Option Header) → CheckStage → List ℕ
+    → Result (List ℕ × CheckStage) Refused
 check_answer heading AtHeader line = headed (heading line)
 check_answer heading (InEvents r) line = read_line r line
 check_answer heading (InReplies c) line = compare_line c line

@@ -16,11 +16,13 @@ use Rattle.mm_check.specs.Checking.{CheckStage, AtHeader, check_answer, check_cl
 use Rattle.mm_check.specs.Verdicts.{AreVerdicts, run_lines, verdicts_text}
 use Rattle.mm_check.specs.declared.verdicts.Verdicts.{Verdicts}
 
--- the lines that are tested, each with its LF: those recorded behind the line `replies`, or without it those of the run
+-- the lines that are tested, each with its LF: those recorded behind the line `replies`, or without
+-- it those of the run
 abbrev pub AreTested : Header → List Event → List (List ℕ) → List (List ℕ) → Type 0
 AreTested header events section tested =
     ((section ≡ []) × (tested ≡ run_lines (world_of header) events))
-    ⊎ ((recorded : List (List ℕ)) × (section ≡ section_line ∷ recorded) × (tested ≡ map (λ line. line ++ 10 ∷ []) recorded))
+    ⊎ ((recorded : List (List ℕ)) × (section ≡ section_line ∷ recorded)
+    × (tested ≡ map (λ line. line ++ 10 ∷ []) recorded))
 
 -- The lines are a header, events and perhaps recorded lines; and these are the verdicts on them.
 pub record IsChecked (lines : List (List ℕ)) (it : Verdicts) : Type 0 where
@@ -43,7 +45,8 @@ check_lines lines = run (check_answer header_at) 1 AtHeader lines
 abbrev pub check_run : List ℕ → Told CheckStage
 check_run input = run_of (check_answer header_at) check_closing AtHeader input
 
--- The input was taken to its end, its lines are all answered, the last one has its LF, and these are the verdicts on them.
+-- The input was taken to its end, its lines are all answered, the last one has its LF, and these
+-- are the verdicts on them.
 pub record IsJudged (left : Option (List ℕ)) (taken : List ℕ) (it : Verdicts) : Type 0 where
   pub ended : IsAtEnd left
   pub after : CheckStage
@@ -54,24 +57,31 @@ pub record IsJudged (left : Option (List ℕ)) (taken : List ℕ) (it : Verdicts
 abbrev pub JudgesBy : Option (List ℕ) → List ℕ → Result Verdicts ReplayFault → Type 0
 -- the whole input was taken and answered, and these are the verdicts on it
 JudgesBy left taken (Ok verdicts) = IsJudged left taken verdicts
--- the source failed: no whole line that was taken is refused, and the bytes behind them may be a line's
-JudgesBy left taken (Err ReadFault) = IsTailShort taken × ((after : CheckStage) × ((check_lines (lines_of taken)).outcome ≡ Ok after))
+-- the source failed: no whole line that was taken is refused, and the bytes behind them may be a
+-- line's
+JudgesBy left taken (Err ReadFault) =
+    IsTailShort taken × ((after : CheckStage) × ((check_lines (lines_of taken)).outcome ≡ Ok after))
 JudgesBy left taken (Err WriteFault) = ⊥
 JudgesBy left taken (Err Memory) = Unit {0}
 -- else the run over the lines stops so
-JudgesBy left taken (Err (BadLine number)) = ForWhole left taken (λ input. (check_run input).outcome ≡ Err (BadLine number))
-JudgesBy left taken (Err (LineLong number)) = ForWhole left taken (λ input. (check_run input).outcome ≡ Err (LineLong number))
-JudgesBy left taken (Err TooMuch) = ForWhole left taken (λ input. (check_run input).outcome ≡ Err TooMuch)
+JudgesBy left taken (Err (BadLine number)) =
+    ForWhole left taken (λ input. (check_run input).outcome ≡ Err (BadLine number))
+JudgesBy left taken (Err (LineLong number)) =
+    ForWhole left taken (λ input. (check_run input).outcome ≡ Err (LineLong number))
+JudgesBy left taken (Err TooMuch) =
+    ForWhole left taken (λ input. (check_run input).outcome ≡ Err TooMuch)
 
-pub record Judges (left left' : Option (List ℕ)) (result : Result Verdicts ReplayFault) : Type 0 where
-  pub taken : List ℕ
-  pub consumed : Consumes left left' taken
-  pub settled : JudgesBy left' taken result
+pub record Judges (left left' : Option (List ℕ)) (result : Result Verdicts ReplayFault) : Type 0
+  where
+    pub taken : List ℕ
+    pub consumed : Consumes left left' taken
+    pub settled : JudgesBy left' taken result
 
--- How the answer fits the bytes that were taken and those that were written: only after Ok, and where the output failed,
--- is anything written.
+-- How the answer fits the bytes that were taken and those that were written: only after Ok, and
+-- where the output failed, is anything written.
 abbrev pub ChecksRunBy : Option (List ℕ) → List ℕ → List ℕ → Result Verdicts ReplayFault → Type 0
-ChecksRunBy left taken sent (Ok verdicts) = IsJudged left taken verdicts × (sent ≡ verdicts_text verdicts)
+ChecksRunBy left taken sent (Ok verdicts) =
+    IsJudged left taken verdicts × (sent ≡ verdicts_text verdicts)
 ChecksRunBy left taken sent (Err WriteFault) =
     (verdicts : Verdicts) × IsJudged left taken verdicts × IsFrontOf sent (verdicts_text verdicts)
 ChecksRunBy left taken sent (Err ReadFault) = (sent ≡ []) × IsTailShort taken
@@ -81,10 +91,12 @@ ChecksRunBy left taken sent (Err (BadLine number)) = (sent ≡ [])
     × ForWhole left taken (λ input. (check_run input).outcome ≡ Err (BadLine number))
 ChecksRunBy left taken sent (Err (LineLong number)) = (sent ≡ [])
     × ForWhole left taken (λ input. (check_run input).outcome ≡ Err (LineLong number))
-ChecksRunBy left taken sent (Err TooMuch) = (sent ≡ []) × ForWhole left taken (λ input. (check_run input).outcome ≡ Err TooMuch)
+ChecksRunBy left taken sent (Err TooMuch) =
+    (sent ≡ []) × ForWhole left taken (λ input. (check_run input).outcome ≡ Err TooMuch)
 
 -- A check took these bytes of the input and wrote those.
-pub record ChecksRun (left left' received received' : Option (List ℕ)) (result : Result Verdicts ReplayFault) : Type 0 where
+pub record ChecksRun (left left' received received' : Option (List ℕ))
+    (result : Result Verdicts ReplayFault) : Type 0 where
   pub taken : List ℕ
   pub sent : List ℕ
   pub consumed : Consumes left left' taken

@@ -17,53 +17,68 @@ use Rattle.mm_check.specs.Checking.{Read, first_read, with_event, Compared, firs
 fewer : (bound : ℕ) (reply said : List ℕ) (next stage : CheckStage)
     → (let r : Result (List ℕ × CheckStage) Refused = Ok (said, stage) in r ≡ Ok (reply, next))
     → check_left stage < bound → check_left next < bound
-fewer bound reply said next stage h few = subst (λ (s : CheckStage). check_left s < bound) (same_next reply said next stage h) few
+fewer bound reply said next stage h few =
+    subst (λ (s : CheckStage). check_left s < bound) (same_next reply said next stage h) few
 
-header_fewer : (found : Option Header) (reply : List ℕ) (next : CheckStage) → headed found ≡ Ok (reply, next)
+header_fewer : (found : Option Header) (reply : List ℕ) (next : CheckStage)
+    → headed found ≡ Ok (reply, next)
     → check_left next < most_events + most_recorded + 2
 header_fewer None reply next h = absurd (no_answer Bad reply next h)
 header_fewer (Some header) reply next h =
-    fewer (most_events + most_recorded + 2) reply [] next (InEvents (first_read header)) h (omega arith)
+    fewer (most_events + most_recorded + 2) reply [] next (InEvents (first_read header)) h
+    (omega arith)
 
-event_fewer : (r : Read) (line : List ℕ) (event : Event) (much : Bool) (reply : List ℕ) (next : CheckStage)
+event_fewer : (r : Read) (line : List ℕ) (event : Event) (much : Bool) (reply : List ℕ)
+    (next : CheckStage)
     → is_too_much r.running line ≡ much
-    → (let a : Result (List ℕ × CheckStage) Refused = if much then Err Much else Ok ([], InEvents (with_event r line event)) in
+    → (let a : Result (List ℕ × CheckStage) Refused = if much then Err Much
+    else Ok ([], InEvents (with_event r line event)) in
     a ≡ Ok (reply, next))
     → check_left next < check_left (InEvents r)
 event_fewer r line event true reply next is h = absurd (no_answer Much reply next h)
 event_fewer r line event false reply next is h =
-    fewer (check_left (InEvents r)) reply [] next (InEvents (with_event r line event)) h (omega (arith, few_events r.running line is))
+    fewer (check_left (InEvents r)) reply [] next (InEvents (with_event r line event)) h
+    (omega (arith, few_events r.running line is))
 
 found_fewer : (r : Read) (line : List ℕ) (found : Option Event) (reply : List ℕ) (next : CheckStage)
     → read_event r line found ≡ Ok (reply, next)
     → check_left next < check_left (InEvents r)
 found_fewer r line None reply next h = absurd (no_answer Bad reply next h)
-found_fewer r line (Some event) reply next h = event_fewer r line event (is_too_much r.running line) reply next refl h
+found_fewer r line (Some event) reply next h =
+    event_fewer r line event (is_too_much r.running line) reply next refl h
 
 read_fewer : (r : Read) (line : List ℕ) (section : Bool) (reply : List ℕ) (next : CheckStage)
-    → (let a : Result (List ℕ × CheckStage) Refused = if section then Ok ([], InReplies (first_compared r))
+    → (let a : Result (List ℕ × CheckStage) Refused = if section
+    then Ok ([], InReplies (first_compared r))
     else read_event r line (event_at line) in a ≡ Ok (reply, next))
     → check_left next < check_left (InEvents r)
-read_fewer r line true reply next h = fewer (check_left (InEvents r)) reply [] next (InReplies (first_compared r)) h (omega arith)
+read_fewer r line true reply next h =
+    fewer (check_left (InEvents r)) reply [] next (InReplies (first_compared r)) h (omega arith)
 read_fewer r line false reply next h = found_fewer r line (event_at line) reply next h
 
 few_recorded : (count : ℕ) → nat_le most_recorded count ≡ false → count < most_recorded
 few_recorded count h = grind (arith, nat_tests)
 
-compare_fewer : (c : Compared) (line : List ℕ) (much : Bool) (reply : List ℕ) (next : CheckStage) → nat_le most_recorded c.count ≡ much
-    → (let a : Result (List ℕ × CheckStage) Refused = if much then Err Much else Ok ([], InReplies (after_compared c line)) in
+compare_fewer : (c : Compared) (line : List ℕ) (much : Bool) (reply : List ℕ) (next : CheckStage)
+    → nat_le most_recorded c.count ≡ much
+    → (let a : Result (List ℕ × CheckStage) Refused = if much then Err Much
+    else Ok ([], InReplies (after_compared c line)) in
     a ≡ Ok (reply, next))
     → check_left next < check_left (InReplies c)
 compare_fewer c line true reply next is h = absurd (no_answer Much reply next h)
 compare_fewer c line false reply next is h =
-    fewer (check_left (InReplies c)) reply [] next (InReplies (after_compared c line)) h (omega (arith, few_recorded c.count is))
+    fewer (check_left (InReplies c)) reply [] next (InReplies (after_compared c line)) h
+    (omega (arith, few_recorded c.count is))
 
 -- an answered line leaves fewer
-pub check_counts_down : (heading : List ℕ → Option Header) (it next : CheckStage) (line reply : List ℕ)
+pub check_counts_down : (heading : List ℕ → Option Header) (it next : CheckStage)
+    (line reply : List ℕ)
     → check_answer heading it line ≡ Ok (reply, next) → check_left next < check_left it
 check_counts_down heading AtHeader next line reply h = header_fewer (heading line) reply next h
-check_counts_down heading (InEvents r) next line reply h = read_fewer r line (bytes_eq line section_line) reply next h
-check_counts_down heading (InReplies c) next line reply h = compare_fewer c line (nat_le most_recorded c.count) reply next refl h
+check_counts_down heading (InEvents r) next line reply h =
+    read_fewer r line (bytes_eq line section_line) reply next h
+check_counts_down heading (InReplies c) next line reply h =
+    compare_fewer c line (nat_le most_recorded c.count) reply next refl h
 
 -- and there are few at first
 pub check_is_short : (it : CheckStage) → check_left it < 2 ^ 31

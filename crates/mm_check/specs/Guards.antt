@@ -8,8 +8,8 @@ use Rattle.std.specs.Str.{bytes_eq}
 use Rattle.mm_digest.specs.declared.digest.Digest.{Digest}
 use Rattle.mm_digest.specs.declared.variant.Variant.{Variant}
 use Rattle.mm_digest.specs.declared.variant.Variant.TheVariants.{Basic, Opt}
-use Rattle.mm_model.specs.Chains.{own_values}
-use Rattle.mm_run.specs.Premises.{asked_batches}
+use Rattle.mm_model.specs.ChainsWords.{own_values}
+use Rattle.mm_run.specs.PremisesWords.{asked_batches}
 use Rattle.mm_check.specs.Listing.{first_where}
 use Rattle.mm_check.specs.Numbering.{is_secured}
 use Rattle.mm_module.specs.Batch.{Batch, normal}
@@ -30,9 +30,11 @@ digest_items (Some digest) = digest.bytes ∷ []
 
 -- the set has these digests and no other
 abbrev pub HasAll : List (List ℕ) → BTreeSet (List ℕ) → Type 0
-HasAll digests set = (d : List ℕ) → contains (slice_cmp nat_cmp) set d ≡ list_any (bytes_eq d) digests
+HasAll digests set =
+    (d : List ℕ) → contains (slice_cmp nat_cmp) set d ≡ list_any (bytes_eq d) digests
 
 -- the first event at which others bring a guard, by the barrier: in Basic they aren't asked about
 abbrev pub secured_by : Variant → List ℕ → List Event → Option ℕ
 secured_by Basic barrier events = None
-secured_by Opt barrier events = first_where (is_secured (own_values barrier (asked_batches events))) events
+secured_by Opt barrier events =
+    first_where (is_secured (own_values barrier (asked_batches events))) events

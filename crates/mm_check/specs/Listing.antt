@@ -22,7 +22,8 @@ message_digests messages = map sha256 messages
 abbrev pub both_more : ℕ × ℕ → ℕ × ℕ
 both_more pair = (pair.0 + 1, pair.1 + 1)
 
--- the first of these digests comes again at this number among the later ones; else the later ones decide
+-- the first of these digests comes again at this number among the later ones; else the later ones
+-- decide
 abbrev pub shared_with : Option ℕ → Option (ℕ × ℕ) → Option (ℕ × ℕ)
 shared_with (Some n) later = Some (1, n + 1)
 shared_with None later = option_map both_more later

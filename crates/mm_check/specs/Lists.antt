@@ -17,7 +17,8 @@ pair_of (Some pair) = Some (pair.first, pair.second)
 
 -- These are the digests, in order.
 pub record CountsDigests (digests : List (List ℕ)) (it : Digests) : Type 0 where
-  pub firsts : (d : List ℕ) → tree.get (slice_cmp nat_cmp) it.firsts d ≡ first_where (bytes_eq d) digests
+  pub firsts : (d : List ℕ)
+      → tree.get (slice_cmp nat_cmp) it.firsts d ≡ first_where (bytes_eq d) digests
   pub count : it.count ≡ length digests
   pub shared : pair_of it.shared ≡ shared_in digests
   pub zero : it.zero ≡ zero_in digests

@@ -1,10 +1,11 @@
--- The premises of the headline for a run of events, as they are told: by the numbers of messages and of events.
+-- The premises of the headline for a run of events, as they are told: by the numbers of messages
+-- and of events.
 use Rattle.std.specs.Prelude.{◌≡◌, ℕ, ◌+◌, Bool, List, [], ◌∷◌, ◌++◌, length, Option, None, Some}
 use Rattle.std.specs.List.{fold, list_any}
 use Rattle.std.specs.Str.{bytes_eq}
 use Rattle.mm_digest.specs.declared.variant.Variant.TheVariants.{Opt}
 use Rattle.mm_digest.specs.Messages.{start_message}
-use Rattle.mm_model.specs.Chains.{own_values}
+use Rattle.mm_model.specs.ChainsWords.{own_values}
 use Rattle.mm_model.specs.Instance.{Instance}
 use Rattle.mm_model.specs.History.{History, first_history}
 use Rattle.mm_model.specs.Messages.{IsClear}
@@ -14,7 +15,8 @@ use Rattle.mm_schedule.specs.declared.reply.Reply.{Reply}
 use Rattle.mm_call.specs.Levels.{by_lists}
 use Rattle.mm_model.specs.History.{total_of}
 use Rattle.mm_run.specs.Folds.{Followed, event_outcome, first_issued, expected}
-use Rattle.mm_run.specs.Premises.{foreign_of, asked_batches, run_messages, IsClearRun, IsGenuineEvent, IsGenuineRun}
+use Rattle.mm_run.specs.Premises.{foreign_of, IsClearRun, IsGenuineEvent, IsGenuineRun}
+use Rattle.mm_run.specs.PremisesWords.{asked_batches, run_messages}
 use Rattle.mm_expect.specs.Numbered.{numbered_event}
 use Rattle.mm_check.specs.Listing.{first_where, listed, message_digests, shared_in, zero_in}
 use Rattle.mm_check.specs.declared.verdicts.Premise.{Premise}
@@ -29,13 +31,16 @@ numbered_from i y issued (event ∷ events) =
 
 -- the messages of a run, each once: a message has the number of its place, from 1
 abbrev pub numbered : Instance → List Event → List (List ℕ)
-numbered i events = fold listed (start_message i.variant i.meaning.id ∷ []) (numbered_from i first_history (first_issued i) events)
+numbered i events =
+    fold listed (start_message i.variant i.meaning.id ∷ [])
+    (numbered_from i first_history (first_issued i) events)
 
 -- others extend the register by a value that is one of these guards
 abbrev pub is_secured : List (List ℕ) → Event → Bool
 is_secured guards event = list_any (λ v. list_any (bytes_eq v) guards) (foreign_of event)
 
--- the number, from 1, of the first event at which they do so by the guard of a batch that the run asks
+-- the number, from 1, of the first event at which they do so by the guard of a batch that the run
+-- asks
 abbrev pub secured_in : Instance → List Event → Option ℕ
 secured_in i events = first_where (is_secured (own_values i.barrier (asked_batches events))) events
 
@@ -49,15 +54,17 @@ pub record IsForgedAt (i : Instance) (events : List Event) (number : ℕ) : Type
   pub genuine : IsGenuineRun i before
   pub forged : IsGenuineEvent i (expected i before).state (expected i before).issued event → ⊥
 
--- What is told of the premises. They hold; or two messages share a digest, the lowest numbers; or else a digest is zero,
--- the first one; or else others extend the register by the guard of a batch, at the first such event; or else a right
--- offer names no position, at the first such event.
+-- What is told of the premises. They hold; or two messages share a digest, the lowest numbers; or
+-- else a digest is zero, the first one; or else others extend the register by the guard of a batch,
+-- at the first such event; or else a right offer names no position, at the first such event.
 abbrev pub Decides : Instance → List Event → Premise → Type 0
 Decides i events Held = IsClearRun i events × IsGenuineRun i events
-Decides i events (Shared first second) = shared_in (message_digests (numbered i events)) ≡ Some (first, second)
+Decides i events (Shared first second) =
+    shared_in (message_digests (numbered i events)) ≡ Some (first, second)
 Decides i events (Zero message) = (shared_in (message_digests (numbered i events)) ≡ None)
     × (zero_in (message_digests (numbered i events)) ≡ Some message)
-Decides i events (Secured event) = IsClear (run_messages i events) × (i.variant ≡ Opt) × (secured_in i events ≡ Some event)
+Decides i events (Secured event) =
+    IsClear (run_messages i events) × (i.variant ≡ Opt) × (secured_in i events ≡ Some event)
 Decides i events (Forged event) = IsClearRun i events × IsForgedAt i events event
 
 -- the lines of replies, each with its LF
@@ -71,8 +78,11 @@ lines_with f committed = lines_of_all f.replies ++ end_line committed (length f.
 
 -- the lines that are expected
 abbrev pub expected_lines : Instance → List Event → List (List ℕ)
-expected_lines i events = lines_with (expected i events) (total_of (expected i events).state.batches)
+expected_lines i events =
+    lines_with (expected i events) (total_of (expected i events).state.batches)
 
 -- one premise alone is told of a run
 abbrev pub PremiseIsFixed : Type 0
-PremiseIsFixed = (i : Instance) (events : List Event) (p q : Premise) → Decides i events p → Decides i events q → p ≡ q
+PremiseIsFixed =
+    (i : Instance) (events : List Event) (p q : Premise) → Decides i events p → Decides i events q
+    → p ≡ q

@@ -19,8 +19,10 @@ abbrev pub check_stage : Option Phase → CheckStage
 check_stage None = AtHeader
 check_stage (Some phase) = phase_of phase
 
--- What a line came to: what stands behind it, or why it is refused; want of memory says nothing. Nothing is written.
-abbrev pub LineComesTo : {A : Type 0} → (A → CheckStage) → Result (List ℕ × CheckStage) Refused → Result A ReplyFault → Type 0
+-- What a line came to: what stands behind it, or why it is refused; want of memory says nothing.
+-- Nothing is written.
+abbrev pub LineComesTo : {A : Type 0} → (A → CheckStage) → Result (List ℕ × CheckStage) Refused
+    → Result A ReplyFault → Type 0
 LineComesTo stage answer (Ok next) = answer ≡ Ok ([], stage next)
 LineComesTo stage answer (Err fault.Memory) = Unit {0}
 LineComesTo stage answer (Err (fault.Refused why)) = answer ≡ Err why

@@ -17,12 +17,14 @@ use Rattle.mm_check.specs.declared.verdicts.Agreement.{Agreement}
 use Rattle.mm_check.specs.declared.verdicts.Agreement.TheVariants.{Agree, Differ}
 use Rattle.mm_check.specs.declared.verdicts.Verdicts.{Verdicts}
 
--- the number, from this one on, of the first line in which two lists differ: one that is missing or too many differs too
+-- the number, from this one on, of the first line in which two lists differ: one that is missing or
+-- too many differs too
 abbrev pub difference_from : ℕ → List (List ℕ) → List (List ℕ) → Option ℕ
 difference_from n [] [] = None
 difference_from n [] (e ∷ expected) = Some n
 difference_from n (t ∷ tested) [] = Some n
-difference_from n (t ∷ tested) (e ∷ expected) = if bytes_eq t e then difference_from (n + 1) tested expected else Some n
+difference_from n (t ∷ tested) (e ∷ expected) =
+    if bytes_eq t e then difference_from (n + 1) tested expected else Some n
 
 -- the line that was found, if there is one, is this one
 abbrev pub is_found : Option (List ℕ) → List ℕ → Bool
@@ -38,10 +40,12 @@ agreement_of (Some line) = Differ line
 
 -- the lines that the run itself gives, with its last line
 abbrev pub run_lines : Instance → List Event → List (List ℕ)
-run_lines i events = lines_with (replies_by_digests i events) (replies_by_digests i events).state.count
+run_lines i events =
+    lines_with (replies_by_digests i events) (replies_by_digests i events).state.count
 
 -- Behind these events a run by digests stands so, and its lines are told.
-pub record RunsBehind (header : Header) (running : Running) (events : List Event) (told : List (List ℕ)) : Type 0 where
+pub record RunsBehind (header : Header) (running : Running) (events : List Event)
+    (told : List (List ℕ)) : Type 0 where
   pub same : running.header ≡ header
   pub digests : running.digests ≡ (replies_by_digests (world_of header) events).state
   pub issued : running.issued ≡ (replies_by_digests (world_of header) events).issued
@@ -51,12 +55,16 @@ pub record RunsBehind (header : Header) (running : Running) (events : List Event
 
 -- the first difference at the end of the recorded lines: one may be missing
 abbrev pub end_difference : Compared → Option ℕ
-end_difference c = differs_then c.differs (nat_le (length (expected_lines (world_of c.header) c.events)) c.count) (c.count + 1)
+end_difference c =
+    differs_then c.differs (nat_le (length (expected_lines (world_of c.header) c.events)) c.count)
+    (c.count + 1)
 
 -- the verdicts on a run whose lines are tested
-pub record AreVerdicts (header : Header) (events : List Event) (tested : List (List ℕ)) (it : Verdicts) : Type 0 where
+pub record AreVerdicts (header : Header) (events : List Event) (tested : List (List ℕ))
+    (it : Verdicts) : Type 0 where
   pub premise : Decides (world_of header) events it.premise
-  pub agreement : it.agreement ≡ agreement_of (first_difference tested (expected_lines (world_of header) events))
+  pub agreement : it.agreement ≡ agreement_of
+      (first_difference tested (expected_lines (world_of header) events))
 
 -- the verdicts once the recorded lines were compared
 pub record AreVerdictsOn (c : Compared) (it : Verdicts) : Type 0 where
@@ -66,7 +74,8 @@ pub record AreVerdictsOn (c : Compared) (it : Verdicts) : Type 0 where
 -- the verdicts at the end of the input
 abbrev pub Concludes : CheckStage → Verdicts → Type 0
 Concludes AtHeader it = ⊥
-Concludes (InEvents r) it = AreVerdicts r.header r.events (run_lines (world_of r.header) r.events) it
+Concludes (InEvents r) it =
+    AreVerdicts r.header r.events (run_lines (world_of r.header) r.events) it
 Concludes (InReplies c) it = AreVerdictsOn c it
 
 -- the lines that are written
@@ -84,8 +93,10 @@ agreement_text (Differ line) = codes "differ " ++ decimal line
 abbrev pub verdicts_text : Verdicts → List ℕ
 verdicts_text it = premise_text it.premise ++ 10 ∷ [] ++ agreement_text it.agreement ++ 10 ∷ []
 
--- What comparing keeps: what is told of the premises, the lines that are expected, and that few were compared.
-pub record IsComparing (header : Header) (events : List Event) (premise : Premise) (expected : List (List ℕ)) (count : ℕ) : Type 0 where
+-- What comparing keeps: what is told of the premises, the lines that are expected, and that few
+-- were compared.
+pub record IsComparing (header : Header) (events : List Event) (premise : Premise)
+    (expected : List (List ℕ)) (count : ℕ) : Type 0 where
   pub decided : Decides (world_of header) events premise
   pub lines : expected ≡ expected_lines (world_of header) events
   pub few : count ≤ 1280001

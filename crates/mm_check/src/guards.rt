@@ -9,11 +9,13 @@ ghost use Rattle.std.specs.Str.{bytes_eq};
 ghost use Rattle.mm_base.specs.Limits.{most_events};
 ghost use Rattle.mm_module.specs.Batch.{Many, normal};
 ghost use Rattle.mm_module.specs.Batches.{batch_of};
-ghost use Rattle.mm_model.specs.Chains.{guard, own_values};
+ghost use Rattle.mm_model.specs.Chains.{guard};
+ghost use Rattle.mm_model.specs.ChainsWords.{own_values};
 ghost use Rattle.mm_model.specs.Long.{is_long};
 ghost use Rattle.mm_schedule.specs.Events.{event_of, meddles_of};
-ghost use Rattle.mm_run.specs.Held.{world_barrier};
-ghost use Rattle.mm_run.specs.Premises.{batches_of, asked_batches, foreign_of};
+ghost use Rattle.mm_run.specs.HeldWords.{world_barrier};
+ghost use Rattle.mm_run.specs.Premises.{batches_of, foreign_of};
+ghost use Rattle.mm_run.specs.PremisesWords.{asked_batches};
 ghost use Rattle.mm_check.specs.Listing.{first_where};
 ghost use Rattle.mm_check.specs.Numbering.{is_secured};
 ghost use Rattle.mm_check.specs.Guards.{events_of, unless_long, digest_items, HasAll, secured_by};
@@ -28,7 +30,7 @@ use std::alloc::Global;
 use std::collections::BTreeSet;
 
 /// The barrier of each world: the bytes 20 to 3f.
-#[tactic(auto, unfolding(mm_run::specs::Held::world_barrier, mm_run::specs::Held::rising_from))]
+#[tactic(auto, unfolding(mm_run::specs::Held::rising_from))]
 fn barrier() -> [u8; 32]
     ensures { result ≡ world_barrier }
 {

@@ -12,14 +12,16 @@ use Rattle.mm_call.specs.Standing.{instance_by}
 use Rattle.mm_schedule.specs.declared.header.Header.{Header}
 use Rattle.mm_schedule.specs.Events.{Event}
 use Rattle.mm_run.specs.Folds.{Outcome, event_outcome, Followed, expected, first_issued}
-use Rattle.mm_run.specs.Held.{world_key, world_barrier, world_of}
+use Rattle.mm_run.specs.Held.{world_of}
+use Rattle.mm_run.specs.HeldWords.{world_key, world_barrier}
 use Rattle.mm_run.proofs.GoingOn.{goes_on}
 use Rattle.mm_expect.specs.declared.replies.Said.{Said}
 use Rattle.mm_expect.specs.Coming.{WentByEvent}
 use Rattle.mm_expect.specs.Recorded.{Recorded, instance_with}
 use Rattle.mm_expect.specs.Traced.{Traced, outcome_traced, after_traced, first_traced, IsAfter}
 
-world_is : (variant : Variant) («module» : AnyModule) → instance_with variant «module» ≡ instance_by variant (meaning_of «module») world_key world_barrier
+world_is : (variant : Variant) («module» : AnyModule)
+    → instance_with variant «module» ≡ instance_by variant (meaning_of «module») world_key world_barrier
 world_is Basic «module» = refl
 world_is Opt «module» = refl
 
@@ -36,7 +38,8 @@ traced r issued = record { header = header_of r; history = r.history; issued = i
 pub begins : (header : Header) → IsAfter header [] (first_traced header)
 begins header = record { header_is = refl; history_is = refl; issued_is = refl }
 
-pub goes_after : (header : Header) (events : List Event) (event : Event) (old new : Traced) → IsAfter header events old → new ≡ after_traced old event
+pub goes_after : (header : Header) (events : List Event) (event : Event) (old new : Traced) → IsAfter header events old
+    → new ≡ after_traced old event
     → IsAfter header (events ++ event ∷ []) new
 goes_after header events event old new at is =
     let i = world_of header in
@@ -46,8 +49,12 @@ goes_after header events event old new at is =
     (λ j. event_outcome (world_of (at.header_is j)) (by_lists (world_of (at.header_is j))) (at.history_is j) (at.issued_is j) event) in
     record {
       header_is = ap (λ (t : Traced). t.header) is ∙ at.header_is;
-      history_is = ap (λ (t : Traced). t.history) is ∙ ap (λ (o : Outcome History). o.state) same ∙ sym (ap (λ (f : Followed History). f.state) whole);
-      issued_is = ap (λ (t : Traced). t.issued) is ∙ ap (λ (o : Outcome History). o.issued) same ∙ sym (ap (λ (f : Followed History). f.issued) whole);
+      history_is =
+          ap (λ (t : Traced). t.history) is ∙ ap (λ (o : Outcome History). o.state) same
+          ∙ sym (ap (λ (f : Followed History). f.state) whole);
+      issued_is =
+          ap (λ (t : Traced). t.issued) is ∙ ap (λ (o : Outcome History). o.issued) same
+          ∙ sym (ap (λ (f : Followed History). f.issued) whole);
     }
 
 pub event_state : (old new : Recorded) (issued later : List (List ℕ)) (event : Event) (front back : List (List ℕ)) (said : Said)

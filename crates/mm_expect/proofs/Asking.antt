@@ -20,16 +20,19 @@ use Rattle.mm_model.proofs.Batches.{is_last_of}
 use Rattle.mm_model.proofs.MovedDigests.{total-push}
 use Rattle.mm_call.specs.Answers.{answer_on}
 use Rattle.mm_call.specs.Levels.{by_lists, all_made}
-use Rattle.mm_call.specs.Found.{Found, found_unless_wanting, found_at, is_fresh}
+use Rattle.mm_call.specs.Found.{Found, found_at}
+use Rattle.mm_call.specs.FoundWords.{found_unless_wanting, is_fresh}
 use Rattle.mm_call.specs.Courses.{End, Done, Fails, Fate, Walked, step_moves, after_step, walk, seen_in, commits, planned}
-use Rattle.mm_call.specs.Called.{Answers, Breaks, Called, reading_steps, kept_at, position_of, ended_by, called, called_with, seen_at}
+use Rattle.mm_call.specs.Called.{Answers, Breaks, Called, reading_steps, position_of, ended_by, called, seen_at}
+use Rattle.mm_call.specs.CalledWords.{kept_at, called_with}
 use Rattle.mm_call.specs.declared.ended.Ended.{Ended}
 use Rattle.mm_call.specs.declared.ended.Ended.TheVariants.{Answered, Refused, Broken}
 use Rattle.mm_call.proofs.Moving.{committed_in, same_batches, more_batches}
 use Rattle.mm_call.proofs.Walks.{Commits, nothing, batch, finished, commits-none, writing_commits, commits_batch, seen_none}
 use Rattle.mm_call.proofs.Along.{reading_none}
 use Rattle.mm_call.proofs.Walks as walks
-use Rattle.mm_run.specs.Folds.{plan_of, course_of}
+use Rattle.mm_run.specs.Folds.{course_of}
+use Rattle.mm_run.specs.FoldsWords.{plan_of}
 use Rattle.mm_expect.specs.Recorded.{Recorded, Went, recorded_instance, instance_with}
 use Rattle.mm_expect.specs.Walking.{Walks}
 use Rattle.mm_expect.specs.Calls.{again_in, Admits, changing_steps, changing_from, changes_on, ChangesBy, ending_of, new_ending, GoesOnNew, CallsBy}
@@ -53,7 +56,8 @@ commits-append (Close ∷ xs) ys e = commits-append xs ys e
 commits-append (Power ∷ xs) ys e = commits-append xs ys e
 
 -- the batches once a new batch was walked through
-whole_batches : (old new : Recorded) (walked : Walked) (b : Batch) → Commits b true walked → walked.broken ≡ None → Went old new walked.moves
+whole_batches : (old new : Recorded) (walked : Walked) (b : Batch) → Commits b true walked → walked.broken ≡ None
+    → Went old new walked.moves
     → new.history.batches ≡ old.history.batches ++ b ∷ []
 whole_batches old new walked b (nothing none unless) whole went = let no : true ≡ false = unless whole in cc
 whole_batches old new walked b (batch one is) whole went =
@@ -74,7 +78,8 @@ new_few old new stop meddles b w admits =
     subst (λ n. n ≤ last_position) (sym (ap total_of grown ∙ total-push old.history.batches b)) admits.fits
 
 -- whether the total rose tells whether the batch was committed
-kept_when : (same : Bool) (before total size : ℕ) (commit : Bool) → nat_eq total before ≡ same → (commit ≡ true → total ≡ before + size) → 0 < size
+kept_when : (same : Bool) (before total size : ℕ) (commit : Bool) → nat_eq total before ≡ same → (commit ≡ true → total ≡ before + size)
+    → 0 < size
     → (commit ≡ false → total ≡ before) → (if same then None else Some total) ≡ kept_at commit total
 kept_when true before total size true e up pos stay =
     let a : total ≡ before = (Decides-eqb total before).0 e in absurd (omega (arith, a, up refl, pos))
@@ -98,13 +103,6 @@ kept_by old new walked b (batch one is) went =
     ∙ total-push old.history.batches b in
     kept_when _ (total_of old.history.batches) (total_of new.history.batches) (size_of b) (commits walked.moves) refl
     (λ e. more) (size_of-pos b) (λ e. let yes : commits walked.moves ≡ true = commits_batch walked.moves b one in cc)
-
-pub new_answered : (old new : Recorded) (stop : Stop) (meddles : List Meddle) (b : Batch) (ended : Ended) → ChangesBy old new stop meddles b None
-    → ended ≡ Answered (answer_on (recorded_instance new) new.history b false) → GoesOnNew old new stop meddles b ended
-new_answered old new stop meddles b ended w is = record {
-  went = w.went;
-  ends = ap ending_of is ∙ ap (new_ending new b (changes_on old stop meddles b).moves) w.broken;
-}
 
 pub new_broken : (old new : Recorded) (stop : Stop) (meddles : List Meddle) (b : Batch) (fault : StepFault) (kept : Option ℕ)
     → ChangesBy old new stop meddles b (Some fault)
@@ -156,17 +154,20 @@ module _ (fates : ℕ → Fate) where
   pub read_whole : (variant : Variant) (rest : List Step) → (walk fates 1 (reading_steps variant)).broken ≡ None
       → Then (walk fates 1 (reading_steps variant)) (walk fates (changing_from variant) rest) (walk fates 1 (reading_steps variant ++ rest))
   read_whole Basic rest e =
-      after_whole Reads (fates 1).brings (fates 1).ends finished (walk fates 2 rest) (walk fates 2 rest) e (λ w. record { moves = refl; broken = refl })
+      after_whole Reads (fates 1).brings (fates 1).ends finished (walk fates 2 rest) (walk fates 2 rest) e
+      (λ w. record { moves = refl; broken = refl })
   read_whole Opt rest e =
       after_whole Reads (fates 1).brings (fates 1).ends (after_step Reads (fates 2).brings (fates 2).ends finished) (walk fates 3 rest)
       (after_step Reads (fates 2).brings (fates 2).ends (walk fates 3 rest)) e
-      (λ f. after_whole Reads (fates 2).brings (fates 2).ends finished (walk fates 3 rest) (walk fates 3 rest) f (λ w. record { moves = refl; broken = refl }))
+      (λ f. after_whole Reads (fates 2).brings (fates 2).ends finished (walk fates 3 rest) (walk fates 3 rest) f
+      (λ w. record { moves = refl; broken = refl }))
 
   pub read_seen : (variant : Variant) → (walk fates 1 (reading_steps variant)).broken ≡ None
       → (walk fates 1 (reading_steps variant)).moves ≡ seen_in fates (reading_steps variant) 1
   read_seen Basic e = after_seen (fates 1).brings (fates 1).ends finished [] e (λ w. refl)
   read_seen Opt e =
-      after_seen (fates 1).brings (fates 1).ends (after_step Reads (fates 2).brings (fates 2).ends finished) (map Foreign (fates 2).brings ++ []) e
+      after_seen (fates 1).brings (fates 1).ends (after_step Reads (fates 2).brings (fates 2).ends finished)
+      (map Foreign (fates 2).brings ++ []) e
       (λ f. after_seen (fates 2).brings (fates 2).ends finished [] f (λ w. refl))
 
 -- the steps of a call: the reading ones, and those behind them
@@ -213,17 +214,20 @@ module _ (a : Recorded) (stop : Stop) (meddles : List Meddle) (bytes : List ℕ)
   abbrev all : Called History
   all = called at (by_lists at) a.history (course_of stop meddles) bytes b
 
-  by_parts : (n : Recorded) (ended : Ended) (f : Result Found Refusal) (moves : List Move) (broken : Option StepFault) → found_unless_wanting found false ≡ f
+  by_parts : (n : Recorded) (ended : Ended) (f : Result Found Refusal) (moves : List Move) (broken : Option StepFault)
+      → found_unless_wanting found false ≡ f
       → (walked f).moves ≡ moves → (walked f).broken ≡ broken → Went a n moves
       → ending_of ended ≡ ended_by (by_lists at) seen (all_made (by_lists at) a.history moves) b f moves broken → CallsBy a n all ended
   by_parts n ended f moves broken is m br went ends =
-      let C : Result Found Refusal → Type 0 = λ g. CallsBy a n (called_with at (by_lists at) a.history seen (course_of stop meddles) b g) ended in
+      let C : Result Found Refusal
+      → Type 0 = λ g. CallsBy a n (called_with at (by_lists at) a.history seen (course_of stop meddles) b g) ended in
       subst C (sym is)
       (record {
         went = subst (Went a n) (sym m) went;
         ends = ends
             ∙ ap (λ (v : List Move). ended_by (by_lists at) seen (all_made (by_lists at) a.history v) b f v broken) (sym m)
-            ∙ ap (λ (v : Option StepFault). ended_by (by_lists at) seen (all_made (by_lists at) a.history (walked f).moves) b f (walked f).moves v) (sym br);
+            ∙ ap (λ (v : Option StepFault). ended_by (by_lists at) seen (all_made (by_lists at) a.history (walked f).moves) b f
+            (walked f).moves v) (sym br);
       })
 
   pub ask_broken : (n : Recorded) (fault : StepFault) → Walks a n reading (Some fault) → CallsBy a n all (Broken fault None)
@@ -238,7 +242,8 @@ module _ (a : Recorded) (stop : Stop) (meddles : List Meddle) (bytes : List ℕ)
       (sym (commits-none reading.moves (reading_none a.variant fates))))
 
   -- what is found where the chronicle stands is what the call finds
-  found_there : (n : Recorded) → Walks a n reading None → found_at (recorded_instance n) (by_lists (recorded_instance n)) n.history b bytes ≡ found
+  found_there : (n : Recorded) → Walks a n reading None
+      → found_at (recorded_instance n) (by_lists (recorded_instance n)) n.history b bytes ≡ found
   found_there n w =
       let same : recorded_instance n ≡ at = λ j. instance_with (w.went.variant j) (w.went.«module» j) in
       ap (λ (k : Instance). found_at k (by_lists k) n.history b bytes) same
@@ -254,7 +259,8 @@ module _ (a : Recorded) (stop : Stop) (meddles : List Meddle) (bytes : List ℕ)
       (read_whole fates a.variant [] whole)
 
   pub ask_refused : (n : Recorded) (why : Refusal) → Walks a n reading None
-      → Err why ≡ again_in (found_at (recorded_instance n) (by_lists (recorded_instance n)) n.history b bytes) → CallsBy a n all (Refused why)
+      → Err why ≡ again_in (found_at (recorded_instance n) (by_lists (recorded_instance n)) n.history b bytes)
+      → CallsBy a n all (Refused why)
   ask_refused n why w e =
       let is : found ≡ Err why = again_err found why (e ∙ ap again_in (found_there n w)) in
       let t = read_only (Err why) (sym w.broken) refl in
@@ -303,9 +309,11 @@ module _ (a : Recorded) (stop : Stop) (meddles : List Meddle) (bytes : List ℕ)
       → (all_made (by_lists at) y (after_step Reads values ends r).moves).is_open ≡ y.is_open
   step_open values Done r y more = foreign_open values r.moves y true more
   step_open values (Fails f made) r y more =
-      ap (λ (v : List Move). (all_made (by_lists at) y v).is_open) (sym (append-nil (map Foreign values))) ∙ foreign_open values [] y true (λ z e. e)
+      ap (λ (v : List Move). (all_made (by_lists at) y v).is_open) (sym (append-nil (map Foreign values)))
+      ∙ foreign_open values [] y true (λ z e. e)
 
-  read_open : (variant : Variant) (y : History) → (all_made (by_lists at) y (walk fates 1 (reading_steps variant)).moves).is_open ≡ y.is_open
+  read_open : (variant : Variant) (y : History)
+      → (all_made (by_lists at) y (walk fates 1 (reading_steps variant)).moves).is_open ≡ y.is_open
   read_open Basic y = step_open (fates 1).brings (fates 1).ends finished y (λ z e. e)
   read_open Opt y =
       step_open (fates 1).brings (fates 1).ends (after_step Reads (fates 2).brings (fates 2).ends finished) y
@@ -322,7 +330,8 @@ module _ (a : Recorded) (stop : Stop) (meddles : List Meddle) (bytes : List ℕ)
       ap (λ (v : Variant). walk fates (changing_from v) (changing_steps v n.history.is_open b)) w.went.variant
       ∙ ap (λ (o : Bool). walk fates (changing_from a.variant) (changing_steps a.variant o b)) opens in
       let went : Went n m more.moves = subst (λ (v : Walked). Went n m v.moves) same goes.went in
-      let ends : ending_of ended ≡ new_ending m b more.moves more.broken = goes.ends ∙ ap (λ (v : Walked). new_ending m b v.moves v.broken) same in
+      let ends : ending_of ended ≡ new_ending m b more.moves more.broken = goes.ends
+      ∙ ap (λ (v : Walked). new_ending m b v.moves v.broken) same in
       let fresh : is_fresh (Ok f.0) ≡ true = ap (λ (k : Bool). if k then false else true) f.2 in
       let t : Then reading more (walked (Ok f.0)) =
       (let T : List Step → Type 0 = λ s. Then reading more (walk fates 1 s) in
@@ -342,14 +351,17 @@ pub unbroken : (fault : Option StepFault) → ((f : StepFault) → fault ≡ Som
 unbroken None h = refl
 unbroken (Some f) h = absurd (h f refl)
 
-pub kept_same : (total before now was : ℕ) → now ≡ total → was ≡ before → now ≡ was → None ≡ (if nat_eq total before then None else Some total)
+pub kept_same : (total before now was : ℕ) → now ≡ total → was ≡ before → now ≡ was
+    → None ≡ (if nat_eq total before then None else Some total)
 kept_same total before now was n w e =
     sym (ap (λ (b : Bool). if b then None else Some total) ((Decides-eqb total before).1 (sym n ∙ e ∙ w)))
 
-pub kept_other : (total before now was : ℕ) → now ≡ total → was ≡ before → (now ≡ was → ⊥) → Some now ≡ (if nat_eq total before then None else Some total)
+pub kept_other : (total before now was : ℕ) → now ≡ total → was ≡ before → (now ≡ was → ⊥)
+    → Some now ≡ (if nat_eq total before then None else Some total)
 kept_other total before now was n w e =
     ap (λ (t : ℕ). Some t) n
-    ∙ sym (ap (λ (b : Bool). if b then None else Some total) (not_true (nat_eq total before) (λ t. e (n ∙ (Decides-eqb total before).0 t ∙ sym w))))
+    ∙ sym (ap (λ (b : Bool). if b then None else Some total)
+    (not_true (nat_eq total before) (λ t. e (n ∙ (Decides-eqb total before).0 t ∙ sym w))))
 
 -- what others put into the register commits nothing
 pub foreign_batches : (i : Instance) (fates : ℕ → Fate) (steps : List Step) (n : ℕ) (y : History)

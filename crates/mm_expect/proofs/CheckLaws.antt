@@ -13,12 +13,15 @@ use Rattle.mm_model.specs.History.{History, Move, Close}
 use Rattle.mm_model.specs.Life.{life_of, is_lost}
 use Rattle.mm_model.specs.Steps.{Step, Reads, Writes, checkpoint_steps}
 use Rattle.mm_call.specs.Levels.{by_lists, all_made}
-use Rattle.mm_call.specs.Courses.{Fate, Walked, after_step, walk, seen_in, closes, planned, end_of}
+use Rattle.mm_call.specs.Courses.{Fate, Walked, after_step, walk, seen_in, closes, planned}
+use Rattle.mm_call.specs.CoursesWords.{end_of}
 use Rattle.mm_call.specs.Called.{reading_steps, seen_at}
 use Rattle.mm_call.specs.Checkpoints as ghost_closing
+use Rattle.mm_call.specs.CheckpointsWords as ghost_closing_words
 use Rattle.mm_call.proofs.Walks.{finished}
 use Rattle.mm_call.proofs.Along.{closes-append, closes-foreign, ClosesNone, shut_along, walk_along}
-use Rattle.mm_run.specs.Folds.{plan_of, course_of}
+use Rattle.mm_run.specs.Folds.{course_of}
+use Rattle.mm_run.specs.FoldsWords.{plan_of}
 use Rattle.mm_run.proofs.Naming.{last_steps}
 use Rattle.mm_expect.specs.declared.calls.Closing.{Closing}
 use Rattle.mm_expect.specs.declared.calls.Closing.TheVariants.{Closes, LostPower, Stops}
@@ -36,26 +39,30 @@ two_close fates = walk_along ClosesNone shut_along fates 1 (reading_steps Opt) t
 
 -- a checkpoint that reads the cell alone
 
-pub shut_is : {E : Type 0} (a n : Recorded) (stop : Stop) (meddles : List Meddle) (unless : Closing) (variant : Variant) (is_open : Bool) (r : Result Closing E)
+pub shut_is : {E : Type 0} (a n : Recorded) (stop : Stop) (meddles : List Meddle) (unless : Closing) (variant : Variant) (is_open : Bool)
+    (r : Result Closing E)
     → a.variant ≡ variant → a.history.is_open ≡ is_open
     → ((lost : Bool) → checkpoint_steps variant is_open lost ≡ Reads ∷ [])
     → ((lost : Bool) → ghost_closing.closing_of variant is_open lost ≡ closing_as unless)
     → IfOk r (ShutBy a n (walk (planned (plan_of stop meddles)) 1 (Reads ∷ [])) unless)
-    → IfOk r (WentByCheckpoint a n (ghost_closing.checkpointed (recorded_instance a) (by_lists (recorded_instance a)) a.history (course_of stop meddles)))
+    → IfOk r (WentByCheckpoint a n
+    (ghost_closing.checkpointed (recorded_instance a) (by_lists (recorded_instance a)) a.history (course_of stop meddles)))
 shut_is a n stop meddles unless variant is_open (Err e) va op steps ends shut = tt
 shut_is a n stop meddles unless variant is_open (Ok closing) va op steps ends shut =
     let i = recorded_instance a in
     let fates = planned (plan_of stop meddles) in
     let lost = is_lost (life_of a.variant (seen_at i (by_lists i) a.history (course_of stop meddles))) in
-    let here = ap (λ (v : Variant). checkpoint_steps v a.history.is_open lost) va ∙ ap (λ (o : Bool). checkpoint_steps variant o lost) op ∙ steps lost in
-    let there = ap (λ (v : Variant). ghost_closing.closing_of v a.history.is_open lost) va ∙ ap (λ (o : Bool). ghost_closing.closing_of variant o lost) op ∙ ends lost in
+    let here = ap (λ (v : Variant). checkpoint_steps v a.history.is_open lost) va ∙ ap (λ (o : Bool). checkpoint_steps variant o lost) op
+    ∙ steps lost in
+    let there = ap (λ (v : Variant). ghost_closing.closing_of v a.history.is_open lost) va
+    ∙ ap (λ (o : Bool). ghost_closing.closing_of variant o lost) op ∙ ends lost in
     let W : Walked = walk fates 1 (Reads ∷ []) in
     record {
       went = subst (λ (s : List Step). Went a n (walk fates 1 s).moves) (sym here) shut.went;
       ends = shut.ends
-          ∙ ap (λ (k : Bool). ghost_closing.closed_by W.broken k (closing_as unless)) (sym (one_closes fates))
-          ∙ ap (ghost_closing.closed_by W.broken (closes W.moves)) (sym there)
-          ∙ ap (λ (s : List Step). ghost_closing.closed_by (walk fates 1 s).broken (closes (walk fates 1 s).moves)
+          ∙ ap (λ (k : Bool). ghost_closing_words.closed_by W.broken k (closing_as unless)) (sym (one_closes fates))
+          ∙ ap (ghost_closing_words.closed_by W.broken (closes W.moves)) (sym there)
+          ∙ ap (λ (s : List Step). ghost_closing_words.closed_by (walk fates 1 s).broken (closes (walk fates 1 s).moves)
           (ghost_closing.closing_of a.variant a.history.is_open lost)) (sym here);
     }
 
@@ -82,29 +89,36 @@ module _ (a : Recorded) (stop : Stop) (meddles : List Meddle) (va : a.variant �
   all = ghost_closing.checkpointed at (by_lists at) a.history (course_of stop meddles)
 
   steps_are : checkpoint_steps a.variant a.history.is_open lost ≡ reading_steps Opt ++ last_steps lost
-  steps_are = ap (λ (v : Variant). checkpoint_steps v a.history.is_open lost) va ∙ ap (λ (o : Bool). checkpoint_steps Opt o lost) op ∙ last_is lost
+  steps_are =
+      ap (λ (v : Variant). checkpoint_steps v a.history.is_open lost) va ∙ ap (λ (o : Bool). checkpoint_steps Opt o lost) op ∙ last_is lost
 
   by_parts : (n : Recorded) (closing : Closing) (moves : List Move) (broken : Option StepFault)
-      → (walk fates 1 (reading_steps Opt ++ last_steps lost)).moves ≡ moves → (walk fates 1 (reading_steps Opt ++ last_steps lost)).broken ≡ broken
+      → (walk fates 1 (reading_steps Opt ++ last_steps lost)).moves ≡ moves
+      → (walk fates 1 (reading_steps Opt ++ last_steps lost)).broken ≡ broken
       → Went a n moves
-      → closing_as closing ≡ ghost_closing.closed_by broken (closes moves) (ghost_closing.closing_of Opt true lost) → WentByCheckpoint a n all closing
+      → closing_as closing ≡ ghost_closing_words.closed_by broken (closes moves) (ghost_closing.closing_of Opt true lost)
+      → WentByCheckpoint a n all closing
   by_parts n closing moves broken m br went ends =
       let W = λ (s : List Step). walk fates 1 s in
-      let there = ap (λ (v : Variant). ghost_closing.closing_of v a.history.is_open lost) va ∙ ap (λ (o : Bool). ghost_closing.closing_of Opt o lost) op in
+      let there = ap (λ (v : Variant). ghost_closing.closing_of v a.history.is_open lost) va
+      ∙ ap (λ (o : Bool). ghost_closing.closing_of Opt o lost) op in
       record {
         went = subst (λ (s : List Step). Went a n (walk fates 1 s).moves) (sym steps_are) (subst (Went a n) (sym m) went);
         ends = ends
-            ∙ ap (λ (v : List Move). ghost_closing.closed_by broken (closes v) (ghost_closing.closing_of Opt true lost)) (sym m)
-            ∙ ap (λ (f : Option StepFault). ghost_closing.closed_by f (closes (walk fates 1 (reading_steps Opt ++ last_steps lost)).moves) (ghost_closing.closing_of Opt true lost)) (sym br)
-            ∙ ap (ghost_closing.closed_by (walk fates 1 (reading_steps Opt ++ last_steps lost)).broken (closes (walk fates 1 (reading_steps Opt ++ last_steps lost)).moves)) (sym there)
-            ∙ ap (λ (s : List Step). ghost_closing.closed_by (walk fates 1 s).broken (closes (walk fates 1 s).moves)
+            ∙ ap (λ (v : List Move). ghost_closing_words.closed_by broken (closes v) (ghost_closing.closing_of Opt true lost)) (sym m)
+            ∙ ap (λ (f : Option StepFault). ghost_closing_words.closed_by f (closes (walk fates 1 (reading_steps Opt ++ last_steps lost)).moves)
+            (ghost_closing.closing_of Opt true lost)) (sym br)
+            ∙ ap (ghost_closing_words.closed_by (walk fates 1 (reading_steps Opt ++ last_steps lost)).broken
+            (closes (walk fates 1 (reading_steps Opt ++ last_steps lost)).moves)) (sym there)
+            ∙ ap (λ (s : List Step). ghost_closing_words.closed_by (walk fates 1 s).broken (closes (walk fates 1 s).moves)
             (ghost_closing.closing_of a.variant a.history.is_open lost)) (sym steps_are);
       }
 
   pub check_broken : (n : Recorded) (fault : StepFault) → Walks a n reading (Some fault) → WentByCheckpoint a n all (Stops fault false)
   check_broken n fault w =
       let same = read_broken fates Opt (last_steps lost) fault (sym w.broken) in
-      by_parts n (Stops fault false) reading.moves (Some fault) (ap (λ (v : Walked). v.moves) same) (ap (λ (v : Walked). v.broken) same ∙ sym w.broken)
+      by_parts n (Stops fault false) reading.moves (Some fault) (ap (λ (v : Walked). v.moves) same)
+      (ap (λ (v : Walked). v.broken) same ∙ sym w.broken)
       w.went (ap (ghost_closing.Stops fault) (sym (two_close fates)))
 
   -- what the chronicle tells of power is what the checkpoint sees
@@ -121,7 +135,8 @@ module _ (a : Recorded) (stop : Stop) (meddles : List Meddle) (va : a.variant �
       subst (λ (k : Bool). Then reading (walk fates 3 (last_steps l)) (walk fates 1 (reading_steps Opt ++ last_steps k))) (sym e)
       (read_whole fates Opt (last_steps l) whole)
 
-  pub check_lost : (n : Recorded) → Walks a n reading None → is_lost (life_of n.variant n.history) ≡ true → WentByCheckpoint a n all LostPower
+  pub check_lost : (n : Recorded) → Walks a n reading None → is_lost (life_of n.variant n.history) ≡ true
+      → WentByCheckpoint a n all LostPower
   check_lost n w e =
       let l : lost ≡ true = sym (lost_there n w) ∙ e in
       let t = goes_last true l (sym w.broken) in
@@ -147,7 +162,8 @@ module _ (a : Recorded) (stop : Stop) (meddles : List Meddle) (va : a.variant �
   closes_made values (Some f) true fault e = refl
   closes_made values (Some f) false fault e = closes-foreign values
 
-  pub check_stopped : (n m : Recorded) (fault : StepFault) (made : Bool) → Walks a n reading None → is_lost (life_of n.variant n.history) ≡ false
+  pub check_stopped : (n m : Recorded) (fault : StepFault) (made : Bool) → Walks a n reading None
+      → is_lost (life_of n.variant n.history) ≡ false
       → Walks n m closing_walk (Some fault) → made ≡ is_made_at stop 3 → WentByCheckpoint a m all (Stops fault made)
   check_stopped n m fault made w e more is =
       let l : lost ≡ false = sym (lost_there n w) ∙ e in

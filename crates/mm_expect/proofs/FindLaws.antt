@@ -41,7 +41,8 @@ fits_when : (again : Bool) (position total size : ℕ) (last : Bool) → positio
     → (again ≡ false → nat_eq position total ≡ true) → (again ≡ true → (nat_eq (position + size) total && last) ≡ true)
     → reached again total size ≤ last_position
 fits_when true position total size last fits here repeat =
-    let at : position + size ≡ total = (Decides-eqb (position + size) total).0 (and_parts (nat_eq (position + size) total) last (repeat refl)).0 in
+    let at : position + size ≡ total = (Decides-eqb (position + size) total).0
+    (and_parts (nat_eq (position + size) total) last (repeat refl)).0 in
     subst (λ n. n ≤ last_position) at fits
 fits_when false position total size last fits here repeat =
     let at : position ≡ total = (Decides-eqb position total).0 (here refl) in
@@ -51,7 +52,8 @@ pub admits_when : (i : Instance) (y : History) (b : Batch) (snapshot : Snapshot)
     → examined i.meaning i.key snapshot b (judge i.variant y snapshot.content.position b) ≡ Ok again
     → snapshot.content.position + size_of b ≤ last_position → Admits y b again
 admits_when i y b snapshot again e fits =
-    let w = weighed_tells (i.meaning.is_spelled snapshot.content.state) (bytes_eq snapshot.tag (tag_of i.key snapshot.content)) _ _ again e in
+    let w = weighed_tells (i.meaning.is_spelled snapshot.content.state) (bytes_eq snapshot.tag (tag_of i.key snapshot.content)) _ _ again e
+    in
     let here = nat_eq snapshot.content.position (total_of y.batches) in
     let repeat = nat_eq (snapshot.content.position + size_of b) (total_of y.batches) && is_last y.batches b in
     let a = admitted_live (life_of i.variant y) here repeat (nat_le (snapshot.content.position + size_of b) last_position) again w.2 in
@@ -78,9 +80,12 @@ from_admits i y b (Err Form) f e = cc
 from_admits i y b (Err Kind) f e = cc
 from_admits i y b (Ok snapshot) f e =
     let t = found_with_tells snapshot.content (examined i.meaning i.key snapshot b (judge i.variant y snapshot.content.position b)) f e in
-    let w = weighed_tells (i.meaning.is_spelled snapshot.content.state) (bytes_eq snapshot.tag (tag_of i.key snapshot.content)) _ _ f.again t.1 in
-    admits_when i y b snapshot f.again t.1 (admitted_fits (judge i.variant y snapshot.content.position b) (snapshot.content.position + size_of b) f.again w.2)
+    let w = weighed_tells (i.meaning.is_spelled snapshot.content.state) (bytes_eq snapshot.tag (tag_of i.key snapshot.content)) _ _ f.again
+    t.1 in
+    admits_when i y b snapshot f.again t.1
+    (admitted_fits (judge i.variant y snapshot.content.position b) (snapshot.content.position + size_of b) f.again w.2)
 
-pub admits_found : (i : Instance) (y : History) (b : Batch) (bytes : List ℕ) (f : Found) → found_at i (by_lists i) y b bytes ≡ Ok f → Admits y b f.again
+pub admits_found : (i : Instance) (y : History) (b : Batch) (bytes : List ℕ) (f : Found) → found_at i (by_lists i) y b bytes ≡ Ok f
+    → Admits y b f.again
 admits_found i y b bytes f e =
     from_admits i y b (parts_of i.variant i.meaning.id bytes) f (unless_lost (is_lost (life_of i.variant y)) _ f e)

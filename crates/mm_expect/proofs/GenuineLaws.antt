@@ -16,13 +16,15 @@ use Rattle.mm_seal.specs.Parts.{parts_of}
 use Rattle.mm_seal.specs.Snapshot.{Content, Snapshot, IsContent, IsPlace, tag_of, offered_of, sealed_of, snapshot_front}
 use Rattle.mm_seal.proofs.SealLaws.{sealed_parts, sealed_once}
 use Rattle.mm_base.specs.Limits.{last_position, limit_of}
-use Rattle.mm_model.specs.Instance.{Instance, basic, opt}
+use Rattle.mm_model.specs.Instance.{Instance}
+use Rattle.mm_model.specs.InstanceWords.{basic, opt}
 use Rattle.mm_model.specs.History.{History, requests_of, total_of}
 use Rattle.mm_model.specs.Places.{IsPoint, at_anchor, in_closed, in_current, IsPlaceOf, Names}
 use Rattle.mm_model.specs.Standing.{IsRight, IsGenuine}
 use Rattle.mm_model.proofs.Batches.{total-append}
 use Rattle.mm_model.proofs.Chains.{length-summary_of, length-anchor_of, length-register_of}
-use Rattle.mm_call.specs.Found.{content_if_right, right_content}
+use Rattle.mm_call.specs.Found.{right_content}
+use Rattle.mm_call.specs.FoundWords.{content_if_right}
 use Rattle.mm_call.proofs.Finding.{right_is}
 use Rattle.mm_call.proofs.Reading.{is_right}
 use Rattle.mm_run.specs.Laws.{IsIssued}
@@ -34,7 +36,8 @@ use Rattle.mm_expect.specs.Genuine.{EachOfferIsDecided, BasicIssuedAreGenuine, O
 said_of : (i : Instance) (bytes : List ℕ) (content : Content) → IsRight i bytes content → right_content i bytes ≡ Some content
 said_of i bytes content right =
     let parts : parts_of i.variant i.meaning.id bytes ≡ Ok (offered_of i.key content) =
-    ap (parts_of i.variant i.meaning.id) right.sealed ∙ sealed_parts i.key content i.variant i.meaning.id right.formed right.variant right.id in
+    ap (parts_of i.variant i.meaning.id) right.sealed
+    ∙ sealed_parts i.key content i.variant i.meaning.id right.formed right.variant right.id in
     right_is i (parts_of i.variant i.meaning.id bytes) (offered_of i.key content) parts right.state
     ((bytes_eq-Decides (tag_of i.key content) (tag_of i.key content)).1 refl)
 
@@ -48,18 +51,22 @@ said_if false t x content e = absurd (cc)
 said_if true false x content e = absurd (cc)
 said_if true true x content e = record { spelled = refl; tagged = refl; same = cc }
 
-right_of : (i : Instance) (bytes : List ℕ) (parts : Result Snapshot PartsFault) → parts_of i.variant i.meaning.id bytes ≡ parts → (content : Content) → content_if_right i parts ≡ Some content → IsRight i bytes content
+pub right_of : (i : Instance) (bytes : List ℕ) (parts : Result Snapshot PartsFault) → parts_of i.variant i.meaning.id bytes ≡ parts
+    → (content : Content) → content_if_right i parts ≡ Some content → IsRight i bytes content
 right_of i bytes (Err fault) e content is = absurd (cc)
 right_of i bytes (Ok snapshot) e content is =
-    let a = said_if (i.meaning.is_spelled snapshot.content.state) (bytes_eq snapshot.tag (tag_of i.key snapshot.content)) snapshot.content content is in
+    let a = said_if (i.meaning.is_spelled snapshot.content.state) (bytes_eq snapshot.tag (tag_of i.key snapshot.content)) snapshot.content
+    content is in
     subst (λ (x : Content). IsRight i bytes x) a.same (is_right i bytes snapshot e a.spelled a.tagged)
 
 one_said : (i : Instance) (bytes : List ℕ) (x content : Content) → right_content i bytes ≡ Some x → IsRight i bytes content → x ≡ content
 one_said i bytes x content e right = let same : Some x ≡ Some content = sym e ∙ said_of i bytes content right in cc
 
-by_content : (yes : Bool) (i : Instance) (y : History) (bytes : List ℕ) (content : Content) → right_content i bytes ≡ Some content → IsDecided yes (Names i y content) → IsDecided yes (IsGenuine i y bytes)
+by_content : (yes : Bool) (i : Instance) (y : History) (bytes : List ℕ) (content : Content) → right_content i bytes ≡ Some content
+    → IsDecided yes (Names i y content) → IsDecided yes (IsGenuine i y bytes)
 by_content true i y bytes content e n = λ other right. subst (λ (x : Content). Names i y x) (one_said i bytes content other e right) n
-by_content false i y bytes content e none = λ genuine. none (genuine content (right_of i bytes (parts_of i.variant i.meaning.id bytes) refl content e))
+by_content false i y bytes content e none =
+    λ genuine. none (genuine content (right_of i bytes (parts_of i.variant i.meaning.id bytes) refl content e))
 
 pub offers_decided : EachOfferIsDecided
 offers_decided i = record {
@@ -69,16 +76,21 @@ offers_decided i = record {
 
 -- What names a position is formed.
 
-basic_sized : (meaning : Meaning) (key : List ℕ) (y : History) (named : List Batch) (place : Place) → IsPlaceOf Basic (basic meaning key) y named place → IsPlace place
+basic_sized : (meaning : Meaning) (key : List ℕ) (y : History) (named : List Batch) (place : Place)
+    → IsPlaceOf Basic (basic meaning key) y named place → IsPlace place
 basic_sized meaning key y named (InBasic s) p = ap length p ∙ length-summary_of meaning.id named
 basic_sized meaning key y named (InOpt a e) p = absurd p
 
 point_sized : (i : Instance) (y : History) (named : List Batch) (a e : List ℕ) → IsPoint i y named a e → (length a ≡ 32) × (length e ≡ 32)
-point_sized i y named a e (at_anchor p) = (ap length p.anchor_is ∙ length-anchor_of i.meaning.id _, ap length p.extension_is ∙ length-zero_bytes)
-point_sized i y named a e (in_closed p) = (ap length p.anchor_is ∙ length-anchor_of i.meaning.id _, ap length p.extension_is ∙ length-register_of _)
-point_sized i y named a e (in_current p) = (ap length p.anchor_is ∙ length-anchor_of i.meaning.id _, ap length p.extension_is ∙ length-register_of _)
+point_sized i y named a e (at_anchor p) =
+    (ap length p.anchor_is ∙ length-anchor_of i.meaning.id _, ap length p.extension_is ∙ length-zero_bytes)
+point_sized i y named a e (in_closed p) =
+    (ap length p.anchor_is ∙ length-anchor_of i.meaning.id _, ap length p.extension_is ∙ length-register_of _)
+point_sized i y named a e (in_current p) =
+    (ap length p.anchor_is ∙ length-anchor_of i.meaning.id _, ap length p.extension_is ∙ length-register_of _)
 
-opt_sized : (meaning : Meaning) (key barrier : List ℕ) (y : History) (named : List Batch) (place : Place) → IsPlaceOf Opt (opt meaning key barrier) y named place → IsPlace place
+opt_sized : (meaning : Meaning) (key barrier : List ℕ) (y : History) (named : List Batch) (place : Place)
+    → IsPlaceOf Opt (opt meaning key barrier) y named place → IsPlace place
 opt_sized meaning key barrier y named (InBasic s) p = absurd p
 opt_sized meaning key barrier y named (InOpt a e) p = point_sized (opt meaning key barrier) y named a.bytes e.bytes p
 
@@ -87,7 +99,9 @@ same_id : (key other : List ℕ) (x z : Content) → sealed_of key x ≡ sealed_
 unfolding sealed_of snapshot_front
 same_id key other x z e = ap (λ (xs : List ℕ). get_or xs 5 0) e
 
-formed_by : (i : Instance) (y : History) (content : Content) → IsLawful i.meaning → total_of y.batches ≤ last_position → content.id ≡ i.meaning.id → ((named : List Batch) → IsPlaceOf i.variant i y named content.place → IsPlace content.place) → Names i y content → IsContent content
+formed_by : (i : Instance) (y : History) (content : Content) → IsLawful i.meaning → total_of y.batches ≤ last_position
+    → content.id ≡ i.meaning.id → ((named : List Batch) → IsPlaceOf i.variant i y named content.place → IsPlace content.place)
+    → Names i y content → IsContent content
 formed_by i y content lawful few id sized n = record {
   place = sized n.named n.place;
   position = omega (arith, n.position, few, ap total_of n.first, total-append n.named n.rest);
@@ -96,14 +110,17 @@ formed_by i y content lawful few id sized n = record {
       (lawful.fits (state_after i.meaning (requests_of n.named)) (state_after-is_spelled i.meaning lawful (requests_of n.named))));
 }
 
-issued_by : (i : Instance) (y : History) (bytes : List ℕ) → IsLawful i.meaning → total_of y.batches ≤ last_position → ((named : List Batch) (place : Place) → IsPlaceOf i.variant i y named place → IsPlace place) → IsIssued i y bytes → IsGenuine i y bytes
+issued_by : (i : Instance) (y : History) (bytes : List ℕ) → IsLawful i.meaning → total_of y.batches ≤ last_position
+    → ((named : List Batch) (place : Place) → IsPlaceOf i.variant i y named place → IsPlace place) → IsIssued i y bytes
+    → IsGenuine i y bytes
 issued_by i y bytes lawful few sized s = λ content right.
     let id : s.content.id ≡ i.meaning.id = same_id i.key i.key s.content content (sym s.sealed ∙ right.sealed) ∙ right.id in
     let formed : IsContent s.content = formed_by i y s.content lawful few id (λ named p. sized named s.content.place p) s.names in
     let same : s.content ≡ content = sealed_once i.key i.key s.content content formed right.formed (sym s.sealed ∙ right.sealed) in
     subst (λ (x : Content). Names i y x) same s.names
 
-each_at : (i : Instance) (y : History) (xs : List (List ℕ)) (n : ℕ) (x : List ℕ) → AllByRecursion (IsIssued i y) xs → slice_get xs n ≡ Some x → IsIssued i y x
+each_at : (i : Instance) (y : History) (xs : List (List ℕ)) (n : ℕ) (x : List ℕ) → AllByRecursion (IsIssued i y) xs
+    → slice_get xs n ≡ Some x → IsIssued i y x
 each_at i y [] n x h e = absurd (cc)
 each_at i y (z ∷ xs) zero x h e = subst (IsIssued i y) (let same : z ≡ x = cc in same) h.0
 each_at i y (z ∷ xs) (suc n) x h e = each_at i y xs n x h.1 e
@@ -114,4 +131,5 @@ basic_issued_genuine meaning key y issued number bytes lawful few h e =
 
 pub opt_issued_genuine : OptIssuedAreGenuine
 opt_issued_genuine meaning key barrier y issued number bytes lawful few h e =
-    issued_by (opt meaning key barrier) y bytes lawful few (opt_sized meaning key barrier y) (each_at (opt meaning key barrier) y issued number bytes h e)
+    issued_by (opt meaning key barrier) y bytes lawful few (opt_sized meaning key barrier y)
+    (each_at (opt meaning key barrier) y issued number bytes h e)

@@ -8,6 +8,7 @@ use Rattle.mm_module.specs.Meaning.{Meaning}
 use Rattle.mm_modules.specs.declared.any.AnyModule.{AnyModule}
 use Rattle.mm_modules.specs.Modules.{meaning_of}
 use Rattle.mm_modules.specs.ModulesLaws.{any_is_lawful}
+use Rattle.mm_seal.specs.Parts.{parts_of}
 use Rattle.mm_seal.specs.Snapshot.{Content}
 use Rattle.mm_model.specs.Instance.{Instance}
 use Rattle.mm_model.specs.Places.{Names}
@@ -21,25 +22,28 @@ use Rattle.mm_schedule.specs.declared.event.Offer.TheVariants.{Number, Last}
 use Rattle.mm_schedule.specs.Events.{Event}
 use Rattle.mm_run.specs.Offered.{offered_bytes}
 use Rattle.mm_run.specs.Folds.{expected}
-use Rattle.mm_run.specs.Held.{world_key, world_barrier, world_of}
+use Rattle.mm_run.specs.Held.{world_of}
+use Rattle.mm_run.specs.HeldWords.{world_key, world_barrier}
 use Rattle.mm_run.specs.Laws.{IsIssued}
-use Rattle.mm_run.specs.Premises.{IsGenuineOffer, IsGenuineEvent}
+use Rattle.mm_run.specs.Premises.{IsGenuineEvent}
+use Rattle.mm_run.specs.PremisesWords.{IsGenuineOffer}
 use Rattle.mm_run.proofs.Naming.{basic_issued_named, opt_issued_named}
 use Rattle.mm_expect.specs.Genuine.{IssuedAreGenuine}
-use Rattle.mm_expect.specs.Judged.{AreIssued, DecidesOffer, DecidesEvent}
+use Rattle.mm_expect.specs.Judged.{AreIssued, IsAmong, IsSaidAt, DecidesBytes, DecidesOffer, DecidesEvent}
 use Rattle.mm_expect.specs.Naming.{IsDecided}
 use Rattle.mm_expect.specs.Recorded.{Recorded, instance_with, recorded_instance}
 use Rattle.mm_expect.specs.Traced.{Traced, IsAfter}
 use Rattle.mm_expect.proofs.AfterLaws.{header_of, traced, instance_is}
 use Rattle.mm_expect.proofs.FewLaws.{few_expected}
-use Rattle.mm_expect.proofs.GenuineLaws.{offers_decided, basic_issued_genuine, opt_issued_genuine}
+use Rattle.mm_expect.proofs.GenuineLaws.{offers_decided, right_of, basic_issued_genuine, opt_issued_genuine}
 
 issued_are : (variant : Variant) («module» : AnyModule) → IssuedAreGenuine (instance_with variant «module»)
 issued_are Basic «module» = basic_issued_genuine (meaning_of «module») world_key
 issued_are Opt «module» = opt_issued_genuine (meaning_of «module») world_key world_barrier
 
 issued_found : (variant : Variant) («module» : AnyModule) (y : History) (issued : List (List ℕ)) (number : ℕ) (found : Option (List ℕ))
-    → slice_get issued number ≡ found → AreIssued (instance_with variant «module») y issued → IsGenuineOffer (instance_with variant «module») y found
+    → slice_get issued number ≡ found → AreIssued (instance_with variant «module») y issued
+    → IsGenuineOffer (instance_with variant «module») y found
 issued_found variant «module» y issued number None e are = tt
 issued_found variant «module» y issued number (Some bytes) e are =
     issued_are variant «module» y issued number bytes (any_is_lawful «module») are.few are.names e
@@ -50,18 +54,21 @@ pub issued_offer : (variant : Variant) («module» : AnyModule) (y : History) (i
 issued_offer variant «module» y issued number are = issued_found variant «module» y issued number (slice_get issued number) refl are
 
 named_by : (variant : Variant) (meaning : Meaning) (events : List Event)
-    → (let i = instance_by variant meaning world_key world_barrier in AllByRecursion (IsIssued i (expected i events).state) (expected i events).issued)
+    → (let i = instance_by variant meaning world_key world_barrier in AllByRecursion (IsIssued i (expected i events).state)
+    (expected i events).issued)
 named_by Basic meaning events = basic_issued_named meaning world_key events
 named_by Opt meaning events = opt_issued_named meaning world_key world_barrier events
 
 -- where the expected run of some events stands
-pub are_issued : (header : Header) (events : List Event) (it : Traced) → IsAfter header events it → AreIssued (world_of header) it.history it.issued
+pub are_issued : (header : Header) (events : List Event) (it : Traced) → IsAfter header events it
+    → AreIssued (world_of header) it.history it.issued
 are_issued header events it at =
     let i = world_of header in
     let S : History → Type 0 = λ y. AreIssued i y it.issued in
     let T : List (List ℕ) → Type 0 = λ v. AreIssued i (expected i events).state v in
     subst S (sym at.history_is)
-    (subst T (sym at.issued_is) (record { few = few_expected i events; names = named_by header.variant (meaning_of header.«module») events }))
+    (subst T (sym at.issued_is)
+    (record { few = few_expected i events; names = named_by header.variant (meaning_of header.«module») events }))
 
 pub event_decided : (old : Recorded) (issued : List (List ℕ)) (event : Event) (true_or_not : Bool) (header : Header) (events : List Event)
     → DecidesEvent (recorded_instance old) old.history issued event true_or_not → IsAfter header events (traced old issued)
@@ -71,15 +78,19 @@ event_decided old issued event true_or_not header events decides at =
     subst (λ (i : Instance). IsDecided true_or_not (IsGenuineEvent i old.history issued event)) same
     (decides (subst (λ (i : Instance). AreIssued i old.history issued) (sym same) (are_issued header events (traced old issued) at)))
 
-pub genuine_some : {E : Type 0} (r : Result Bool E) (i : Instance) (y : History) (bytes : List ℕ) (content : Content) → right_content i bytes ≡ Some content
-    → IfOk r (λ true_or_not. IsDecided true_or_not (Names i y content)) → IfOk r (λ true_or_not. IsDecided true_or_not (IsGenuine i y bytes))
+pub genuine_some : {E : Type 0} (r : Result Bool E) (i : Instance) (y : History) (bytes : List ℕ) (content : Content)
+    → right_content i bytes ≡ Some content
+    → IfOk r (λ true_or_not. IsDecided true_or_not (Names i y content))
+    → IfOk r (λ true_or_not. IsDecided true_or_not (IsGenuine i y bytes))
 genuine_some (Ok true_or_not) i y bytes content e d = (offers_decided i).right y bytes content true_or_not e d
 genuine_some (Err why) i y bytes content e d = tt
 
-pub decided_number : (variant : Variant) («module» : AnyModule) (y : History) (issued : List (List ℕ)) (offer : Offer) (number : ℕ) → offer ≡ Number number
+pub decided_number : (variant : Variant) («module» : AnyModule) (y : History) (issued : List (List ℕ)) (offer : Offer) (number : ℕ)
+    → offer ≡ Number number
     → DecidesOffer (instance_with variant «module») y issued offer true
 decided_number variant «module» y issued offer number is =
-    subst (λ (o : Offer). DecidesOffer (instance_with variant «module») y issued o true) (sym is) (λ are. issued_offer variant «module» y issued number are)
+    subst (λ (o : Offer). DecidesOffer (instance_with variant «module») y issued o true) (sym is)
+    (λ are. issued_offer variant «module» y issued number are)
 
 pub decided_last : (variant : Variant) («module» : AnyModule) (y : History) (issued : List (List ℕ)) (offer : Offer) → offer ≡ Last
     → DecidesOffer (instance_with variant «module») y issued offer true
@@ -87,17 +98,47 @@ decided_last variant «module» y issued offer is =
     subst (λ (o : Offer). DecidesOffer (instance_with variant «module») y issued o true) (sym is)
     (λ are. issued_offer variant «module» y issued (length issued - 1) are)
 
-pub decided_none : (i : Instance) (y : History) (issued : List (List ℕ)) (offer : Offer) → offered_bytes issued offer ≡ None → DecidesOffer i y issued offer true
+pub decided_none : (i : Instance) (y : History) (issued : List (List ℕ)) (offer : Offer) → offered_bytes issued offer ≡ None
+    → DecidesOffer i y issued offer true
 decided_none i y issued offer e are = subst (IsGenuineOffer i y) (sym e) tt
 
-pub decided_some : {E : Type 0} (r : Result Bool E) (i : Instance) (y : History) (issued : List (List ℕ)) (offer : Offer) (bytes given : List ℕ)
-    → offered_bytes issued offer ≡ Some bytes → given ≡ bytes → IfOk r (λ b. IsDecided b (IsGenuine i y given)) → IfOk r (DecidesOffer i y issued offer)
+pub decided_among : (variant : Variant) («module» : AnyModule) (y : History) (issued : List (List ℕ)) (bytes : List ℕ)
+    → IsAmong bytes issued
+    → DecidesBytes (instance_with variant «module») y issued bytes true
+decided_among variant «module» y issued bytes among are =
+    issued_are variant «module» y issued among.0 bytes (any_is_lawful «module») are.few are.names among.1
+
+-- what an issued snapshot says names a position
+said_names : (variant : Variant) («module» : AnyModule) (y : History) (issued : List (List ℕ)) (position : ℕ) (content : Content)
+    → IsSaidAt (instance_with variant «module») issued position content → AreIssued (instance_with variant «module») y issued
+    → Names (instance_with variant «module») y content
+said_names variant «module» y issued position content said are =
+    let i = instance_with variant «module» in
+    issued_are variant «module» y issued said.among.0 said.bytes (any_is_lawful «module») are.few are.names said.among.1 content
+    (right_of i said.bytes (parts_of i.variant i.meaning.id said.bytes) refl content said.right)
+
+pub decided_beside : (b : Bool) (variant : Variant) («module» : AnyModule) (y : History) (issued : List (List ℕ)) (bytes : List ℕ)
+    (position : ℕ)
+    (content other : Content) → right_content (instance_with variant «module») bytes ≡ Some content
+    → IsSaidAt (instance_with variant «module») issued position other
+    → (Names (instance_with variant «module») y other → IsDecided b (Names (instance_with variant «module») y content))
+    → DecidesBytes (instance_with variant «module») y issued bytes b
+decided_beside b variant «module» y issued bytes position content other e said d are =
+    (offers_decided (instance_with variant «module»)).right y bytes content b e
+    (d (said_names variant «module» y issued position other said are))
+
+pub decided_some : {E : Type 0} (r : Result Bool E) (i : Instance) (y : History) (issued : List (List ℕ)) (offer : Offer)
+    (bytes given : List ℕ)
+    → offered_bytes issued offer ≡ Some bytes → given ≡ bytes → IfOk r (DecidesBytes i y issued given)
+    → IfOk r (DecidesOffer i y issued offer)
 decided_some (Ok b) i y issued offer bytes given e same d =
-    λ are. subst (λ (f : Option (List ℕ)). IsDecided b (IsGenuineOffer i y f)) (sym e) (subst (λ (v : List ℕ). IsDecided b (IsGenuine i y v)) same d)
+    λ are. subst (λ (f : Option (List ℕ)). IsDecided b (IsGenuineOffer i y f)) (sym e)
+    (subst (λ (v : List ℕ). IsDecided b (IsGenuine i y v)) same (d are))
 decided_some (Err why) i y issued offer bytes given e same d = tt
 
 -- what is decided of the lists is decided of what contracts see
-pub names_there : {E : Type 0} (r : Result Bool E) (variant : Variant) («module» : AnyModule) (lists : History) (seen : Recorded) → variant ≡ seen.variant
+pub names_there : {E : Type 0} (r : Result Bool E) (variant : Variant) («module» : AnyModule) (lists : History) (seen : Recorded)
+    → variant ≡ seen.variant
     → «module» ≡ seen.«module» → lists ≡ seen.history → (content : Content)
     → IfOk r (λ b. IsDecided b (Names (instance_with variant «module») lists content))
     → IfOk r (λ b. IsDecided b (Names (recorded_instance seen) seen.history content))
@@ -105,3 +146,12 @@ names_there (Ok b) variant «module» lists seen v m h content d =
     subst (λ (y : History). IsDecided b (Names (recorded_instance seen) y content)) h
     (subst (λ (i : Instance). IsDecided b (Names i lists content)) (λ j. instance_with (v j) (m j)) d)
 names_there (Err why) variant «module» lists seen v m h content d = tt
+
+-- the same beside what else is said
+pub beside_there : (b : Bool) (variant : Variant) («module» : AnyModule) (lists : History) (seen : Recorded) → variant ≡ seen.variant
+    → «module» ≡ seen.«module» → lists ≡ seen.history → (content other : Content)
+    → (Names (instance_with variant «module») lists other → IsDecided b (Names (instance_with variant «module») lists content))
+    → Names (recorded_instance seen) seen.history other → IsDecided b (Names (recorded_instance seen) seen.history content)
+beside_there b variant «module» lists seen v m h content other d =
+    subst (λ (y : History). Names (recorded_instance seen) y other → IsDecided b (Names (recorded_instance seen) y content)) h
+    (subst (λ (i : Instance). Names i lists other → IsDecided b (Names i lists content)) (λ j. instance_with (v j) (m j)) d)

@@ -12,3 +12,4 @@ pub mod PrintLaws
 pub mod PlaceLaws
 pub mod FewLaws
 pub mod JudgeLaws
+pub mod CallLaws

@@ -7,11 +7,13 @@ use Rattle.mm_digest.specs.declared.variant.Variant.{Variant}
 use Rattle.mm_digest.specs.declared.variant.Variant.TheVariants.{Basic, Opt}
 use Rattle.mm_digest.specs.Messages.{extended_of}
 use Rattle.mm_module.specs.Batch.{Batch, size_of}
-use Rattle.mm_model.specs.Chains.{link, guard, register_of, own_values, anchor_of, summary_of}
+use Rattle.mm_model.specs.Chains.{link, guard, register_of, anchor_of, summary_of}
+use Rattle.mm_model.specs.ChainsWords.{own_values}
 use Rattle.mm_model.specs.Instance.{Instance}
-use Rattle.mm_model.specs.History.{Entry, Own, Value, History, joined, total_of, value_of, values_of, renamed, committed, cell_digest_of, register_value_of}
+use Rattle.mm_model.specs.History.{Entry, Own, Value, History, joined, total_of, value_of, renamed, committed, register_value_of}
+use Rattle.mm_model.specs.HistoryWords.{values_of, cell_digest_of}
 use Rattle.mm_model.specs.Life.{is_empty, has_value, are_own, same_batch}
-use Rattle.mm_model.specs.Places.{digest_of}
+use Rattle.mm_model.specs.PlacesWords.{digest_of}
 use Rattle.mm_model.proofs.Batches.{same_batch-Decides}
 use Rattle.mm_model.proofs.Digests.{summary-push, register-push, anchor-push}
 use Rattle.mm_model.proofs.Forms.{reads_zero}
@@ -86,7 +88,8 @@ own_alone b c [] = and_false (same_batch b c)
 own_alone b c (d ∷ current) = and_false (same_batch b c)
 
 -- both grow by the same batch
-own_grown : (items : List Entry) (current : List Batch) (b : Batch) → are_own (items ++ Own b ∷ []) (current ++ b ∷ []) ≡ are_own items current
+own_grown : (items : List Entry) (current : List Batch) (b : Batch)
+    → are_own (items ++ Own b ∷ []) (current ++ b ∷ []) ≡ are_own items current
 own_grown [] [] b = and_true (same_batch b b) ∙ (same_batch-Decides b b).1 refl
 own_grown [] (c ∷ current) b = own_alone b c current
 own_grown (Own c ∷ []) [] b = and_false (same_batch c b)
@@ -105,12 +108,15 @@ own_opened : (items : List Entry) (b : Batch) → are_own (renamed items b) (b �
 own_opened [] b = and_true (same_batch b b) ∙ (same_batch-Decides b b).1 refl
 own_opened (x ∷ []) b = and_true (same_batch b b) ∙ (same_batch-Decides b b).1 refl
 own_opened (Own c ∷ y ∷ []) b = and_false (same_batch c b)
-own_opened (Own c ∷ y ∷ z ∷ items) b = ap (λ x. same_batch c b && x) (own_of_none (renamed (y ∷ z ∷ items) b) ∙ still_some y z items b) ∙ and_false (same_batch c b) ∙ sym (two_many (suc (length items)))
+own_opened (Own c ∷ y ∷ z ∷ items) b =
+    ap (λ x. same_batch c b && x) (own_of_none (renamed (y ∷ z ∷ items) b) ∙ still_some y z items b) ∙ and_false (same_batch c b)
+    ∙ sym (two_many (suc (length items)))
 own_opened (Value d ∷ y ∷ []) b = refl
 own_opened (Value d ∷ y ∷ z ∷ items) b = sym (two_many (suc (length items)))
 
 -- the cell's digest looks at the batches and the closed segments alone
-pub cell_same : (i : Instance) (v : Variant) (y z : History) → y.batches ≡ z.batches → y.closed ≡ z.closed → cell_digest_of i v y ≡ cell_digest_of i v z
+pub cell_same : (i : Instance) (v : Variant) (y z : History) → y.batches ≡ z.batches → y.closed ≡ z.closed
+    → cell_digest_of i v y ≡ cell_digest_of i v z
 cell_same i Basic y z b c = ap (summary_of i.meaning.id) b
 cell_same i Opt y z b c = ap (λ (s : List (List Entry)). anchor_of i.meaning.id (map (values_of i.barrier) s)) c
 
@@ -168,8 +174,10 @@ marks_linked i y b e = λ j. record {
   is_marred = has_value (joined y.closed);
 }
 
-opt_cell : (i : Instance) (y z : History) → i.variant ≡ Opt → y.closed ≡ z.closed → cell_digest_of i i.variant y ≡ cell_digest_of i i.variant z
-opt_cell i y z e c = ap (λ v. cell_digest_of i v y) e ∙ ap (λ (s : List (List Entry)). anchor_of i.meaning.id (map (values_of i.barrier) s)) c
+opt_cell : (i : Instance) (y z : History) → i.variant ≡ Opt → y.closed ≡ z.closed
+    → cell_digest_of i i.variant y ≡ cell_digest_of i i.variant z
+opt_cell i y z e c =
+    ap (λ v. cell_digest_of i v y) e ∙ ap (λ (s : List (List Entry)). anchor_of i.meaning.id (map (values_of i.barrier) s)) c
     ∙ ap (λ v. cell_digest_of i v z) (sym e)
 
 pub marks_grown : (i : Instance) (y : History) (b : Batch) → i.variant ≡ Opt
@@ -185,7 +193,8 @@ marks_grown i y b e = λ j. record {
 
 pub marks_opened : (i : Instance) (y : History) (b : Batch) → i.variant ≡ Opt
     → marks_of i (committed Opt false y b)
-    ≡ opened_marks (marks_of i y) (size_of b) (guard i.barrier b) (register_of (values_of i.barrier (renamed y.items b))) (nat_le (length y.items) 1)
+    ≡ opened_marks (marks_of i y) (size_of b) (guard i.barrier b) (register_of (values_of i.barrier (renamed y.items b)))
+    (nat_le (length y.items) 1)
 marks_opened i y b e = λ j. record {
   total = total-push y.batches b j;
   cell = digest_of (opt_cell i (committed Opt false y b) y e refl j);

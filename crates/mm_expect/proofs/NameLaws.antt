@@ -14,7 +14,7 @@ use Rattle.mm_digest.specs.declared.variant.Variant.{Variant}
 use Rattle.mm_digest.specs.declared.variant.Variant.TheVariants.{Basic, Opt}
 use Rattle.mm_modules.specs.declared.any.AnyModule.{AnyModule}
 use Rattle.mm_modules.specs.Modules.{meaning_of}
-use Rattle.mm_run.specs.Held.{world_key, world_barrier}
+use Rattle.mm_run.specs.HeldWords.{world_key, world_barrier}
 use Rattle.mm_expect.specs.Recorded.{instance_with}
 use Rattle.mm_digest.specs.Messages.{zero_bytes}
 use Rattle.mm_module.specs.Batch.{Batch, size_of}
@@ -24,13 +24,15 @@ use Rattle.mm_seal.specs.declared.snapshot.Place.{Place}
 use Rattle.mm_seal.specs.declared.snapshot.Place.TheVariants.{Basic as InBasic, Opt as InOpt}
 use Rattle.mm_seal.specs.Snapshot.{Content}
 use Rattle.mm_seal.proofs.Reading.{le_tells}
-use Rattle.mm_model.specs.Chains.{summary_of, register_of, own_values}
-use Rattle.mm_model.specs.Instance.{Instance, basic, opt}
+use Rattle.mm_model.specs.Chains.{summary_of, register_of}
+use Rattle.mm_model.specs.ChainsWords.{own_values}
+use Rattle.mm_model.specs.Instance.{Instance}
+use Rattle.mm_model.specs.InstanceWords.{basic, opt}
 use Rattle.mm_model.specs.History.{Entry, History, requests_of, total_of, joined}
 use Rattle.mm_model.specs.Life.{is_empty, has_value, same_batch}
 use Rattle.mm_model.specs.Places.{IsPoint, at_anchor, in_closed, in_current, IsPlaceOf, Names, anchor_after}
 use Rattle.mm_model.proofs.Batches.{same_batch-Decides, total-cons, same_fronts}
-use Rattle.mm_expect.specs.Naming.{IsDecided, first_with, same_batches, is_at, is_behind, is_within, is_inside_at, some_place, is_place, is_named_at, is_named, BasicNamesAreDecided, OptNamesAreDecided}
+use Rattle.mm_expect.specs.Naming.{IsDecided, first_with, same_batches, is_at, is_behind, is_within, is_inside_at, some_place, is_place, is_named_at, is_named, same_summary, BasicNamesAreDecided, OptNamesAreDecided}
 
 pub decided : {P : Type 0} (r : Bool) → Decides r P → IsDecided r P
 decided true d = d.0 refl
@@ -45,13 +47,16 @@ not_zero true p lt e = absurd (omega (arith, lt, (Decides-eqb p 0).0 e))
 
 -- The first batches with so many requests.
 
-first_then : (zero fits : Bool) (position : ℕ) (b : Batch) (batches named : List Batch) → (position == 0) ≡ zero → nat_le (size_of b) position ≡ fits
+first_then : (zero fits : Bool) (position : ℕ) (b : Batch) (batches named : List Batch) → (position == 0) ≡ zero
+    → nat_le (size_of b) position ≡ fits
     → (more : Option (List Batch)) → first_with (position - size_of b) batches ≡ more
-    → ((front : List Batch) → first_with (position - size_of b) batches ≡ Some front → (rest : List Batch) × ((batches ≡ front ++ rest) × (position - size_of b ≡ total_of front)))
+    → ((front : List Batch) → first_with (position - size_of b) batches ≡ Some front
+    → (rest : List Batch) × ((batches ≡ front ++ rest) × (position - size_of b ≡ total_of front)))
     → (if zero then Some [] else if fits then option_map (λ (front : List Batch). b ∷ front) more else None) ≡ Some named
     → (rest : List Batch) × ((b ∷ batches ≡ named ++ rest) × (position ≡ total_of named))
 first_then true fits position b batches named z f more m tells e =
-    let none : [] ≡ named = cc in (b ∷ batches, (ap (λ (bs : List Batch). bs ++ b ∷ batches) none, (Decides-eqb position 0).0 z ∙ ap total_of none))
+    let none : [] ≡ named = cc
+    in (b ∷ batches, (ap (λ (bs : List Batch). bs ++ b ∷ batches) none, (Decides-eqb position 0).0 z ∙ ap total_of none))
 first_then false false position b batches named z f more m tells e = absurd (cc)
 first_then false true position b batches named z f None m tells e = absurd (cc)
 first_then false true position b batches named z f (Some front) m tells e =
@@ -61,14 +66,17 @@ first_then false true position b batches named z f (Some front) m tells e =
     let whole : position ≡ total_of (b ∷ front) = omega (arith, t.1.1, fits, total-cons b front) in
     (t.0, (ap (λ (bs : List Batch). b ∷ bs) t.1.0 ∙ ap (λ (bs : List Batch). bs ++ t.0) same, whole ∙ ap total_of same))
 
-first_tells : (position : ℕ) (batches named : List Batch) → first_with position batches ≡ Some named → (rest : List Batch) × ((batches ≡ named ++ rest) × (position ≡ total_of named))
+first_tells : (position : ℕ) (batches named : List Batch) → first_with position batches ≡ Some named
+    → (rest : List Batch) × ((batches ≡ named ++ rest) × (position ≡ total_of named))
 first_tells position [] named e =
-    elim (position == 0) as (λ t. (position == 0) ≡ t → (if t then Some [] else None) ≡ Some named → (rest : List Batch) × (([] ≡ named ++ rest) × (position ≡ total_of named))) [
+    elim (position == 0) as (λ t. (position == 0) ≡ t → (if t then Some [] else None) ≡ Some named
+    → (rest : List Batch) × (([] ≡ named ++ rest) × (position ≡ total_of named))) [
       | true ↦ λ z f. let none : [] ≡ named = cc in ([], (none ∙ sym (append-nil named), (Decides-eqb position 0).0 z ∙ ap total_of none))
       | false ↦ λ z f. absurd (cc)
     ] refl e
 first_tells position (b ∷ batches) named e =
-    first_then (position == 0) (nat_le (size_of b) position) position b batches named refl refl (first_with (position - size_of b) batches) refl (first_tells (position - size_of b) batches) e
+    first_then (position == 0) (nat_le (size_of b) position) position b batches named refl refl (first_with (position - size_of b) batches)
+    refl (first_tells (position - size_of b) batches) e
 
 first_is : (named rest : List Batch) → first_with (total_of named) (named ++ rest) ≡ Some named
 first_is [] [] = refl
@@ -79,8 +87,10 @@ first_is (b ∷ named) rest =
     let some : (p == 0) ≡ false = not_zero (p == 0) p (omega (arith, cons, size_of-pos b)) refl in
     let fits : nat_le (size_of b) p ≡ true = (le-Decides (size_of b) p).1 (omega (arith, cons)) in
     let left : p - size_of b ≡ total_of named = omega (arith, cons) in
-    ap (λ (z : Bool). if z then Some [] else if nat_le (size_of b) p then option_map (λ (front : List Batch). b ∷ front) (first_with (p - size_of b) (named ++ rest)) else None) some
-    ∙ ap (λ (f : Bool). if f then option_map (λ (front : List Batch). b ∷ front) (first_with (p - size_of b) (named ++ rest)) else None) fits
+    ap (λ (z : Bool). if z then Some [] else if nat_le (size_of b) p then option_map (λ (front : List Batch). b ∷ front)
+    (first_with (p - size_of b) (named ++ rest)) else None) some
+    ∙ ap (λ (f : Bool). if f then option_map (λ (front : List Batch). b ∷ front) (first_with (p - size_of b) (named ++ rest)) else None)
+    fits
     ∙ ap (λ (q : ℕ). option_map (λ (front : List Batch). b ∷ front) (first_with q (named ++ rest))) left
     ∙ ap (option_map (λ (front : List Batch). b ∷ front)) (first_is named rest)
 
@@ -134,26 +144,36 @@ module _ (i : Instance) (y : History) (named : List Batch) (a e : List ℕ) wher
   Places before (segment ∷ rest) =
       (IsAt before ⊎ (IsBehind (length (joined before)) before × IsWithin before segment rest)) ⊎ Places (before ++ segment ∷ []) rest
 
-  at-Decides : (before : List (List Entry)) → Decides (is_at (not (has_value (joined before))) (anchor_after i before) (length (joined before)) named a e) (IsAt before)
+  at-Decides : (before : List (List Entry))
+      → Decides (is_at (not (has_value (joined before))) (anchor_after i before) (length (joined before)) named a e) (IsAt before)
   at-Decides before =
       Decides-like (is_at (not (has_value (joined before))) (anchor_after i before) (length (joined before)) named a e)
-      (λ (p : ((has_value (joined before) ≡ false) × (length named ≡ length (joined before))) × ((a ≡ anchor_after i before) × (e ≡ zero_bytes))).
+      (λ (p : ((has_value (joined before) ≡ false) × (length named ≡ length (joined before)))
+      × ((a ≡ anchor_after i before) × (e ≡ zero_bytes))).
       record { clean = p.0.0; counted = p.0.1; anchor = p.1.0; extension = p.1.1 })
       (λ (p : IsAt before). ((p.clean, p.counted), (p.anchor, p.extension)))
-      (Decides-and (not (has_value (joined before)) && (length named == length (joined before))) (bytes_eq a (anchor_after i before) && bytes_eq e zero_bytes)
-      (Decides-and (not (has_value (joined before))) (length named == length (joined before)) (not-Decides (has_value (joined before))) (Decides-eqb (length named) (length (joined before))))
-      (Decides-and (bytes_eq a (anchor_after i before)) (bytes_eq e zero_bytes) (bytes_eq-Decides a (anchor_after i before)) (bytes_eq-Decides e zero_bytes)))
+      (Decides-and (not (has_value (joined before)) && (length named == length (joined before)))
+      (bytes_eq a (anchor_after i before) && bytes_eq e zero_bytes)
+      (Decides-and (not (has_value (joined before))) (length named == length (joined before)) (not-Decides (has_value (joined before)))
+      (Decides-eqb (length named) (length (joined before))))
+      (Decides-and (bytes_eq a (anchor_after i before)) (bytes_eq e zero_bytes) (bytes_eq-Decides a (anchor_after i before))
+      (bytes_eq-Decides e zero_bytes)))
 
-  behind-Decides : (start : ℕ) (before : List (List Entry)) → Decides (is_behind i.barrier (anchor_after i before) start named a e) (IsBehind start before)
+  behind-Decides : (start : ℕ) (before : List (List Entry))
+      → Decides (is_behind i.barrier (anchor_after i before) start named a e) (IsBehind start before)
   behind-Decides start before =
       let there : List ℕ = register_of (own_values i.barrier (drop start named)) in
       Decides-like (is_behind i.barrier (anchor_after i before) start named a e)
-      (λ (p : (start < length named) × ((a ≡ anchor_after i before) × (e ≡ there))). record { starts = p.0; anchor = p.1.0; extension = p.1.1 })
+      (λ (p : (start < length named) × ((a ≡ anchor_after i before) × (e ≡ there))).
+      record { starts = p.0; anchor = p.1.0; extension = p.1.1 })
       (λ (p : IsBehind start before). (p.starts, (p.anchor, p.extension)))
       (Decides-and (nat_lt start (length named)) (bytes_eq a (anchor_after i before) && bytes_eq e there) (Decides-ltb start (length named))
-      (Decides-and (bytes_eq a (anchor_after i before)) (bytes_eq e there) (bytes_eq-Decides a (anchor_after i before)) (bytes_eq-Decides e there)))
+      (Decides-and (bytes_eq a (anchor_after i before)) (bytes_eq e there) (bytes_eq-Decides a (anchor_after i before))
+      (bytes_eq-Decides e there)))
 
-  within-Decides : (before : List (List Entry)) (segment : List Entry) (later : List (List Entry)) → Decides (is_within (length (joined before)) named (length segment) (is_empty later && is_empty y.current)) (IsWithin before segment later)
+  within-Decides : (before : List (List Entry)) (segment : List Entry) (later : List (List Entry))
+      → Decides (is_within (length (joined before)) named (length segment) (is_empty later && is_empty y.current))
+      (IsWithin before segment later)
   within-Decides before segment later =
       Decides-or (nat_le (length named - length (joined before)) (length segment)) (is_empty later && is_empty y.current)
       (le-Decides (length named - length (joined before)) (length segment))
@@ -168,16 +188,19 @@ module _ (i : Instance) (y : History) (named : List Batch) (a e : List ℕ) wher
       (Decides-and (same_batches (drop start y.batches) y.current) (is_behind i.barrier (anchor_after i y.closed) start named a e)
       (same-Decides (drop start y.batches) y.current) (behind-Decides start y.closed))
 
-  places-Decides : (before rest : List (List Entry)) → Decides (some_place i.meaning.id i.barrier y named a e before rest) (Places before rest)
+  places-Decides : (before rest : List (List Entry))
+      → Decides (some_place i.meaning.id i.barrier y named a e before rest) (Places before rest)
   places-Decides before [] =
-      Decides-or (is_at (not (has_value (joined before))) (anchor_after i before) (length (joined before)) named a e) (is_inside_at i.barrier (anchor_after i y.closed) y named a e) (at-Decides before) inside-Decides
+      Decides-or (is_at (not (has_value (joined before))) (anchor_after i before) (length (joined before)) named a e)
+      (is_inside_at i.barrier (anchor_after i y.closed) y named a e) (at-Decides before) inside-Decides
   places-Decides before (segment ∷ rest) =
       let start : ℕ = length (joined before) in
       let within : Bool = is_within start named (length segment) (is_empty rest && is_empty y.current) in
       let at : Bool = is_at (not (has_value (joined before))) (anchor_after i before) start named a e in
       let behind : Bool = is_behind i.barrier (anchor_after i before) start named a e in
       Decides-or (at || (behind && within)) (some_place i.meaning.id i.barrier y named a e (before ++ segment ∷ []) rest)
-      (Decides-or at (behind && within) (at-Decides before) (Decides-and behind within (behind-Decides start before) (within-Decides before segment rest)))
+      (Decides-or at (behind && within) (at-Decides before)
+      (Decides-and behind within (behind-Decides start before) (within-Decides before segment rest)))
       (places-Decides (before ++ segment ∷ []) rest)
 
   -- from the statement to a place
@@ -193,7 +216,8 @@ module _ (i : Instance) (y : History) (named : List Batch) (a e : List ℕ) wher
     extension_is = p.extension;
   })
 
-  point_closed : (before : List (List Entry)) (segment : List Entry) (rest : List (List Entry)) → y.closed ≡ before ++ segment ∷ rest → IsBehind (length (joined before)) before → IsWithin before segment rest → IsPoint i y named a e
+  point_closed : (before : List (List Entry)) (segment : List Entry) (rest : List (List Entry)) → y.closed ≡ before ++ segment ∷ rest
+      → IsBehind (length (joined before)) before → IsWithin before segment rest → IsPoint i y named a e
   point_closed before segment rest is p within =
       let start : ℕ = length (joined before) in
       let parts : take start named ++ drop start named ≡ named = take-append-drop start named in
@@ -229,14 +253,17 @@ module _ (i : Instance) (y : History) (named : List Batch) (a e : List ℕ) wher
         taken = drop start named;
         more = rest;
         split = current;
-        start = sym (take-append-drop start y.batches) ∙ ap (λ (bs : List Batch). take start y.batches ++ bs) p.last ∙ ap (λ (bs : List Batch). bs ++ y.current) done;
+        start =
+            sym (take-append-drop start y.batches) ∙ ap (λ (bs : List Batch). take start y.batches ++ bs) p.last
+            ∙ ap (λ (bs : List Batch). bs ++ y.current) done;
         named_is = sym (take-append-drop start named);
         begun = some_taken (drop start named) (omega (arith, length-drop start named, q.starts));
         anchor_is = q.anchor;
         extension_is = q.extension;
       })
 
-  places_tell : (rest_batches : List Batch) → y.batches ≡ named ++ rest_batches → (before rest : List (List Entry)) → y.closed ≡ before ++ rest → Places before rest → IsPoint i y named a e
+  places_tell : (rest_batches : List Batch) → y.batches ≡ named ++ rest_batches → (before rest : List (List Entry))
+      → y.closed ≡ before ++ rest → Places before rest → IsPoint i y named a e
   places_tell more first before [] is (inl here) = point_at before [] is here
   places_tell more first before [] is (inr inside) = point_current more first inside
   places_tell more first before (segment ∷ rest) is (inl (inl here)) = point_at before (segment ∷ rest) is here
@@ -254,7 +281,8 @@ module _ (i : Instance) (y : History) (named : List Batch) (a e : List ℕ) wher
   places_at [] before later p = places_here before later (subst IsAt (append-nil before) p)
   places_at (s ∷ x) before later p = inr (places_at x (before ++ s ∷ []) later (subst IsAt (sym (append_assoc before (s ∷ []) x)) p))
 
-  places_closed : (x before : List (List Entry)) (segment : List Entry) (later : List (List Entry)) → IsBehind (length (joined (before ++ x))) (before ++ x) → IsWithin (before ++ x) segment later → Places before (x ++ segment ∷ later)
+  places_closed : (x before : List (List Entry)) (segment : List Entry) (later : List (List Entry))
+      → IsBehind (length (joined (before ++ x))) (before ++ x) → IsWithin (before ++ x) segment later → Places before (x ++ segment ∷ later)
   places_closed [] before segment later p within =
       let P : List (List Entry) → Type 0 = λ x. IsBehind (length (joined x)) x × IsWithin x segment later in
       let here : P before = subst P (append-nil before) (p, within) in
@@ -274,13 +302,19 @@ module _ (i : Instance) (y : History) (named : List Batch) (a e : List ℕ) wher
       (places_at p.before [] p.later (record { clean = p.clean; counted = p.counted; anchor = p.anchor_is; extension = p.extension_is }))
   place_found (in_closed p) =
       let start : ℕ = length (joined p.before) in
-      let counts : length named ≡ start + length p.taken = ap length p.named_is ∙ length-append p.done p.taken ∙ ap (λ (n : ℕ). n + length p.taken) p.counted in
+      let counts : length named ≡ start + length p.taken = ap length p.named_is ∙ length-append p.done p.taken
+      ∙ ap (λ (n : ℕ). n + length p.taken) p.counted in
       let taken : drop start named ≡ p.taken =
       ap (drop start) p.named_is ∙ ap (λ (n : ℕ). drop n (p.done ++ p.taken)) (sym p.counted) ∙ drop-append_seam p.done p.taken in
       let some = not_empty p.taken p.begun in
       subst (Places []) (sym p.split)
       (places_closed p.before [] p.segment p.later
-      (record { starts = omega (arith, counts, some); anchor = p.anchor_is; extension = p.extension_is ∙ ap (λ (bs : List Batch). register_of (own_values i.barrier bs)) (sym taken) })
+      (record {
+        starts = omega (arith, counts, some);
+        anchor = p.anchor_is;
+        extension = p.extension_is
+            ∙ ap (λ (bs : List Batch). register_of (own_values i.barrier bs)) (sym taken);
+      })
       (elim p.within [
         | inl le ↦ inl (omega (arith, counts, le))
         | inr ends ↦ inr ends
@@ -294,25 +328,38 @@ module _ (i : Instance) (y : History) (named : List Batch) (a e : List ℕ) wher
       let some = not_empty p.taken p.begun in
       places_inside y.closed [] (subst IsInside (sym start) (record {
         last = last;
-        behind = record { starts = omega (arith, sizes, some); anchor = p.anchor_is; extension = p.extension_is ∙ ap (λ (bs : List Batch). register_of (own_values i.barrier bs)) (sym taken) };
+        behind =
+            record {
+              starts = omega (arith, sizes, some);
+              anchor = p.anchor_is;
+              extension = p.extension_is
+                  ∙ ap (λ (bs : List Batch). register_of (own_values i.barrier bs)) (sym taken);
+            };
       }))
 
-  point-Decides : (rest : List Batch) → y.batches ≡ named ++ rest → Decides (some_place i.meaning.id i.barrier y named a e [] y.closed) (IsPoint i y named a e)
+  point-Decides : (rest : List Batch) → y.batches ≡ named ++ rest
+      → Decides (some_place i.meaning.id i.barrier y named a e [] y.closed) (IsPoint i y named a e)
   point-Decides rest first =
-      Decides-like (some_place i.meaning.id i.barrier y named a e [] y.closed) (places_tell rest first [] y.closed refl) place_found (places-Decides [] y.closed)
+      Decides-like (some_place i.meaning.id i.barrier y named a e [] y.closed) (places_tell rest first [] y.closed refl) place_found
+      (places-Decides [] y.closed)
 
 -- The test of a whole content.
 
-basic_place : (meaning : Meaning) (key : List ℕ) (y : History) (named : List Batch) (place : Place) → Decides (is_place Basic (basic meaning key) y named place) (IsPlaceOf Basic (basic meaning key) y named place)
+basic_place : (meaning : Meaning) (key : List ℕ) (y : History) (named : List Batch) (place : Place)
+    → Decides (is_place Basic (basic meaning key) y named place) (IsPlaceOf Basic (basic meaning key) y named place)
 basic_place meaning key y named (InBasic s) = bytes_eq-Decides s.bytes (summary_of meaning.id named)
 basic_place meaning key y named (InOpt a e) = (λ t. absurd (cc), λ p. absurd p)
 
-opt_place : (meaning : Meaning) (key barrier : List ℕ) (y : History) (named rest : List Batch) (place : Place) → y.batches ≡ named ++ rest → Decides (is_place Opt (opt meaning key barrier) y named place) (IsPlaceOf Opt (opt meaning key barrier) y named place)
+opt_place : (meaning : Meaning) (key barrier : List ℕ) (y : History) (named rest : List Batch) (place : Place) → y.batches ≡ named ++ rest
+    → Decides (is_place Opt (opt meaning key barrier) y named place) (IsPlaceOf Opt (opt meaning key barrier) y named place)
 opt_place meaning key barrier y named rest (InBasic s) first = (λ t. absurd (cc), λ p. absurd p)
 opt_place meaning key barrier y named rest (InOpt a e) first = point-Decides (opt meaning key barrier) y named a.bytes e.bytes rest first
 
-names_by : (i : Instance) (y : History) (content : Content) → ((named rest : List Batch) → y.batches ≡ named ++ rest → Decides (is_place i.variant i y named content.place) (IsPlaceOf i.variant i y named content.place))
-    → (found : Option (List Batch)) → first_with content.position y.batches ≡ found → Decides (is_named_at i y content found) (Names i y content)
+names_by : (i : Instance) (y : History) (content : Content)
+    → ((named rest : List Batch) → y.batches ≡ named ++ rest
+    → Decides (is_place i.variant i y named content.place) (IsPlaceOf i.variant i y named content.place))
+    → (found : Option (List Batch)) → first_with content.position y.batches ≡ found
+    → Decides (is_named_at i y content found) (Names i y content)
 names_by i y content places None e = (
   λ t. absurd (cc),
   λ n.
@@ -323,24 +370,86 @@ names_by i y content places None e = (
 names_by i y content places (Some named) e =
     let t = first_tells content.position y.batches named e in
     let state : List ℕ = state_after i.meaning (requests_of named) in
-    let both = Decides-and (bytes_eq content.state state) (is_place i.variant i y named content.place) (bytes_eq-Decides content.state state) (places named t.0 t.1.0) in (
+    let both = Decides-and (bytes_eq content.state state) (is_place i.variant i y named content.place)
+    (bytes_eq-Decides content.state state) (places named t.0 t.1.0) in (
       λ yes. let p = both.0 yes in record { named = named; rest = t.0; first = t.1.0; position = t.1.1; state = p.0; place = p.1 },
       λ n.
           let same : n.named ≡ named = same_fronts n.named named n.rest t.0 (sym n.first ∙ t.1.0) (sym n.position ∙ t.1.1) in
-          both.1 (subst (λ (bs : List Batch). (content.state ≡ state_after i.meaning (requests_of bs)) × IsPlaceOf i.variant i y bs content.place) same (n.state, n.place)),
+          both.1 (subst (λ (bs : List Batch). (content.state ≡ state_after i.meaning (requests_of bs))
+          × IsPlaceOf i.variant i y bs content.place) same (n.state, n.place)),
     )
 
 pub basic_decided : BasicNamesAreDecided
 basic_decided meaning key y content =
     let i : Instance = basic meaning key in
-    decided (is_named i y content) (names_by i y content (λ named rest first. basic_place meaning key y named content.place) (first_with content.position y.batches) refl)
+    decided (is_named i y content)
+    (names_by i y content (λ named rest first. basic_place meaning key y named content.place) (first_with content.position y.batches)
+    refl)
 
 pub opt_decided : OptNamesAreDecided
 opt_decided meaning key barrier y content =
     let i : Instance = opt meaning key barrier in
-    decided (is_named i y content) (names_by i y content (λ named rest first. opt_place meaning key barrier y named rest content.place first) (first_with content.position y.batches) refl)
+    decided (is_named i y content)
+    (names_by i y content (λ named rest first. opt_place meaning key barrier y named rest content.place first)
+    (first_with content.position y.batches) refl)
 
 -- the same for an instance of a world, by what the test gave
-pub named_by : (variant : Variant) («module» : AnyModule) (y : History) (content : Content) (r : Bool) → r ≡ is_named (instance_with variant «module») y content → IsDecided r (Names (instance_with variant «module») y content)
-named_by Basic «module» y content r e = subst (λ (t : Bool). IsDecided t (Names (instance_with Basic «module») y content)) (sym e) (basic_decided (meaning_of «module») world_key y content)
-named_by Opt «module» y content r e = subst (λ (t : Bool). IsDecided t (Names (instance_with Opt «module») y content)) (sym e) (opt_decided (meaning_of «module») world_key world_barrier y content)
+pub named_by : (variant : Variant) («module» : AnyModule) (y : History) (content : Content) (r : Bool)
+    → r ≡ is_named (instance_with variant «module») y content → IsDecided r (Names (instance_with variant «module») y content)
+named_by Basic «module» y content r e =
+    subst (λ (t : Bool). IsDecided t (Names (instance_with Basic «module») y content)) (sym e)
+    (basic_decided (meaning_of «module») world_key y content)
+named_by Opt «module» y content r e =
+    subst (λ (t : Bool). IsDecided t (Names (instance_with Opt «module») y content)) (sym e)
+    (opt_decided (meaning_of «module») world_key world_barrier y content)
+
+-- By what another snapshot says that names the same position.
+
+first_of : (i : Instance) (y : History) (other : Content) (n : Names i y other) → first_with other.position y.batches ≡ Some n.named
+first_of i y other n =
+    ap (λ (p : ℕ). first_with p y.batches) n.position ∙ ap (first_with (total_of n.named)) n.first ∙ first_is n.named n.rest
+
+pub first_beside : (i : Instance) (y : History) (content other : Content) → content.position ≡ other.position → (n : Names i y other)
+    → first_with content.position y.batches ≡ Some n.named
+first_beside i y content other same n = ap (λ (p : ℕ). first_with p y.batches) same ∙ first_of i y other n
+
+pub named_beside : (i : Instance) (y : History) (content other : Content) → content.position ≡ other.position → (n : Names i y other)
+    → is_named i y content ≡ (bytes_eq content.state other.state && is_place i.variant i y n.named content.place)
+named_beside i y content other same n =
+    ap (is_named_at i y content) (first_beside i y content other same n)
+    ∙ ap (λ (s : List ℕ). bytes_eq content.state s && is_place i.variant i y n.named content.place) (sym n.state)
+
+pub state_beside : (i : Instance) (y : History) (content other : Content) → content.position ≡ other.position → (r : Bool)
+    → r ≡ bytes_eq content.state other.state → r ≡ false
+    → Names i y other → false ≡ is_named i y content
+state_beside i y content other same r test off n =
+    sym (named_beside i y content other same n ∙ ap (λ (b : Bool). b && is_place i.variant i y n.named content.place) (sym test ∙ off))
+
+pub stated_beside : (i : Instance) (y : History) (content other : Content) → content.position ≡ other.position → (r : Bool)
+    → r ≡ bytes_eq content.state other.state → r ≡ true
+    → (n : Names i y other) → is_place i.variant i y n.named content.place ≡ is_named i y content
+stated_beside i y content other same r test on n =
+    sym (named_beside i y content other same n ∙ ap (λ (b : Bool). b && is_place i.variant i y n.named content.place) (sym test ∙ on))
+
+summary_beside : (meaning : Meaning) (key : List ℕ) (y : History) (named : List Batch) (place other : Place)
+    → IsPlaceOf Basic (basic meaning key) y named other
+    → same_summary place other ≡ is_place Basic (basic meaning key) y named place
+summary_beside meaning key y named (InBasic s) (InBasic t) p = ap (bytes_eq s.bytes) p
+summary_beside meaning key y named (InBasic s) (InOpt a e) p = absurd p
+summary_beside meaning key y named (InOpt a e) other p = refl
+
+pub basic_beside : (meaning : Meaning) (key : List ℕ) (y : History) (content other : Content) → content.position ≡ other.position
+    → (r : Bool) → r ≡ bytes_eq content.state other.state → r ≡ true
+    → (s : Bool) → s ≡ same_summary content.place other.place → Names (basic meaning key) y other
+    → s ≡ is_named (basic meaning key) y content
+basic_beside meaning key y content other same r test on s is n =
+    is ∙ summary_beside meaning key y n.named content.place other.place n.place
+    ∙ stated_beside (basic meaning key) y content other same r test on n
+
+pub basic_named_beside : (variant : Variant) («module» : AnyModule) → variant ≡ Basic → (y : History) (content other : Content)
+    → content.position ≡ other.position → (r : Bool) → r ≡ bytes_eq content.state other.state → r ≡ true
+    → (s : Bool) → s ≡ same_summary content.place other.place → Names (instance_with variant «module») y other
+    → s ≡ is_named (instance_with variant «module») y content
+basic_named_beside Basic «module» is y content other same r test on s summary n =
+    basic_beside (meaning_of «module») world_key y content other same r test on s summary n
+basic_named_beside Opt «module» is y content other same r test on s summary n = absurd (cc)

@@ -8,14 +8,19 @@ use Rattle.std.proofs.lemmas.Bool.{or_parts, or_from}
 use Rattle.std.proofs.lemmas.Bool.Decides.{Decides-eqb, Decides-ltb}
 use Rattle.std.proofs.lemmas.List.{append-nil, map-append, take-map, drop-map, take_more, drop_more, take_all, length-map}
 use Rattle.mm_module.specs.Batch.{Batch, members_of}
-use Rattle.mm_module.specs.Meaning.{Meaning, state_from, state_after}
+use Rattle.mm_module.specs.Meaning.{Meaning, state_after}
+use Rattle.mm_module.specs.MeaningWords.{state_from}
+use Rattle.mm_seal.specs.declared.snapshot.Place.{Place}
 use Rattle.mm_seal.specs.Snapshot.{Content}
 use Rattle.mm_model.specs.Instance.{Instance}
+use Rattle.mm_model.specs.Places.{Names}
 use Rattle.mm_module.proofs.RunLaws.{state_after-append}
 use Rattle.mm_digest.specs.declared.variant.Variant.TheVariants.{Opt}
 use Rattle.mm_digest.specs.Messages.{zero_bytes, start_of, anchored_of}
-use Rattle.mm_model.specs.Chains.{link, summary_of, register_of, anchor_of, own_values}
-use Rattle.mm_model.specs.History.{Entry, History, requests_of, values_of, joined}
+use Rattle.mm_model.specs.Chains.{link, summary_of, register_of, anchor_of}
+use Rattle.mm_model.specs.ChainsWords.{own_values}
+use Rattle.mm_model.specs.History.{Entry, History, requests_of, joined}
+use Rattle.mm_model.specs.HistoryWords.{values_of}
 use Rattle.mm_model.specs.Life.{is_empty, has_value}
 use Rattle.mm_model.proofs.Histories.{has_value-append}
 use Rattle.mm_model.proofs.Segments.{joined-push}
@@ -25,36 +30,46 @@ use Rattle.mm_model.specs.declared.kept.KeptBatch.{KeptBatch}
 use Rattle.mm_model.specs.declared.kept.KeptEntry.{KeptEntry}
 use Rattle.mm_model.specs.Kept.{kept_batch, kept_batches, kept_entry, kept_entries, kept_segments}
 use Rattle.mm_expect.specs.Naming.{first_with, same_batches, anchor_at, is_at, is_behind, is_within, is_here, is_inside_at, some_place, is_place_in, is_place, is_named_at, is_named}
-use Rattle.mm_expect.proofs.NameLaws.{same-Decides}
+use Rattle.mm_expect.proofs.NameLaws.{same-Decides, first_beside, stated_beside}
 
 -- one more batch of a list
-taken : (batches : List KeptBatch) (i : ℕ) (batch : KeptBatch) → i < length batches → batch ≡ get_or batches i batch → kept_batches (take (i + 1) batches) ≡ kept_batches (take i batches) ++ kept_batch batch ∷ []
+taken : (batches : List KeptBatch) (i : ℕ) (batch : KeptBatch) → i < length batches → batch ≡ get_or batches i batch
+    → kept_batches (take (i + 1) batches) ≡ kept_batches (take i batches) ++ kept_batch batch ∷ []
 taken batches i batch l is =
     ap kept_batches (take_more batches i batch l) ∙ map-append kept_batch (take i batches) (get_or batches i batch ∷ [])
     ∙ ap (λ (b : KeptBatch). kept_batches (take i batches) ++ kept_batch b ∷ []) (sym is)
 
-pub summary_taken : (id : ℕ) (batches : List KeptBatch) (i : ℕ) (batch : KeptBatch) (b : Batch) (s next : List ℕ) → i < length batches → batch ≡ get_or batches i batch → s ≡ summary_of id (kept_batches (take i batches))
+pub summary_taken : (id : ℕ) (batches : List KeptBatch) (i : ℕ) (batch : KeptBatch) (b : Batch) (s next : List ℕ) → i < length batches
+    → batch ≡ get_or batches i batch → s ≡ summary_of id (kept_batches (take i batches))
     → b ≡ kept_batch batch → next ≡ link s b → next ≡ summary_of id (kept_batches (take (i + 1) batches))
 summary_taken id batches i batch b s next l is so_far same n =
-    n ∙ ap (link s) same ∙ ap (λ (x : List ℕ). link x (kept_batch batch)) so_far ∙ sym (summary-push id (kept_batches (take i batches)) (kept_batch batch))
+    n ∙ ap (link s) same ∙ ap (λ (x : List ℕ). link x (kept_batch batch)) so_far
+    ∙ sym (summary-push id (kept_batches (take i batches)) (kept_batch batch))
     ∙ ap (summary_of id) (sym (taken batches i batch l is))
 
 requests-push : (batches : List Batch) (b : Batch) → requests_of (batches ++ b ∷ []) ≡ requests_of batches ++ members_of b
 requests-push [] b = append-nil (members_of b)
-requests-push (c ∷ batches) b = ap (λ (rs : List (List ℕ)). members_of c ++ rs) (requests-push batches b) ∙ sym (append_assoc (members_of c) (requests_of batches) (members_of b))
+requests-push (c ∷ batches) b =
+    ap (λ (rs : List (List ℕ)). members_of c ++ rs) (requests-push batches b)
+    ∙ sym (append_assoc (members_of c) (requests_of batches) (members_of b))
 
-pub state_taken : (meaning : Meaning) (batches : List KeptBatch) (i : ℕ) (batch : KeptBatch) (b : Batch) (s lent next : List ℕ) → i < length batches → batch ≡ get_or batches i batch → s ≡ state_after meaning (requests_of (kept_batches (take i batches)))
-    → lent ≡ s → b ≡ kept_batch batch → next ≡ state_from meaning lent (members_of b) → next ≡ state_after meaning (requests_of (kept_batches (take (i + 1) batches)))
+pub state_taken : (meaning : Meaning) (batches : List KeptBatch) (i : ℕ) (batch : KeptBatch) (b : Batch) (s lent next : List ℕ)
+    → i < length batches → batch ≡ get_or batches i batch → s ≡ state_after meaning (requests_of (kept_batches (take i batches)))
+    → lent ≡ s → b ≡ kept_batch batch → next ≡ state_from meaning lent (members_of b)
+    → next ≡ state_after meaning (requests_of (kept_batches (take (i + 1) batches)))
 state_taken meaning batches i batch b s lent next l is so_far lend same n =
-    n ∙ ap (λ (x : Batch). state_from meaning lent (members_of x)) same ∙ ap (λ (x : List ℕ). state_from meaning x (members_of (kept_batch batch))) (lend ∙ so_far)
+    n ∙ ap (λ (x : Batch). state_from meaning lent (members_of x)) same
+    ∙ ap (λ (x : List ℕ). state_from meaning x (members_of (kept_batch batch))) (lend ∙ so_far)
     ∙ sym (state_after-append meaning (requests_of (kept_batches (take i batches))) (members_of (kept_batch batch)))
     ∙ ap (state_after meaning) (sym (requests-push (kept_batches (take i batches)) (kept_batch batch)))
     ∙ ap (λ (bs : List Batch). state_after meaning (requests_of bs)) (sym (taken batches i batch l is))
 
-pub short_at : (batches : List KeptBatch) (i : ℕ) (batch : KeptBatch) → i < length batches → batch ≡ get_or batches i batch → list_any is_long (kept_batches batches) ≡ false → is_long (kept_batch batch) ≡ false
+pub short_at : (batches : List KeptBatch) (i : ℕ) (batch : KeptBatch) → i < length batches → batch ≡ get_or batches i batch
+    → list_any is_long (kept_batches batches) ≡ false → is_long (kept_batch batch) ≡ false
 short_at [] i batch l is short = absurd (omega (arith, l))
 short_at (x ∷ batches) zero batch l is short =
-    ap (λ (b : KeptBatch). is_long (kept_batch b)) is ∙ (or_parts (is_long (kept_batch x)) (list_any is_long (kept_batches batches)) short).0
+    ap (λ (b : KeptBatch). is_long (kept_batch b)) is
+    ∙ (or_parts (is_long (kept_batch x)) (list_any is_long (kept_batches batches)) short).0
 short_at (x ∷ batches) (suc i) batch l is short =
     short_at batches i batch (omega (arith, l)) is (or_parts (is_long (kept_batch x)) (list_any is_long (kept_batches batches)) short).1
 
@@ -64,11 +79,14 @@ none_left [] = refl
 none_left (b ∷ batches) = refl
 
 pub first_stops : (batches : List KeptBatch) (i count left position : ℕ) → count ≡ i → left ≡ 0
-    → option_map (λ (front : List Batch). kept_batches (take i batches) ++ front) (first_with left (kept_batches (drop i batches))) ≡ first_with position (kept_batches batches)
+    → option_map (λ (front : List Batch). kept_batches (take i batches) ++ front)
+    (first_with left (kept_batches (drop i batches))) ≡ first_with position (kept_batches batches)
     → Some (take count (kept_batches batches)) ≡ first_with position (kept_batches batches)
 first_stops batches i count left position same empty so_far =
-    ap (λ (n : ℕ). Some (take n (kept_batches batches))) same ∙ ap (λ (bs : List Batch). Some bs) (take-map kept_batch i batches ∙ sym (append-nil (kept_batches (take i batches))))
-    ∙ ap (option_map (λ (front : List Batch). kept_batches (take i batches) ++ front)) (sym (ap (λ (n : ℕ). first_with n (kept_batches (drop i batches))) empty ∙ none_left (kept_batches (drop i batches))))
+    ap (λ (n : ℕ). Some (take n (kept_batches batches))) same
+    ∙ ap (λ (bs : List Batch). Some bs) (take-map kept_batch i batches ∙ sym (append-nil (kept_batches (take i batches))))
+    ∙ ap (option_map (λ (front : List Batch). kept_batches (take i batches) ++ front))
+    (sym (ap (λ (n : ℕ). first_with n (kept_batches (drop i batches))) empty ∙ none_left (kept_batches (drop i batches))))
     ∙ so_far
 
 and_false : (t : Bool) → (t && false) ≡ false
@@ -84,79 +102,66 @@ same_not bs cs n =
     false_of (same_batches (kept_batches bs) (kept_batches cs)) (λ t.
     n (sym (length-map bs kept_batch) ∙ ap length ((same-Decides (kept_batches bs) (kept_batches cs)).0 t) ∙ length-map cs kept_batch))
 
--- where a place is not, and is
-pub at_not_clean : (here : List ℕ) (start : ℕ) (named : List Batch) (a e : List ℕ) (t : Bool) → t ≡ false → false ≡ is_at t here start named a e
-at_not_clean here start named a e t is = sym (ap (λ (b : Bool). is_at b here start named a e) is)
-
 not_equal : (m n : ℕ) → m ≢ n → (m == n) ≡ false
 not_equal m n d = sym (false_of (m == n) (λ t. d ((Decides-eqb m n).0 t)))
-
-pub at_elsewhere : (here : List ℕ) (start : ℕ) (named : List KeptBatch) (a e : List ℕ) (t : Bool) → length named ≢ start → false ≡ is_at t here start (kept_batches named) a e
-at_elsewhere here start named a e true d = sym (ap (λ (b : Bool). b && (bytes_eq a here && bytes_eq e zero_bytes)) (not_equal (length (kept_batches named)) start (λ s. d (sym (length-map named kept_batch) ∙ s))))
-at_elsewhere here start named a e false d = refl
-
-pub at_other : (here : List ℕ) (start : ℕ) (named : List Batch) (a e : List ℕ) (t r : Bool) → r ≡ bytes_eq a here → r ≡ false → false ≡ is_at t here start named a e
-at_other here start named a e t r is off =
-    sym (ap (λ (b : Bool). t && (length named == start) && (b && bytes_eq e zero_bytes)) (sym is ∙ off) ∙ and_false (t && (length named == start)))
-
-pub at_found : (here : List ℕ) (start : ℕ) (named : List KeptBatch) (a e : List ℕ) (t r s : Bool) → t ≡ true → length named ≡ start → r ≡ bytes_eq a here → r ≡ true → s ≡ bytes_eq e zero_bytes → s ≡ is_at t here start (kept_batches named) a e
-at_found here start named a e t r s clean same is on ext =
-    ext ∙ sym (ap (λ (b : Bool). b && (length (kept_batches named) == start) && (bytes_eq a here && bytes_eq e zero_bytes)) clean
-    ∙ ap (λ (b : Bool). b && (bytes_eq a here && bytes_eq e zero_bytes)) ((Decides-eqb (length (kept_batches named)) start).1 (length-map named kept_batch ∙ same))
-    ∙ ap (λ (b : Bool). b && bytes_eq e zero_bytes) (sym is ∙ on))
 
 not_less : (m n : ℕ) → n ≤ m → nat_lt m n ≡ false
 not_less m n le = sym (false_of (nat_lt m n) (λ t. absurd (omega (arith, le, (Decides-ltb m n).0 t))))
 
-at_elsewhere_as : (here : List ℕ) (start : ℕ) (named : List Batch) (a e : List ℕ) (t : Bool) → length named ≢ start → false ≡ is_at t here start named a e
-at_elsewhere_as here start named a e true d = sym (ap (λ (b : Bool). b && (bytes_eq a here && bytes_eq e zero_bytes)) (not_equal (length named) start d))
+at_elsewhere_as : (here : List ℕ) (start : ℕ) (named : List Batch) (a e : List ℕ) (t : Bool) → length named ≢ start
+    → false ≡ is_at t here start named a e
+at_elsewhere_as here start named a e true d =
+    sym (ap (λ (b : Bool). b && (bytes_eq a here && bytes_eq e zero_bytes)) (not_equal (length named) start d))
 at_elsewhere_as here start named a e false d = refl
 
 not_or : (s t : Bool) → not (s || t) ≡ (not s && not t)
 not_or true t = refl
 not_or false t = refl
 
-pub behind_past : (barrier here : List ℕ) (start : ℕ) (named : List KeptBatch) (a e : List ℕ) → length named ≤ start → false ≡ is_behind barrier here start (kept_batches named) a e
-behind_past barrier here start named a e le =
-    sym (ap (λ (b : Bool). b && (bytes_eq a here && bytes_eq e (register_of (own_values barrier (drop start (kept_batches named))))))
-    (not_less start (length (kept_batches named)) (omega (arith, le, length-map named kept_batch))))
-
-pub behind_other : (barrier here : List ℕ) (start : ℕ) (named : List Batch) (a e : List ℕ) (r : Bool) → r ≡ bytes_eq a here → r ≡ false → false ≡ is_behind barrier here start named a e
-behind_other barrier here start named a e r is off =
-    sym (ap (λ (b : Bool). nat_lt start (length named) && (b && bytes_eq e (register_of (own_values barrier (drop start named))))) (sym is ∙ off) ∙ and_false (nat_lt start (length named)))
-
-pub behind_found : (barrier here : List ℕ) (start : ℕ) (named rest : List KeptBatch) (a e register : List ℕ) (r s : Bool) → start < length named → rest ≡ drop start named → r ≡ bytes_eq a here → r ≡ true
-    → register ≡ register_of (own_values barrier (kept_batches rest)) → s ≡ bytes_eq e register → s ≡ is_behind barrier here start (kept_batches named) a e
+pub behind_found : (barrier here : List ℕ) (start : ℕ) (named rest : List KeptBatch) (a e register : List ℕ) (r s : Bool)
+    → start < length named → rest ≡ drop start named → r ≡ bytes_eq a here → r ≡ true
+    → register ≡ register_of (own_values barrier (kept_batches rest)) → s ≡ bytes_eq e register
+    → s ≡ is_behind barrier here start (kept_batches named) a e
 behind_found barrier here start named rest a e register r s lt cut is on reads ext =
-    let less : nat_lt start (length (kept_batches named)) ≡ true = (Decides-ltb start (length (kept_batches named))).1 (omega (arith, lt, length-map named kept_batch)) in
+    let less : nat_lt start (length (kept_batches named)) ≡ true = (Decides-ltb start (length (kept_batches named))).1
+    (omega (arith, lt, length-map named kept_batch)) in
     let there : register ≡ register_of (own_values barrier (drop start (kept_batches named))) =
-    reads ∙ ap (λ (bs : List KeptBatch). register_of (own_values barrier (kept_batches bs))) cut ∙ ap (λ (bs : List Batch). register_of (own_values barrier bs)) (sym (drop-map kept_batch start named)) in
+    reads ∙ ap (λ (bs : List KeptBatch). register_of (own_values barrier (kept_batches bs))) cut
+    ∙ ap (λ (bs : List Batch). register_of (own_values barrier bs)) (sym (drop-map kept_batch start named)) in
     ext ∙ ap (bytes_eq e) there
     ∙ sym (ap (λ (b : Bool). b && (bytes_eq a here && bytes_eq e (register_of (own_values barrier (drop start (kept_batches named)))))) less
     ∙ ap (λ (b : Bool). b && bytes_eq e (register_of (own_values barrier (drop start (kept_batches named))))) (sym is ∙ on))
 
 -- one more segment
-segments_taken : {A : Type 0} (closed : List (Vec KeptEntry A)) (k : ℕ) (segment : Vec KeptEntry A) → k < length closed → segment ≡ get_or closed k segment → kept_segments (take (k + 1) closed) ≡ kept_segments (take k closed) ++ kept_entries segment.items ∷ []
+segments_taken : {A : Type 0} (closed : List (Vec KeptEntry A)) (k : ℕ) (segment : Vec KeptEntry A) → k < length closed
+    → segment ≡ get_or closed k segment → kept_segments (take (k + 1) closed) ≡ kept_segments (take k closed) ++ kept_entries segment.items
+    ∷ []
 segments_taken {A} closed k segment l is =
     let f : Vec KeptEntry A → List Entry = λ v. kept_entries v.items in
     ap (map f) (take_more closed k segment l) ∙ map-append f (take k closed) (get_or closed k segment ∷ [])
     ∙ ap (λ (v : Vec KeptEntry A). map f (take k closed) ++ f v ∷ []) (sym is)
 
-segments_left : {A : Type 0} (closed : List (Vec KeptEntry A)) (k : ℕ) (segment : Vec KeptEntry A) → k < length closed → segment ≡ get_or closed k segment → kept_segments (drop k closed) ≡ kept_entries segment.items ∷ kept_segments (drop (k + 1) closed)
+segments_left : {A : Type 0} (closed : List (Vec KeptEntry A)) (k : ℕ) (segment : Vec KeptEntry A) → k < length closed
+    → segment ≡ get_or closed k segment → kept_segments (drop k closed) ≡ kept_entries segment.items ∷ kept_segments (drop (k + 1) closed)
 segments_left {A} closed k segment l is =
     let f : Vec KeptEntry A → List Entry = λ v. kept_entries v.items in
     ap (map f) (drop_more closed k segment l) ∙ ap (λ (v : Vec KeptEntry A). f v ∷ map f (drop (k + 1) closed)) (sym is)
 
-anchor_more : (id : ℕ) (barrier : List ℕ) (before : List (List Entry)) (segment : List Entry) → anchor_at id barrier (before ++ segment ∷ []) ≡ anchored_of (anchor_at id barrier before) (register_of (values_of barrier segment))
+anchor_more : (id : ℕ) (barrier : List ℕ) (before : List (List Entry)) (segment : List Entry)
+    → anchor_at id barrier (before ++ segment ∷ []) ≡ anchored_of (anchor_at id barrier before) (register_of (values_of barrier segment))
 anchor_more id barrier before segment =
-    ap (anchor_of id) (map-append (values_of barrier) before (segment ∷ [])) ∙ anchor-push id (map (values_of barrier) before) (values_of barrier segment)
+    ap (anchor_of id) (map-append (values_of barrier) before (segment ∷ []))
+    ∙ anchor-push id (map (values_of barrier) before) (values_of barrier segment)
 
-pub anchor_taken : {A : Type 0} (id : ℕ) (barrier : List ℕ) (closed : List (Vec KeptEntry A)) (k : ℕ) (segment : Vec KeptEntry A) (lent : List KeptEntry) (anchor register next : List ℕ) → k < length closed → segment ≡ get_or closed k segment
-    → anchor ≡ anchor_at id barrier (kept_segments (take k closed)) → lent ≡ segment.items → register ≡ register_of (values_of barrier (kept_entries lent)) → next ≡ anchored_of anchor register
+pub anchor_taken : {A : Type 0} (id : ℕ) (barrier : List ℕ) (closed : List (Vec KeptEntry A)) (k : ℕ) (segment : Vec KeptEntry A)
+    (lent : List KeptEntry) (anchor register next : List ℕ) → k < length closed → segment ≡ get_or closed k segment
+    → anchor ≡ anchor_at id barrier (kept_segments (take k closed)) → lent ≡ segment.items
+    → register ≡ register_of (values_of barrier (kept_entries lent)) → next ≡ anchored_of anchor register
     → next ≡ anchor_at id barrier (kept_segments (take (k + 1) closed))
 anchor_taken id barrier closed k segment lent anchor register next l is so_far items reads n =
     n ∙ ap (λ (x : List ℕ). anchored_of x register) so_far
-    ∙ ap (anchored_of (anchor_at id barrier (kept_segments (take k closed)))) (reads ∙ ap (λ (xs : List KeptEntry). register_of (values_of barrier (kept_entries xs))) items)
+    ∙ ap (anchored_of (anchor_at id barrier (kept_segments (take k closed))))
+    (reads ∙ ap (λ (xs : List KeptEntry). register_of (values_of barrier (kept_entries xs))) items)
     ∙ sym (anchor_more id barrier (kept_segments (take k closed)) (kept_entries segment.items))
     ∙ ap (anchor_at id barrier) (sym (segments_taken closed k segment l is))
 
@@ -165,14 +170,19 @@ unfolding anchor_of
 anchor_none id barrier s e = e
 
 -- The test inside the open segment, by what was compared.
-pub inside_by : (barrier last : List ℕ) (y : History) (named : List Batch) (a e : List ℕ) (bs cs : List KeptBatch) (start : ℕ) (r s : Bool) → kept_batches bs ≡ y.batches → kept_batches cs ≡ y.current → start ≡ length bs - length cs
-    → r ≡ same_batches (kept_batches (drop start bs)) (kept_batches cs) → s ≡ (r && is_behind barrier last start named a e) → s ≡ is_inside_at barrier last y named a e
+pub inside_by : (barrier last : List ℕ) (y : History) (named : List Batch) (a e : List ℕ) (bs cs : List KeptBatch) (start : ℕ) (r s : Bool)
+    → kept_batches bs ≡ y.batches → kept_batches cs ≡ y.current → start ≡ length bs - length cs
+    → r ≡ same_batches (kept_batches (drop start bs)) (kept_batches cs) → s ≡ (r && is_behind barrier last start named a e)
+    → s ≡ is_inside_at barrier last y named a e
 inside_by barrier last y named a e bs cs start r s all current at same is =
     let begins : start ≡ length y.batches - length y.current =
-    at ∙ ap (λ (n : ℕ). n - length cs) (sym (length-map bs kept_batch) ∙ ap length all) ∙ ap (λ (n : ℕ). length y.batches - n) (sym (length-map cs kept_batch) ∙ ap length current) in
+    at ∙ ap (λ (n : ℕ). n - length cs) (sym (length-map bs kept_batch) ∙ ap length all)
+    ∙ ap (λ (n : ℕ). length y.batches - n) (sym (length-map cs kept_batch) ∙ ap length current) in
     let tested : r ≡ same_batches (drop start y.batches) y.current =
-    same ∙ ap (λ (xs : List Batch). same_batches xs (kept_batches cs)) (sym (drop-map kept_batch start bs) ∙ ap (drop start) all) ∙ ap (same_batches (drop start y.batches)) current in
-    is ∙ ap (λ (b : Bool). b && is_behind barrier last start named a e) tested ∙ ap (λ (n : ℕ). same_batches (drop n y.batches) y.current && is_behind barrier last n named a e) begins
+    same ∙ ap (λ (xs : List Batch). same_batches xs (kept_batches cs)) (sym (drop-map kept_batch start bs) ∙ ap (drop start) all)
+    ∙ ap (same_batches (drop start y.batches)) current in
+    is ∙ ap (λ (b : Bool). b && is_behind barrier last start named a e) tested
+    ∙ ap (λ (n : ℕ). same_batches (drop n y.batches) y.current && is_behind barrier last n named a e) begins
 
 -- How far the walk over the closed segments has come.
 module _ (id : ℕ) (barrier : List ℕ) (y : History) (named : List Batch) (a e : List ℕ) where
@@ -195,84 +205,123 @@ module _ (id : ℕ) (barrier : List ℕ) (y : History) (named : List Batch) (a e
   is_empty_by (x ∷ xs) n same = not_equal n 0 (λ z. absurd (omega (arith, same, z)))
 
   -- the test at the next segment, as the walk makes it
-  here_by : (before rest : List (List Entry)) (segment : List Entry) (all : List (List Entry)) (here : List ℕ) (entries : ℕ) (is_clean : Bool) (later size now : ℕ) (ends tested : Bool) → Reached before (segment ∷ rest) all here entries is_clean later
-      → size ≡ length segment → now + 1 ≡ later → ends ≡ ((now == 0) && is_empty y.current) → tested ≡ is_here is_clean barrier here entries named size ends a e
-      → tested ≡ is_here (not (has_value (joined before))) barrier (anchor_at id barrier before) (length (joined before)) named (length segment) (is_empty rest && is_empty y.current) a e
+  here_by : (before rest : List (List Entry)) (segment : List Entry) (all : List (List Entry)) (here : List ℕ) (entries : ℕ)
+      (is_clean : Bool) (later size now : ℕ) (ends tested : Bool) → Reached before (segment ∷ rest) all here entries is_clean later
+      → size ≡ length segment → now + 1 ≡ later → ends ≡ ((now == 0) && is_empty y.current)
+      → tested ≡ is_here is_clean barrier here entries named size ends a e
+      → tested ≡ is_here (not (has_value (joined before))) barrier (anchor_at id barrier before) (length (joined before)) named
+      (length segment) (is_empty rest && is_empty y.current) a e
   here_by before rest segment all here entries is_clean later size now ends tested w sized one ended is =
-      let last : ends ≡ (is_empty rest && is_empty y.current) = ended ∙ ap (λ (b : Bool). b && is_empty y.current) (is_empty_by rest now (omega (arith, one, w.left))) in
+      let last : ends ≡ (is_empty rest && is_empty y.current) = ended
+      ∙ ap (λ (b : Bool). b && is_empty y.current) (is_empty_by rest now (omega (arith, one, w.left))) in
       is ∙ ap (λ (c : Bool). is_here c barrier here entries named size ends a e) w.clean_is
       ∙ ap (λ (h : List ℕ). is_here (not (has_value (joined before))) barrier h entries named size ends a e) w.here_is
       ∙ ap (λ (n : ℕ). is_here (not (has_value (joined before))) barrier (anchor_at id barrier before) n named size ends a e) w.entries_is
-      ∙ ap (λ (n : ℕ). is_here (not (has_value (joined before))) barrier (anchor_at id barrier before) (length (joined before)) named n ends a e) sized
-      ∙ ap (λ (b : Bool). is_here (not (has_value (joined before))) barrier (anchor_at id barrier before) (length (joined before)) named (length segment) b a e) last
+      ∙ ap (λ (n : ℕ). is_here (not (has_value (joined before))) barrier (anchor_at id barrier before) (length (joined before)) named n ends
+      a e) sized
+      ∙ ap (λ (b : Bool). is_here (not (has_value (joined before))) barrier (anchor_at id barrier before) (length (joined before)) named
+      (length segment) b a e) last
 
-  pub found_here : (before rest : List (List Entry)) (segment : List Entry) (all : List (List Entry)) (here : List ℕ) (entries : ℕ) (is_clean : Bool) (later size now : ℕ) (ends tested : Bool) → Reached before (segment ∷ rest) all here entries is_clean later
-      → size ≡ length segment → now + 1 ≡ later → ends ≡ ((now == 0) && is_empty y.current) → tested ≡ is_here is_clean barrier here entries named size ends a e → tested ≡ true
+  pub found_here : (before rest : List (List Entry)) (segment : List Entry) (all : List (List Entry)) (here : List ℕ) (entries : ℕ)
+      (is_clean : Bool) (later size now : ℕ) (ends tested : Bool) → Reached before (segment ∷ rest) all here entries is_clean later
+      → size ≡ length segment → now + 1 ≡ later → ends ≡ ((now == 0) && is_empty y.current)
+      → tested ≡ is_here is_clean barrier here entries named size ends a e → tested ≡ true
       → true ≡ some_place id barrier y named a e [] all
   found_here before rest segment all here entries is_clean later size now ends tested w sized one ended is t =
-      true_first _ (some_place id barrier y named a e (before ++ segment ∷ []) rest) (sym (here_by before rest segment all here entries is_clean later size now ends tested w sized one ended is) ∙ t) ∙ w.same
+      true_first _ (some_place id barrier y named a e (before ++ segment ∷ []) rest)
+      (sym (here_by before rest segment all here entries is_clean later size now ends tested w sized one ended is) ∙ t) ∙ w.same
 
-  on_then : (before rest : List (List Entry)) (segment : List Entry) (all : List (List Entry)) (here : List ℕ) (entries : ℕ) (is_clean : Bool) (later size now : ℕ) (ends tested : Bool) → Reached before (segment ∷ rest) all here entries is_clean later
-      → size ≡ length segment → now + 1 ≡ later → ends ≡ ((now == 0) && is_empty y.current) → tested ≡ is_here is_clean barrier here entries named size ends a e → tested ≡ false
+  on_then : (before rest : List (List Entry)) (segment : List Entry) (all : List (List Entry)) (here : List ℕ) (entries : ℕ)
+      (is_clean : Bool) (later size now : ℕ) (ends tested : Bool) → Reached before (segment ∷ rest) all here entries is_clean later
+      → size ≡ length segment → now + 1 ≡ later → ends ≡ ((now == 0) && is_empty y.current)
+      → tested ≡ is_here is_clean barrier here entries named size ends a e → tested ≡ false
       → some_place id barrier y named a e (before ++ segment ∷ []) rest ≡ some_place id barrier y named a e [] all
   on_then before rest segment all here entries is_clean later size now ends tested w sized one ended is f =
-      false_first _ (some_place id barrier y named a e (before ++ segment ∷ []) rest) (sym (here_by before rest segment all here entries is_clean later size now ends tested w sized one ended is) ∙ f) ∙ w.same
+      false_first _ (some_place id barrier y named a e (before ++ segment ∷ []) rest)
+      (sym (here_by before rest segment all here entries is_clean later size now ends tested w sized one ended is) ∙ f) ∙ w.same
 
-  pub goes_on : (before rest : List (List Entry)) (segment : List Entry) (all : List (List Entry)) (here next register : List ℕ) (entries more : ℕ) (is_clean then_clean marred : Bool) (later size now : ℕ) (ends tested : Bool) → Reached before (segment ∷ rest) all here entries is_clean later
-      → size ≡ length segment → now + 1 ≡ later → ends ≡ ((now == 0) && is_empty y.current) → tested ≡ is_here is_clean barrier here entries named size ends a e → tested ≡ false
-      → size ≤ length named - entries → register ≡ register_of (values_of barrier segment) → next ≡ anchored_of here register → more ≡ entries + size → marred ≡ has_value segment → then_clean ≡ (is_clean && not marred)
+  pub goes_on : (before rest : List (List Entry)) (segment : List Entry) (all : List (List Entry)) (here next register : List ℕ)
+      (entries more : ℕ) (is_clean then_clean marred : Bool) (later size now : ℕ) (ends tested : Bool)
+      → Reached before (segment ∷ rest) all here entries is_clean later
+      → size ≡ length segment → now + 1 ≡ later → ends ≡ ((now == 0) && is_empty y.current)
+      → tested ≡ is_here is_clean barrier here entries named size ends a e → tested ≡ false
+      → size ≤ length named - entries → register ≡ register_of (values_of barrier segment) → next ≡ anchored_of here register
+      → more ≡ entries + size → marred ≡ has_value segment → then_clean ≡ (is_clean && not marred)
       → Reached (before ++ segment ∷ []) rest all next more then_clean now
-  goes_on before rest segment all here next register entries more is_clean then_clean marred later size now ends tested w sized one ended is f room reads n m v t =
+  goes_on before rest segment all here next register entries more is_clean then_clean marred later size now ends tested w sized one ended is
+      f room reads n m v t =
       let joins : joined (before ++ segment ∷ []) ≡ joined before ++ segment = joined-push before segment in
       record {
-        here_is = n ∙ ap (λ (h : List ℕ). anchored_of h register) w.here_is ∙ ap (anchored_of (anchor_at id barrier before)) reads ∙ sym (anchor_more id barrier before segment);
+        here_is =
+            n ∙ ap (λ (h : List ℕ). anchored_of h register) w.here_is ∙ ap (anchored_of (anchor_at id barrier before)) reads
+            ∙ sym (anchor_more id barrier before segment);
         entries_is = omega (arith, m, w.entries_is, sized, ap length joins, length-append (joined before) segment);
         clean_is = t ∙ ap (λ (b : Bool). b && not marred) w.clean_is ∙ ap (λ (b : Bool). not (has_value (joined before)) && not b) v
-            ∙ sym (ap (λ (es : List Entry). not (has_value es)) joins ∙ ap not (has_value-append (joined before) segment) ∙ not_or (has_value (joined before)) (has_value segment));
+            ∙ sym (ap (λ (es : List Entry). not (has_value es)) joins ∙ ap not (has_value-append (joined before) segment)
+            ∙ not_or (has_value (joined before)) (has_value segment));
         fits = omega (arith, m, room, w.fits);
         left = omega (arith, one, w.left);
         same = on_then before rest segment all here entries is_clean later size now ends tested w sized one ended is f;
       }
 
   -- behind more entries than there are named batches, only the open segment is left
-  past : (last : List ℕ) → last ≡ anchor_at id barrier y.closed → (before rest : List (List Entry)) → length named < length (joined before) → is_inside_at barrier last y named a e ≡ some_place id barrier y named a e before rest
+  past : (last : List ℕ) → last ≡ anchor_at id barrier y.closed → (before rest : List (List Entry)) → length named < length (joined before)
+      → is_inside_at barrier last y named a e ≡ some_place id barrier y named a e before rest
   past last l before [] lt =
       ap (λ (x : List ℕ). is_inside_at barrier x y named a e) l
       ∙ false_first _ (is_inside_at barrier (anchor_at id barrier y.closed) y named a e)
-      (sym (at_elsewhere_as (anchor_at id barrier before) (length (joined before)) named a e (not (has_value (joined before))) (λ s. absurd (omega (arith, lt, s)))))
+      (sym (at_elsewhere_as (anchor_at id barrier before) (length (joined before)) named a e (not (has_value (joined before)))
+      (λ s. absurd (omega (arith, lt, s)))))
   past last l before (segment ∷ rest) lt =
       let start : ℕ = length (joined before) in
       let at : Bool = is_at (not (has_value (joined before))) (anchor_at id barrier before) start named a e in
       let behind : Bool = is_behind barrier (anchor_at id barrier before) start named a e in
       let within : Bool = is_within start named (length segment) (is_empty rest && is_empty y.current) in
-      let off : at ≡ false = sym (at_elsewhere_as (anchor_at id barrier before) start named a e (not (has_value (joined before))) (λ s. absurd (omega (arith, lt, s)))) in
-      let gone : behind ≡ false = ap (λ (b : Bool). b && (bytes_eq a (anchor_at id barrier before) && bytes_eq e (register_of (own_values barrier (drop start named))))) (not_less start (length named) (omega (arith, lt))) in
-      let none : (at || (behind && within)) ≡ false = ap (λ (b : Bool). b || (behind && within)) off ∙ ap (λ (b : Bool). b && within) gone in
-      past last l (before ++ segment ∷ []) rest (omega (arith, lt, ap length (joined-push before segment), length-append (joined before) segment))
+      let off : at ≡ false = sym
+      (at_elsewhere_as (anchor_at id barrier before) start named a e (not (has_value (joined before)))
+      (λ s. absurd (omega (arith, lt, s)))) in
+      let gone : behind ≡ false = ap
+      (λ (b : Bool). b && (bytes_eq a (anchor_at id barrier before) && bytes_eq e
+      (register_of (own_values barrier (drop start named))))) (not_less start (length named) (omega (arith, lt))) in
+      let none : (at || (behind && within)) ≡ false = ap (λ (b : Bool). b || (behind && within)) off
+      ∙ ap (λ (b : Bool). b && within) gone in
+      past last l (before ++ segment ∷ []) rest
+      (omega (arith, lt, ap length (joined-push before segment), length-append (joined before) segment))
       ∙ false_first (at || (behind && within)) (some_place id barrier y named a e (before ++ segment ∷ []) rest) none
 
-  pub inside_past : (before rest : List (List Entry)) (segment : List Entry) (all : List (List Entry)) (here last : List ℕ) (entries : ℕ) (is_clean : Bool) (later size now : ℕ) (ends tested r : Bool) → Reached before (segment ∷ rest) all here entries is_clean later
-      → size ≡ length segment → now + 1 ≡ later → ends ≡ ((now == 0) && is_empty y.current) → tested ≡ is_here is_clean barrier here entries named size ends a e → tested ≡ false
-      → length named - entries < size → last ≡ anchor_at id barrier y.closed → r ≡ is_inside_at barrier last y named a e → r ≡ some_place id barrier y named a e [] all
+  pub inside_past : (before rest : List (List Entry)) (segment : List Entry) (all : List (List Entry)) (here last : List ℕ) (entries : ℕ)
+      (is_clean : Bool) (later size now : ℕ) (ends tested r : Bool) → Reached before (segment ∷ rest) all here entries is_clean later
+      → size ≡ length segment → now + 1 ≡ later → ends ≡ ((now == 0) && is_empty y.current)
+      → tested ≡ is_here is_clean barrier here entries named size ends a e → tested ≡ false
+      → length named - entries < size → last ≡ anchor_at id barrier y.closed → r ≡ is_inside_at barrier last y named a e
+      → r ≡ some_place id barrier y named a e [] all
   inside_past before rest segment all here last entries is_clean later size now ends tested r w sized one ended is f over l inside =
-      inside ∙ past last l (before ++ segment ∷ []) rest (omega (arith, over, sized, w.entries_is, w.fits, ap length (joined-push before segment), length-append (joined before) segment))
+      inside ∙ past last l (before ++ segment ∷ []) rest
+      (omega (arith, over, sized, w.entries_is, w.fits, ap length (joined-push before segment), length-append (joined before) segment))
       ∙ on_then before rest segment all here entries is_clean later size now ends tested w sized one ended is f
 
-  pub at_end : (before all : List (List Entry)) (here : List ℕ) (entries : ℕ) (is_clean : Bool) (later : ℕ) (tested : Bool) → Reached before [] all here entries is_clean later → tested ≡ is_at is_clean here entries named a e
+  pub at_end : (before all : List (List Entry)) (here : List ℕ) (entries : ℕ) (is_clean : Bool) (later : ℕ) (tested : Bool)
+      → Reached before [] all here entries is_clean later → tested ≡ is_at is_clean here entries named a e
       → tested ≡ is_at (not (has_value (joined before))) (anchor_at id barrier before) (length (joined before)) named a e
   at_end before all here entries is_clean later tested w is =
-      is ∙ ap (λ (c : Bool). is_at c here entries named a e) w.clean_is ∙ ap (λ (h : List ℕ). is_at (not (has_value (joined before))) h entries named a e) w.here_is
+      is ∙ ap (λ (c : Bool). is_at c here entries named a e) w.clean_is
+      ∙ ap (λ (h : List ℕ). is_at (not (has_value (joined before))) h entries named a e) w.here_is
       ∙ ap (λ (n : ℕ). is_at (not (has_value (joined before))) (anchor_at id barrier before) n named a e) w.entries_is
 
-  pub end_at : (before all : List (List Entry)) (here : List ℕ) (entries : ℕ) (is_clean : Bool) (later : ℕ) (tested : Bool) → Reached before [] all here entries is_clean later → tested ≡ is_at is_clean here entries named a e → tested ≡ true → true ≡ some_place id barrier y named a e [] all
+  pub end_at : (before all : List (List Entry)) (here : List ℕ) (entries : ℕ) (is_clean : Bool) (later : ℕ) (tested : Bool)
+      → Reached before [] all here entries is_clean later → tested ≡ is_at is_clean here entries named a e → tested ≡ true
+      → true ≡ some_place id barrier y named a e [] all
   end_at before all here entries is_clean later tested w is t =
-      true_first _ (is_inside_at barrier (anchor_at id barrier y.closed) y named a e) (sym (at_end before all here entries is_clean later tested w is) ∙ t) ∙ w.same
+      true_first _ (is_inside_at barrier (anchor_at id barrier y.closed) y named a e)
+      (sym (at_end before all here entries is_clean later tested w is) ∙ t) ∙ w.same
 
-  pub end_inside : (before all : List (List Entry)) (here last : List ℕ) (entries : ℕ) (is_clean : Bool) (later : ℕ) (tested r : Bool) → Reached before [] all here entries is_clean later → tested ≡ is_at is_clean here entries named a e → tested ≡ false
+  pub end_inside : (before all : List (List Entry)) (here last : List ℕ) (entries : ℕ) (is_clean : Bool) (later : ℕ) (tested r : Bool)
+      → Reached before [] all here entries is_clean later → tested ≡ is_at is_clean here entries named a e → tested ≡ false
       → last ≡ anchor_at id barrier y.closed → r ≡ is_inside_at barrier last y named a e → r ≡ some_place id barrier y named a e [] all
   end_inside before all here last entries is_clean later tested r w is f l inside =
       inside ∙ ap (λ (x : List ℕ). is_inside_at barrier x y named a e) l
-      ∙ false_first _ (is_inside_at barrier (anchor_at id barrier y.closed) y named a e) (sym (at_end before all here entries is_clean later tested w is) ∙ f) ∙ w.same
+      ∙ false_first _ (is_inside_at barrier (anchor_at id barrier y.closed) y named a e)
+      (sym (at_end before all here entries is_clean later tested w is) ∙ f) ∙ w.same
 
 -- all from a place on
 pub back_is : (xs : List KeptBatch) (n : ℕ) → take (length xs - n) (drop n xs) ≡ drop n xs
@@ -282,9 +331,11 @@ back_is xs n = take_all (length xs - n) (drop n xs) (omega (arith, length-drop n
 module _ (id : ℕ) (barrier : List ℕ) (y : History) (named : List KeptBatch) (a e : List ℕ) where
   abbrev pub Walked : {A : Type 0} → List (Vec KeptEntry A) → ℕ → (here : List ℕ) (entries : ℕ) (is_clean : Bool) (later : ℕ) → Type 0
   Walked closed k here entries is_clean later =
-      Reached id barrier y (kept_batches named) a e (kept_segments (take k closed)) (kept_segments (drop k closed)) (kept_segments closed) here entries is_clean later
+      Reached id barrier y (kept_batches named) a e (kept_segments (take k closed)) (kept_segments (drop k closed)) (kept_segments closed)
+      here entries is_clean later
 
-  pub walk_begins : {A : Type 0} (closed : List (Vec KeptEntry A)) (here : List ℕ) → here ≡ start_of Opt id → Reached id barrier y (kept_batches named) a e [] (kept_segments closed) (kept_segments closed) here 0 true (length closed)
+  pub walk_begins : {A : Type 0} (closed : List (Vec KeptEntry A)) (here : List ℕ) → here ≡ start_of Opt id
+      → Reached id barrier y (kept_batches named) a e [] (kept_segments closed) (kept_segments closed) here 0 true (length closed)
   walk_begins {A} closed here is = record {
     here_is = anchor_none id barrier here is;
     entries_is = refl;
@@ -294,36 +345,58 @@ module _ (id : ℕ) (barrier : List ℕ) (y : History) (named : List KeptBatch) 
     same = refl;
   }
 
-  cut : {A : Type 0} (closed : List (Vec KeptEntry A)) (k : ℕ) (segment : Vec KeptEntry A) (here : List ℕ) (entries : ℕ) (is_clean : Bool) (later : ℕ) → k < length closed → segment ≡ get_or closed k segment → Walked closed k here entries is_clean later
-      → Reached id barrier y (kept_batches named) a e (kept_segments (take k closed)) (kept_entries segment.items ∷ kept_segments (drop (k + 1) closed)) (kept_segments closed) here entries is_clean later
+  cut : {A : Type 0} (closed : List (Vec KeptEntry A)) (k : ℕ) (segment : Vec KeptEntry A) (here : List ℕ) (entries : ℕ) (is_clean : Bool)
+      (later : ℕ) → k < length closed → segment ≡ get_or closed k segment → Walked closed k here entries is_clean later
+      → Reached id barrier y (kept_batches named) a e (kept_segments (take k closed))
+      (kept_entries segment.items ∷ kept_segments (drop (k + 1) closed)) (kept_segments closed) here entries is_clean later
   cut closed k segment here entries is_clean later l is w =
-      subst (λ (rest : List (List Entry)). Reached id barrier y (kept_batches named) a e (kept_segments (take k closed)) rest (kept_segments closed) here entries is_clean later) (segments_left closed k segment l is) w
+      subst (λ (rest : List (List Entry)). Reached id barrier y (kept_batches named) a e (kept_segments (take k closed)) rest
+      (kept_segments closed) here entries is_clean later) (segments_left closed k segment l is) w
 
-  pub walk_past : {A : Type 0} (closed : List (Vec KeptEntry A)) (k : ℕ) (segment : Vec KeptEntry A) (here last : List ℕ) (entries : ℕ) (is_clean : Bool) (later size : ℕ) (shut ends tested r : Bool) → k < length closed → segment ≡ get_or closed k segment → Walked closed k here entries is_clean later
-      → size ≡ length segment.items → shut ≡ is_empty y.current → ends ≡ ((later - 1 == 0) && shut) → tested ≡ is_here is_clean barrier here entries (kept_batches named) size ends a e → tested ≡ false
-      → length named - entries < size → kept_segments closed ≡ y.closed → last ≡ anchor_at id barrier (kept_segments closed) → r ≡ is_inside_at barrier last y (kept_batches named) a e
+  pub walk_past : {A : Type 0} (closed : List (Vec KeptEntry A)) (k : ℕ) (segment : Vec KeptEntry A) (here last : List ℕ) (entries : ℕ)
+      (is_clean : Bool) (later size : ℕ) (shut ends tested r : Bool) → k < length closed → segment ≡ get_or closed k segment
+      → Walked closed k here entries is_clean later
+      → size ≡ length segment.items → shut ≡ is_empty y.current → ends ≡ ((later - 1 == 0) && shut)
+      → tested ≡ is_here is_clean barrier here entries (kept_batches named) size ends a e → tested ≡ false
+      → length named - entries < size → kept_segments closed ≡ y.closed → last ≡ anchor_at id barrier (kept_segments closed)
+      → r ≡ is_inside_at barrier last y (kept_batches named) a e
       → r ≡ some_place id barrier y (kept_batches named) a e [] y.closed
-  walk_past closed k segment here last entries is_clean later size shut ends tested r l is w sized clear ended test f over all reads inside =
+  walk_past closed k segment here last entries is_clean later size shut ends tested r l is w sized clear ended test f over all reads
+      inside =
       let x = cut closed k segment here entries is_clean later l is w in
       let one : (later - 1) + 1 ≡ later = omega (arith, x.left) in
-      inside_past id barrier y (kept_batches named) a e (kept_segments (take k closed)) (kept_segments (drop (k + 1) closed)) (kept_entries segment.items) (kept_segments closed) here last entries is_clean later size (later - 1) ends tested r x
-      (sized ∙ sym (length-map segment.items kept_entry)) one (ended ∙ ap (λ (b : Bool). (later - 1 == 0) && b) clear) test f (omega (arith, over, length-map named kept_batch)) (reads ∙ ap (anchor_at id barrier) all) inside
+      inside_past id barrier y (kept_batches named) a e (kept_segments (take k closed)) (kept_segments (drop (k + 1) closed))
+      (kept_entries segment.items) (kept_segments closed) here last entries is_clean later size (later - 1) ends tested r x
+      (sized ∙ sym (length-map segment.items kept_entry)) one (ended ∙ ap (λ (b : Bool). (later - 1 == 0) && b) clear) test f
+      (omega (arith, over, length-map named kept_batch)) (reads ∙ ap (anchor_at id barrier) all) inside
       ∙ ap (some_place id barrier y (kept_batches named) a e []) all
 
-  pub walk_on : {A : Type 0} (closed : List (Vec KeptEntry A)) (k : ℕ) (segment : Vec KeptEntry A) (lent lent_again : List KeptEntry) (here next register : List ℕ) (entries : ℕ) (is_clean then_clean marred : Bool) (later size : ℕ) (shut ends tested : Bool) → k < length closed → segment ≡ get_or closed k segment → Walked closed k here entries is_clean later
-      → size ≡ length segment.items → shut ≡ is_empty y.current → ends ≡ ((later - 1 == 0) && shut) → tested ≡ is_here is_clean barrier here entries (kept_batches named) size ends a e → tested ≡ false
-      → size ≤ length named - entries → lent ≡ segment.items → register ≡ register_of (values_of barrier (kept_entries lent)) → next ≡ anchored_of here register → lent_again ≡ segment.items → marred ≡ has_value (kept_entries lent_again) → then_clean ≡ (is_clean && not marred)
+  pub walk_on : {A : Type 0} (closed : List (Vec KeptEntry A)) (k : ℕ) (segment : Vec KeptEntry A) (lent lent_again : List KeptEntry)
+      (here next register : List ℕ) (entries : ℕ) (is_clean then_clean marred : Bool) (later size : ℕ) (shut ends tested : Bool)
+      → k < length closed → segment ≡ get_or closed k segment → Walked closed k here entries is_clean later
+      → size ≡ length segment.items → shut ≡ is_empty y.current → ends ≡ ((later - 1 == 0) && shut)
+      → tested ≡ is_here is_clean barrier here entries (kept_batches named) size ends a e → tested ≡ false
+      → size ≤ length named - entries → lent ≡ segment.items → register ≡ register_of (values_of barrier (kept_entries lent))
+      → next ≡ anchored_of here register → lent_again ≡ segment.items → marred ≡ has_value (kept_entries lent_again)
+      → then_clean ≡ (is_clean && not marred)
       → Walked closed (k + 1) next (entries + size) then_clean (later - 1)
-  walk_on closed k segment lent lent_again here next register entries is_clean then_clean marred later size shut ends tested l is w sized clear ended test f room items reads n again v t =
+  walk_on closed k segment lent lent_again here next register entries is_clean then_clean marred later size shut ends tested l is w sized
+      clear ended test f room items reads n again v t =
       let x = cut closed k segment here entries is_clean later l is w in
       let one : (later - 1) + 1 ≡ later = omega (arith, x.left) in
-      subst (λ (before : List (List Entry)). Reached id barrier y (kept_batches named) a e before (kept_segments (drop (k + 1) closed)) (kept_segments closed) next (entries + size) then_clean (later - 1)) (sym (segments_taken closed k segment l is))
-      (goes_on id barrier y (kept_batches named) a e (kept_segments (take k closed)) (kept_segments (drop (k + 1) closed)) (kept_entries segment.items) (kept_segments closed) here next register entries (entries + size) is_clean then_clean marred later size (later - 1) ends tested x
-      (sized ∙ sym (length-map segment.items kept_entry)) one (ended ∙ ap (λ (b : Bool). (later - 1 == 0) && b) clear) test f (omega (arith, room, length-map named kept_batch))
-      (reads ∙ ap (λ (xs : List KeptEntry). register_of (values_of barrier (kept_entries xs))) items) n refl (v ∙ ap (λ (xs : List KeptEntry). has_value (kept_entries xs)) again) t)
+      subst (λ (before : List (List Entry)). Reached id barrier y (kept_batches named) a e before (kept_segments (drop (k + 1) closed))
+      (kept_segments closed) next (entries + size) then_clean (later - 1)) (sym (segments_taken closed k segment l is))
+      (goes_on id barrier y (kept_batches named) a e (kept_segments (take k closed)) (kept_segments (drop (k + 1) closed))
+      (kept_entries segment.items) (kept_segments closed) here next register entries (entries + size) is_clean then_clean marred later
+      size (later - 1) ends tested x
+      (sized ∙ sym (length-map segment.items kept_entry)) one (ended ∙ ap (λ (b : Bool). (later - 1 == 0) && b) clear) test f
+      (omega (arith, room, length-map named kept_batch))
+      (reads ∙ ap (λ (xs : List KeptEntry). register_of (values_of barrier (kept_entries xs))) items) n refl
+      (v ∙ ap (λ (xs : List KeptEntry). has_value (kept_entries xs)) again) t)
 
 -- the first batches aren't long either
-pub short_front : (n : ℕ) (batches : List KeptBatch) → list_any is_long (kept_batches batches) ≡ false → list_any is_long (kept_batches (take n batches)) ≡ false
+pub short_front : (n : ℕ) (batches : List KeptBatch) → list_any is_long (kept_batches batches) ≡ false
+    → list_any is_long (kept_batches (take n batches)) ≡ false
 short_front zero batches short = refl
 short_front (suc n) [] short = refl
 short_front (suc n) (x ∷ batches) short =
@@ -333,33 +406,84 @@ short_front (suc n) (x ∷ batches) short =
 -- The whole test, by what was found.
 
 counted_by : (batches : List KeptBatch) (all : List Batch) (position : ℕ) (found : Option ℕ) → kept_batches batches ≡ all
-    → option_map (λ (n : ℕ). take n (kept_batches batches)) found ≡ first_with position (kept_batches batches) → first_with position all ≡ option_map (λ (n : ℕ). take n (kept_batches batches)) found
+    → option_map (λ (n : ℕ). take n (kept_batches batches)) found ≡ first_with position (kept_batches batches)
+    → first_with position all ≡ option_map (λ (n : ℕ). take n (kept_batches batches)) found
 counted_by batches all position found is e = ap (first_with position) (sym is) ∙ sym e
 
-pub not_counted : (i : Instance) (y : History) (content : Content) (batches : List KeptBatch) → kept_batches batches ≡ y.batches → (found : Option ℕ) → found ≡ None
-    → option_map (λ (n : ℕ). take n (kept_batches batches)) found ≡ first_with content.position (kept_batches batches) → false ≡ is_named i y content
+pub not_counted : (i : Instance) (y : History) (content : Content) (batches : List KeptBatch) → kept_batches batches ≡ y.batches
+    → (found : Option ℕ) → found ≡ None
+    → option_map (λ (n : ℕ). take n (kept_batches batches)) found ≡ first_with content.position (kept_batches batches)
+    → false ≡ is_named i y content
 not_counted i y content batches is found none e =
-    sym (ap (is_named_at i y content) (counted_by batches y.batches content.position found is e ∙ ap (option_map (λ (n : ℕ). take n (kept_batches batches))) none))
+    sym (ap (is_named_at i y content) (counted_by batches y.batches content.position found is e
+    ∙ ap (option_map (λ (n : ℕ). take n (kept_batches batches))) none))
 
-there_by : (i : Instance) (y : History) (content : Content) (batches : List KeptBatch) → kept_batches batches ≡ y.batches → (found : Option ℕ) (count : ℕ) → found ≡ Some count
-    → option_map (λ (n : ℕ). take n (kept_batches batches)) found ≡ first_with content.position (kept_batches batches) → is_named i y content ≡ is_named_at i y content (Some (kept_batches (take count batches)))
+there_by : (i : Instance) (y : History) (content : Content) (batches : List KeptBatch) → kept_batches batches ≡ y.batches
+    → (found : Option ℕ) (count : ℕ) → found ≡ Some count
+    → option_map (λ (n : ℕ). take n (kept_batches batches)) found ≡ first_with content.position (kept_batches batches)
+    → is_named i y content ≡ is_named_at i y content (Some (kept_batches (take count batches)))
 there_by i y content batches is found count some e =
-    ap (is_named_at i y content) (counted_by batches y.batches content.position found is e ∙ ap (option_map (λ (n : ℕ). take n (kept_batches batches))) some
+    ap (is_named_at i y content) (counted_by batches y.batches content.position found is e
+    ∙ ap (option_map (λ (n : ℕ). take n (kept_batches batches))) some
     ∙ ap (λ (bs : List Batch). Some bs) (take-map kept_batch count batches))
 
-pub other_state : (i : Instance) (y : History) (content : Content) (batches : List KeptBatch) → kept_batches batches ≡ y.batches → (found : Option ℕ) (count : ℕ) → found ≡ Some count
-    → option_map (λ (n : ℕ). take n (kept_batches batches)) found ≡ first_with content.position (kept_batches batches)
-    → (state : List ℕ) → state ≡ state_after i.meaning (requests_of (kept_batches (take count batches))) → bytes_eq content.state state ≡ false → false ≡ is_named i y content
-other_state i y content batches is found count some e state run off =
-    sym (there_by i y content batches is found count some e
-    ∙ ap (λ (b : Bool). b && is_place i.variant i y (kept_batches (take count batches)) content.place) (ap (bytes_eq content.state) (sym run) ∙ off))
+and_no : (b : Bool) → (b && false) ≡ false
+and_no true = refl
+and_no false = refl
 
-pub placed_by : (i : Instance) (y : History) (content : Content) (batches : List KeptBatch) → kept_batches batches ≡ y.batches → (found : Option ℕ) (count : ℕ) → found ≡ Some count
+and_yes : (b : Bool) → (b && true) ≡ b
+and_yes true = refl
+and_yes false = refl
+
+place_is : (i : Instance) (y : History) (named : List Batch) (place : Place) (r : Bool) (id : ℕ) (barrier : List ℕ) → id ≡ i.meaning.id
+    → barrier ≡ i.barrier
+    → r ≡ is_place_in i.variant id barrier y named place → is_place i.variant i y named place ≡ r
+place_is i y named place r id barrier same guarded is =
+    sym (is ∙ ap (λ (n : ℕ). is_place_in i.variant n barrier y named place) same
+    ∙ ap (λ (x : List ℕ). is_place_in i.variant i.meaning.id x y named place) guarded)
+
+pub other_place : (i : Instance) (y : History) (content : Content) (batches : List KeptBatch) → kept_batches batches ≡ y.batches
+    → (found : Option ℕ) (count : ℕ) → found ≡ Some count
     → option_map (λ (n : ℕ). take n (kept_batches batches)) found ≡ first_with content.position (kept_batches batches)
-    → (state : List ℕ) → state ≡ state_after i.meaning (requests_of (kept_batches (take count batches))) → bytes_eq content.state state ≡ true
-    → (r : Bool) (id : ℕ) (barrier : List ℕ) → id ≡ i.meaning.id → barrier ≡ i.barrier → r ≡ is_place_in i.variant id barrier y (kept_batches (take count batches)) content.place → r ≡ is_named i y content
-placed_by i y content batches is found count some e state run on r id barrier same guarded place =
-    place ∙ ap (λ (n : ℕ). is_place_in i.variant n barrier y (kept_batches (take count batches)) content.place) same
-    ∙ ap (λ (x : List ℕ). is_place_in i.variant i.meaning.id x y (kept_batches (take count batches)) content.place) guarded
+    → (r : Bool) (id : ℕ) (barrier : List ℕ) → id ≡ i.meaning.id → barrier ≡ i.barrier
+    → r ≡ is_place_in i.variant id barrier y (kept_batches (take count batches)) content.place
+    → r ≡ false → false ≡ is_named i y content
+other_place i y content batches is found count some e r id barrier same guarded place off =
+    let named = kept_batches (take count batches) in
+    let s = bytes_eq content.state (state_after i.meaning (requests_of named)) in
+    sym (there_by i y content batches is found count some e
+    ∙ ap (λ (b : Bool). s && b) (place_is i y named content.place r id barrier same guarded place ∙ off) ∙ and_no s)
+
+pub stated_by : (i : Instance) (y : History) (content : Content) (batches : List KeptBatch) → kept_batches batches ≡ y.batches
+    → (found : Option ℕ) (count : ℕ) → found ≡ Some count
+    → option_map (λ (n : ℕ). take n (kept_batches batches)) found ≡ first_with content.position (kept_batches batches)
+    → (r : Bool) (id : ℕ) (barrier : List ℕ) → id ≡ i.meaning.id → barrier ≡ i.barrier
+    → r ≡ is_place_in i.variant id barrier y (kept_batches (take count batches)) content.place
+    → r ≡ true → (state : List ℕ) → state ≡ state_after i.meaning (requests_of (kept_batches (take count batches))) → (s : Bool)
+    → s ≡ bytes_eq content.state state
+    → s ≡ is_named i y content
+stated_by i y content batches is found count some e r id barrier same guarded place on state run s test =
+    let named = kept_batches (take count batches) in
+    test ∙ ap (bytes_eq content.state) run
     ∙ sym (there_by i y content batches is found count some e
-    ∙ ap (λ (b : Bool). b && is_place i.variant i y (kept_batches (take count batches)) content.place) (ap (bytes_eq content.state) (sym run) ∙ on))
+    ∙ ap (λ (b : Bool). bytes_eq content.state (state_after i.meaning (requests_of named)) && b)
+    (place_is i y named content.place r id barrier same guarded place ∙ on)
+    ∙ and_yes (bytes_eq content.state (state_after i.meaning (requests_of named))))
+
+-- by what another snapshot says that names the position
+pub placed_beside : (i : Instance) (y : History) (content other : Content) (batches : List KeptBatch) → kept_batches batches ≡ y.batches
+    → (found : Option ℕ) (count : ℕ) → found ≡ Some count
+    → option_map (λ (n : ℕ). take n (kept_batches batches)) found ≡ first_with content.position (kept_batches batches)
+    → content.position ≡ other.position
+    → (s : Bool) → s ≡ bytes_eq content.state other.state → s ≡ true
+    → (r : Bool) (id : ℕ) (barrier : List ℕ) → id ≡ i.meaning.id → barrier ≡ i.barrier
+    → r ≡ is_place_in i.variant id barrier y (kept_batches (take count batches)) content.place
+    → Names i y other → r ≡ is_named i y content
+placed_beside i y content other batches is found count some e same s test on r id barrier same_id guarded place n =
+    let taken = kept_batches (take count batches) in
+    let there : Some taken ≡ Some n.named =
+    sym (counted_by batches y.batches content.position found is e ∙ ap (option_map (λ (n : ℕ). take n (kept_batches batches))) some
+    ∙ ap (λ (bs : List Batch). Some bs) (take-map kept_batch count batches)) ∙ first_beside i y content other same n in
+    let one : taken ≡ n.named = cc in
+    sym (place_is i y taken content.place r id barrier same_id guarded place)
+    ∙ ap (λ (bs : List Batch). is_place i.variant i y bs content.place) one ∙ stated_beside i y content other same s test on n

@@ -17,11 +17,14 @@ use Rattle.mm_model.specs.Steps.{ask_steps}
 use Rattle.mm_model.specs.declared.refusal.Refusal.{Refusal}
 use Rattle.mm_model.proofs.Batches.{is_last_tells, is_last_of}
 use Rattle.mm_model.proofs.MovedDigests.{total-push}
-use Rattle.mm_call.specs.Answers.{last_outputs, answer_on}
-use Rattle.mm_call.specs.Called.{reading_steps, kept_at, ended_by, called, seen_at}
+use Rattle.mm_call.specs.Answers.{answer_on}
+use Rattle.mm_call.specs.AnswersWords.{last_outputs}
+use Rattle.mm_call.specs.Called.{reading_steps, ended_by, position_of, called, seen_at}
+use Rattle.mm_call.specs.CalledWords.{kept_at}
 use Rattle.mm_call.specs.Checkpoints as ghost_closing
-use Rattle.mm_call.specs.Courses.{Course, Walked, walk}
-use Rattle.mm_call.specs.Found.{Found, found_at, found_unless_wanting, is_fresh}
+use Rattle.mm_call.specs.Courses.{Course, Walked, walk, commits}
+use Rattle.mm_call.specs.Found.{Found, found_at}
+use Rattle.mm_call.specs.FoundWords.{found_unless_wanting, is_fresh}
 use Rattle.mm_call.specs.Levels.{by_lists, all_made}
 use Rattle.mm_call.proofs.BasicLaw.{unlacked}
 use Rattle.mm_call.proofs.Calling.{said_last}
@@ -33,7 +36,8 @@ use Rattle.mm_schedule.specs.declared.reply.Reply.TheVariants as reply
 use Rattle.mm_schedule.specs.Events.{Event, Ask, Checkpoint, Power, Extend}
 use Rattle.mm_schedule.specs.Replies.{IsPrintable}
 use Rattle.mm_run.specs.Offered.{offered_bytes}
-use Rattle.mm_run.specs.Folds.{course_of, way_of, told_reply, broken_reply, reply_of, closing_reply, uncalled, outcome_by, asked, event_outcome}
+use Rattle.mm_run.specs.Folds.{course_of, way_of, reply_of, closing_reply, uncalled, outcome_by, asked, event_outcome}
+use Rattle.mm_run.specs.FoldsWords.{told_reply, broken_reply}
 use Rattle.mm_expect.specs.Calls.{Admits}
 use Rattle.mm_expect.proofs.Asking.{foreign_batches}
 use Rattle.mm_expect.proofs.FindLaws.{admits_found}
@@ -42,7 +46,8 @@ short_outputs : (meaning : Meaning) → IsLawful meaning → (state : List ℕ) 
     → All (λ (o : List ℕ). length o ≤ longest_request) (outputs_from meaning state requests)
 short_outputs meaning lawful state [] spelled = All-nil (λ (o : List ℕ). length o ≤ longest_request)
 short_outputs meaning lawful state (request ∷ requests) spelled =
-    All-cons (λ (o : List ℕ). length o ≤ longest_request) (meaning.says state request) (outputs_from meaning (meaning.next state request) requests)
+    All-cons (λ (o : List ℕ). length o ≤ longest_request) (meaning.says state request)
+    (outputs_from meaning (meaning.next state request) requests)
     (lawful.says_lines state request spelled).short
     (short_outputs meaning lawful (meaning.next state request) requests (lawful.goes_on state request spelled))
 
@@ -50,7 +55,8 @@ back_again : (total size n : ℕ) → size ≤ total → n ≡ size → total �
 back_again total size n l e few = omega (arith, l, e, few)
 
 -- the reply that tells an answer to the last batch
-told_printable : (i : Instance) → IsLawful i.meaning → (y : History) (b : Batch) (again : Bool) → is_last y.batches b ≡ true → total_of y.batches ≤ last_position
+told_printable : (i : Instance) → IsLawful i.meaning → (y : History) (b : Batch) (again : Bool) → is_last y.batches b ≡ true
+    → total_of y.batches ≤ last_position
     → IsPrintable (told_reply (answer_on i y b again))
 told_printable i lawful y b again last few =
     let h = is_last_tells y.batches b last in
@@ -72,25 +78,33 @@ broken_printable way false position = tt
 -- what a walk leaves of the batches, where it ends well
 ends_by : (i : Instance) (y seen : History) (b : Batch) (again : Bool) (walked : Walked) → seen.batches ≡ y.batches → Admits seen b again
     → Commits b (if again then false else true) walked → walked.broken ≡ None
-    → (is_last (all_made (by_lists i) y walked.moves).batches b ≡ true) × (total_of (all_made (by_lists i) y walked.moves).batches ≤ last_position)
+    → (is_last (all_made (by_lists i) y walked.moves).batches b ≡ true)
+    × (total_of (all_made (by_lists i) y walked.moves).batches ≤ last_position)
 ends_by i y seen b true walked same admits (nothing none unless) whole =
-    let stays = same_batches i walked.moves y none ∙ sym same in
-    (ap (λ (bs : List Batch). is_last bs b) stays ∙ admits.repeats refl, subst (λ n. n ≤ last_position) (sym (ap total_of stays)) admits.fits)
+    let stays = same_batches i walked.moves y none ∙ sym same in (
+      ap (λ (bs : List Batch). is_last bs b) stays
+          ∙ admits.repeats refl,
+      subst (λ n. n ≤ last_position) (sym (ap total_of stays)) admits.fits,
+    )
 ends_by i y seen b true walked same admits (batch one is) whole = cc
 ends_by i y seen b false walked same admits (nothing none unless) whole = let no : true ≡ false = unless whole in cc
 ends_by i y seen b false walked same admits (batch one is) whole =
     let grown = more_batches i walked.moves y b one in (
       ap (λ (bs : List Batch). is_last bs b) grown ∙ is_last_of y.batches b,
-      subst (λ n. n ≤ last_position) (sym (ap total_of grown ∙ total-push y.batches b ∙ ap (λ (bs : List Batch). total_of bs + size_of b) (sym same))) admits.fits,
+      subst (λ n. n ≤ last_position)
+          (sym (ap total_of grown ∙ total-push y.batches b ∙ ap (λ (bs : List Batch). total_of bs + size_of b) (sym same))) admits.fits,
     )
 
-ended_printable : (i : Instance) → IsLawful i.meaning → (way : Way) (y seen : History) (b : Batch) (found : Result Found Refusal) (walked : Walked)
+ended_printable : (i : Instance) → IsLawful i.meaning
+    → (way : Way) (y seen : History) (b : Batch) (found : Result Found Refusal) (walked : Walked)
     → seen.batches ≡ y.batches → ((f : Found) → found ≡ Ok f → Admits seen b f.again) → Commits b (is_fresh found) walked
     → (broken : Option StepFault) → walked.broken ≡ broken
     → IsPrintable (reply_of way (ended_by (by_lists i) seen (all_made (by_lists i) y walked.moves) b found walked.moves broken))
 ended_printable i lawful way y seen b (Err why) walked same admits commits None e = tt
-ended_printable i lawful way y seen b (Err why) walked same admits c (Some fault) e = broken_printable way _ _
-ended_printable i lawful way y seen b (Ok f) walked same admits c (Some fault) e = broken_printable way _ _
+ended_printable i lawful way y seen b (Err why) walked same admits c (Some fault) e =
+    broken_printable way (commits walked.moves) (position_of (by_lists i) seen (all_made (by_lists i) y walked.moves) b (Err why))
+ended_printable i lawful way y seen b (Ok f) walked same admits c (Some fault) e =
+    broken_printable way (commits walked.moves) (position_of (by_lists i) seen (all_made (by_lists i) y walked.moves) b (Ok f))
 ended_printable i lawful way y seen b (Ok f) walked same admits c None e =
     let ends = ends_by i y seen b f.again walked same (admits f refl) c e in
     told_printable i lawful (all_made (by_lists i) y walked.moves) b f.again ends.0 ends.1
@@ -105,12 +119,16 @@ called_printable i lawful y way course bytes b =
     (λ f is. admits_found i seen b bytes f (unlacked (found_at i (by_lists i) seen b bytes) course.lacks f is))
     (call_commits i.variant course.fates y.is_open (is_fresh found) b) walked.broken refl
 
-asked_printable : (i : Instance) → IsLawful i.meaning → (y : History) (issued : List (List ℕ)) (meddles : List Meddle) (stop : Stop) (bytes : List ℕ) (b : Batch) (long : Bool)
-    → IsPrintable (if long then uncalled y issued (reply.No cause.Long) else outcome_by (by_lists i) stop issued (called i (by_lists i) y (course_of stop meddles) bytes (normal b))).reply
+asked_printable : (i : Instance) → IsLawful i.meaning
+    → (y : History) (issued : List (List ℕ)) (meddles : List Meddle) (stop : Stop) (bytes : List ℕ) (b : Batch) (long : Bool)
+    → IsPrintable (if long then uncalled y issued (reply.No cause.Long) else outcome_by (by_lists i) stop issued
+    (called i (by_lists i) y (course_of stop meddles) bytes (normal b))).reply
 asked_printable i lawful y issued meddles stop bytes b true = tt
-asked_printable i lawful y issued meddles stop bytes b false = called_printable i lawful y (way_of stop) (course_of stop meddles) bytes (normal b)
+asked_printable i lawful y issued meddles stop bytes b false =
+    called_printable i lawful y (way_of stop) (course_of stop meddles) bytes (normal b)
 
-bytes_printable : (i : Instance) → IsLawful i.meaning → (y : History) (issued : List (List ℕ)) (meddles : List Meddle) (stop : Stop) (bytes : Option (List ℕ)) (b : Batch)
+bytes_printable : (i : Instance) → IsLawful i.meaning
+    → (y : History) (issued : List (List ℕ)) (meddles : List Meddle) (stop : Stop) (bytes : Option (List ℕ)) (b : Batch)
     → IsPrintable (asked i (by_lists i) y issued meddles stop bytes b).reply
 bytes_printable i lawful y issued meddles stop None b = tt
 bytes_printable i lawful y issued meddles stop (Some bytes) b = asked_printable i lawful y issued meddles stop bytes b (is_long b)

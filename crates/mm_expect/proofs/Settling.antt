@@ -10,20 +10,23 @@ use Rattle.mm_digest.specs.declared.variant.Variant.TheVariants.{Basic, Opt}
 use Rattle.mm_module.specs.Batch.{Batch, members_of, size_of}
 use Rattle.mm_base.specs.Limits.{limit_of}
 use Rattle.mm_digest.specs.Messages.{zero_bytes, start_of}
-use Rattle.mm_module.specs.Meaning.{state_from, state_after, outputs_from}
+use Rattle.mm_module.specs.Meaning.{state_after, outputs_from}
+use Rattle.mm_module.specs.MeaningWords.{state_from}
 use Rattle.mm_module.proofs.RunLaws.{state_after-append, state_from-is_spelled}
 use Rattle.mm_modules.specs.declared.any.AnyModule.{AnyModule}
 use Rattle.mm_modules.specs.Modules.{meaning_of}
 use Rattle.mm_modules.specs.ModulesLaws.{any_is_lawful}
 use Rattle.mm_model.specs.Chains.{guard, register_of}
-use Rattle.mm_model.specs.History.{History, Value, first_history, requests_of, total_of, cell_digest_of, values_of, committed}
+use Rattle.mm_model.specs.History.{History, Value, first_history, requests_of, total_of, committed}
+use Rattle.mm_model.specs.HistoryWords.{cell_digest_of, values_of}
 use Rattle.mm_model.specs.Judge.{is_last}
 use Rattle.mm_model.specs.Long.{is_long}
-use Rattle.mm_model.specs.Places.{digest_of}
+use Rattle.mm_model.specs.PlacesWords.{digest_of}
 use Rattle.mm_model.specs.Standing.{issued_bytes}
 use Rattle.mm_model.proofs.Batches.{is_last_tells}
 use Rattle.mm_model.proofs.Forms.{reads_zero}
-use Rattle.mm_call.specs.Answers.{last_outputs, answer_on}
+use Rattle.mm_call.specs.Answers.{answer_on}
+use Rattle.mm_call.specs.AnswersWords.{last_outputs}
 use Rattle.mm_call.specs.declared.ended.Ended.TheVariants.{Answered}
 use Rattle.mm_call.proofs.Moving.{anchor-nil, summary-nil}
 use Rattle.mm_model.specs.Life.{is_empty, has_value}
@@ -34,7 +37,8 @@ use Rattle.mm_expect.specs.Recorded.{Recorded, barrier_of, instance_with, record
 use Rattle.mm_expect.specs.Settled.{IsSettled}
 use Rattle.mm_expect.proofs.MarkLaws.{marks_value, marks_emptied, marks_shut, marks_linked, marks_grown, marks_opened}
 
-spelled_same : («module» : AnyModule) (next state : List ℕ) (members : List (List ℕ)) → next ≡ state_from (meaning_of «module») state members
+spelled_same : («module» : AnyModule) (next state : List ℕ) (members : List (List ℕ))
+    → next ≡ state_from (meaning_of «module») state members
     → IsTrue ((meaning_of «module»).is_spelled state) → IsTrue ((meaning_of «module»).is_spelled next)
 spelled_same «module» next state members run spelled =
     let P : List ℕ → Type 0 = λ v. IsTrue ((meaning_of «module»).is_spelled v) in
@@ -54,7 +58,8 @@ module _ (variant : Variant) («module» : AnyModule) (barrier : List ℕ) (y z 
     short = ap (list_any is_long) same ∙ s.short;
   }
 
-  pub settled_value : (v : List ℕ) → IsSettled variant «module» barrier y old state before → z ≡ record y { items = y.items ++ Value v ∷ [] }
+  pub settled_value : (v : List ℕ) → IsSettled variant «module» barrier y old state before
+      → z ≡ record y { items = y.items ++ Value v ∷ [] }
       → new ≡ with_value old v → IsSettled variant «module» barrier z new state before
   settled_value v s is marks =
       settled_still s (ap (λ (h : History). h.batches) is)
@@ -100,9 +105,13 @@ module _ (variant : Variant) («module» : AnyModule) (barrier : List ℕ) (y z 
             ∙ ap (λ (bs : List Batch). state_after meaning (requests_of bs)) (sym grows);
         before_is = λ front last e. was ∙ s.state_is
             ∙ ap (λ (bs : List Batch). state_after meaning (requests_of bs)) (same_from_push y.batches front b last (sym grows ∙ e)).0;
-        spelled = spelled_same «module» next state (members_of b) (run ∙ ap (λ (v : List ℕ). state_from meaning v (members_of b)) (sym s.state_is)) s.spelled;
+        spelled =
+            spelled_same «module» next state (members_of b)
+            (run ∙ ap (λ (v : List ℕ). state_from meaning v (members_of b)) (sym s.state_is)) s.spelled;
         begun = subst (λ (v : List ℕ). IsTrue (meaning.is_spelled v)) (sym was) s.spelled;
-        short = ap (list_any is_long) grows ∙ list_any-append is_long y.batches (b ∷ []) ∙ ap (λ (f : Bool). f || list_any is_long (b ∷ [])) s.short ∙ short;
+        short =
+            ap (list_any is_long) grows ∙ list_any-append is_long y.batches (b ∷ [])
+            ∙ ap (λ (f : Bool). f || list_any is_long (b ∷ [])) s.short ∙ short;
       }
 
   pub settled_linked : (b : Batch) (next kept : List ℕ) → IsSettled variant «module» barrier y old state before → variant ≡ Basic
@@ -113,7 +122,8 @@ module _ (variant : Variant) («module» : AnyModule) (barrier : List ℕ) (y z 
       settled_more b next kept s (ap (λ (h : History). h.batches) is)
       (marks ∙ ap (λ (m : Marks). linked_marks m b) s.marks_is ∙ sym (marks_linked i y b basic) ∙ ap (marks_of i) (sym is)) run
 
-  pub settled_grown : (b : Batch) (next kept value : List ℕ) (size : ℕ) → IsSettled variant «module» barrier y old state before → variant ≡ Opt
+  pub settled_grown : (b : Batch) (next kept value : List ℕ) (size : ℕ) → IsSettled variant «module» barrier y old state before
+      → variant ≡ Opt
       → z ≡ committed Opt true y b → size ≡ size_of b → value ≡ guard (barrier_of variant) b → new ≡ grown old size value
       → Ran next kept b → IsSettled variant «module» barrier z new next kept
   settled_grown b next kept value size s opt is sized guards marks run =
@@ -124,7 +134,8 @@ module _ (variant : Variant) («module» : AnyModule) (barrier : List ℕ) (y z 
       ∙ ap (λ v. grown (marks_of i y) (size_of b) v) guards
       ∙ sym (marks_grown i y b opt) ∙ ap (marks_of i) (sym is)) run
 
-  pub settled_opened : (b : Batch) (next kept value register : List ℕ) (size : ℕ) → IsSettled variant «module» barrier y old state before → variant ≡ Opt
+  pub settled_opened : (b : Batch) (next kept value register : List ℕ) (size : ℕ) → IsSettled variant «module» barrier y old state before
+      → variant ≡ Opt
       → z ≡ committed Opt false y b → size ≡ size_of b → value ≡ guard barrier b → register ≡ register_of (values_of barrier z.items)
       → new ≡ opened_marks old size value register (nat_le (length y.items) 1)
       → Ran next kept b → IsSettled variant «module» barrier z new next kept
@@ -135,10 +146,12 @@ module _ (variant : Variant) («module» : AnyModule) (barrier : List ℕ) (y z 
       ∙ ap (λ n. opened_marks (marks_of i y) n value register (nat_le (length y.items) 1)) sized
       ∙ ap (λ v. opened_marks (marks_of i y) (size_of b) v register (nat_le (length y.items) 1)) (guards ∙ ap (λ r. guard r b) s.barrier_is)
       ∙ ap (λ v. opened_marks (marks_of i y) (size_of b) (guard i.barrier b) v (nat_le (length y.items) 1))
-      (reads ∙ ap (λ r. register_of (values_of r z.items)) s.barrier_is ∙ ap (λ (h : History). register_of (values_of i.barrier h.items)) is)
+      (reads ∙ ap (λ r. register_of (values_of r z.items)) s.barrier_is
+      ∙ ap (λ (h : History). register_of (values_of i.barrier h.items)) is)
       ∙ sym (marks_opened i y b opt) ∙ ap (marks_of i) (sym is)) run
 
-cell_first : («module» : AnyModule) (variant : Variant) → start_of variant (meaning_of «module»).id ≡ cell_digest_of (instance_with variant «module») variant first_history
+cell_first : («module» : AnyModule) (variant : Variant)
+    → start_of variant (meaning_of «module»).id ≡ cell_digest_of (instance_with variant «module») variant first_history
 cell_first «module» Basic = summary-nil (meaning_of «module»).id
 cell_first «module» Opt = anchor-nil (meaning_of «module»).id
 
@@ -147,16 +160,33 @@ no_last [] x e = cc
 no_last (y ∷ front) x e = cc
 
 -- at the first history
-pub settled_first : (variant : Variant) («module» : AnyModule) (barrier : List ℕ) (y : History) (marks : Marks) (state before : List ℕ) (id : ℕ)
+pub settled_first : (variant : Variant) («module» : AnyModule) (barrier : List ℕ) (y : History) (marks : Marks) (state before : List ℕ)
+    (id : ℕ)
     → barrier ≡ barrier_of variant → y ≡ first_history → id ≡ (meaning_of «module»).id
-    → marks ≡ record { total = 0; cell = digest_of (start_of variant id); own = digest_of zero_bytes; register = digest_of zero_bytes; is_own = true; is_marred = false }
+    → marks ≡ record {
+      total = 0;
+      cell = digest_of (start_of variant id);
+      own = digest_of zero_bytes;
+      register = digest_of zero_bytes;
+      is_own = true;
+      is_marred = false;
+    }
     → state ≡ (meaning_of «module»).first → before ≡ (meaning_of «module»).first
     → IsSettled variant «module» barrier y marks state before
 settled_first variant «module» barrier y marks state before id b first ids m s f =
     let i = instance_with variant «module» in
     let lawful = any_is_lawful «module» in record {
       barrier_is = b;
-      marks_is = m ∙ ap (λ n. record { total = 0; cell = digest_of (start_of variant n); own = digest_of zero_bytes; register = digest_of zero_bytes; is_own = true; is_marred = false }) ids
+      marks_is =
+          m ∙ ap (λ n. record {
+            total = 0;
+            cell = digest_of (start_of variant n);
+            own = digest_of zero_bytes;
+            register = digest_of
+                zero_bytes;
+            is_own = true;
+            is_marred = false;
+          }) ids
           ∙ (λ j. record {
             total = 0;
             cell = digest_of (cell_first «module» variant j);
@@ -180,7 +210,8 @@ fits_limit «module» state given id spelled same ids =
     (subst (λ (v : List ℕ). length v ≤ limit_of (meaning_of «module»).id) (sym same) ((any_is_lawful «module»).fits state spelled))
 
 -- what the module says to the last batch, run again
-pub outputs_last : (variant : Variant) («module» : AnyModule) (barrier : List ℕ) (y : History) (marks : Marks) (state before : List ℕ) (b : Batch)
+pub outputs_last : (variant : Variant) («module» : AnyModule) (barrier : List ℕ) (y : History) (marks : Marks) (state before : List ℕ)
+    (b : Batch)
     → IsSettled variant «module» barrier y marks state before → is_last y.batches b ≡ true
     → outputs_from (meaning_of «module») before (members_of b) ≡ last_outputs (meaning_of «module») y (size_of b)
 outputs_last variant «module» barrier y marks state before b s last =
@@ -191,8 +222,10 @@ outputs_last variant «module» barrier y marks state before b s last =
 pub answered_is : (r : Recorded) (again : Bool) (b : Batch) (position : ℕ) (outputs : List (List ℕ)) (snapshot : List ℕ)
     → position ≡ total_of r.history.batches → outputs ≡ last_outputs (meaning_of r.«module») r.history (size_of b)
     → snapshot ≡ issued_bytes (recorded_instance r) r.history
-    → Answered (record { again = again; position = position; outputs = outputs; snapshot = snapshot }) ≡ Answered (answer_on (recorded_instance r) r.history b again)
-answered_is r again b position outputs snapshot p o s = λ j. Answered (record { again = again; position = p j; outputs = o j; snapshot = s j })
+    → Answered (record { again = again; position = position; outputs = outputs; snapshot = snapshot }) ≡ Answered
+    (answer_on (recorded_instance r) r.history b again)
+answered_is r again b position outputs snapshot p o s =
+    λ j. Answered (record { again = again; position = p j; outputs = o j; snapshot = s j })
 
 -- a batch that isn't too long, as a list
 pub short_one : (b : Batch) → is_long b ≡ false → list_any is_long (b ∷ []) ≡ false

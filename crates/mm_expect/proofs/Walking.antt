@@ -9,15 +9,16 @@ use Rattle.mm_platform.specs.declared.fault.StepFault.TheVariants.{Failed}
 use Rattle.mm_platform.specs.declared.plan.Meddle.{Meddle}
 use Rattle.mm_platform.specs.declared.plan.Stop.{Stop}
 use Rattle.mm_platform.specs.declared.plan.Stop.TheVariants.{Quiet, Cut, Drop, Fail}
-use Rattle.mm_platform.specs.Standing.{due}
+use Rattle.mm_platform.specs.StandingWords.{due}
 use Rattle.mm_platform.specs.Steps.{fault_at, is_made_at}
 use Rattle.mm_model.specs.Instance.{Instance}
 use Rattle.mm_model.specs.History.{History, Move, Foreign, moved}
 use Rattle.mm_model.specs.Steps.{Step}
 use Rattle.mm_call.specs.Levels.{by_lists, all_made}
-use Rattle.mm_call.specs.Courses.{Fate, made_move, step_moves, after_step, walk, planned, end_of}
+use Rattle.mm_call.specs.Courses.{Fate, step_moves, after_step, walk, planned}
+use Rattle.mm_call.specs.CoursesWords.{made_move, end_of}
 use Rattle.mm_call.proofs.Walks.{made-append}
-use Rattle.mm_run.specs.Folds.{plan_of}
+use Rattle.mm_run.specs.FoldsWords.{plan_of}
 use Rattle.mm_expect.specs.Numbered.{messages_if, messages_where}
 use Rattle.mm_expect.specs.Recorded.{Recorded, Went, recorded_instance, instance_with}
 use Rattle.mm_expect.specs.declared.course.Move as code
@@ -31,15 +32,6 @@ messages_where-append closing i [] ys y = refl
 messages_where-append closing i (x ∷ xs) ys y =
     ap (λ v. messages_if closing i y x ++ v) (messages_where-append closing i xs ys (moved i y x))
     ∙ sym (append_assoc (messages_if closing i y x) _ _)
-
-pub went_none : (r : Recorded) → Went r r []
-went_none r = record {
-  variant = refl;
-  «module» = refl;
-  history = refl;
-  extending = sym (append-nil r.extending);
-  closing = sym (append-nil r.closing);
-}
 
 same_instance : (a b : Recorded) (moves : List Move) → Went a b moves → recorded_instance b ≡ recorded_instance a
 same_instance a b moves w = λ j. instance_with (w.variant j) (w.«module» j)
@@ -63,7 +55,8 @@ went_then a b c xs ys first second =
       history = second.history ∙ ap (λ (i : Instance). all_made (by_lists i) b.history ys) same
           ∙ ap (λ (y : History). all_made (by_lists (recorded_instance a)) y ys) first.history
           ∙ sym (made-append (by_lists (recorded_instance a)) xs ys a.history);
-      extending = then_listed false (recorded_instance a) (recorded_instance b) a.history b.history xs ys a.extending b.extending c.extending same
+      extending =
+          then_listed false (recorded_instance a) (recorded_instance b) a.history b.history xs ys a.extending b.extending c.extending same
           first.history first.extending second.extending;
       closing = then_listed true (recorded_instance a) (recorded_instance b) a.history b.history xs ys a.closing b.closing c.closing same
           first.history first.closing second.closing;
@@ -73,17 +66,21 @@ pub not_true : (b : Bool) → (b ≡ true → ⊥) → b ≡ false
 not_true true h = absurd (h refl)
 not_true false h = refl
 
-added : (xs : List (List ℕ)) (v : List ℕ) (flag : Bool) → map Foreign (xs ++ (if flag then v ∷ [] else [])) ≡ map Foreign xs ++ (if flag then Foreign v ∷ [] else [])
+added : (xs : List (List ℕ)) (v : List ℕ) (flag : Bool) → map Foreign (xs ++ (if flag then v ∷ [] else [])) ≡ map Foreign xs
+    ++ (if flag then Foreign v ∷ [] else [])
 added xs v true = map-append Foreign xs (v ∷ [])
 added xs v false = map-append Foreign xs []
 
-kept_value : (m : Meddle) (flag : Bool) → map (λ (x : Meddle). x.value.bytes) (cond flag (m ∷ []) []) ≡ (if flag then m.value.bytes ∷ [] else [])
+kept_value : (m : Meddle) (flag : Bool)
+    → map (λ (x : Meddle). x.value.bytes) (cond flag (m ∷ []) []) ≡ (if flag then m.value.bytes ∷ [] else [])
 kept_value m true = refl
 kept_value m false = refl
 
 -- the values that are due, one more meddle looked at
-due_taken : (step : ℕ) (meddles : List Meddle) (i : ℕ) (d : Meddle) (flag : Bool) → i < length meddles → ((get_or meddles i d).step == step) ≡ flag
-    → map Foreign (due step (take (i + 1) meddles)) ≡ map Foreign (due step (take i meddles)) ++ (if flag then Foreign (get_or meddles i d).value.bytes ∷ [] else [])
+due_taken : (step : ℕ) (meddles : List Meddle) (i : ℕ) (d : Meddle) (flag : Bool) → i < length meddles
+    → ((get_or meddles i d).step == step) ≡ flag
+    → map Foreign (due step (take (i + 1) meddles)) ≡ map Foreign (due step (take i meddles))
+    ++ (if flag then Foreign (get_or meddles i d).value.bytes ∷ [] else [])
 due_taken step meddles i d flag l e =
     let m : Meddle = get_or meddles i d in
     let p : Meddle → Bool = λ x. x.step == step in
@@ -95,24 +92,24 @@ due_taken step meddles i d flag l e =
     ∙ added (map v front) m.value.bytes flag
 
 pub bring_one : (a b c : Recorded) (step : ℕ) (meddles : List Meddle) (i : ℕ) (d : Meddle) → i < length meddles
-    → (get_or meddles i d).step ≡ step → Went a b (map Foreign (due step (take i meddles))) → Went b c (Foreign (get_or meddles i d).value.bytes ∷ [])
+    → (get_or meddles i d).step ≡ step → Went a b (map Foreign (due step (take i meddles)))
+    → Went b c (Foreign (get_or meddles i d).value.bytes ∷ [])
     → Went a c (map Foreign (due step (take (i + 1) meddles)))
 bring_one a b c step meddles i d l e first second =
-    subst (Went a c) (sym (due_taken step meddles i d true l ((Decides-eqb (get_or meddles i d).step step).1 e))) (went_then a b c _ _ first second)
+    subst (Went a c) (sym (due_taken step meddles i d true l ((Decides-eqb (get_or meddles i d).step step).1 e)))
+    (went_then a b c _ _ first second)
 
 pub bring_none : (a b : Recorded) (step : ℕ) (meddles : List Meddle) (i : ℕ) (d : Meddle) → i < length meddles
     → ((get_or meddles i d).step ≡ step → ⊥) → Went a b (map Foreign (due step (take i meddles)))
     → Went a b (map Foreign (due step (take (i + 1) meddles)))
 bring_none a b step meddles i d l e first =
-    subst (Went a b) (sym (due_taken step meddles i d false l (not_true ((get_or meddles i d).step == step) (λ t. e ((Decides-eqb (get_or meddles i d).step step).0 t))) ∙ append-nil _)) first
-
--- the values that are due, when all meddles were looked at
-pub bring_all : (a b : Recorded) (step : ℕ) (meddles : List Meddle) (i : ℕ) → length meddles ≤ i
-    → Went a b (map Foreign (due step (take i meddles))) → Went a b (map Foreign (due step meddles))
-bring_all a b step meddles i l w = subst (λ (ms : List Meddle). Went a b (map Foreign (due step ms))) (take_all i meddles l) w
+    subst (Went a b) (sym
+    (due_taken step meddles i d false l
+    (not_true ((get_or meddles i d).step == step) (λ t. e ((Decides-eqb (get_or meddles i d).step step).0 t))) ∙ append-nil _)) first
 
 -- a step that answers no fault has its effect
-made_at : (at step : ℕ) (flag done : Bool) → (at == step) ≡ flag → (if flag then Some Failed else None) ≡ None → (if flag then done else true) ≡ true
+made_at : (at step : ℕ) (flag done : Bool) → (at == step) ≡ flag → (if flag then Some Failed else None) ≡ None
+    → (if flag then done else true) ≡ true
 made_at at step true done e none = cc
 made_at at step false done e none = refl
 
@@ -129,7 +126,8 @@ module _ (a b c : Recorded) (stop : Stop) (meddles : List Meddle) (n : ℕ) (ste
   pub walks_whole : (fault : Option StepFault) → fault_at stop n ≡ None → Went a b (step_moves step (is_made_at stop n) (due n meddles))
       → Walks b c (walk fates (n + 1) later) fault → Walks a c (walk fates n (step ∷ later)) fault
   walks_whole fault whole first more =
-      let W : Option StepFault → Type 0 = λ f. Walks a c (after_step step (due n meddles) (end_of f (is_made_at stop n)) (walk fates (n + 1) later)) fault in
+      let W : Option StepFault
+      → Type 0 = λ f. Walks a c (after_step step (due n meddles) (end_of f (is_made_at stop n)) (walk fates (n + 1) later)) fault in
       subst W (sym whole)
       (record {
         went = went_then a b c (step_moves step true (due n meddles)) (walk fates (n + 1) later).moves
@@ -140,10 +138,13 @@ module _ (a b c : Recorded) (stop : Stop) (meddles : List Meddle) (n : ℕ) (ste
   pub walks_broken : (fault : StepFault) → fault_at stop n ≡ Some fault → Went a c (step_moves step (is_made_at stop n) (due n meddles))
       → Walks a c (walk fates n (step ∷ later)) (Some fault)
   walks_broken fault breaks first =
-      let W : Option StepFault → Type 0 = λ f. Walks a c (after_step step (due n meddles) (end_of f (is_made_at stop n)) (walk fates (n + 1) later)) (Some fault) in
+      let W : Option StepFault
+      → Type 0 = λ f. Walks a c (after_step step (due n meddles) (end_of f (is_made_at stop n)) (walk fates (n + 1) later)) (Some fault)
+      in
       subst W (sym breaks) (record { went = first; broken = refl })
 
-pub changes_then : {E : Type 0} (r : Result (Unit {0}) E) (a b c : Recorded) (action : code.Move) (made : Bool) (values : List (List ℕ)) (step : code_step.Step)
+pub changes_then : {E : Type 0} (r : Result (Unit {0}) E) (a b c : Recorded) (action : code.Move) (made : Bool) (values : List (List ℕ))
+    (step : code_step.Step)
     → step ≡ Changes action → OnOk r (Went b c (made_move made (move_of action))) → Went a b (map Foreign values)
     → OnOk r (Went a c (step_moves (step_as step) made values))
 changes_then (Err e) a b c action made values step is second first = tt
@@ -151,7 +152,8 @@ changes_then (Ok x) a b c action made values step is second first =
     subst (λ (s : code_step.Step). Went a c (step_moves (step_as s) made values)) (sym is)
     (went_then a b c (map Foreign values) (made_move made (move_of action)) first second)
 
-pub walks_on : {E : Type 0} (r : Result (Option StepFault) E) (a b c : Recorded) (stop : Stop) (meddles : List Meddle) (n : ℕ) (step : code_step.Step)
+pub walks_on : {E : Type 0} (r : Result (Option StepFault) E) (a b c : Recorded) (stop : Stop) (meddles : List Meddle) (n : ℕ)
+    (step : code_step.Step)
     (later all : List code_step.Step) → all ≡ step ∷ later → fault_at stop n ≡ None → (made : Bool) → made ≡ is_made_at stop n
     → Went a b (step_moves (step_as step) made (due n meddles))
     → IfOk r (Walks b c (walk (planned (plan_of stop meddles)) (n + 1) (steps_of later)))

@@ -9,4 +9,5 @@ use Rattle.mm_seal.specs.declared.snapshot.Place.TheVariants.{Basic as InBasic, 
 -- those of a call that offers the place and asks for the batch, under this barrier
 abbrev pub place_messages : List ℕ → Place → Batch → List (List ℕ)
 place_messages barrier (InBasic s) b = link_message s.bytes b ∷ []
-place_messages barrier (InOpt a e) b = guard_message barrier b ∷ point_messages a.bytes e.bytes (guard barrier b)
+place_messages barrier (InOpt a e) b =
+    guard_message barrier b ∷ point_messages a.bytes e.bytes (guard barrier b)

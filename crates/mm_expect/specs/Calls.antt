@@ -13,11 +13,12 @@ use Rattle.mm_model.specs.Steps.{Step, Changes, Writes}
 use Rattle.mm_model.specs.declared.refusal.Refusal.{Refusal}
 use Rattle.mm_call.specs.Answers.{answer_on}
 use Rattle.mm_call.specs.Courses.{Walked, planned, walk, commits}
-use Rattle.mm_call.specs.Called.{Ending, Answers, Refuses, Breaks, Called, kept_at}
+use Rattle.mm_call.specs.Called.{Ending, Answers, Refuses, Breaks, Called}
+use Rattle.mm_call.specs.CalledWords.{kept_at}
 use Rattle.mm_call.specs.Found.{Found}
 use Rattle.mm_call.specs.declared.ended.Ended.{Ended}
 use Rattle.mm_call.specs.declared.ended.Ended.TheVariants.{Answered, Refused, Broken}
-use Rattle.mm_run.specs.Folds.{plan_of}
+use Rattle.mm_run.specs.FoldsWords.{plan_of}
 use Rattle.mm_expect.specs.Recorded.{Recorded, Went, recorded_instance}
 use Rattle.mm_expect.specs.Walking.{Walks}
 
@@ -49,7 +50,8 @@ changing_from Opt = 3
 
 abbrev pub changes_on : Recorded → Stop → List Meddle → Batch → Walked
 changes_on old stop meddles b =
-    walk (planned (plan_of stop meddles)) (changing_from old.variant) (changing_steps old.variant old.history.is_open b)
+    walk (planned (plan_of stop meddles)) (changing_from old.variant)
+    (changing_steps old.variant old.history.is_open b)
 
 -- The chronicle went on by the steps behind the reading ones.
 abbrev pub ChangesBy : Recorded → Recorded → Stop → List Meddle → Batch → Option StepFault → Type 0
@@ -63,12 +65,15 @@ ending_of (Broken fault commits) = Breaks fault commits
 -- how a call of a new batch ends, once its steps behind the reading ones were walked
 abbrev pub new_ending : Recorded → Batch → List Move → Option StepFault → Ending
 new_ending new b moves None = Answers (answer_on (recorded_instance new) new.history b false)
-new_ending new b moves (Some fault) = Breaks fault (kept_at (commits moves) (total_of new.history.batches))
+new_ending new b moves (Some fault) =
+    Breaks fault (kept_at (commits moves) (total_of new.history.batches))
 
 -- The rest of a call of a new batch.
-pub record GoesOnNew (old new : Recorded) (stop : Stop) (meddles : List Meddle) (b : Batch) (ended : Ended) : Type 0 where
+pub record GoesOnNew (old new : Recorded) (stop : Stop) (meddles : List Meddle) (b : Batch)
+    (ended : Ended) : Type 0 where
   pub went : Went old new (changes_on old stop meddles b).moves
-  pub ends : ending_of ended ≡ new_ending new b (changes_on old stop meddles b).moves (changes_on old stop meddles b).broken
+  pub ends : ending_of ended ≡ new_ending new b (changes_on old stop meddles b).moves
+      (changes_on old stop meddles b).broken
 
 -- The chronicle went on by a call, which ended so.
 pub record CallsBy (old new : Recorded) (o : Called History) (ended : Ended) : Type 0 where

@@ -2,6 +2,7 @@
 use Rattle.std.specs.Prelude.{◌≡◌, Bool, true, false}
 use Rattle.mm_model.specs.History.{History}
 use Rattle.mm_call.specs.Checkpoints as ghost_closing
+use Rattle.mm_call.specs.CheckpointsWords as ghost_closing_words
 use Rattle.mm_call.specs.Courses.{Walked}
 use Rattle.mm_expect.specs.declared.calls.Closing.{Closing}
 use Rattle.mm_expect.specs.declared.calls.Closing.TheVariants.{Closes, HasNone, NoSegment, LostPower, Stops}
@@ -23,11 +24,13 @@ stops LostPower = false
 stops (Stops _ _) = true
 
 -- The chronicle went on by a checkpoint, which ended so.
-pub record WentByCheckpoint (old new : Recorded) (o : ghost_closing.Checkpointed History) (closing : Closing) : Type 0 where
+pub record WentByCheckpoint (old new : Recorded) (o : ghost_closing.Checkpointed History)
+    (closing : Closing) : Type 0 where
   pub went : Went old new o.moves
   pub ends : closing_as closing ≡ o.ending
 
 -- The same of one that reads the cell alone, by how it ends unless it is broken off.
-pub record ShutBy (old new : Recorded) (walked : Walked) (unless : Closing) (closing : Closing) : Type 0 where
+pub record ShutBy (old new : Recorded) (walked : Walked) (unless : Closing)
+    (closing : Closing) : Type 0 where
   pub went : Went old new walked.moves
-  pub ends : closing_as closing ≡ ghost_closing.closed_by walked.broken false (closing_as unless)
+  pub ends : closing_as closing ≡ ghost_closing_words.closed_by walked.broken false (closing_as unless)

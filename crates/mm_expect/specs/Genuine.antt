@@ -4,7 +4,8 @@ use Rattle.std.specs.List.{AllByRecursion}
 use Rattle.mm_base.specs.Limits.{last_position}
 use Rattle.mm_module.specs.Meaning.{Meaning, IsLawful}
 use Rattle.mm_seal.specs.Snapshot.{Content}
-use Rattle.mm_model.specs.Instance.{Instance, basic, opt}
+use Rattle.mm_model.specs.Instance.{Instance}
+use Rattle.mm_model.specs.InstanceWords.{basic, opt}
 use Rattle.mm_model.specs.History.{History, total_of}
 use Rattle.mm_model.specs.Places.{Names}
 use Rattle.mm_model.specs.Standing.{IsGenuine}
@@ -14,8 +15,10 @@ use Rattle.mm_expect.specs.Naming.{IsDecided}
 
 -- An offer that isn't right is genuine; a right one exactly where what it says names a position.
 pub record OffersAreDecided (i : Instance) : Type 0 where
-  pub not_right : (y : History) (bytes : List ℕ) → right_content i bytes ≡ None → IsGenuine i y bytes
-  pub right : (y : History) (bytes : List ℕ) (content : Content) (yes : Bool) → right_content i bytes ≡ Some content →
+  pub not_right : (y : History) (bytes : List ℕ) → right_content i bytes ≡ None
+      → IsGenuine i y bytes
+  pub right : (y : History) (bytes : List ℕ) (content : Content) (yes : Bool)
+      → right_content i bytes ≡ Some content →
       IsDecided yes (Names i y content) → IsDecided yes (IsGenuine i y bytes)
 
 -- An issued snapshot is genuine, where each issued one names a position.
@@ -31,4 +34,5 @@ abbrev pub BasicIssuedAreGenuine : Type 0
 BasicIssuedAreGenuine = (meaning : Meaning) (key : List ℕ) → IssuedAreGenuine (basic meaning key)
 
 abbrev pub OptIssuedAreGenuine : Type 0
-OptIssuedAreGenuine = (meaning : Meaning) (key barrier : List ℕ) → IssuedAreGenuine (opt meaning key barrier)
+OptIssuedAreGenuine =
+    (meaning : Meaning) (key barrier : List ℕ) → IssuedAreGenuine (opt meaning key barrier)

@@ -4,17 +4,18 @@ use Rattle.mm_digest.specs.declared.variant.Variant.{Variant}
 use Rattle.mm_digest.specs.declared.variant.Variant.TheVariants.{Basic, Opt}
 use Rattle.mm_digest.specs.Messages.{zero_bytes, extended_message, anchored_message}
 use Rattle.mm_module.specs.Batch.{Batch, members_of}
-use Rattle.mm_module.specs.Meaning.{state_from, state_after}
+use Rattle.mm_module.specs.Meaning.{state_after}
+use Rattle.mm_module.specs.MeaningWords.{state_from}
 use Rattle.mm_modules.specs.declared.any.AnyModule.{AnyModule}
 use Rattle.mm_modules.specs.Modules.{meaning_of}
 use Rattle.mm_model.specs.Instance.{Instance}
 use Rattle.mm_model.specs.History.{History, Move, requests_of, first_history}
 use Rattle.mm_call.specs.Levels.{by_lists, all_made}
-use Rattle.mm_run.specs.Held.{world_key, world_barrier}
+use Rattle.mm_run.specs.HeldWords.{world_key, world_barrier}
 use Rattle.mm_expect.specs.Numbered.{messages_where}
 
--- a variant and a module, and a history of them; and the messages of the moves since they were last taken out: of those
--- that extend the register, and of those that close a segment
+-- a variant and a module, and a history of them; and the messages of the moves since they were last
+-- taken out: of those that extend the register, and of those that close a segment
 pub record Recorded : Type 0 where
   pub variant : Variant
   pub «module» : AnyModule
@@ -54,8 +55,10 @@ pub record Went (old new : Recorded) (moves : List Move) : Type 0 where
   pub variant : new.variant ≡ old.variant
   pub «module» : new.«module» ≡ old.«module»
   pub history : new.history ≡ all_made (by_lists (recorded_instance old)) old.history moves
-  pub extending : new.extending ≡ old.extending ++ messages_where false (recorded_instance old) old.history moves
-  pub closing : new.closing ≡ old.closing ++ messages_where true (recorded_instance old) old.history moves
+  pub extending : new.extending ≡ old.extending ++ messages_where false (recorded_instance old)
+      old.history moves
+  pub closing : new.closing ≡ old.closing ++ messages_where true (recorded_instance old) old.history
+      moves
 
 -- the messages by which the register takes in a value: none in Basic, which has no register
 abbrev pub extension_messages : Variant → List ℕ → List ℕ → List (List ℕ)
@@ -70,4 +73,5 @@ closing_listed Opt cell register = anchored_message cell register ∷ []
 -- the module's state once the batch is run behind the history
 abbrev pub state_after_batch : Recorded → Batch → List ℕ
 state_after_batch r b =
-    state_from (meaning_of r.«module») (state_after (meaning_of r.«module») (requests_of r.history.batches)) (members_of b)
+    state_from (meaning_of r.«module»)
+    (state_after (meaning_of r.«module») (requests_of r.history.batches)) (members_of b)

@@ -12,9 +12,10 @@ use Rattle.mm_expect.specs.declared.marks.Marks.{Marks}
 use Rattle.mm_expect.specs.Marks.{marks_of}
 use Rattle.mm_expect.specs.Recorded.{barrier_of, instance_with}
 
--- the barrier and the marks are those of the history; and the module's states those after its batches, and before the last;
--- and no batch is too long
-pub record IsSettled (variant : Variant) («module» : AnyModule) (barrier : List ℕ) (history : History) (marks : Marks)
+-- the barrier and the marks are those of the history; and the module's states those after its
+-- batches, and before the last; and no batch is too long
+pub record IsSettled (variant : Variant) («module» : AnyModule) (barrier : List ℕ)
+    (history : History) (marks : Marks)
     (state before : List ℕ) : Type 0 where
   pub barrier_is : barrier ≡ barrier_of variant
   pub marks_is : marks ≡ marks_of (instance_with variant «module») history

@@ -15,11 +15,13 @@ pub record Traced : Type 0 where
 
 -- what an event comes to
 abbrev pub outcome_traced : Traced → Event → Outcome History
-outcome_traced it event = event_outcome (world_of it.header) (by_lists (world_of it.header)) it.history it.issued event
+outcome_traced it event =
+    event_outcome (world_of it.header) (by_lists (world_of it.header)) it.history it.issued event
 
 -- It stands at the start.
 abbrev pub first_traced : Header → Traced
-first_traced header = record { header = header; history = first_history; issued = first_issued (world_of header) }
+first_traced header =
+    record { header = header; history = first_history; issued = first_issued (world_of header) }
 
 -- It went on by an event.
 abbrev pub after_traced : Traced → Event → Traced
@@ -38,4 +40,5 @@ pub record IsAfter (header : Header) (events : List Event) (it : Traced) : Type 
 -- Where it stood behind some events it stands behind one more.
 abbrev pub StandsLater : Traced → Event → Traced → Type 0
 StandsLater old event new =
-    (header : Header) (events : List Event) → IsAfter header events old → IsAfter header (events ++ event ∷ []) new
+    (header : Header) (events : List Event) → IsAfter header events old
+    → IsAfter header (events ++ event ∷ []) new

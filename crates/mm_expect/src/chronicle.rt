@@ -58,7 +58,8 @@ impl Chronicle {
     ghost use Rattle.mm_module.specs.Batches.{batch_of};
     ghost use Rattle.mm_model.specs.Chains.{guard};
     ghost use Rattle.mm_model.specs.Long.{is_long};
-    ghost use Rattle.mm_model.specs.History.{Move, Commit, Foreign, Placed, Reset, Close, Power, committed, register_value_of, cell_digest_of, total_of};
+    ghost use Rattle.mm_model.specs.History.{Move, Commit, Foreign, Placed, Reset, Close, Power, committed, register_value_of, total_of};
+    ghost use Rattle.mm_model.specs.HistoryWords.{cell_digest_of};
     ghost use Rattle.mm_expect.specs.Recorded.{first_recorded, Went, recorded_instance, extension_messages, closing_listed, state_after_batch};
 
     /// The first history of a variant and a module.

@@ -56,9 +56,10 @@ pub(crate) fn is_made_at(stop: Stop, step: u8) -> bool
 impl Chronicle {
     ghost use Rattle.std.specs.Prelude.{◌≡◌, ◌+◌, ◌<◌, [], ◌∷◌, map, false, length, IfOk, OnOk};
     ghost use Rattle.mm_model.specs.History.{Foreign};
-    ghost use Rattle.mm_platform.specs.Standing.{due};
-    ghost use Rattle.mm_call.specs.Courses.{planned, walk, made_move, step_moves};
-    ghost use Rattle.mm_run.specs.Folds.{plan_of};
+    ghost use Rattle.mm_platform.specs.StandingWords.{due};
+    ghost use Rattle.mm_call.specs.Courses.{planned, walk, step_moves};
+    ghost use Rattle.mm_call.specs.CoursesWords.{made_move};
+    ghost use Rattle.mm_run.specs.FoldsWords.{plan_of};
     ghost use Rattle.mm_expect.specs.Recorded.{Went};
     ghost use Rattle.mm_expect.specs.Walking.{move_of, step_as, steps_of, IsShortMove, IsShortStep, AreShort, Walks};
 

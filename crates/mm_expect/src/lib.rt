@@ -1,4 +1,5 @@
-//! What is expected of a schedule, event by event: the fold by lists, which knows no digest, followed in code.
+//! Works out, event by event, what a schedule has to be answered: by the list of all requests, without any digest.
+//! `check` compares recorded replies with it. In the words of mm_run it is the fold by lists, followed in code.
 #![tactic(auto)]
 
 mod answering;

@@ -52,7 +52,8 @@ impl Lists {
     ghost use Rattle.std.specs.Prelude.{◌≡◌, ◌++◌, [], ◌∷◌, true, false, length, nat_le, OnOk, OnErr};
     ghost use Rattle.mm_digest.specs.declared.variant.Variant.TheVariants.{Basic, Opt};
     ghost use Rattle.mm_module.specs.Batches.{batch_of};
-    ghost use Rattle.mm_model.specs.History.{Value, first_history, committed, values_of};
+    ghost use Rattle.mm_model.specs.History.{Value, first_history, committed};
+    ghost use Rattle.mm_model.specs.HistoryWords.{values_of};
     ghost use Rattle.mm_model.specs.Chains.{register_of};
     ghost use Rattle.mm_model.specs.Judge.{is_last};
     ghost use Rattle.mm_model.specs.Life.{is_empty, has_value};

@@ -2,8 +2,10 @@
 
 ghost use Rattle.std.specs.Prelude.{◌≡◌};
 ghost use Rattle.mm_module.specs.Batches.{batch_of};
-ghost use Rattle.mm_model.specs.Chains.{guard, link, register_of, own_values};
-ghost use Rattle.mm_model.specs.History.{value_of, values_of};
+ghost use Rattle.mm_model.specs.Chains.{guard, link, register_of};
+ghost use Rattle.mm_model.specs.ChainsWords.{own_values};
+ghost use Rattle.mm_model.specs.History.{value_of};
+ghost use Rattle.mm_model.specs.HistoryWords.{values_of};
 ghost use Rattle.mm_model.specs.Kept.{kept_batches, kept_entry, kept_entries};
 
 use mm_digest::{
@@ -35,7 +37,7 @@ impl Marks {
     ghost use Rattle.mm_digest.specs.Messages.{start_of, zero_bytes};
     ghost use Rattle.mm_module.specs.Batch.{size_of};
     ghost use Rattle.mm_module.specs.Batches.{batch_of};
-    ghost use Rattle.mm_model.specs.Places.{digest_of};
+    ghost use Rattle.mm_model.specs.PlacesWords.{digest_of};
     ghost use Rattle.mm_expect.specs.Marks.{with_value, emptied, closed_marks, linked_marks, grown, opened_marks};
 
     /// Those of the first history.
@@ -147,7 +149,7 @@ impl Marks {
 }
 
 /// The summary after one more batch.
-#[tactic(auto, unfolding(mm_model::specs::Chains::link, mm_digest::specs::Messages::successor_of, mm_digest::specs::Messages::successor_batch_of))]
+#[tactic(auto, unfolding(mm_model::specs::Chains::link, mm_digest::specs::MessagesWords::successor_of, mm_digest::specs::MessagesWords::successor_batch_of))]
 pub(crate) fn link(summary: &Digest, batch: Batch<'_>) -> Digest
     ensures { result.bytes ≡ link summary.now.bytes (batch_of batch.entry) }
 {
@@ -158,7 +160,7 @@ pub(crate) fn link(summary: &Digest, batch: Batch<'_>) -> Digest
 }
 
 /// The value by which a batch extends the register.
-#[tactic(auto, unfolding(mm_model::specs::Chains::guard, mm_digest::specs::Messages::secured_of, mm_digest::specs::Messages::secured_batch_of))]
+#[tactic(auto, unfolding(mm_model::specs::Chains::guard, mm_digest::specs::MessagesWords::secured_of, mm_digest::specs::MessagesWords::secured_batch_of))]
 pub(crate) fn guard(barrier: &[u8; 32], batch: Batch<'_>) -> Digest
     ensures { result.bytes ≡ guard barrier.now (batch_of batch.entry) }
 {

@@ -15,7 +15,7 @@ ghost use Rattle.mm_seal.specs.Body.{content_of};
 ghost use Rattle.mm_model.specs.Places.{Names};
 ghost use Rattle.mm_expect.specs.Recorded.{barrier_of, instance_with};
 ghost use Rattle.mm_model.specs.Kept.{kept_batches, kept_entries, kept_segments};
-ghost use Rattle.mm_expect.specs.Naming.{BasicNamesAreDecided, OptNamesAreDecided, first_with, same_batches, anchor_at, is_at, is_behind, is_here, is_inside_at, some_place, is_place_in, IsDecided};
+ghost use Rattle.mm_expect.specs.Naming.{BasicNamesAreDecided, OptNamesAreDecided, first_with, same_batches, anchor_at, is_at, is_behind, is_here, is_inside_at, some_place, is_place_in, same_summary, IsDecided};
 
 use crate::lists::Lists;
 use crate::marks::{link, own_register, register_of};
@@ -303,7 +303,7 @@ fn is_place(
     }
 }
 
-/// Whether what a right offer says names a position of the history.
+/// Whether what a right offer says names a position of the history. Runs the module only where the place is one.
 pub(crate) fn is_named(
     alloc: Global,
     lists: &Lists,
@@ -324,9 +324,55 @@ pub(crate) fn is_named(
         Some(count) => count,
     };
     let named = &batches[..count];
-    let state = state_after(alloc, module, named)?;
-    if !same_bytes(body.state, state.as_slice()) {
+    if !is_place(lists, variant, module.id(), barrier, named, &body.place) {
         return Ok(false);
     }
-    Ok(is_place(lists, variant, module.id(), barrier, named, &body.place))
+    let state = state_after(alloc, module, named)?;
+    Ok(same_bytes(body.state, state.as_slice()))
+}
+
+// Whether both places are of Basic, and one summary.
+fn same_summary(place: &Place, other: &Place) -> bool
+    ensures { result ≡ same_summary place.now other.now }
+{
+    match place {
+        Place::Basic(one) => match other {
+            Place::Basic(two) => same_digest(one, two),
+            Place::Opt { .. } => false,
+        },
+        Place::Opt { .. } => false,
+    }
+}
+
+/// The same, by what another snapshot of this position says, which names one. Never runs the module.
+pub(crate) fn is_named_beside(
+    lists: &Lists,
+    variant: Variant,
+    module: &AnyModule,
+    barrier: &[u8; 32],
+    body: &Body<'_>,
+    other: &Body<'_>,
+) -> bool
+    requires barrier { barrier.now ≡ barrier_of variant }
+    requires position { body.now.position ≡ other.now.position }
+    ensures { Names (instance_with variant «module».now) lists.now (content_of other.now)
+        → IsDecided result
+        (Names (instance_with variant «module».now) lists.now (content_of body.now)) }
+{
+    if !same_bytes(body.state, other.state) {
+        return false;
+    }
+    match variant {
+        Variant::Basic => same_summary(&body.place, &other.place),
+        Variant::Opt => {
+            let batches = lists.batches();
+            match first_with(batches, body.position) {
+                None => false,
+                Some(count) => {
+                    let named = &batches[..count];
+                    is_place(lists, variant, module.id(), barrier, named, &body.place)
+                }
+            }
+        }
+    }
 }

@@ -1,17 +1,18 @@
 //! Whether what is offered is genuine.
 
-ghost use Rattle.std.specs.Prelude.{◌≡◌, IfOk, option_map};
+ghost use Rattle.std.specs.Prelude.{◌≡◌, ◌≤◌, true, length, IfOk, IfSome, option_map, slice_get};
 ghost use Rattle.mm_seal.specs.Body.{content_of};
+ghost use Rattle.mm_seal.specs.Parts.{parts_of};
 ghost use Rattle.mm_model.specs.Standing.{IsGenuine};
 ghost use Rattle.mm_call.specs.Found.{right_content};
 ghost use Rattle.mm_schedule.specs.Events.{event_of};
-ghost use Rattle.mm_run.specs.Held.{world_key};
+ghost use Rattle.mm_run.specs.HeldWords.{world_key};
 ghost use Rattle.mm_expect.specs.Naming.{IsDecided};
-ghost use Rattle.mm_expect.specs.Judged.{DecidesOffer, DecidesEvent};
+ghost use Rattle.mm_expect.specs.Judged.{position_in, is_found, IsAmong, IsSaidAt, DecidesBytes, DecidesOffer, DecidesEvent};
 ghost use Rattle.mm_expect.specs.Recorded.{recorded_instance};
 
 use crate::chronicle::Chronicle;
-use crate::naming::is_named;
+use crate::naming::{is_named, is_named_beside};
 use mm_base::{Bytes, Memory};
 use mm_digest::HmacKey;
 use mm_module::Module;
@@ -60,6 +61,112 @@ fn are_genuine(chronicle: &Chronicle, key: &HmacKey, bytes: &[u8]) -> Result<boo
     }
 }
 
+// The position that bytes name as a snapshot; 0 where they are none.
+fn position_of(chronicle: &Chronicle, bytes: &[u8]) -> u64
+    ensures { result ≡ position_in
+        (parts_of chronicle.now.variant (recorded_instance chronicle.now).meaning.id bytes.now) }
+{
+    match parts(bytes, chronicle.variant, chronicle.module.id()) {
+        Ok(offered) => offered.body().position,
+        Err(_) => 0,
+    }
+}
+
+// Whether the issued snapshot with this number has these bytes.
+fn has_bytes(issued: &[Bytes], number: usize, bytes: &[u8]) -> bool
+    ensures { result ≡ is_found (slice_get issued.now number) bytes.now }
+{
+    match issued.get(number) {
+        Some(snapshot) => snapshot.as_slice() == bytes,
+        None => false,
+    }
+}
+
+// The number of the first issued snapshot whose position isn't lower, as positions rise with the numbers.
+fn first_from(chronicle: &Chronicle, issued: &[Bytes], position: u64) -> usize
+    ensures { result ≤ length issued.now }
+{
+    issued.partition_point(|found| position_of(chronicle, found.as_slice()) < position)
+}
+
+// Whether an issued snapshot was found to have these bytes. Of one position the first and the last alone differ: before and
+// behind the closing of its segment.
+fn is_issued(chronicle: &Chronicle, issued: &[Bytes], bytes: &[u8]) -> bool
+    ensures { result ≡ true → IsAmong bytes.now issued.now }
+{
+    let position = position_of(chronicle, bytes);
+    if has_bytes(issued, first_from(chronicle, issued, position), bytes) {
+        return true;
+    }
+    let behind = first_from(chronicle, issued, position.saturating_add(1));
+    has_bytes(issued, behind.saturating_sub(1), bytes)
+}
+
+// What an issued snapshot of this position says, if one is found.
+fn said_at<'a>(
+    chronicle: &Chronicle,
+    key: &HmacKey,
+    issued: &'a [Bytes],
+    position: u64,
+) -> Option<Body<'a>>
+    requires { key.now ≡ world_key }
+    ensures { IfSome result
+        (λ body. IsSaidAt (recorded_instance chronicle.now) issued.now position (content_of body)) }
+{
+    let snapshot = issued.get(first_from(chronicle, issued, position))?;
+    let body = right_body(chronicle, key, snapshot.as_slice())?;
+    if body.position != position {
+        return None;
+    }
+    Some(body)
+}
+
+// Whether these bytes are genuine: by what an issued snapshot of their position says, if one is found, and else by a run of
+// the history.
+fn are_genuine_beside(
+    chronicle: &Chronicle,
+    key: &HmacKey,
+    issued: &[Bytes],
+    bytes: &[u8],
+) -> Result<bool, Memory>
+    requires { key.now ≡ world_key }
+    ensures { IfOk result (DecidesBytes (recorded_instance chronicle.now) chronicle.now.history
+        issued.now bytes.now) }
+{
+    let body = match right_body(chronicle, key, bytes) {
+        None => return Ok(true),
+        Some(body) => body,
+    };
+    match said_at(chronicle, key, issued, body.position) {
+        None => are_genuine(chronicle, key, bytes),
+        Some(other) => Ok(is_named_beside(
+            &chronicle.lists,
+            chronicle.variant,
+            &chronicle.module,
+            &chronicle.barrier,
+            &body,
+            &other,
+        )),
+    }
+}
+
+// Whether offered bytes are genuine. Those of an issued snapshot always are.
+fn are_issued_or_genuine(
+    chronicle: &Chronicle,
+    key: &HmacKey,
+    issued: &[Bytes],
+    bytes: &[u8],
+) -> Result<bool, Memory>
+    requires { key.now ≡ world_key }
+    ensures { IfOk result (DecidesBytes (recorded_instance chronicle.now) chronicle.now.history
+        issued.now bytes.now) }
+{
+    if is_issued(chronicle, issued, bytes) {
+        return Ok(true);
+    }
+    are_genuine_beside(chronicle, key, issued, bytes)
+}
+
 // Whether what is offered is genuine. An issued snapshot always is.
 fn is_genuine_offer(
     chronicle: &Chronicle,
@@ -77,7 +184,7 @@ fn is_genuine_offer(
         Offer::Last => Ok(true),
         Offer::Flip { .. } | Offer::Raw(_) => match offered(chronicle.alloc, issued, offer)? {
             None => Ok(true),
-            Some(found) => are_genuine(chronicle, key, found.bytes()),
+            Some(found) => are_issued_or_genuine(chronicle, key, issued, found.bytes()),
         },
     }
 }

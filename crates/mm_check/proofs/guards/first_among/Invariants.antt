@@ -5,4 +5,5 @@ use Rattle.mm_check.specs.Guards.{events_of, HasAll}
 use Rattle.mm_check.proofs.guards.first_among.Given as goal
 
 abbrev pub invariant-events : goal.invariant-events
-invariant-events l = (known : List (List ℕ)) → HasAll known l.guards → first_where (is_secured known) (events_of (take l.index l.events)) ≡ None
+invariant-events l =
+    (known : List (List ℕ)) → HasAll known l.guards → first_where (is_secured known) (events_of (take l.index l.events)) ≡ None

@@ -1,7 +1,7 @@
 use Rattle.std.proofs.Common.{take}
-use Rattle.mm_model.specs.Chains.{own_values}
-use Rattle.mm_run.specs.Held.{world_barrier}
-use Rattle.mm_run.specs.Premises.{asked_batches}
+use Rattle.mm_model.specs.ChainsWords.{own_values}
+use Rattle.mm_run.specs.HeldWords.{world_barrier}
+use Rattle.mm_run.specs.PremisesWords.{asked_batches}
 use Rattle.mm_check.specs.Guards.{events_of, HasAll}
 use Rattle.mm_check.proofs.guards.guards_of.Given as goal
 

@@ -1,5 +1,6 @@
 use Rattle.std.proofs.Common.{◌≡◌, take}
-use Rattle.mm_model.specs.Chains.{register_of, own_values}
+use Rattle.mm_model.specs.Chains.{register_of}
+use Rattle.mm_model.specs.ChainsWords.{own_values}
 use Rattle.mm_model.specs.Kept.{kept_batches}
 use Rattle.mm_expect.proofs.marks.own_register.Given as goal
 

@@ -1,6 +1,6 @@
 use Rattle.std.proofs.Common.{◌≡◌, take}
 use Rattle.mm_model.specs.Chains.{register_of}
-use Rattle.mm_model.specs.History.{values_of}
+use Rattle.mm_model.specs.HistoryWords.{values_of}
 use Rattle.mm_model.specs.Kept.{kept_entries}
 use Rattle.mm_expect.proofs.marks.register_of.Given as goal
 

@@ -5,4 +5,5 @@ use Rattle.mm_expect.proofs.naming.same_batches.Given as goal
 
 abbrev pub invariant-at : goal.invariant-at
 invariant-at l =
-    same_batches (kept_batches (drop l.i l.batches)) (kept_batches (drop l.i l.others)) ≡ same_batches (kept_batches l.batches) (kept_batches l.others)
+    same_batches (kept_batches (drop l.i l.batches)) (kept_batches (drop l.i l.others)) ≡ same_batches (kept_batches l.batches)
+    (kept_batches l.others)

@@ -13,7 +13,8 @@ returns-in-None c =
 
 pub returns-in-Some : goal.returns-in-Some
 returns-in-Some c =
-    genuine_some c.is_named.result (recorded_instance c.args.chronicle.now) c.args.chronicle.now.history c.args.bytes.now (content_of c.in-Some.body)
+    genuine_some c.is_named.result (recorded_instance c.args.chronicle.now) c.args.chronicle.now.history c.args.bytes.now
+    (content_of c.in-Some.body)
     (sym c.right_body.ensures ∙ ap (option_map content_of) c.in-Some.is)
     (names_there c.is_named.result c.chronicle.inside.variant c.chronicle.inside.«module» c.chronicle.inside.lists c.args.chronicle.now
     (ap (λ (r : Recorded). r.variant) c.chronicle.view_is) (ap (λ (r : Recorded). r.«module») c.chronicle.view_is)

@@ -12,13 +12,16 @@ returns-in-None c =
 
 pub returns-in-Some : goal.returns-in-Some
 returns-in-Some c =
-    decided_some c.are_genuine.result (recorded_instance c.args.chronicle.now) c.args.chronicle.now.history c.args.issued.now c.args.offer.now (bytes_in c.in-Some.found) c.bytes.result.now
-    (sym c.in_ok-offered-in-Flip.ensures ∙ ap (option_map bytes_in) c.in-Some.is) c.bytes.ensures c.are_genuine.ensures
+    decided_some c.are_issued_or_genuine.result (recorded_instance c.args.chronicle.now) c.args.chronicle.now.history c.args.issued.now
+    c.args.offer.now (bytes_in c.in-Some.found) c.bytes.result.now
+    (sym c.in_ok-offered-in-Flip.ensures ∙ ap (option_map bytes_in) c.in-Some.is) c.bytes.ensures c.are_issued_or_genuine.ensures
 
 pub returns-in-Number : goal.returns-in-Number
 returns-in-Number c =
-    decided_number c.args.chronicle.now.variant c.args.chronicle.now.«module» c.args.chronicle.now.history c.args.issued.now c.args.offer.now c.in-Number.field-0 c.in-Number.is
+    decided_number c.args.chronicle.now.variant c.args.chronicle.now.«module» c.args.chronicle.now.history c.args.issued.now
+    c.args.offer.now c.in-Number.field-0 c.in-Number.is
 
 pub returns-in-Last : goal.returns-in-Last
 returns-in-Last c =
-    decided_last c.args.chronicle.now.variant c.args.chronicle.now.«module» c.args.chronicle.now.history c.args.issued.now c.args.offer.now c.in-Last.is
+    decided_last c.args.chronicle.now.variant c.args.chronicle.now.«module» c.args.chronicle.now.history c.args.issued.now c.args.offer.now
+    c.in-Last.is

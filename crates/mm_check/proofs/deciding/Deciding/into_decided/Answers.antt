@@ -18,5 +18,7 @@ returns c =
     record {
       premise = subst (λ (p : Premise). Decides (world_of header) es p) (sym c.premise-premise.ensures)
           (decided header es c.args.self c.in_ok-secured.secured c.requires.stands c.in_ok-secured.ensures);
-      lines = lines_end header es c.args.self c.committed.result c.issued.result c.put_last.new.lines.items c.requires.stands c.committed.ensures c.issued.ensures c.in_ok-put_last.ensures;
+      lines =
+          lines_end header es c.args.self c.committed.result c.issued.result c.put_last.new.lines.items c.requires.stands
+          c.committed.ensures c.issued.ensures c.in_ok-put_last.ensures;
     }

@@ -8,6 +8,8 @@ pub returns : goal.returns
 returns c =
     let header = c.args.header.now in
     let message = 0 ∷ c.byte.result ∷ c.id.result ∷ [] in
-    stands_first header (record { expecting = c.in_ok-expecting.expecting; numbers = c.list.new.self; forged = None; lines = c.new-lines.result }) message
+    stands_first header (record
+    { expecting = c.in_ok-expecting.expecting; numbers = c.list.new.self; forged = None; lines = c.new-lines.result }) message
     c.in_ok-expecting.ensures.after (c.in_ok-list.ensures.lists [] c.new-numbers.ensures)
-    (start_is c.byte.result c.id.result (variant_byte header.variant) (meaning_of header.«module»).id c.byte.ensures c.id.ensures) c.new-lines.ensures.items refl
+    (start_is c.byte.result c.id.result (variant_byte header.variant) (meaning_of header.«module»).id c.byte.ensures c.id.ensures)
+    c.new-lines.ensures.items refl

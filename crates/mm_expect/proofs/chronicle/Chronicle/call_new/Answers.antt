@@ -29,8 +29,13 @@ returns-after-total-before c =
     let total = total_of c.change.new.self.history.batches in
     let before = total_of c.args.self.now.history.batches in
     let kept : c.if-total-before.commits ≡ (if nat_eq total before then None else Some total) = elim c.if-total-before.branch [
-      | then-total-before w ↦ w.commits-is ∙ kept_same total before c.total-total.result c.total-before.result c.total-total.ensures c.total-before.ensures w.if-total-before.true
-      | else-total-before w ↦ w.commits-is ∙ kept_other total before c.total-total.result c.total-before.result c.total-total.ensures c.total-before.ensures w.if-total-before.false
+      | then-total-before w ↦ w.commits-is
+          ∙ kept_same total before c.total-total.result c.total-before.result c.total-total.ensures c.total-before.ensures
+          w.if-total-before.true
+      | else-total-before w ↦ w.commits-is
+          ∙ kept_other total before c.total-total.result c.total-before.result c.total-total.ensures c.total-before.ensures
+          w.if-total-before.false
     ] in
-    new_broken c.args.self.now c.change.new.self c.args.course.now.stop c.args.course.now.meddles.now (batch_of c.args.batch) c.in-Some.fault
+    new_broken c.args.self.now c.change.new.self c.args.course.now.stop c.args.course.now.meddles.now (batch_of c.args.batch)
+    c.in-Some.fault
     c.if-total-before.commits (subst So c.in-Some.is c.in_ok-change.ensures) kept

@@ -7,8 +7,10 @@ use Rattle.mm_expect.proofs.chronicle.Chronicle.checkpoint.Goals as goal
 
 pub returns-in-Basic : goal.returns-in-Basic
 returns-in-Basic c =
-    shut_is c.args.self.now c.check_shut.new.self c.args.course.now.stop c.args.course.now.meddles.now HasNone Basic c.args.self.now.history.is_open
-    c.check_shut.result (ap (λ (r : Recorded). r.variant) (sym c.self.view_is) ∙ c.in-Basic.is) refl (λ lost. refl) (λ lost. refl) c.check_shut.ensures
+    shut_is c.args.self.now c.check_shut.new.self c.args.course.now.stop c.args.course.now.meddles.now HasNone Basic
+    c.args.self.now.history.is_open
+    c.check_shut.result (ap (λ (r : Recorded). r.variant) (sym c.self.view_is) ∙ c.in-Basic.is) refl (λ lost. refl) (λ lost. refl)
+    c.check_shut.ensures
 
 pub returns-else-is_open : goal.returns-else-is_open
 returns-else-is_open c =

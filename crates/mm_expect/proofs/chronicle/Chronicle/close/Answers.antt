@@ -9,5 +9,6 @@ invariant_of-self-2 c =
     settled_shut c.self.inside.variant c.self.inside.«module» c.self.inside.barrier c.self.inside.lists c.close.new.self c.self.inside.marks
     c.closed-self-inside.result c.self.inside.state c.self.inside.before c.self.invariant
     c.in_ok-close.ensures.ok
-    (c.closed-self-inside.ensures ∙ ap (λ v. closed_marks c.self.inside.variant c.self.inside.marks v c.is_bare-is_bare.result) c.has_value-has_value.ensures
+    (c.closed-self-inside.ensures
+    ∙ ap (λ v. closed_marks c.self.inside.variant c.self.inside.marks v c.is_bare-is_bare.result) c.has_value-has_value.ensures
     ∙ ap (closed_marks c.self.inside.variant c.self.inside.marks (has_value c.self.inside.lists.items)) c.is_bare-is_bare.ensures)

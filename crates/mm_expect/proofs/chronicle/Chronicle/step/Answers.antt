@@ -1,4 +1,4 @@
-use Rattle.mm_platform.specs.Standing.{due}
+use Rattle.mm_platform.specs.StandingWords.{due}
 use Rattle.mm_expect.proofs.Walking.{changes_then}
 use Rattle.mm_expect.proofs.chronicle.Chronicle.step.Goals as goal
 

@@ -20,7 +20,8 @@ returns-clause-state c =
     let happens = event_of c.args.event.now in
     let So : List (List ℕ) → Type 0 = λ v. WentByEvent c.self.inside.chronicle c.follow.new.chronicle v happens c.new-messages.result.items
     c.follow.new.messages.items c.in_ok-reply.field-0 in
-    event_state c.self.inside.chronicle c.follow.new.chronicle c.self.inside.issued.items c.keep.new.issued.items happens c.new-messages.result.items
+    event_state c.self.inside.chronicle c.follow.new.chronicle c.self.inside.issued.items c.keep.new.issued.items happens
+    c.new-messages.result.items
     c.follow.new.messages.items c.in_ok-reply.field-0 (subst So c.as_slice-2.ensures.value c.in_ok-reply.ensures) c.in_ok-keep.ensures
     ∙ ap (λ (t : Traced). after_traced t happens) c.self.view_is
 
@@ -36,10 +37,14 @@ returns-clause-printable c =
 
 pub returns-clause-genuine : goal.returns-clause-genuine
 returns-clause-genuine c = λ header events at.
-    let So : List (List ℕ) → Type 0 = λ v. DecidesEvent (recorded_instance c.self.inside.chronicle) c.self.inside.chronicle.history v (event_of c.args.event.now)
+    let So : List (List ℕ)
+    → Type 0 = λ v. DecidesEvent (recorded_instance c.self.inside.chronicle) c.self.inside.chronicle.history v
+    (event_of c.args.event.now)
     c.in_ok-is_genuine.is_genuine in
-    let To : Traced → Type 0 = λ t. IsDecided c.in_ok-is_genuine.is_genuine (IsGenuineEvent (world_of header) t.history t.issued (event_of c.args.event.now)) in
+    let To : Traced → Type 0 = λ t. IsDecided c.in_ok-is_genuine.is_genuine
+    (IsGenuineEvent (world_of header) t.history t.issued (event_of c.args.event.now)) in
     subst To c.self.view_is
-    (event_decided c.self.inside.chronicle c.self.inside.issued.items (event_of c.args.event.now) c.in_ok-is_genuine.is_genuine header events
+    (event_decided c.self.inside.chronicle c.self.inside.issued.items (event_of c.args.event.now) c.in_ok-is_genuine.is_genuine header
+    events
     (subst So c.as_slice.ensures.value c.in_ok-is_genuine.ensures)
     (subst (IsAfter header events) (sym c.self.view_is) at))

@@ -1,0 +1,93 @@
+-- Where the snapshot of an answer stands, by the marks; and a call in a schedule, by its parts.
+use Rattle.std.proofs.Common.{ℕ, ◌≡◌, Bool, true, false, List, [], ◌++◌, refl, sym, ap, ◌∙◌, append_assoc}
+use Rattle.std.specs.Prelude.{option_to_list}
+use Rattle.mm_digest.specs.declared.digest.Digest.{Digest}
+use Rattle.mm_digest.specs.declared.variant.Variant.{Variant}
+use Rattle.mm_digest.specs.declared.variant.Variant.TheVariants.{Opt}
+use Rattle.mm_digest.specs.Messages.{zero_bytes}
+use Rattle.mm_platform.specs.declared.plan.Meddle.{Meddle}
+use Rattle.mm_platform.specs.declared.plan.Stop.{Stop}
+use Rattle.mm_modules.specs.declared.any.AnyModule.{AnyModule}
+use Rattle.mm_module.specs.Batch.{Batch}
+use Rattle.mm_seal.specs.declared.snapshot.Place.{Place}
+use Rattle.mm_seal.specs.declared.snapshot.Place.TheVariants.{Opt as InOpt}
+use Rattle.mm_model.specs.Chains.{register_of}
+use Rattle.mm_model.specs.ChainsWords.{own_values}
+use Rattle.mm_model.specs.Instance.{Instance}
+use Rattle.mm_model.specs.History.{History, Move}
+use Rattle.mm_model.specs.HistoryWords.{cell_digest_of}
+use Rattle.mm_model.specs.Places.{issued_place}
+use Rattle.mm_model.specs.PlacesWords.{digest_of}
+use Rattle.mm_call.specs.declared.ended.Ended.{Ended}
+use Rattle.mm_call.specs.declared.ended.Ended.TheVariants.{Answered, Refused, Broken}
+use Rattle.mm_call.specs.Asked.{right_messages}
+use Rattle.mm_call.specs.Called.{Called}
+use Rattle.mm_call.specs.Ended.{is_broken}
+use Rattle.mm_call.specs.Found.{right_content}
+use Rattle.mm_call.specs.Levels.{by_lists, all_made}
+use Rattle.mm_run.specs.Folds.{way_of, reply_of, snapshots_of, moves_then, after_stop}
+use Rattle.mm_expect.specs.declared.marks.Marks.{Marks}
+use Rattle.mm_expect.specs.declared.replies.Said.{Said}
+use Rattle.mm_expect.specs.Calls.{CallsBy, ending_of}
+use Rattle.mm_expect.specs.Coming.{WentByCall, called_on, moves_if}
+use Rattle.mm_expect.specs.Marks.{marks_of}
+use Rattle.mm_expect.specs.Recorded.{Recorded, Went, instance_with, recorded_instance}
+
+cell_at_anchor : (i : Instance) (y : History) (m : Marks) → m ≡ marks_of i y → i.variant ≡ Opt → m.cell ≡ digest_of (cell_digest_of i Opt y)
+cell_at_anchor i y m e v = ap (λ (x : Marks). x.cell) e ∙ ap (λ (x : Variant). digest_of (cell_digest_of i x y)) v
+
+place_is : (i : Instance) (y : History) (flag : Bool) → i.variant ≡ Opt → y.is_open ≡ flag
+    → issued_place Opt flag i y ≡ issued_place i.variant y.is_open i y
+place_is i y flag v o = λ j. issued_place (sym v j) (sym o j) i y
+
+pub place_open : (i : Instance) (y : History) (m : Marks) → m ≡ marks_of i y → i.variant ≡ Opt → y.is_open ≡ true
+    → InOpt m.cell m.own ≡ issued_place i.variant y.is_open i y
+place_open i y m e v o =
+    (λ j. InOpt (cell_at_anchor i y m e v j) (ap (λ (x : Marks). x.own) e j)) ∙ place_is i y true v o
+
+pub place_shut : (i : Instance) (y : History) (m : Marks) (zero : Digest) → m ≡ marks_of i y → zero.bytes ≡ zero_bytes → i.variant ≡ Opt
+    → y.is_open ≡ false → InOpt m.cell zero ≡ issued_place i.variant y.is_open i y
+place_shut i y m zero e z v o =
+    (λ j. InOpt (cell_at_anchor i y m e v j) (digest_of (z j))) ∙ place_is i y false v o
+
+-- a chronicle without the messages of its moves
+abbrev pub forgotten : Recorded → Recorded
+forgotten r = record r { extending = []; closing = [] }
+
+moves_ended : (stop : Stop) (ended : Ended) → moves_if (is_broken ended) (after_stop stop) ≡ moves_then stop (ending_of ended)
+moves_ended stop (Answered answer) = refl
+moves_ended stop (Refused why) = refl
+moves_ended stop (Broken fault commits) = refl
+
+state_went : (old went handed new : Recorded) (stop : Stop) (o : Called History) (ended : Ended)
+    → o.state ≡ all_made (by_lists (recorded_instance old)) old.history o.moves → CallsBy (forgotten old) went o ended
+    → handed.history ≡ went.history → handed.variant ≡ went.variant → handed.«module» ≡ went.«module»
+    → Went handed new (moves_if (is_broken ended) (after_stop stop))
+    → new.history ≡ all_made (by_lists (recorded_instance old)) o.state (moves_then stop o.ending)
+state_went old went handed new stop o ended state_is calls hh hv hm restored =
+    let v : handed.variant ≡ old.variant = hv ∙ calls.went.variant in
+    let m : handed.«module» ≡ old.«module» = hm ∙ calls.went.«module» in
+    let h : handed.history ≡ o.state = hh ∙ calls.went.history ∙ sym state_is in
+    let moves : moves_if (is_broken ended) (after_stop stop) ≡ moves_then stop o.ending =
+    moves_ended stop ended ∙ ap (moves_then stop) calls.ends in
+    restored.history ∙ (λ j. all_made (by_lists (instance_with (v j) (m j))) (h j) (moves j))
+
+pub went_by_call : (old went handed new : Recorded) (stop : Stop) (meddles : List Meddle) (bytes : List ℕ) (b : Batch) (ended : Ended)
+    (front asked back : List (List ℕ)) (said : Said)
+    → asked ≡ front ++ right_messages (recorded_instance old) b (right_content (recorded_instance old) bytes)
+    → CallsBy (forgotten old) went (called_on old stop meddles bytes b) ended
+    → handed.history ≡ went.history → handed.variant ≡ went.variant → handed.«module» ≡ went.«module»
+    → back ≡ asked ++ (went.extending ++ went.closing)
+    → Went handed new (moves_if (is_broken ended) (after_stop stop))
+    → said.reply ≡ reply_of (way_of stop) (ending_of ended) → option_to_list said.snapshot ≡ snapshots_of (ending_of ended)
+    → WentByCall old new stop meddles bytes b front back said
+went_by_call old went handed new stop meddles bytes b ended front asked back said listed calls hh hv hm handed_on restored replied sealed =
+    let right : List (List ℕ) = right_messages (recorded_instance old) b (right_content (recorded_instance old) bytes) in
+    record {
+      variant = restored.variant ∙ hv ∙ calls.went.variant;
+      «module» = restored.«module» ∙ hm ∙ calls.went.«module»;
+      state = state_went old went handed new stop (called_on old stop meddles bytes b) ended refl calls hh hv hm restored;
+      reply = replied ∙ ap (reply_of (way_of stop)) calls.ends;
+      snapshots = sealed ∙ ap snapshots_of calls.ends;
+      messages = handed_on ∙ (λ j. listed j ++ (calls.went.extending j ++ calls.went.closing j)) ∙ append_assoc front right _;
+    }
