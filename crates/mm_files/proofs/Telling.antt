@@ -25,14 +25,18 @@ items_untold ReadRegister = refl
 items_untold ResetRegister = refl
 items_untold (ExtendRegister value) = refl
 
-ends_untold : {T : Type 0} (steps steps' cycles cycles' faults faults' : ℕ) (result : Result T StepFault) → CountsFaults faults faults' result → IsFailed result
+ends_untold : {T : Type 0} (steps steps' cycles cycles' faults faults' : ℕ) (result : Result T StepFault)
+    → CountsFaults faults faults' result → IsFailed result
     → EndsBy (result_err result) (untold steps cycles faults) (untold steps' cycles' faults') true
-ends_untold steps steps' cycles cycles' faults faults' (Ok value) counts failed = record { made = refl; was_on = refl; is_on = refl; faults = counts.kept }
-ends_untold steps steps' cycles cycles' faults faults' (Err step.Failed) counts failed = record { was_on = refl; is_on = refl; faults = counts.failed }
+ends_untold steps steps' cycles cycles' faults faults' (Ok value) counts failed =
+    record { made = refl; was_on = refl; is_on = refl; faults = counts.kept }
+ends_untold steps steps' cycles cycles' faults faults' (Err step.Failed) counts failed =
+    record { was_on = refl; is_on = refl; faults = counts.failed }
 ends_untold steps steps' cycles cycles' faults faults' (Err step.Off) counts failed = cc
 
 -- a step of the register
-pub goes_untold : {T : Type 0} (act : Act) (steps steps' cycles cycles' faults faults' : ℕ) (result : Result T StepFault) → steps' ≡ counted steps → cycles' ≡ cycles
+pub goes_untold : {T : Type 0} (act : Act) (steps steps' cycles cycles' faults faults' : ℕ) (result : Result T StepFault)
+    → steps' ≡ counted steps → cycles' ≡ cycles
     → 0 ≡ writes_after act 0
     → CountsFaults faults faults' result → IsFailed result
     → Goes act (untold steps cycles faults) (untold steps' cycles' faults') (result_err result)

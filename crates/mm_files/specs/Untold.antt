@@ -3,7 +3,8 @@ use Rattle.std.specs.Prelude.{◌≡◌, ℕ, true, false, List, length, None, S
 use Rattle.mm_pages.specs.Paged.{Paged}
 use Rattle.mm_platform.specs.Standing.{Standing}
 
--- a platform that is on and has room, of which only the steps, losses of power and faults are counted
+-- a platform that is on and has room, of which only the steps, losses of power and faults are
+-- counted
 abbrev pub untold : ℕ → ℕ → ℕ → Standing
 untold steps cycles faults = record {
   cell = None;
@@ -17,8 +18,8 @@ untold steps cycles faults = record {
   plan = None;
 }
 
--- pages of which nothing is promised, and only the faults and calls are counted: no content is told, and not which
--- slots are synced
+-- pages of which nothing is promised, and only the faults and calls are counted: no content is
+-- told, and not which slots are synced
 abbrev pub untold_pages : ℕ → ℕ → ℕ → ℕ → Paged
 untold_pages faults reads writes lengths = record {
   slots = None;

@@ -3,45 +3,103 @@
 
 ghost use Rattle.std.specs.Prelude.{◌≤◌, IfOk};
 
-use std::fs::{self, OpenFile, OpenOptions};
-use std::io::{self, ErrorKind, Read, Seek, SeekFrom, Write};
-use std::os::unix::fs::OpenOptionsExt;
+use std::fs::{self, Metadata, OpenFile, OpenOptions};
+use std::io::{self, ErrorKind};
+use std::os::unix::fs::{FileExt, MetadataExt, OpenOptionsExt};
 use std::rt::Files;
 
 /// Whom a file that is made serves: its owner alone reads and writes it.
 const OWNER_ALONE: u32 = 0o600;
 
-/// Opens a file, and tells how many bytes it has. None where it is absent.
-pub fn open_there<R: Files>(files: &R, name: &str) -> io::Result<Option<(R::File, u64)>> {
-    match OpenOptions::new().read(true).write(true).open(files, name) {
-        Ok(file) => {
-            let size = size_of(&file)?;
-            Ok(Some((file, size)))
+/// An open file.
+#[derive(Drop)]
+pub struct Opened<F> {
+    pub file: F,
+    /// How many bytes it has, by what was seen of it and done to it.
+    pub size: u64,
+    /// Whether this program let its bytes be on the disk, and whether it did so with its name.
+    pub is_synced: bool,
+    pub is_listed: bool,
+    // The device that it is on, and its number there.
+    device: u64,
+    number: u64,
+}
+
+impl<F: OpenFile + FileExt + Drop> Opened<F> {
+    // A file that was just opened. An error where it is no file.
+    fn of(file: F) -> io::Result<Opened<F>> {
+        let there = file.metadata()?;
+        if !there.is_file() {
+            return Err(io::Error::from(ErrorKind::InvalidInput));
         }
+        Ok(Opened {
+            file,
+            size: there.len(),
+            is_synced: false,
+            is_listed: false,
+            device: there.dev(),
+            number: there.ino(),
+        })
+    }
+
+    /// Whether what was seen under a name is this file.
+    pub fn is_at(&self, there: &Metadata) -> bool {
+        self.device == there.dev() && self.number == there.ino()
+    }
+
+    /// Writes these bytes from `at` on, in place.
+    pub fn write(&mut self, at: u64, bytes: &[u8]) -> io::Result<()> {
+        self.is_synced = false;
+        self.file.write_all_at(bytes, at)?;
+        self.size = self.size.max(at.saturating_add(bytes.len() as u64));
+        Ok(())
+    }
+
+    /// Gives it this length, where it has another.
+    pub fn cut(&mut self, length: u64) -> io::Result<()> {
+        self.is_synced = false;
+        if self.size == length {
+            return Ok(());
+        }
+        self.file.set_len(length)?;
+        self.size = length;
+        Ok(())
+    }
+
+    /// Lets its bytes be on the disk, where this program didn't yet.
+    pub fn sync(&mut self) -> io::Result<()> {
+        if !self.is_synced {
+            self.file.sync_data()?;
+            self.is_synced = true;
+        }
+        Ok(())
+    }
+}
+
+/// Opens a file. None where it is absent.
+pub fn open_there<R: Files>(files: &R, name: &str) -> io::Result<Option<Opened<R::File>>>
+where
+    R::File: FileExt,
+{
+    match OpenOptions::new().read(true).write(true).open(files, name) {
+        Ok(file) => Ok(Some(Opened::of(file)?)),
         Err(error) if error.kind() == ErrorKind::NotFound => Ok(None),
         Err(error) => Err(error),
     }
 }
 
-/// Opens a file, and tells how many bytes it has. Where it is absent an empty one is made.
-pub fn open_or_make<R: Files>(files: &R, name: &str) -> io::Result<(R::File, u64)> {
+/// Opens a file. Where it is absent an empty one is made.
+pub fn open_or_make<R: Files>(files: &R, name: &str) -> io::Result<Opened<R::File>>
+where
+    R::File: FileExt,
+{
     let file = OpenOptions::new()
         .read(true)
         .write(true)
         .create(true)
         .mode(OWNER_ALONE)
         .open(files, name)?;
-    let size = size_of(&file)?;
-    Ok((file, size))
-}
-
-// How many bytes an open file has. An error where it is no file.
-fn size_of<F: OpenFile>(file: &F) -> io::Result<u64> {
-    let there = file.metadata()?;
-    if !there.is_file() {
-        return Err(io::Error::from(ErrorKind::InvalidInput));
-    }
-    Ok(there.len())
+    Opened::of(file)
 }
 
 /// A size of at most this many bytes. A greater one is an error.
@@ -54,45 +112,25 @@ pub fn within(size: u64, most: u64) -> io::Result<u64>
     Ok(size)
 }
 
-/// Reads the bytes from `at` on.
-pub fn read_at<F: Read + Seek>(file: &mut F, at: u64, into: &mut [u8]) -> io::Result<()> {
-    file.seek(SeekFrom::Start(at))?;
-    file.read_exact(into)
-}
-
-/// Writes these bytes from `at` on, in place.
-pub fn write_at<F: Write + Seek>(file: &mut F, at: u64, bytes: &[u8]) -> io::Result<()> {
-    file.seek(SeekFrom::Start(at))?;
-    file.write_all(bytes)
-}
-
-/// Puts these bytes in place of a file's, which is never seen in part: they are written to a new file and synced, the
-/// new file takes the name, and the folder is synced.
-pub fn replace<R: Files>(files: &R, new: &str, name: &str, bytes: &[u8]) -> io::Result<()> {
-    write_whole(files, new, bytes)?;
+/// Puts these bytes in place of a file's, which is never seen in part: they are written to a new file and synced, and
+/// the new file takes the name, which is not synced yet. The new file stays open.
+pub fn replace<R: Files>(
+    files: &R,
+    new: &str,
+    name: &str,
+    bytes: &[u8],
+) -> io::Result<Opened<R::File>>
+where
+    R::File: FileExt,
+{
+    let mut opened = open_or_make(files, new)?;
+    if opened.size > 0 {
+        opened.cut(0)?;
+    }
+    opened.write(0, bytes)?;
+    opened.sync()?;
     fs::rename(files, new, name)?;
-    sync_folder(files)
-}
-
-// Writes a whole file, whatever an earlier program left there, and syncs it.
-fn write_whole<R: Files>(files: &R, name: &str, bytes: &[u8]) -> io::Result<()> {
-    let (mut file, size) = open_or_make(files, name)?;
-    if size > 0 {
-        file.set_len(0)?;
-    }
-    file.write_all(bytes)?;
-    file.sync_data()
-}
-
-/// Lets the bytes of a file be on the disk, whoever wrote them. Whether it is there.
-pub fn sync_there<R: Files>(files: &R, name: &str) -> io::Result<bool> {
-    match open_there(files, name)? {
-        Some((file, _)) => {
-            file.sync_data()?;
-            Ok(true)
-        }
-        None => Ok(false),
-    }
+    Ok(opened)
 }
 
 /// Lets the names of the folder's files be on the disk.

@@ -1,16 +1,19 @@
 //! The files `nv` and `register`.
 
-use crate::disk::{
-    open_or_make, open_there, read_at, replace, sync_folder, sync_there, within, write_at,
-};
+use crate::disk::{Opened, replace, sync_folder, within};
+use crate::kept::Kept;
 use crate::lock::Lock;
 use mm_digest::{Digest, extended, zero};
 use std::fs::{self, OpenFile};
 use std::io::{self, ErrorKind};
+use std::os::unix::fs::FileExt;
 use std::rt::Files;
 
 /// The bytes of `nv`: two cells and a selector.
 const WHOLE: usize = 209;
+
+/// Where the selector is.
+const SELECTOR: u16 = 208;
 
 /// The current directory, which is locked from the first call on. What is read of it was synced by this program, whoever
 /// wrote it: a program that was stopped may have left bytes that the system shows and the disk hasn't.
@@ -18,19 +21,23 @@ const WHOLE: usize = 209;
 pub struct Folder<'a, R: Files> {
     files: &'a R,
     lock: Option<R::File>,
-    // Whether the name `nv` is on the disk.
-    is_listed: bool,
+    nv: Kept<'a, R>,
+    register: Kept<'a, R>,
+    // What was read of `nv` with the selector, for the next read.
+    seen: Option<[u8; WHOLE]>,
 }
 
 impl<'a, R: Files> Folder<'a, R>
 where
-    R::File: Lock,
+    R::File: Lock + FileExt,
 {
     pub fn new(files: &'a R) -> Folder<'a, R> {
         Folder {
             files,
             lock: None,
-            is_listed: false,
+            nv: Kept::new(files, "nv"),
+            register: Kept::new(files, "register"),
+            seen: None,
         }
     }
 
@@ -42,62 +49,133 @@ where
         }
         let folder = fs::open(self.files, ".")?;
         folder.lock_alone()?;
-        let is_there = sync_there(self.files, "nv")?;
-        let _ = sync_there(self.files, "register")?;
+        let nv = synced(&mut self.nv)?;
+        let register = synced(&mut self.register)?;
         folder.sync_all()?;
-        self.is_listed = is_there;
+        keep_listed(&mut self.nv, nv);
+        keep_listed(&mut self.register, register);
         self.lock = Some(folder);
         Ok(())
     }
 
-    /// The bytes of `nv`. Those past its end are zero, and all where it is absent.
-    pub fn nv(&mut self) -> io::Result<[u8; WHOLE]> {
+    /// The bytes of `nv`. Those past its end are zero, and all where it is absent. They are read with the selector, and
+    /// the next read has these.
+    pub fn nv(&mut self, at: u16) -> io::Result<[u8; WHOLE]> {
+        let seen = self.seen.take();
+        if at == SELECTOR {
+            let bytes = self.read_nv()?;
+            self.seen = Some(bytes);
+            return Ok(bytes);
+        }
+        match seen {
+            Some(bytes) => Ok(bytes),
+            None => self.read_nv(),
+        }
+    }
+
+    // Reads `nv`.
+    fn read_nv(&mut self) -> io::Result<[u8; WHOLE]> {
         self.enter()?;
         let mut bytes = [0; WHOLE];
-        if let Some((mut file, size)) = open_there(self.files, "nv")? {
-            let size = within(size, WHOLE as u64)?;
-            read_at(&mut file, 0, &mut bytes[..size as usize])?;
+        if let Some(mut opened) = self.nv.look()? {
+            let size = within(opened.size, WHOLE as u64)?;
+            self.settle(&mut opened)?;
+            opened.file.read_exact_at(&mut bytes[..size as usize], 0)?;
+            self.nv.keep(opened);
         }
         Ok(bytes)
     }
 
     /// Writes these bytes of `nv` from `at` on, in place.
     pub fn put_nv(&mut self, at: u16, bytes: &[u8]) -> io::Result<()> {
+        self.seen = None;
         self.enter()?;
-        let (mut file, size) = open_or_make(self.files, "nv")?;
-        let _ = within(size, WHOLE as u64)?;
-        write_at(&mut file, u64::from(at), bytes)?;
-        file.sync_data()?;
-        if !self.is_listed {
-            sync_folder(self.files)?;
-            self.is_listed = true;
-        }
+        let mut opened = self.nv.look_or_make()?;
+        let _ = within(opened.size, WHOLE as u64)?;
+        opened.write(u64::from(at), bytes)?;
+        self.settle(&mut opened)?;
+        self.nv.keep(opened);
         Ok(())
     }
 
     /// The register's value, zero where the file is absent.
     pub fn register(&mut self) -> io::Result<Digest> {
         self.enter()?;
-        let Some((mut file, size)) = open_there(self.files, "register")? else {
+        let found = self.register.look()?;
+        self.value_of(found)
+    }
+
+    // The value in the register's file.
+    fn value_of(&mut self, found: Option<Opened<R::File>>) -> io::Result<Digest> {
+        let Some(mut opened) = found else {
             return Ok(zero());
         };
-        if size != 32 {
+        if opened.size != 32 {
             return Err(io::Error::from(ErrorKind::InvalidData));
         }
+        self.settle(&mut opened)?;
         let mut bytes = [0; 32];
-        read_at(&mut file, 0, &mut bytes)?;
+        opened.file.read_exact_at(&mut bytes, 0)?;
+        self.register.keep(opened);
         Ok(Digest { bytes })
     }
 
     /// Puts this value in place of the register's, whatever the file has.
     pub fn put_register(&mut self, value: &Digest) -> io::Result<()> {
         self.enter()?;
-        replace(self.files, "register.new", "register", &value.bytes)
+        self.register.close();
+        let mut opened = replace(self.files, "register.new", "register", &value.bytes)?;
+        self.settle(&mut opened)?;
+        self.register.keep(opened);
+        Ok(())
     }
 
-    /// Extends the register by a value.
+    /// Extends the register by a value. The file isn't looked at for that where it is open.
     pub fn extend_register(&mut self, value: &Digest) -> io::Result<()> {
-        let old = self.register()?;
+        self.enter()?;
+        let found = self.register.take()?;
+        let old = self.value_of(found)?;
         self.put_register(&extended(&old, value))
+    }
+
+    // Lets a file's bytes and its name be on the disk, where this program didn't yet.
+    fn settle(&self, opened: &mut Opened<R::File>) -> io::Result<()> {
+        opened.sync()?;
+        if !opened.is_listed {
+            self.sync_names()?;
+            opened.is_listed = true;
+        }
+        Ok(())
+    }
+
+    // Lets the names be on the disk.
+    fn sync_names(&self) -> io::Result<()> {
+        match &self.lock {
+            Some(folder) => folder.sync_all(),
+            None => sync_folder(self.files),
+        }
+    }
+}
+
+// Opens a file, and lets its bytes be on the disk.
+fn synced<R: Files>(kept: &mut Kept<'_, R>) -> io::Result<Option<Opened<R::File>>>
+where
+    R::File: FileExt,
+{
+    let Some(mut opened) = kept.take()? else {
+        return Ok(None);
+    };
+    opened.sync()?;
+    Ok(Some(opened))
+}
+
+// Keeps a file whose name is on the disk.
+fn keep_listed<R: Files>(kept: &mut Kept<'_, R>, found: Option<Opened<R::File>>)
+where
+    R::File: FileExt,
+{
+    if let Some(mut opened) = found {
+        opened.is_listed = true;
+        kept.keep(opened);
     }
 }

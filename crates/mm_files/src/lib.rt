@@ -5,6 +5,7 @@
 mod counting;
 mod disk;
 mod folder;
+mod kept;
 mod lock;
 mod pages;
 mod platform;
@@ -15,6 +16,3 @@ pub use lock::Lock;
 pub use pages::FilePages;
 pub use platform::FilePlatform;
 pub use source::FileSource;
-
-#[cfg(test)]
-mod tests;

@@ -7,9 +7,11 @@ use crate::counting::counted;
 use crate::slots::Slots;
 use mm_base::Failed;
 use mm_pages::PageDevice;
+use std::os::unix::fs::FileExt;
 use std::rt::Files;
 
 /// Four slots in the files `slot0` to `slot3` of the current directory, which have the plain bytes. No content is told.
+/// Each file stays open from the first call on it.
 #[derive(Drop)]
 pub struct FilePages<'a, R: Files> {
     slots: Slots<'a, R>,
@@ -19,7 +21,10 @@ pub struct FilePages<'a, R: Files> {
     length_writes: u64,
 }
 
-impl<'a, R: Files> FilePages<'a, R> {
+impl<'a, R: Files> FilePages<'a, R>
+where
+    R::File: FileExt,
+{
     /// The pages of these files. None is opened before the first call.
     pub fn new(files: &'a R) -> FilePages<'a, R>
         ensures faults { result.faults ≡ 0 }
@@ -37,34 +42,37 @@ impl<'a, R: Files> FilePages<'a, R> {
     }
 }
 
-impl<R: Files> PageDevice for FilePages<'_, R> {
+impl<R: Files> PageDevice for FilePages<'_, R>
+where
+    R::File: FileExt,
+{
     ghost pages = { λ it. untold_pages it.faults it.page_reads it.page_writes it.length_writes };
 
     fn length(&mut self, slot: u8) -> Result<u32, Failed> {
-        let outcome = self.slots.length(slot);
+        let outcome = self.slots.get(slot).length();
         counted(&mut self.faults, outcome)
     }
 
     fn read_page(&mut self, slot: u8, page: u16, into: &mut [u8; 256]) -> Result<(), Failed> {
         self.page_reads = self.page_reads.saturating_add(1);
-        let outcome = self.slots.read(slot, page, into);
+        let outcome = self.slots.get(slot).read(page, into);
         counted(&mut self.faults, outcome)
     }
 
     fn write_page(&mut self, slot: u8, page: u16, bytes: &[u8; 256]) -> Result<(), Failed> {
         self.page_writes = self.page_writes.saturating_add(1);
-        let outcome = self.slots.write(slot, page, bytes);
+        let outcome = self.slots.get(slot).write(page, bytes);
         counted(&mut self.faults, outcome)
     }
 
     fn set_length(&mut self, slot: u8, length: u32) -> Result<(), Failed> {
         self.length_writes = self.length_writes.saturating_add(1);
-        let outcome = self.slots.set_length(slot, u64::from(length));
+        let outcome = self.slots.get(slot).set_length(u64::from(length));
         counted(&mut self.faults, outcome)
     }
 
     fn sync(&mut self, slot: u8) -> Result<(), Failed> {
-        let outcome = self.slots.sync(slot);
+        let outcome = self.slots.get(slot).sync();
         counted(&mut self.faults, outcome)
     }
 }

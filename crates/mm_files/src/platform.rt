@@ -11,12 +11,13 @@ use mm_base::Memory;
 use mm_digest::{Digest, zero};
 use mm_platform::{Device, RawNv, Register, StepFault};
 use std::io;
+use std::os::unix::fs::FileExt;
 use std::rt::Files;
 
 /// Non-volatile memory of 209 bytes in the file `nv`, and a register of 32 bytes in the file `register`, both of the
 /// current directory. They emulate devices that the host can't put back: whoever may write these files can. No content
 /// is told. The first call locks the directory and syncs both files; where another program holds the lock each call
-/// fails.
+/// fails. Both files stay open. Memory is read with the byte at 208, and the next reading call tells what was read then.
 #[derive(Drop)]
 pub struct FilePlatform<'a, R: Files> {
     folder: Folder<'a, R>,
@@ -27,7 +28,7 @@ pub struct FilePlatform<'a, R: Files> {
 
 impl<'a, R: Files> FilePlatform<'a, R>
 where
-    R::File: Lock,
+    R::File: Lock + FileExt,
 {
     /// The platform over these files. None is opened before the first call.
     pub fn new(files: &'a R) -> FilePlatform<'a, R>
@@ -57,17 +58,17 @@ fn told<T>(faults: &mut u64, outcome: io::Result<T>) -> Result<T, StepFault>
 
 impl<R: Files> Device for FilePlatform<'_, R>
 where
-    R::File: Lock,
+    R::File: Lock + FileExt,
 {
     ghost standing = { λ it. untold it.steps it.cycles it.faults };
 }
 
 impl<R: Files> RawNv for FilePlatform<'_, R>
 where
-    R::File: Lock,
+    R::File: Lock + FileExt,
 {
     fn raw_read(&mut self, at: u16, into: &mut [u8]) -> Result<(), StepFault> {
-        let outcome = self.folder.nv();
+        let outcome = self.folder.nv(at);
         let bytes = told(&mut self.faults, outcome)?;
         let start = usize::from(at);
         into.copy_from_slice(&bytes[start..start + into.len()]);
@@ -90,7 +91,7 @@ where
 
 impl<R: Files> Register for FilePlatform<'_, R>
 where
-    R::File: Lock,
+    R::File: Lock + FileExt,
 {
     fn reg_ready(&mut self) -> Result<(), Memory> {
         Ok(())

@@ -1,127 +1,149 @@
 //! The files `slot0` to `slot3`.
 
-ghost use Rattle.std.specs.Prelude.{◌<◌, ◌≤◌};
+ghost use Rattle.std.specs.Prelude.{◌≤◌};
 
-use crate::disk::{open_or_make, open_there, read_at, sync_folder, write_at};
-use std::fs::OpenFile;
+use crate::disk::{Opened, sync_folder};
+use crate::kept::Kept;
 use std::io;
+use std::os::unix::fs::FileExt;
 use std::rt::Files;
 
 /// The bytes of a page.
 const PAGE: u64 = 256;
 
-/// The files of the slots. A page is written up to its last byte that isn't zero, and over all that the file has of
-/// it. So a slot has the bytes of its file, and behind them zero bytes up to the length that writes of pages gave it.
-/// `sync` lets the file have that length. A slot is taken for unsynced until this program synced it.
+/// The files of the slots.
 #[derive(Drop)]
 pub struct Slots<'a, R: Files> {
-    files: &'a R,
-    // The length that writes of pages gave each slot, none where it is that of its file.
-    lengths: [Option<u64>; 4],
-    // Whether the bytes of each slot are on the disk, and whether its name is.
-    are_synced: [bool; 4],
-    are_listed: [bool; 4],
+    first: Slot<'a, R>,
+    second: Slot<'a, R>,
+    third: Slot<'a, R>,
+    fourth: Slot<'a, R>,
 }
 
-impl<'a, R: Files> Slots<'a, R> {
+impl<'a, R: Files> Slots<'a, R>
+where
+    R::File: FileExt,
+{
     pub fn new(files: &'a R) -> Slots<'a, R> {
         Slots {
-            files,
-            lengths: [None; 4],
-            are_synced: [false; 4],
-            are_listed: [false; 4],
+            first: Slot::new(files, "slot0"),
+            second: Slot::new(files, "slot1"),
+            third: Slot::new(files, "slot2"),
+            fourth: Slot::new(files, "slot3"),
         }
     }
 
-    /// How many bytes a slot has, none where its file is absent. What an earlier program wrote to it is on the disk
+    /// The slot of this number below 4.
+    pub fn get(&mut self, slot: u8) -> &mut Slot<'a, R> {
+        match slot {
+            0 => &mut self.first,
+            1 => &mut self.second,
+            2 => &mut self.third,
+            _ => &mut self.fourth,
+        }
+    }
+}
+
+/// The file of a slot. A page is written up to its last byte that isn't zero, and over all that the file has of it. So
+/// a slot has the bytes of its file, and behind them zero bytes up to the length that writes of pages gave it. `sync`
+/// lets the file have that length. What was opened is taken for unsynced until this program synced it.
+///
+/// The file stays open. It is looked at where page 0 is read or written, and where its length is asked: so one that
+/// others put in its place is found by whoever reads or writes the slot from the front on.
+#[derive(Drop)]
+pub struct Slot<'a, R: Files> {
+    files: &'a R,
+    kept: Kept<'a, R>,
+    // The length that writes of pages gave it, none where it is that of its file.
+    length: Option<u64>,
+}
+
+impl<'a, R: Files> Slot<'a, R>
+where
+    R::File: FileExt,
+{
+    fn new(files: &'a R, name: &'static str) -> Slot<'a, R> {
+        Slot {
+            files,
+            kept: Kept::new(files, name),
+            length: None,
+        }
+    }
+
+    /// How many bytes the slot has, none where its file is absent. What an earlier program wrote to it is on the disk
     /// afterwards.
-    pub fn length(&mut self, slot: u8) -> io::Result<u32>
-        requires { slot < 4 }
-    {
-        if let Some(length) = self.lengths[usize::from(slot)] {
+    pub fn length(&mut self) -> io::Result<u32> {
+        if let Some(length) = self.length {
             return Ok(u32::try_from(length).unwrap_or(u32::MAX));
         }
-        let Some((file, size)) = open_there(self.files, name_of(slot))? else {
+        let Some(opened) = self.kept.look()? else {
             return Ok(0);
         };
-        self.sync_file(slot, &file)?;
+        let size = opened.size;
+        self.settle(opened)?;
         Ok(u32::try_from(size).unwrap_or(u32::MAX))
     }
 
     /// Reads a page. Bytes past the slot's end are zero.
-    pub fn read(&self, slot: u8, page: u16, into: &mut [u8; 256]) -> io::Result<()> {
+    pub fn read(&mut self, page: u16, into: &mut [u8; 256]) -> io::Result<()> {
         *into = [0; 256];
-        let Some((mut file, size)) = open_there(self.files, name_of(slot))? else {
-            return Ok(());
+        let found = match page {
+            0 => self.kept.look()?,
+            _ => self.kept.take()?,
         };
-        let start = start_of(page);
-        let (front, _) = into.split_at_mut(part_of(size, start));
-        read_at(&mut file, start, front)
-    }
-
-    /// Writes a page, in place. After an error the slot has the bytes of its file alone.
-    pub fn write(&mut self, slot: u8, page: u16, bytes: &[u8; 256]) -> io::Result<()>
-        requires { slot < 4 }
-    {
-        let length = self.forget(slot);
-        let (mut file, size) = open_or_make(self.files, name_of(slot))?;
-        let start = start_of(page);
-        let (front, _) = bytes.split_at(size_set(bytes).max(part_of(size, start)));
-        write_at(&mut file, start, front)?;
-        self.lengths[usize::from(slot)] = Some(size.max(length).max(start + PAGE));
+        if let Some(opened) = found {
+            let start = start_of(page);
+            let (front, _) = into.split_at_mut(part_of(opened.size, start));
+            opened.file.read_exact_at(front, start)?;
+            self.kept.keep(opened);
+        }
         Ok(())
     }
 
-    /// Cuts a slot to this length, or fills it up to there with zero bytes. Its file is changed where it has another.
-    /// After an error the slot has the bytes of its file alone.
-    pub fn set_length(&mut self, slot: u8, length: u64) -> io::Result<()>
-        requires { slot < 4 }
-    {
-        let _ = self.forget(slot);
-        let (file, size) = open_or_make(self.files, name_of(slot))?;
-        if size == length {
-            return Ok(());
-        }
-        file.set_len(length)
+    /// Writes a page, in place. After an error the slot has the bytes of its file alone.
+    pub fn write(&mut self, page: u16, bytes: &[u8; 256]) -> io::Result<()> {
+        let length = self.length.take().unwrap_or(0);
+        let mut opened = match page {
+            0 => self.kept.look_or_make()?,
+            _ => self.kept.take_or_make()?,
+        };
+        let start = start_of(page);
+        let (front, _) = bytes.split_at(size_set(bytes).max(part_of(opened.size, start)));
+        opened.write(start, front)?;
+        self.length = Some(opened.size.max(length).max(start + PAGE));
+        self.kept.keep(opened);
+        Ok(())
     }
 
-    /// Lets a slot's bytes, in a file of their length, and its name be on the disk. An absent file stays so.
-    pub fn sync(&mut self, slot: u8) -> io::Result<()>
-        requires { slot < 4 }
-    {
-        if let Some(length) = self.lengths[usize::from(slot)] {
-            self.set_length(slot, length)?;
+    /// Cuts the slot to this length, or fills it up to there with zero bytes. Its file is changed where it has another.
+    /// After an error the slot has the bytes of its file alone.
+    pub fn set_length(&mut self, length: u64) -> io::Result<()> {
+        self.length = None;
+        let mut opened = self.kept.take_or_make()?;
+        opened.cut(length)?;
+        self.kept.keep(opened);
+        Ok(())
+    }
+
+    /// Lets the slot's bytes, in a file of their length, and its name be on the disk. An absent file stays so.
+    pub fn sync(&mut self) -> io::Result<()> {
+        if let Some(length) = self.length {
+            self.set_length(length)?;
         }
-        match open_there(self.files, name_of(slot))? {
-            Some((file, _)) => self.sync_file(slot, &file),
+        match self.kept.take()? {
+            Some(opened) => self.settle(opened),
             None => Ok(()),
         }
     }
 
-    // Takes a slot for unsynced and for as long as its file, and answers how long writes of pages made it.
-    fn forget(&mut self, slot: u8) -> u64
-        requires { slot < 4 }
-    {
-        let at = usize::from(slot);
-        let length = self.lengths[at].unwrap_or(0);
-        self.lengths[at] = None;
-        self.are_synced[at] = false;
-        length
-    }
-
-    // Lets a file's bytes and its name be on the disk.
-    fn sync_file(&mut self, slot: u8, file: &R::File) -> io::Result<()>
-        requires { slot < 4 }
-    {
-        let at = usize::from(slot);
-        if !self.are_synced[at] {
-            file.sync_data()?;
-            self.are_synced[at] = true;
-        }
-        if !self.are_listed[at] {
+    // Lets the file's bytes and its name be on the disk, where this program didn't yet.
+    fn settle(&mut self, mut opened: Opened<R::File>) -> io::Result<()> {
+        opened.sync()?;
+        if !opened.is_listed {
             sync_folder(self.files)?;
-            self.are_listed[at] = true;
+            opened.is_listed = true;
         }
+        self.kept.keep(opened);
         Ok(())
     }
 }
@@ -151,13 +173,4 @@ fn size_set(bytes: &[u8; 256]) -> usize
         }
     }
     size
-}
-
-fn name_of(slot: u8) -> &'static str {
-    match slot {
-        0 => "slot0",
-        1 => "slot1",
-        2 => "slot2",
-        _ => "slot3",
-    }
 }

@@ -1,0 +1,95 @@
+//! Calls on the four slots, each with a slot and up to two numbers. `page S P N` writes page P with N bytes 7 in front,
+//! `byte S P I` reads byte I of page P, `length S`, `set S N` and `sync S` are the calls of these names, `fail K` lets
+//! the K-th call on files fail. Others let the file have N bytes 5 by `fill S N`, put another one of N in its place by
+//! `swap S N`, a device by `device S`, and nothing by `remove S`.
+
+use crate::line::{Asked, byte_in, done, read_line};
+use crate::mount::Mount;
+use mm_base::Failed;
+use mm_files::FilePages;
+use mm_pages::PageDevice;
+use std::io;
+
+/// Plays these lines over the slots' files.
+pub fn keep_over(mount: &Mount<'_>, lines: &str) -> io::Result<()> {
+    let mut pages = FilePages::new(mount);
+    keep_lines(mount, &mut pages, lines)
+}
+
+fn keep_lines<D: PageDevice>(mount: &Mount<'_>, pages: &mut D, lines: &str) -> io::Result<()> {
+    for line in lines.lines() {
+        mount.0.tell_asked(line)?;
+        let answer = answer(mount, pages, &read_line(line));
+        mount.0.tell_answer(answer)?;
+    }
+    Ok(())
+}
+
+// Does what a line asks.
+fn answer<D: PageDevice>(mount: &Mount<'_>, pages: &mut D, asked: &Asked<'_>) -> Option<u64> {
+    match asked.word {
+        "page" | "byte" => on_page(pages, asked),
+        "length" | "set" | "sync" => on_slot(pages, asked),
+        _ => meddle(mount, asked),
+    }
+}
+
+// A call on a page.
+fn on_page<D: PageDevice>(pages: &mut D, asked: &Asked<'_>) -> Option<u64> {
+    let slot = asked.first.min(3) as u8;
+    let page = asked.second.min(4296);
+    if asked.word == "page" {
+        return done(pages.write_page(slot, page, &page_of(asked.third)));
+    }
+    let mut there = page_of(256);
+    match pages.read_page(slot, page, &mut there) {
+        Ok(()) => Some(byte_in(&there, asked.third)),
+        Err(Failed) => None,
+    }
+}
+
+// A page with so many bytes 7 in front.
+fn page_of(count: u16) -> [u8; 256] {
+    let mut page = [0; 256];
+    let (front, _) = page.split_at_mut(usize::from(count).min(256));
+    front.fill(7);
+    page
+}
+
+// A call on a whole slot.
+fn on_slot<D: PageDevice>(pages: &mut D, asked: &Asked<'_>) -> Option<u64> {
+    let slot = asked.first.min(3) as u8;
+    match asked.word {
+        "set" => done(pages.set_length(slot, u32::from(asked.second))),
+        "sync" => done(pages.sync(slot)),
+        _ => length_of(pages, asked),
+    }
+}
+
+fn length_of<D: PageDevice>(pages: &mut D, asked: &Asked<'_>) -> Option<u64> {
+    match pages.length(asked.first.min(3) as u8) {
+        Ok(length) => Some(u64::from(length)),
+        Err(Failed) => None,
+    }
+}
+
+// What others do.
+fn meddle(mount: &Mount<'_>, asked: &Asked<'_>) -> Option<u64> {
+    let name = name_of(asked.first);
+    match asked.word {
+        "fill" => done(mount.0.put(name, asked.second)),
+        "swap" => done(mount.0.swap(name, asked.second)),
+        "device" => done(mount.0.put_device(name)),
+        "remove" => done(mount.0.remove(name)),
+        _ => Some(mount.0.fail_at(asked.first)),
+    }
+}
+
+fn name_of(slot: u16) -> &'static str {
+    match slot {
+        0 => "slot0",
+        1 => "slot1",
+        2 => "slot2",
+        _ => "slot3",
+    }
+}
