@@ -26,7 +26,8 @@ use Rattle.mm_rows.specs.Recovering.{CanRecoverInMemory, RecoversInMemory}
 use Rattle.mm_rows.specs.Starting.{StartsInMemory}
 
 can_recover : {all others : List (List ℕ)} {asked : List Batch} {i : Instance} {y : History} {it : TwoCell Torn} {store : Cached Sheets} →
-    CanRecoverInMemory all others asked i y it store → CanRecover all others asked i y store.device.slots (two_cells it) (kept_in_pages store)
+    CanRecoverInMemory all others asked i y it store
+    → CanRecover all others asked i y store.device.slots (two_cells it) (kept_in_pages store)
 can_recover can = record {
   honest = refl;
   told = refl;
@@ -38,7 +39,8 @@ can_recover can = record {
   is_asked = can.is_asked;
 }
 
-pub recovers_in_memory : (variant : Variant) (meaning : Meaning) (before after : TwoCell Torn) (old new : Cached Sheets) (result : Result Resumed HostFault) →
+pub recovers_in_memory : (variant : Variant) (meaning : Meaning) (before after : TwoCell Torn) (old new : Cached Sheets)
+    (result : Result Resumed HostFault) →
     Recovers variant meaning (two_cells before) (two_cells after) (kept_in_pages old) (kept_in_pages new) result →
     RecoversInMemory variant meaning before after old new result
 unfolding can_recover
@@ -53,7 +55,8 @@ told_whole bytes e = rw e
 
 pub tells_picked : (it : TwoCell Torn) (bytes : List ℕ) → it.raw.standing.cell ≡ Some bytes → length bytes ≡ 209 →
     (cell : List ℕ) × ((two_cells it).cell ≡ Some cell)
-tells_picked it bytes e size = (picked bytes, ap (λ (c : Option (List ℕ)). option_map picked (whole_bytes c)) e ∙ ap (option_map picked) (told_whole bytes size))
+tells_picked it bytes e size =
+    (picked bytes, ap (λ (c : Option (List ℕ)). option_map picked (whole_bytes c)) e ∙ ap (option_map picked) (told_whole bytes size))
 
 some_same : (a b : Slots) → (let o : Option Slots = Some a in o ≡ Some b) → a ≡ b
 some_same a b h = cc
@@ -61,7 +64,8 @@ some_same a b h = cc
 some_marks : (a b : Unsynced) → (let o : Option Unsynced = Some a in o ≡ Some b) → a ≡ b
 some_marks a b h = cc
 
-starts : (variant : Variant) (meaning : Meaning) (before after : TwoCell Torn) (old new : Cached Sheets) (entropy entropy' : Supply) (cell : List ℕ) →
+starts : (variant : Variant) (meaning : Meaning) (before after : TwoCell Torn) (old new : Cached Sheets) (entropy entropy' : Supply)
+    (cell : List ℕ) →
     (two_cells before).cell ≡ Some cell →
     Begins variant meaning (first_devices before old entropy) (first_devices after new entropy') →
     StartsInMemory variant meaning after new entropy.left entropy'.left
@@ -75,7 +79,8 @@ starts variant meaning before after old new entropy entropy' cell told b = recor
   first = b.first;
 }
 
-pub starts_in_memory : (variant : Variant) (meaning : Meaning) (before after : TwoCell Torn) (old new : Cached Sheets) (entropy entropy' : Supply) (result : Result Unit InitFault) →
+pub starts_in_memory : (variant : Variant) (meaning : Meaning) (before after : TwoCell Torn) (old new : Cached Sheets)
+    (entropy entropy' : Supply) (result : Result Unit InitFault) →
     ((cell : List ℕ) × ((two_cells before).cell ≡ Some cell)) →
     Leaves variant meaning (first_devices before old entropy) (first_devices after new entropy') result →
     OnOk result (StartsInMemory variant meaning after new entropy.left entropy'.left)

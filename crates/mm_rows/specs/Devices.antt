@@ -1,4 +1,5 @@
--- What stands on devices in memory: two cells over a memory whose writes tear, and a store over pages.
+-- What stands on devices in memory: two cells over a memory whose writes tear, and a store over
+-- pages.
 use Rattle.std.specs.Prelude.{true, None, Some}
 use Rattle.std.specs.Option.{option_map}
 use Rattle.mm_base.specs.Streams.{Supply}
@@ -11,8 +12,8 @@ use Rattle.mm_twocell.specs.Pairs.{picked}
 use Rattle.mm_twocell.specs.Torn.{Torn, whole_bytes}
 use Rattle.mm_twocell.specs.declared.pair.TwoCell.{TwoCell}
 
--- The cell is the one that the last of the memory's 209 bytes picks; the register, power, room and faults are those
--- of the memory's platform. No plan is told.
+-- The cell is the one that the last of the memory's 209 bytes picks; the register, power, room and
+-- faults are those of the memory's platform. No plan is told.
 abbrev pub two_cells : TwoCell Torn → Standing
 two_cells it = record {
   cell = option_map picked (whole_bytes it.raw.standing.cell);
@@ -26,7 +27,8 @@ two_cells it = record {
   plan = None;
 }
 
--- the slots are the bytes of the pages, which are told, and honest; it is told which of them are synced
+-- the slots are the bytes of the pages, which are told, and honest; it is told which of them are
+-- synced
 abbrev pub kept_in_pages : Cached Sheets → StoreStanding
 kept_in_pages store = record {
   slots = Some store.device.slots;

@@ -6,7 +6,8 @@ use Rattle.mm_digest.specs.Messages.{start_message}
 use Rattle.mm_digest.specs.declared.variant.Variant.TheVariants.{Basic}
 use Rattle.mm_module.specs.Batch.{Batch}
 use Rattle.mm_module.specs.Meaning.{Meaning}
-use Rattle.mm_model.specs.Instance.{Instance, basic}
+use Rattle.mm_model.specs.Instance.{Instance}
+use Rattle.mm_model.specs.InstanceWords.{basic}
 use Rattle.mm_model.specs.History.{first_history}
 use Rattle.mm_model.specs.Messages.{IsClear, AreNoGuards}
 use Rattle.mm_host.specs.Continuing.{AreToFollow, ContinuesTo, IsInHand, told_in}
@@ -18,26 +19,30 @@ use Rattle.mm_twocell.specs.Torn.{Torn}
 use Rattle.mm_twocell.specs.declared.pair.TwoCell.{TwoCell}
 use Rattle.mm_rows.specs.Devices.{kept_in_pages, two_cells}
 
--- What is asked of the lines: they are asked one after another from the first history, and no two messages of this
--- share a digest.
-pub record CanBegin (all others : List (List ℕ)) (asked : List Batch) (i : Instance) (lines : List (List ℕ)) : Type 0 where
+-- What is asked of the lines: they are asked one after another from the first history, and no two
+-- messages of this share a digest.
+pub record CanBegin (all others : List (List ℕ)) (asked : List Batch) (i : Instance)
+    (lines : List (List ℕ)) : Type 0 where
   pub clear : IsClear all
   pub apart : AreNoGuards i.barrier others asked
   pub started : Contains all (start_message i.variant i.meaning.id)
   pub follow : AreToFollow all asked i first_history lines
 
--- 64 bytes were taken, of which the first 32 are the key; and a session of Basic was held. What it told is one run of
--- the module from the empty list, and so on. Nothing is asked of the devices.
+-- 64 bytes were taken, of which the first 32 are the key; and a session of Basic was held. What it
+-- told is one run of the module from the empty list, and so on. Nothing is asked of the devices.
 pub record BeginsAndServes (meaning : Meaning) (after : TwoCell Torn) (new : Cached Sheets)
-    (entropy entropy' input input' received received' : List ℕ) (result : Result Unit SessionFault) : Type 0 where
+    (entropy entropy' input input' received received' : List ℕ)
+    (result : Result Unit SessionFault) : Type 0 where
   pub secrets : List ℕ
   pub counted : length secrets ≡ 64
   pub taken : entropy ≡ secrets ++ entropy'
   pub middle : TwoCell Torn
   pub store : Cached Sheets
-  pub session : Sessions Basic meaning (two_cells middle) (two_cells after) (kept_in_pages store) (kept_in_pages new)
+  pub session : Sessions Basic meaning (two_cells middle) (two_cells after) (kept_in_pages store)
+      (kept_in_pages new)
       (Some input) (Some input') (Some received) (Some received') result
   pub continues : (all others : List (List ℕ)) (asked : List Batch)
       → CanBegin all others asked (basic meaning (take 32 secrets)) (lines_of input) →
-      ContinuesTo all others asked (basic meaning (take 32 secrets)) first_history (two_cells after) (kept_in_pages new)
+      ContinuesTo all others asked (basic meaning (take 32 secrets)) first_history (two_cells after)
+      (kept_in_pages new)
       (told_in None session.goes) (IsInHand None session.goes) result

@@ -12,10 +12,11 @@ use Rattle.mm_twocell.specs.Torn.{Torn}
 use Rattle.mm_twocell.specs.declared.pair.TwoCell.{TwoCell}
 use Rattle.mm_rows.specs.Devices.{two_cells}
 
--- 64 bytes were taken. Whatever the memory and the pages held before, the picked cell, and in Opt the register, stand
--- for the first history of the instance of these bytes; and the pages are its first slots, which fit that history. All
--- of them are synced.
-pub record StartsInMemory (variant : Variant) (meaning : Meaning) (after : TwoCell Torn) (new : Cached Sheets)
+-- 64 bytes were taken. Whatever the memory and the pages held before, the picked cell, and in Opt
+-- the register, stand for the first history of the instance of these bytes; and the pages are its
+-- first slots, which fit that history. All of them are synced.
+pub record StartsInMemory (variant : Variant) (meaning : Meaning) (after : TwoCell Torn)
+    (new : Cached Sheets)
     (left left' : List ℕ) : Type 0 where
   pub secrets : List ℕ
   pub counted : length secrets ≡ 64
@@ -24,4 +25,5 @@ pub record StartsInMemory (variant : Variant) (meaning : Meaning) (after : TwoCe
       StandsFor (instance_from variant meaning secrets) (two_cells after) (first_on values)
   pub slots : new.device.slots ≡ first_slots (instance_from variant meaning secrets)
   pub synced : new.device.unsynced ≡ all_synced
-  pub first : (values : List (List ℕ)) → IsFirstStore (instance_from variant meaning secrets) (first_on values)
+  pub first : (values : List (List ℕ))
+      → IsFirstStore (instance_from variant meaning secrets) (first_on values)

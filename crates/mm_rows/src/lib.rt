@@ -1,5 +1,6 @@
-//! The theorem at the types of devices in memory; and tests: whole schedules through the top call, and commands over
-//! devices that fail.
+//! All crates put together once, at types of devices that exist, in memory: there the theorem holds, so its clauses
+//! ask nothing that no device meets. And tests: whole schedules through the top call, and commands over devices that
+//! fail.
 #![tactic(auto)]
 
 mod calls;
@@ -9,32 +10,8 @@ pub use calls::{ask_basic, ask_opt, close_segment};
 pub use sessions::{go_on, serve, start, start_and_serve};
 
 #[cfg(test)]
-mod commands;
-#[cfg(test)]
-mod ends;
-#[cfg(test)]
-mod failing;
-#[cfg(test)]
-mod generated;
-#[cfg(test)]
-mod host;
-#[cfg(test)]
 mod limits;
 #[cfg(test)]
 mod run;
 #[cfg(test)]
-mod schedules;
-#[cfg(test)]
-mod segments;
-#[cfg(test)]
-mod slots;
-#[cfg(test)]
-mod stopped;
-#[cfg(test)]
-mod stops;
-#[cfg(test)]
 mod streams;
-#[cfg(test)]
-mod texts;
-#[cfg(test)]
-mod transfer;

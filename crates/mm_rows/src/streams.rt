@@ -3,7 +3,7 @@
 
 ghost use Rattle.std.specs.Prelude.{None};
 
-use crate::run::{NoBytes, ROOM, command, command_over, replay, sound};
+use crate::run::{command, replay};
 use mm_app::{StdSink, StdSource};
 use mm_base::{Failed, MemSink, MemSource, Memory, Sink, Source};
 use mm_platform::MemPlatform;
@@ -72,7 +72,7 @@ fn comes_to<S: Source>(
     written: &[u8],
     code: u8,
 ) -> Result<bool, Memory> {
-    let mut out = MemSink::new(alloc, ROOM, &[])?;
+    let mut out = MemSink::new(alloc, 100, &[])?;
     Ok(replay(alloc, input, &mut out) == code && out.content() == written)
 }
 
@@ -182,25 +182,15 @@ impl Sink for Counting<'_> {
     }
 }
 
-// Serves an input by a counter, and answers the exit status.
-fn serve<S: Source, K: Sink>(alloc: Global, input: &mut S, out: &mut K) -> Result<u8, Memory> {
+// Starts a counter and serves an input by it, and answers the exit status.
+fn serve<S: Source, K: Sink>(alloc: Global, input: &mut S, out: &mut K) -> u8 {
     let mut platform = MemPlatform::new(alloc, &[0; 104]);
     let mut store = MemStore::new(alloc);
-    let mut streams = sound();
-    streams.secrets = &[7; 64];
+    let replies = Cell::new(0);
+    let mut made = Counting { replies: &replies };
     let words = ["init", "basic", "counter"];
-    command_over(alloc, &words, &mut platform, &mut store, b"", &streams)?;
-    let words = ["run"];
-    let entropy = &mut NoBytes;
-    Ok(command(
-        alloc,
-        &words,
-        &mut platform,
-        &mut store,
-        input,
-        entropy,
-        out,
-    ))
+    command(alloc, &words, &mut platform, &mut store, input, &mut made);
+    command(alloc, &["run"], &mut platform, &mut store, input, out)
 }
 
 /// Source and sink are two values, so that no contract on both tells which was called first.
@@ -234,7 +224,7 @@ fn each_reply_of_a_session_is_out_before_the_next_line(rt: HostRuntime) -> Resul
         faults: 0,
     };
     let mut out = Counting { replies: &replies };
-    assert!(&rt; serve(rt.alloc(), &mut input, &mut out)? == 0);
+    assert!(&rt; serve(rt.alloc(), &mut input, &mut out) == 0);
     assert!(&rt; replies.get() == 4);
     Ok(())
 }

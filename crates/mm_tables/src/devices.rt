@@ -1,0 +1,156 @@
+//! The devices that a scene is played over.
+
+use crate::failing::{FailingRaw, Leaves};
+use crate::notes::Notes;
+use crate::scene::{does, plays, run};
+use crate::setup::Setup;
+use mm_base::{Bytes, Memory, put_decimal, read_decimal};
+use mm_pages::{MemPages, PageStore};
+use mm_platform::MemPlatform;
+use mm_store::MemStore;
+use mm_twocell::{MemRaw, TwoCell};
+use std::alloc::Global;
+
+/// Plays a scene over a platform with this cell and a store, both in memory.
+pub fn over_memory(
+    notes: &mut Notes,
+    cell: &[u8; 104],
+    scene: &str,
+    row: &str,
+) -> Result<bool, Memory> {
+    let mut platform = MemPlatform::new(notes.alloc, cell);
+    let mut store = MemStore::new(notes.alloc);
+    let mut old = MemStore::new(notes.alloc);
+    plays(notes, scene, row, &mut platform, &mut store, &mut old)
+}
+
+/// Does what a word says over a blank platform and an empty store.
+pub fn alone(notes: &mut Notes, word: &str, setup: &Setup, content: &[u8]) -> Result<u64, Memory> {
+    let mut platform = MemPlatform::new(notes.alloc, &[0; 104]);
+    let mut store = MemStore::new(notes.alloc);
+    run(notes, &[word], setup, content, &mut platform, &mut store)
+}
+
+// An empty store of pages.
+fn pages(alloc: Global) -> Result<PageStore<MemPages>, Memory> {
+    PageStore::new(alloc, MemPages::new(alloc)?)
+}
+
+// The same, where this call fails, counted from 1; none where it is 0.
+fn stopping_pages(alloc: Global, call: u64) -> Result<PageStore<MemPages>, Memory> {
+    let mut device = MemPages::new(alloc)?;
+    device.stop_at(call, b"torn")?;
+    PageStore::new(alloc, device)
+}
+
+/// Plays a scene over two cells on a memory, and pages of which this call fails, from 1.
+pub fn over_stopping(
+    notes: &mut Notes,
+    text: &str,
+    scene: &str,
+    row: &str,
+) -> Result<bool, Memory> {
+    let call = read_decimal(text.as_bytes()).unwrap_or(0);
+    let mut store = stopping_pages(notes.alloc, call)?;
+    let mut old = pages(notes.alloc)?;
+    let mut platform = TwoCell::new(MemRaw::new(notes.alloc));
+    plays(notes, scene, row, &mut platform, &mut store, &mut old)
+}
+
+/// Plays a scene over two cells on a memory, and pages.
+pub fn over_pages(notes: &mut Notes, scene: &str, row: &str) -> Result<bool, Memory> {
+    let mut store = pages(notes.alloc)?;
+    let mut old = pages(notes.alloc)?;
+    let mut platform = TwoCell::new(MemRaw::new(notes.alloc));
+    plays(notes, scene, row, &mut platform, &mut store, &mut old)
+}
+
+// Plays a scene over two cells on a memory of which this call fails, and leaves that much.
+fn over_failing_at(
+    notes: &mut Notes,
+    call: u64,
+    leaves: Leaves,
+    scene: &str,
+    row: &str,
+) -> Result<bool, Memory> {
+    let mut store = pages(notes.alloc)?;
+    let mut old = pages(notes.alloc)?;
+    let mut platform = TwoCell::new(FailingRaw::new(call, leaves));
+    plays(notes, scene, row, &mut platform, &mut store, &mut old)
+}
+
+// What a call of this name leaves.
+fn leaves_of(word: &str) -> Option<Leaves> {
+    match word {
+        "none" => Some(Leaves::Nothing),
+        "half" => Some(Leaves::Half),
+        "all" => Some(Leaves::All),
+        "even" => Some(Leaves::Noise(0xb4)),
+        "odd" => Some(Leaves::Noise(0xb5)),
+        _ => None,
+    }
+}
+
+// The call that a text names, and what it leaves.
+fn failure_in(text: &str) -> Option<(u64, Leaves)> {
+    let (call, word) = text.split_once(" ")?;
+    Some((read_decimal(call.as_bytes())?, leaves_of(word)?))
+}
+
+/// Plays a scene over a memory of which a call fails: its number and what it leaves, as `5 half`.
+pub fn over_failing(notes: &mut Notes, text: &str, scene: &str, row: &str) -> Result<bool, Memory> {
+    match failure_in(text) {
+        Some((call, leaves)) => over_failing_at(notes, call, leaves, scene, row),
+        None => notes.tell(false, text, 0),
+    }
+}
+
+// Writes a count with a space before.
+fn put_count(counts: &mut Bytes, count: u64) -> Result<(), Memory> {
+    counts.push(b' ')?;
+    put_decimal(counts, count)
+}
+
+// Runs the commands of a scene, and writes how often a cell was to be written after each; and then how often the
+// register was to be extended.
+fn put_counts(
+    notes: &mut Notes,
+    counts: &mut Bytes,
+    scene: &str,
+    platform: &mut TwoCell<FailingRaw>,
+    store: &mut PageStore<MemPages>,
+    old: &mut PageStore<MemPages>,
+) -> Result<bool, Memory> {
+    for command in scene.split("\n$ ") {
+        if !does(notes, command, "", platform, store, old)? {
+            return Ok(false);
+        }
+        put_count(counts, platform.raw().cell_writes())?;
+    }
+    counts.append(b" -")?;
+    put_count(counts, platform.raw().extensions())?;
+    Ok(true)
+}
+
+// Whether a scene comes to these counts.
+fn comes_to_counts(
+    notes: &mut Notes,
+    scene: &str,
+    row: &str,
+    platform: &mut TwoCell<FailingRaw>,
+    store: &mut PageStore<MemPages>,
+    old: &mut PageStore<MemPages>,
+) -> Result<bool, Memory> {
+    let mut counts = Bytes::new(notes.alloc);
+    let is_played = put_counts(notes, &mut counts, scene, platform, store, old)?;
+    Ok(is_played && counts.as_slice().strip_prefix(b" ") == Some(row.as_bytes()))
+}
+
+/// Whether a scene over two cells on a memory comes to the counts of a row: of writes of the cell after each command,
+/// and of extensions.
+pub fn over_counted(notes: &mut Notes, scene: &str, row: &str) -> Result<bool, Memory> {
+    let mut store = pages(notes.alloc)?;
+    let mut old = pages(notes.alloc)?;
+    let mut platform = TwoCell::new(FailingRaw::new(0, Leaves::Nothing));
+    comes_to_counts(notes, scene, row, &mut platform, &mut store, &mut old)
+}
