@@ -67,7 +67,8 @@ end_of (Err end) = end
 
 wrote_alike : (r : Result (Unit {0}) write.WriteFault) (status : Status) → status ≡ status_by r → BlameAlike status Done
 wrote_alike (Ok done) status e = alike status Done e
-wrote_alike (Err fault) status e = record { platform = ap tells_platform_fault e; store = ap tells_store_fault e; source = ap tells_read_fault e }
+wrote_alike (Err fault) status e =
+    record { platform = ap tells_platform_fault e; store = ap tells_store_fault e; source = ap tells_read_fault e }
 
 told_alike : (told : Result (List ℕ) Status) (received received' : Option (List ℕ)) (writes writes' : ℕ) (status : Status)
     → Tells told received received' writes writes' status → BlameAlike status (end_of told)
@@ -114,7 +115,8 @@ bulk_alike count (Ok summary) = alike Done Done refl
 bulk_alike count (Err much.Memory) = record { platform = refl; store = refl; source = refl }
 bulk_alike count (Err much.TooMuch) = record { platform = refl; store = refl; source = refl }
 
-in_bulk_alike : (count : ℕ) (answer : Result Summary BulkFault) (received received' : Option (List ℕ)) (writes writes' : ℕ) (status : Status)
+in_bulk_alike : (count : ℕ) (answer : Result Summary BulkFault) (received received' : Option (List ℕ)) (writes writes' : ℕ)
+    (status : Status)
     → Tells (bulk_told count answer) received received' writes writes' status → BlameAlike status Done
 in_bulk_alike count answer received received' writes writes' status t =
     let a = told_alike (bulk_told count answer) received received' writes writes' status t in
@@ -126,7 +128,8 @@ power_blames : (fault : Option StepFault) (before after : Standing) (emptied : B
 power_blames None before after emptied e = e.2
 power_blames (Some fault) before after emptied e = e
 
-power_spares : (fault : Option StepFault) → (tells_store_fault (end_of (power_told fault)) ≡ false) × (tells_read_fault (end_of (power_told fault)) ≡ false)
+power_spares : (fault : Option StepFault) → (tells_store_fault (end_of (power_told fault)) ≡ false)
+    × (tells_read_fault (end_of (power_told fault)) ≡ false)
 power_spares None = (refl, refl)
 power_spares (Some fault) = (refl, refl)
 
@@ -158,10 +161,12 @@ record StartBlames (before after : Devices) (end : Status) : Type 0 where
   source : plays.IsBlamed (tells_read_fault end) before.source_faults after.source_faults
   other : end ≡ WriteFault → ⊥
 
-start_blames : (answer : Result (Unit {0}) InitFault) (before after : Devices) → BlamesDevice before after answer → StartBlames before after (end_of (init_told answer))
+start_blames : (answer : Result (Unit {0}) InitFault) (before after : Devices) → BlamesDevice before after answer
+    → StartBlames before after (end_of (init_told answer))
 start_blames (Ok it) before after b = record { platform = b.platform; store = b.store; source = b.source; other = λ h. cc }
 start_blames (Err init.Memory) before after b = record { platform = b.platform; store = b.store; source = b.source; other = λ h. cc }
-start_blames (Err (init.Platform fault)) before after b = record { platform = b.platform; store = b.store; source = b.source; other = λ h. cc }
+start_blames (Err (init.Platform fault)) before after b =
+    record { platform = b.platform; store = b.store; source = b.source; other = λ h. cc }
 start_blames (Err init.Already) before after b = record { platform = b.platform; store = b.store; source = b.source; other = λ h. cc }
 start_blames (Err init.ReadFault) before after b = record { platform = b.platform; store = b.store; source = b.source; other = λ h. cc }
 start_blames (Err (init.Short got)) before after b = record { platform = b.platform; store = b.store; source = b.source; other = λ h. cc }
@@ -242,11 +247,13 @@ record RunBlames (before after : Standing) (old new : StoreStanding) (reads read
   source : plays.IsBlamed (tells_read_fault status) reads reads'
 
 -- a device that failed is blamed
-failed_rose : (fault : StepFault) (before after : Standing) (made : Bool) → EndsBy (Some fault) before after made → Rose before.faults after.faults
+failed_rose : (fault : StepFault) (before after : Standing) (made : Bool) → EndsBy (Some fault) before after made
+    → Rose before.faults after.faults
 failed_rose Failed before after made e = e.faults
 failed_rose Off before after made e = e.faults
 
-run_blames : (fault : Option StepFault) (found : Result Header Status) (before middle after : Standing) (made : Bool) (old new : StoreStanding)
+run_blames : (fault : Option StepFault) (found : Result Header Status) (before middle after : Standing) (made : Bool)
+    (old new : StoreStanding)
     (left left' received received' : Option (List ℕ)) (reads reads' writes writes' : ℕ) (status : Status)
     → EndsBy fault before middle made → FindsInstance fault before found
     → ServesIfFound found middle after old new left left' received received' reads reads' writes writes' status
@@ -264,11 +271,13 @@ run_blames None (Err end) before middle after made old new left left' received r
     let sees = f.2 in
     let none = (unheld_as end (unheld_end sees.read end sees.found_is)).alike in
     record {
-      platform = unblamed _ _ _ (ap tells_platform_fault a.stops.ends ∙ none.platform) (ap (λ (s : Standing). s.faults) a.standing ∙ e.faults);
+      platform =
+          unblamed _ _ _ (ap tells_platform_fault a.stops.ends ∙ none.platform) (ap (λ (s : Standing). s.faults) a.standing ∙ e.faults);
       store = unblamed _ _ _ (ap tells_store_fault a.stops.ends ∙ none.store) (ap (λ (k : StoreStanding). k.faults) a.kept);
       source = unblamed _ _ _ (ap tells_read_fault a.stops.ends ∙ none.source) a.unfailed;
     }
-run_blames (Some fault) (Ok header) before middle after made old new left left' received received' reads reads' writes writes' status e f a = absurd (cc)
+run_blames (Some fault) (Ok header) before middle after made old new left left' received received' reads reads' writes writes' status e f
+    a = absurd (cc)
 run_blames (Some fault) (Err end) before middle after made old new left left' received received' reads reads' writes writes' status e f a =
     let is = a.stops.ends ∙ platform_end end f in
     record {
@@ -286,7 +295,8 @@ told_once : {T : Type 0} (r : Result T write.WriteFault) (writes count writes' :
 told_once (Ok done) writes count writes' same c = inl (c.kept ∙ same)
 told_once (Err fault) writes count writes' same c = inr (c.failed ∙ ap counted same)
 
-output_by : (r : Result (Unit {0}) write.WriteFault) (status : Status) (writes writes' : ℕ) → CountsFaults writes writes' r → status ≡ status_by r
+output_by : (r : Result (Unit {0}) write.WriteFault) (status : Status) (writes writes' : ℕ) → CountsFaults writes writes' r
+    → status ≡ status_by r
     → BlamesOutput status writes writes'
 output_by (Ok done) status writes writes' c e = record { failed = λ h. absurd (cc); done = λ h. c.kept; once = inl c.kept }
 output_by (Err fault) status writes writes' c e = record { failed = λ h. c.failed; done = λ h. absurd (cc); once = inr c.failed }
@@ -299,8 +309,10 @@ output_stopped end status received received' writes writes' other s = record {
   once = told_once s.stops.result writes writes writes' refl s.stops.counts;
 }
 
-output_played : {T : Type 0} (answer : Result T ReplayFault) (status : Status) (middle received' : Option (List ℕ)) (writes count writes' : ℕ)
-    → plays.IsBlamed (plays.is_write_fault answer) writes count → status ≡ status_of answer → TellsStop middle received' count writes' status
+output_played : {T : Type 0} (answer : Result T ReplayFault) (status : Status) (middle received' : Option (List ℕ))
+    (writes count writes' : ℕ)
+    → plays.IsBlamed (plays.is_write_fault answer) writes count → status ≡ status_of answer
+    → TellsStop middle received' count writes' status
     → BlamesOutput status writes writes'
 output_played (Ok it) status middle received' writes count writes' b e s = record {
   failed = λ h. absurd (cc);
@@ -329,7 +341,8 @@ output_told (Ok text) received received' writes writes' status other t = output_
 output_told (Err end) received received' writes writes' status other t = output_stopped end status received received' writes writes' other t
 
 output_served : (answer : Result (Unit {0}) SessionFault) (status : Status) (middle received' : Option (List ℕ)) (writes count writes' : ℕ)
-    → plays.IsBlamed (session_blame.is_write_fault answer) writes count → status ≡ session_status answer → TellsStop middle received' count writes' status
+    → plays.IsBlamed (session_blame.is_write_fault answer) writes count → status ≡ session_status answer
+    → TellsStop middle received' count writes' status
     → BlamesOutput status writes writes'
 output_served (Ok it) status middle received' writes count writes' b e s =
     record { failed = λ h. absurd (cc); done = λ h. s.done h ∙ b; once = told_once s.result writes count writes' b s.counts }
@@ -425,26 +438,26 @@ same_kept : (old new : Outside) → new.kept ≡ old.kept → new.kept.faults �
 same_kept old new e = ap (λ (k : StoreStanding). k.faults) e
 
 -- nobody is blamed, and nothing has changed but the output
-pub still_blamed : (command : Command) (old new : Outside) (status : Status) → IsStill old new → BlameAlike status Done → Blamed command old new status
+pub still_blamed : (command : Command) (old new : Outside) (status : Status) → IsStill old new → BlameAlike status Done
+    → Blamed command old new status
 still_blamed command old new status s a = record {
   platform = unblamed _ _ _ a.platform (same_standing old new s.standing);
   store = unblamed _ _ _ a.store (same_kept old new s.kept);
   source = source_of command old new status (unblamed _ _ _ a.source s.reads) (unblamed _ _ _ a.source s.takes);
 }
 
-pub ended_blamed : (command : Command) (old new : Outside) (end status : Status) → BlameAlike end Done → EndsAtOnce old new end status → Blamed command old new status
+pub ended_blamed : (command : Command) (old new : Outside) (end status : Status) → BlameAlike end Done → EndsAtOnce old new end status
+    → Blamed command old new status
 ended_blamed command old new end status a e =
     let b = alike status end e.stops.ends in
     still_blamed command old new status e.still
     (record { platform = b.platform ∙ a.platform; store = b.store ∙ a.store; source = b.source ∙ a.source })
 
-pub usage_alike : BlameAlike Usage Done
-usage_alike = record { platform = refl; store = refl; source = refl }
-
 pub memory_alike : BlameAlike Memory Done
 memory_alike = record { platform = refl; store = refl; source = refl }
 
-given_blamed : (command : Command) (old new : Outside) (text : List ℕ) (status : Status) → GivesText text old new status → Blamed command old new status
+given_blamed : (command : Command) (old new : Outside) (text : List ℕ) (status : Status) → GivesText text old new status
+    → Blamed command old new status
 given_blamed command old new text status g = still_blamed command old new status g.still (wrote_alike g.given.result status g.given.ends)
 
 -- nothing was done but to write a stop line
@@ -457,7 +470,8 @@ source_played : {T : Type 0} (answer : Result T ReplayFault) (status : Status) (
     → plays.IsBlamed (plays.is_read_fault answer) reads reads' → plays.IsBlamed (tells_read_fault status) reads reads'
 source_played answer status reads reads' e b = blamed_as _ _ _ _ (ap tells_read_fault e ∙ played_source answer) b
 
-pub done_blamed : (command : Command) (old new : Outside) (status : Status) → Frames command old new → Does command old new status → Blamed command old new status
+pub done_blamed : (command : Command) (old new : Outside) (status : Status) → Frames command old new → Does command old new status
+    → Blamed command old new status
 done_blamed (Init header) old new status f d =
     let a = told_alike (init_told d.answer) _ _ _ _ status d.tells in
     let b = start_blames d.answer _ _ d.faults in
@@ -471,7 +485,9 @@ done_blamed Run old new status f d =
     old.received new.received old.reads new.reads old.writes new.writes status d.looks.goes.ends d.looks.finds d.goes in
     record { platform = b.platform; store = b.store; source = b.source }
 done_blamed Check old new status f d = record {
-  platform = unblamed _ _ _ (ap tells_platform_fault d.checked.ends ∙ played_platform d.checked.answer) (same_standing old new (f.standing (λ h. h)));
+  platform =
+      unblamed _ _ _ (ap tells_platform_fault d.checked.ends ∙ played_platform d.checked.answer)
+      (same_standing old new (f.standing (λ h. h)));
   store = unblamed _ _ _ (ap tells_store_fault d.checked.ends ∙ played_store d.checked.answer) (same_kept old new (f.kept (λ h. h)));
   source = source_played d.checked.answer status _ _ d.checked.ends d.checked.read;
 }
@@ -480,22 +496,30 @@ done_blamed Help old new status f d = given_blamed Help old new _ status d
 done_blamed (Bulk it) old new status f d =
     still_blamed (Bulk it) old new status d.0 (in_bulk_alike it.count d.1.answer _ _ _ _ status d.1.tells)
 done_blamed Replay old new status f d = record {
-  platform = unblamed _ _ _ (ap tells_platform_fault d.replayed.ends ∙ played_platform d.replayed.answer) (same_standing old new (f.standing (λ h. h)));
+  platform =
+      unblamed _ _ _ (ap tells_platform_fault d.replayed.ends ∙ played_platform d.replayed.answer)
+      (same_standing old new (f.standing (λ h. h)));
   store = unblamed _ _ _ (ap tells_store_fault d.replayed.ends ∙ played_store d.replayed.answer) (same_kept old new (f.kept (λ h. h)));
   source = source_played d.replayed.answer status _ _ d.replayed.ends d.replayed.read;
 }
 done_blamed Slots old new status f d = record {
-  platform = unblamed _ _ _ (ap tells_platform_fault d.played.ends ∙ played_platform d.played.answer) (same_standing old new (f.standing (λ h. h)));
+  platform =
+      unblamed _ _ _ (ap tells_platform_fault d.played.ends ∙ played_platform d.played.answer)
+      (same_standing old new (f.standing (λ h. h)));
   store = unblamed _ _ _ (ap tells_store_fault d.played.ends ∙ played_store d.played.answer) (same_kept old new (f.kept (λ h. h)));
   source = source_played d.played.answer status _ _ d.played.ends d.played.read;
 }
 done_blamed (Receipts key) old new status f d = record {
-  platform = unblamed _ _ _ (ap tells_platform_fault d.checked.ends ∙ played_platform d.checked.answer) (same_standing old new (f.standing (λ h. h)));
+  platform =
+      unblamed _ _ _ (ap tells_platform_fault d.checked.ends ∙ played_platform d.checked.answer)
+      (same_standing old new (f.standing (λ h. h)));
   store = unblamed _ _ _ (ap tells_store_fault d.checked.ends ∙ played_store d.checked.answer) (same_kept old new (f.kept (λ h. h)));
   source = source_played d.checked.answer status _ _ d.checked.ends d.checked.read;
 }
 done_blamed Transfer old new status f d = record {
-  platform = unblamed _ _ _ (ap tells_platform_fault d.played.ends ∙ played_platform d.played.answer) (same_standing old new (f.standing (λ h. h)));
+  platform =
+      unblamed _ _ _ (ap tells_platform_fault d.played.ends ∙ played_platform d.played.answer)
+      (same_standing old new (f.standing (λ h. h)));
   store = unblamed _ _ _ (ap tells_store_fault d.played.ends ∙ played_store d.played.answer) (same_kept old new (f.kept (λ h. h)));
   source = source_played d.played.answer status _ _ d.played.ends d.played.read;
 }
@@ -516,13 +540,15 @@ done_blamed Checkpoint old new status f d =
       source = unblamed _ _ _ (a.source ∙ spares.1) (f.reads (λ h. h));
     }
 
-pub blamed : (command : Command) (old new : Outside) (status : Status) → Frames command old new → DoesOrLacks command old new status → Blamed command old new status
+pub blamed : (command : Command) (old new : Outside) (status : Status) → Frames command old new → DoesOrLacks command old new status
+    → Blamed command old new status
 blamed command old new status f (inl d) = done_blamed command old new status f d
 blamed command old new status f (inr e) = ended_blamed command old new Memory status memory_alike e
 
 -- the output, for each command
 
-output_ended : (old new : Outside) (end status : Status) → (end ≡ WriteFault → ⊥) → EndsAtOnce old new end status → BlamesOutput status old.writes new.writes
+output_ended : (old new : Outside) (end status : Status) → (end ≡ WriteFault → ⊥) → EndsAtOnce old new end status
+    → BlamesOutput status old.writes new.writes
 output_ended old new end status other e = output_stopped end status old.received new.received old.writes new.writes other e.stops
 
 pub no_usage : Usage ≡ WriteFault → ⊥
@@ -531,26 +557,34 @@ no_usage h = cc
 pub no_memory : Memory ≡ WriteFault → ⊥
 no_memory h = cc
 
-output_given : (old new : Outside) (text : List ℕ) (status : Status) → GivesText text old new status → BlamesOutput status old.writes new.writes
+output_given : (old new : Outside) (text : List ℕ) (status : Status) → GivesText text old new status
+    → BlamesOutput status old.writes new.writes
 output_given old new text status g = output_by g.given.result status _ _ g.given.counts g.given.ends
 
-output_done : (command : Command) (old new : Outside) (status : Status) → Does command old new status → BlamesOutput status old.writes new.writes
+output_done : (command : Command) (old new : Outside) (status : Status) → Does command old new status
+    → BlamesOutput status old.writes new.writes
 output_done (Init header) old new status d =
     output_told (init_told d.answer) _ _ _ _ status (start_blames d.answer _ _ d.faults).other d.tells
 output_done Run old new status d =
     output_run d.looks.fault d.found old.standing d.middle new.standing old.kept new.kept old.left new.left
     old.received new.received old.reads new.reads old.writes new.writes status d.looks.finds d.goes
-output_done Check old new status d = output_played d.checked.answer status d.middle new.received _ _ _ d.checked.wrote d.checked.ends d.stops
+output_done Check old new status d =
+    output_played d.checked.answer status d.middle new.received _ _ _ d.checked.wrote d.checked.ends d.stops
 output_done (Gen it) old new status d = output_given old new _ status d
 output_done Help old new status d = output_given old new _ status d
-output_done (Bulk it) old new status d = output_told (bulk_told it.count d.1.answer) _ _ _ _ status (bulk_no_write it.count d.1.answer) d.1.tells
-output_done Replay old new status d = output_played d.replayed.answer status d.middle new.received _ _ _ d.replayed.wrote d.replayed.ends d.stops
+output_done (Bulk it) old new status d =
+    output_told (bulk_told it.count d.1.answer) _ _ _ _ status (bulk_no_write it.count d.1.answer) d.1.tells
+output_done Replay old new status d =
+    output_played d.replayed.answer status d.middle new.received _ _ _ d.replayed.wrote d.replayed.ends d.stops
 output_done Slots old new status d = output_played d.played.answer status d.middle new.received _ _ _ d.played.wrote d.played.ends d.stops
-output_done (Receipts key) old new status d = output_played d.checked.answer status d.middle new.received _ _ _ d.checked.wrote d.checked.ends d.stops
-output_done Transfer old new status d = output_played d.played.answer status d.middle new.received _ _ _ d.played.wrote d.played.ends d.stops
+output_done (Receipts key) old new status d =
+    output_played d.checked.answer status d.middle new.received _ _ _ d.checked.wrote d.checked.ends d.stops
+output_done Transfer old new status d =
+    output_played d.played.answer status d.middle new.received _ _ _ d.played.wrote d.played.ends d.stops
 output_done Power old new status d = output_told (power_told d.fault) _ _ _ _ status (power_no_write d.fault) d.tells
 output_done Checkpoint old new status d = output_told (checkpoint_told d.answer) _ _ _ _ status (checkpoint_no_write d.answer) d.tells
 
-pub output_blamed : (command : Command) (old new : Outside) (status : Status) → DoesOrLacks command old new status → BlamesOutput status old.writes new.writes
+pub output_blamed : (command : Command) (old new : Outside) (status : Status) → DoesOrLacks command old new status
+    → BlamesOutput status old.writes new.writes
 output_blamed command old new status (inl d) = output_done command old new status d
 output_blamed command old new status (inr e) = output_ended old new Memory status no_memory e

@@ -18,15 +18,16 @@ use Rattle.mm_host.specs.declared.fault.SessionFault.TheVariants as session
 use Rattle.mm_host.specs.declared.init_fault.InitFault.{InitFault}
 use Rattle.mm_host.specs.declared.init_fault.InitFault.TheVariants as init
 use Rattle.mm_model.specs.History.{first_history}
-use Rattle.mm_model.specs.Instance.{Instance, basic}
+use Rattle.mm_model.specs.Instance.{Instance}
+use Rattle.mm_model.specs.InstanceWords.{basic}
 use Rattle.mm_model.specs.Life.{Live}
 use Rattle.mm_model.specs.Standing.{cell_of}
 use Rattle.mm_model.specs.declared.refusal.Refusal.{Refusal}
 use Rattle.mm_model.specs.declared.refusal.Refusal.TheVariants as refused
 use Rattle.mm_module.specs.Meaning.{Meaning}
 use Rattle.mm_modules.specs.Modules.{meaning_of, module_with}
+use Rattle.mm_modules.specs.Modules.{any_is_found}
 use Rattle.mm_modules.specs.declared.any.AnyModule.{AnyModule}
-use Rattle.mm_modules.specs.declared.any.AnyModule.TheVariants.{Counter, Limiter, Quota, Ledger, Dispenser, ReceiptCounter, ReceiptLimiter, ReceiptQuota}
 use Rattle.mm_opt.specs.Checkpoints.{ClosesSegment, EndsClosing, EndsLooking, FindsClosing, FindsSegment, Looks, Weighs, closing_by, closing_handed_on, segment_by, segment_in}
 use Rattle.mm_opt.specs.declared.segment.Checkpointed.{Checkpointed}
 use Rattle.mm_opt.specs.declared.segment.Checkpointed.TheVariants as said
@@ -88,15 +89,18 @@ long_enough secrets taken (Some rest) many c ended few =
 abbrev Shorts : Result (Unit {0}) InitFault → ℕ → Type 0
 Shorts result got = result ≡ Err (init.Short got)
 
-written_whole : (written : Result (Unit {0}) StepFault) (result : Result (Unit {0}) InitFault) (got : ℕ) → result ≡ written_as written → Shorts result got → ⊥
+written_whole : (written : Result (Unit {0}) StepFault) (result : Result (Unit {0}) InitFault) (got : ℕ) → result ≡ written_as written
+    → Shorts result got → ⊥
 written_whole (Ok done) result got e s = cc
 written_whole (Err fault) result got e s = cc
 
-unstored_whole : (why : StoreFault) (result : Result (Unit {0}) InitFault) (got : ℕ) → result ≡ Err (store_failed_as why) → Shorts result got → ⊥
+unstored_whole : (why : StoreFault) (result : Result (Unit {0}) InitFault) (got : ℕ) → result ≡ Err (store_failed_as why)
+    → Shorts result got → ⊥
 unstored_whole unstored.Memory result got e s = cc
 unstored_whole unstored.Failed result got e s = cc
 
-put_whole : (cell : List ℕ) (before after : Standing) (stored : Result (Unit {0}) StoreFault) (result : Result (Unit {0}) InitFault) (got : ℕ)
+put_whole : (cell : List ℕ) (before after : Standing) (stored : Result (Unit {0}) StoreFault) (result : Result (Unit {0}) InitFault)
+    (got : ℕ)
     → AfterPuts cell before after stored result → Shorts result got → ⊥
 put_whole cell before after (Ok done) result got a s = written_whole a.written result got a.gives s
 put_whole cell before after (Err why) result got a s = unstored_whole why result got a.1 s
@@ -108,7 +112,8 @@ set_whole i before after old new result got up s = elim up [
   | inr both ↦ put_whole (cell_spelling (cell_of i first_history)) before after both.stored result got both.goes s
 ]
 
-taken_whole : (variant : Variant) (meaning : Meaning) (middle after : Devices) (taken : Result (List ℕ) Failed) (result : Result (Unit {0}) InitFault) (got : ℕ)
+taken_whole : (variant : Variant) (meaning : Meaning) (middle after : Devices) (taken : Result (List ℕ) Failed)
+    (result : Result (Unit {0}) InitFault) (got : ℕ)
     → ((bytes : List ℕ) → taken ≡ Ok bytes → length bytes < 64 → ⊥)
     → AfterTaking variant meaning middle after taken result → Shorts result got → ⊥
 taken_whole variant meaning middle after (Err why) result got enough a s = let e = a.1 in cc
@@ -117,13 +122,15 @@ taken_whole variant meaning middle after (Ok bytes) result got enough a s = elim
   | inr many ↦ set_whole (instance_from variant meaning bytes) middle.platform after.platform middle.store after.store result got many.2 s
 ]
 
-never_short : (variant : Variant) (meaning : Meaning) (middle after : Devices) (is_blank : Result Bool StepFault) (result : Result (Unit {0}) InitFault)
+never_short : (variant : Variant) (meaning : Meaning) (middle after : Devices) (is_blank : Result Bool StepFault)
+    (result : Result (Unit {0}) InitFault)
     (secrets : List ℕ) (got : ℕ) → middle.left ≡ Some secrets → 64 ≤ length secrets
     → AfterLooking variant meaning middle after is_blank result → Shorts result got → ⊥
 never_short variant meaning middle after (Err fault) result secrets got left many a s = let e = a.1 in cc
 never_short variant meaning middle after (Ok false) result secrets got left many a s = let e = a.1 in cc
 never_short variant meaning middle after (Ok true) result secrets got left many a s =
-    taken_whole variant meaning (record middle { left = a.left; source_faults = a.source_faults }) after a.taken result got (enough a.taken a.takes) a.goes s
+    taken_whole variant meaning (record middle { left = a.left; source_faults = a.source_faults }) after a.taken result got
+    (enough a.taken a.takes) a.goes s
   where
     enough : (taken : Result (List ℕ) Failed) → TakesBytes middle.left a.left middle.source_faults a.source_faults taken
         → (bytes : List ℕ) → taken ≡ Ok bytes → length bytes < 64 → ⊥
@@ -141,7 +148,8 @@ start_ends (Err init.ReadFault) short used = tt
 start_ends (Err (init.Short got)) short used = absurd (short got refl)
 start_ends (Err init.Store) short used = tt
 
-unused : (before : Devices) (cell : List ℕ) (answer : Result (Unit {0}) InitFault) → TellsUse before answer → before.platform.cell ≡ Some cell
+unused : (before : Devices) (cell : List ℕ) (answer : Result (Unit {0}) InitFault) → TellsUse before answer
+    → before.platform.cell ≡ Some cell
     → cell ≡ blank_cell → answer ≡ Err init.Already → ⊥
 unused before cell answer uses told blank is =
     let u = subst (λ (r : Result (Unit {0}) InitFault). TellsUse before r) is uses in u cell told blank
@@ -152,17 +160,21 @@ abbrev Ends : Result Checkpointed CheckpointRefusal → Type 0
 Ends answer = IsDoneOrFailed (end_of (checkpoint_told answer))
 
 -- what a read finds in the cell
-segment_is : (held : Cell) (standing : Standing) (found : Result Segment CheckpointRefusal) → IsCell held → standing.cell ≡ Some (cell_spelling held)
+segment_is : (held : Cell) (standing : Standing) (found : Result Segment CheckpointRefusal) → IsCell held
+    → standing.cell ≡ Some (cell_spelling held)
     → held.variant ≡ Opt → FindsSegment standing found → found ≡ segment_by Opt held.flag held
 segment_is held standing found formed told variant f =
-    let read : f.sees.read ≡ Ok held = reads_cell-same f.bytes f.sees.read (Ok held) f.sees.reads (formed, f.told (cell_spelling held) told) in
+    let read : f.sees.read ≡ Ok held = reads_cell-same f.bytes f.sees.read (Ok held) f.sees.reads (formed, f.told (cell_spelling held) told)
+    in
     f.sees.found_is ∙ ap segment_in read ∙ ap (λ (v : Variant). segment_by v held.flag held) variant
 
-not_refused : (flag : Bool) (held : Cell) (why : CheckpointRefusal) → (let r : Result Segment CheckpointRefusal = Err why in r ≡ segment_by Opt flag held) → ⊥
+not_refused : (flag : Bool) (held : Cell) (why : CheckpointRefusal)
+    → (let r : Result Segment CheckpointRefusal = Err why in r ≡ segment_by Opt flag held) → ⊥
 not_refused true held why e = cc
 not_refused false held why e = cc
 
-is_open : (flag : Bool) (held cell : Cell) → (let r : Result Segment CheckpointRefusal = Ok (Open cell) in r ≡ segment_by Opt flag held) → flag ≡ true
+is_open : (flag : Bool) (held cell : Cell) → (let r : Result Segment CheckpointRefusal = Ok (Open cell) in r ≡ segment_by Opt flag held)
+    → flag ≡ true
 is_open true held cell e = refl
 is_open false held cell e = cc
 
@@ -177,33 +189,45 @@ unlost cell standing why shows f =
     let zero = (is_zero (bytes_eq f.register zero_bytes) cell f.register why f.found_is).0 in
     shows.powered (sym (f.told shows.items shows.shown) ∙ (bytes_eq-Decides f.register zero_bytes).0 zero)
 
-handed_ends : (written : Result Checkpointed StepFault) (answer : Result Checkpointed CheckpointRefusal) → answer ≡ closing_handed_on written → Ends answer
+handed_ends : (written : Result Checkpointed StepFault) (answer : Result Checkpointed CheckpointRefusal)
+    → answer ≡ closing_handed_on written → Ends answer
 handed_ends (Ok said.Done) answer e = subst Ends (sym e) tt
 handed_ends (Ok said.NoSegment) answer e = subst Ends (sym e) tt
 handed_ends (Err fault) answer e = subst Ends (sym e) tt
 
-weighed_ends : (cell : Cell) (old middle new : Standing) (found : Result (List ℕ) CheckpointRefusal) (answer : Result Checkpointed CheckpointRefusal)
+weighed_ends : (cell : Cell) (old middle new : Standing) (found : Result (List ℕ) CheckpointRefusal)
+    (answer : Result Checkpointed CheckpointRefusal)
     → ShowsPower new → Weighs cell old middle found → EndsClosing found middle new answer → Ends answer
 weighed_ends cell old middle new (Err (refusal.Device fault)) answer shows w e = subst Ends (sym e.1) tt
-weighed_ends cell old middle new (Err refusal.Blank) answer shows w e = absurd (unlost cell middle refusal.Blank (subst ShowsPower e.0 shows) (w.finds refl))
-weighed_ends cell old middle new (Err refusal.Cell) answer shows w e = absurd (unlost cell middle refusal.Cell (subst ShowsPower e.0 shows) (w.finds refl))
-weighed_ends cell old middle new (Err refusal.Kind) answer shows w e = absurd (unlost cell middle refusal.Kind (subst ShowsPower e.0 shows) (w.finds refl))
-weighed_ends cell old middle new (Err refusal.Lost) answer shows w e = absurd (unlost cell middle refusal.Lost (subst ShowsPower e.0 shows) (w.finds refl))
+weighed_ends cell old middle new (Err refusal.Blank) answer shows w e =
+    absurd (unlost cell middle refusal.Blank (subst ShowsPower e.0 shows) (w.finds refl))
+weighed_ends cell old middle new (Err refusal.Cell) answer shows w e =
+    absurd (unlost cell middle refusal.Cell (subst ShowsPower e.0 shows) (w.finds refl))
+weighed_ends cell old middle new (Err refusal.Kind) answer shows w e =
+    absurd (unlost cell middle refusal.Kind (subst ShowsPower e.0 shows) (w.finds refl))
+weighed_ends cell old middle new (Err refusal.Lost) answer shows w e =
+    absurd (unlost cell middle refusal.Lost (subst ShowsPower e.0 shows) (w.finds refl))
 weighed_ends cell old middle new (Ok next) answer shows w e = handed_ends e.written answer e.gives
 
-looked_ends : (held : Cell) (old middle new : Standing) (found : Result Segment CheckpointRefusal) (answer : Result Checkpointed CheckpointRefusal)
+looked_ends : (held : Cell) (old middle new : Standing) (found : Result Segment CheckpointRefusal)
+    (answer : Result Checkpointed CheckpointRefusal)
     → ((seen : FindsSegment old found) → found ≡ segment_by Opt held.flag held) → (held.flag ≡ true → ShowsPower new)
     → Looks old middle found → EndsLooking found middle new answer → Ends answer
 looked_ends held old middle new (Err (refusal.Device fault)) answer is shows l e = subst Ends (sym e.1) tt
-looked_ends held old middle new (Err refusal.Blank) answer is shows l e = absurd (not_refused held.flag held refusal.Blank (is (l.finds refl)))
-looked_ends held old middle new (Err refusal.Cell) answer is shows l e = absurd (not_refused held.flag held refusal.Cell (is (l.finds refl)))
-looked_ends held old middle new (Err refusal.Kind) answer is shows l e = absurd (not_refused held.flag held refusal.Kind (is (l.finds refl)))
-looked_ends held old middle new (Err refusal.Lost) answer is shows l e = absurd (not_refused held.flag held refusal.Lost (is (l.finds refl)))
+looked_ends held old middle new (Err refusal.Blank) answer is shows l e =
+    absurd (not_refused held.flag held refusal.Blank (is (l.finds refl)))
+looked_ends held old middle new (Err refusal.Cell) answer is shows l e =
+    absurd (not_refused held.flag held refusal.Cell (is (l.finds refl)))
+looked_ends held old middle new (Err refusal.Kind) answer is shows l e =
+    absurd (not_refused held.flag held refusal.Kind (is (l.finds refl)))
+looked_ends held old middle new (Err refusal.Lost) answer is shows l e =
+    absurd (not_refused held.flag held refusal.Lost (is (l.finds refl)))
 looked_ends held old middle new (Ok Shut) answer is shows l e = subst Ends (sym e.1) tt
 looked_ends held old middle new (Ok (Open cell)) answer is shows l e =
     weighed_ends cell middle e.middle new e.found answer (shows (is_open held.flag held cell (is (l.finds refl)))) e.weighs e.ends
 
-closing_ends : (old new : Outside) (answer : Result Checkpointed CheckpointRefusal) → CanClose old new → ClosesSegment old.standing new.standing answer → Ends answer
+closing_ends : (old new : Outside) (answer : Result Checkpointed CheckpointRefusal) → CanClose old new
+    → ClosesSegment old.standing new.standing answer → Ends answer
 closing_ends old new answer can c =
     looked_ends can.held old.standing c.middle new.standing c.found answer
     (segment_is can.held old.standing c.found can.formed can.cell can.variant) can.powered c.looks c.ends
@@ -211,16 +235,10 @@ closing_ends old new answer can c =
 -- `run`
 
 header_is : (it : AnyModule) → header_found Basic (module_with (meaning_of it).id) ≡ Ok (record { variant = Basic; «module» = it })
-header_is Counter = refl
-header_is Limiter = refl
-header_is Quota = refl
-header_is Ledger = refl
-header_is Dispenser = refl
-header_is ReceiptCounter = refl
-header_is ReceiptLimiter = refl
-header_is ReceiptQuota = refl
+header_is it = ap (header_found Basic) (any_is_found it).by_id
 
-refused_ends : (why : Refusal) → RefusesAs {T = Unit {0}} (Err (session.Refused why)) Live → IsDoneOrFailed (session_status (Err (session.Refused why)))
+refused_ends : (why : Refusal) → RefusesAs {T = Unit {0}} (Err (session.Refused why)) Live
+    → IsDoneOrFailed (session_status (Err (session.Refused why)))
 refused_ends (refused.Device fault) r = tt
 refused_ends refused.Lost r = absurd (cc)
 refused_ends refused.Stale r = absurd (cc)
@@ -246,7 +264,8 @@ session_ends (Err (session.BadLine line)) lines r = absurd lines
 session_ends (Err session.TooMuch) lines r = absurd lines
 
 served_ends : (old new : Outside) (status : Status) (middle : Standing) (can : CanRun old) → middle.cell ≡ old.standing.cell
-    → ServesAndStops (record { variant = Basic; «module» = can.it }) middle new.standing old.kept new.kept old.left new.left old.received new.received old.reads new.reads
+    → ServesAndStops (record { variant = Basic; «module» = can.it }) middle new.standing old.kept new.kept old.left new.left old.received
+    new.received old.reads new.reads
     old.writes new.writes status → IsDoneOrFailed status
 served_ends old new status middle can same s =
     let at = can.serves.can in
@@ -268,41 +287,52 @@ served_ends old new status middle can same s =
     subst IsDoneOrFailed (sym served.ends) (session_ends served.answer (served.lines can.input can.left can.lines) continues.refuses)
 
 -- what is found in the cell
-instance_is : (old : Outside) (can : CanRun old) (found : Result Header Status) (bytes : List ℕ) → ((cell : List ℕ) → old.standing.cell ≡ Some cell → bytes ≡ cell)
+instance_is : (old : Outside) (can : CanRun old) (found : Result Header Status) (bytes : List ℕ)
+    → ((cell : List ℕ) → old.standing.cell ≡ Some cell → bytes ≡ cell)
     → SeesInstance bytes found → found ≡ Ok (record { variant = Basic; «module» = can.it })
 instance_is old can found bytes told sees =
     let held = cell_of (basic (meaning_of can.it) can.key) can.y in
     let stands = can.serves.can.stands in
-    let read : sees.read ≡ Ok held = reads_cell-same bytes sees.read (Ok held) sees.reads (stands.spells, told (cell_spelling held) stands.cell) in
+    let read : sees.read ≡ Ok held = reads_cell-same bytes sees.read (Ok held) sees.reads
+    (stands.spells, told (cell_spelling held) stands.cell) in
     sees.found_is ∙ ap instance_found read ∙ header_is can.it
 
-found_ends : (old new : Outside) (status : Status) (middle : Standing) (fault : Option StepFault) (found : Result Header Status) (can : CanRun old)
+found_ends : (old new : Outside) (status : Status) (middle : Standing) (fault : Option StepFault) (found : Result Header Status)
+    (can : CanRun old)
     → middle.cell ≡ old.standing.cell → FindsInstance fault old.standing found
-    → ServesIfFound found middle new.standing old.kept new.kept old.left new.left old.received new.received old.reads new.reads old.writes new.writes status
+    → ServesIfFound found middle new.standing old.kept new.kept old.left new.left old.received new.received old.reads new.reads old.writes
+    new.writes status
     → IsDoneOrFailed status
 found_ends old new status middle None found can same f goes =
     served_ends old new status middle can same
-    (subst (λ (r : Result Header Status). ServesIfFound r middle new.standing old.kept new.kept old.left new.left old.received new.received old.reads new.reads
+    (subst (λ (r : Result Header Status). ServesIfFound r middle new.standing old.kept new.kept old.left new.left old.received new.received
+    old.reads new.reads
     old.writes new.writes status) (instance_is old can found f.0 f.1 f.2) goes)
 found_ends old new status middle (Some fault) found can same f goes =
-    let none = subst (λ (r : Result Header Status). ServesIfFound r middle new.standing old.kept new.kept old.left new.left old.received new.received old.reads new.reads
+    let none = subst (λ (r : Result Header Status). ServesIfFound r middle new.standing old.kept new.kept old.left new.left old.received
+    new.received old.reads new.reads
     old.writes new.writes status) f goes in
     subst IsDoneOrFailed (sym none.stops.ends) tt
 
 -- the commands
 
-does_end : (command : Command) (old new : Outside) (status : Status) → CanBeDone command old new → Does command old new status → IsDoneOrFailed status
+does_end : (command : Command) (old new : Outside) (status : Status) → CanBeDone command old new → Does command old new status
+    → IsDoneOrFailed status
 does_end (Init header) old new status can d =
     let before : Devices = devices old.standing old.kept old.entropy old.takes in
     let after : Devices = devices new.standing new.kept new.entropy new.takes in
     told_ends (init_told d.answer) old.received new.received old.writes new.writes status d.tells
     (start_ends d.answer
-    (λ got s. never_short header.variant (meaning_of header.module) (record before { platform = d.steps.platform }) after d.steps.is_blank d.answer can.secrets got
+    (λ got s. never_short header.variant (meaning_of header.module) (record before { platform = d.steps.platform }) after d.steps.is_blank
+    d.answer can.secrets got
     can.left can.many d.steps.goes s)
     (unused before blank_cell d.answer d.uses can.cell refl))
 does_end Run old new status can d = found_ends old new status d.middle d.looks.fault d.found can d.looks.goes.cell d.looks.finds d.goes
-does_end Checkpoint old new status can d = told_ends (checkpoint_told d.answer) old.received new.received old.writes new.writes status d.tells (closing_ends old new d.answer can d.closes)
-does_end Power old new status can d = told_ends (power_told d.fault) old.received new.received old.writes new.writes status d.tells (power_ends d.fault)
+does_end Checkpoint old new status can d =
+    told_ends (checkpoint_told d.answer) old.received new.received old.writes new.writes status d.tells
+    (closing_ends old new d.answer can d.closes)
+does_end Power old new status can d =
+    told_ends (power_told d.fault) old.received new.received old.writes new.writes status d.tells (power_ends d.fault)
 does_end (Gen it) old new status can d = written_ends d.given.result status d.given.ends
 does_end Help old new status can d = written_ends d.given.result status d.given.ends
 does_end Replay old new status can d = absurd can
@@ -312,7 +342,8 @@ does_end Slots old new status can d = absurd can
 does_end (Receipts key) old new status can d = absurd can
 does_end Transfer old new status can d = absurd can
 
-pub may_be_done : (command : Command) (old new : Outside) (status : Status) → CanBeDone command old new → DoesOrLacks command old new status → IsDoneOrFailed status
+pub may_be_done : (command : Command) (old new : Outside) (status : Status) → CanBeDone command old new → DoesOrLacks command old new status
+    → IsDoneOrFailed status
 may_be_done command old new status can d = elim d [
   | inl does ↦ does_end command old new status can does
   | inr lacks ↦ subst IsDoneOrFailed (sym lacks.stops.ends) tt

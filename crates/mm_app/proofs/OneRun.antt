@@ -68,11 +68,16 @@ stopped_behind lines rest all written stop unsent status is (inl none) parts und
     inl (unsent, ap (λ (w : List ℕ). (w ++ stop) ++ unsent) none.1 ∙ sym parts)
 stopped_behind lines rest all written stop unsent status is (inr answers) parts undone =
     inr (continues lines rest all written (written ++ stop) (stop_line status) unended status is answers (inr refl)
-    (λ text told. (unsent, ap (λ (w : List ℕ). (w ++ stop) ++ unsent) (told ∙ append-nil text) ∙ append_assoc text stop unsent ∙ ap (λ (s : List ℕ). text ++ s) (sym parts)))
+    (λ text told. (
+      unsent,
+      ap (λ (w : List ℕ). (w ++ stop) ++ unsent) (told ∙ append-nil text) ∙ append_assoc text stop unsent
+          ∙ ap (λ (s : List ℕ). text ++ s) (sym parts),
+    ))
     (λ text told done. absurd (undone done)))
 
 -- a front of what was answered went out, and no stop line
-cut_short : (lines rest all : List (List ℕ)) (written sent : List ℕ) → all ≡ lines ++ rest → IsFrontOf sent written → AnswersLines header_at lines written
+cut_short : (lines rest all : List (List ℕ)) (written sent : List ℕ) → all ≡ lines ++ rest → IsFrontOf sent written
+    → AnswersLines header_at lines written
     → IsUnbegun sent WriteFault ⊎ TellsOneRun all sent WriteFault
 cut_short lines rest all written sent is front (inl none) = inl (front.0, front.1 ∙ none.1)
 cut_short lines rest all written sent is front (inr answers) =
@@ -103,37 +108,47 @@ WhatIsOut taken sent status = IsUnbegun sent status ⊎ TellsOneRun (lines_of ta
 
 -- what a replay whose output failed says of its input
 abbrev WritesFront : List ℕ → List ℕ → Type 0
-WritesFront sent input = (written : List ℕ) × IsFrontOf sent written × (AnswersFirst (AnswersLines header_at) anywhere (lines_of input) written ⊎ AnswersAll header_at (lines_of input) written)
+WritesFront sent input =
+    (written : List ℕ) × IsFrontOf sent written
+    × (AnswersFirst (AnswersLines header_at) anywhere (lines_of input) written ⊎ AnswersAll header_at (lines_of input) written)
 
 -- what one that a line stopped does
 abbrev StopsAt : (List (List ℕ) → List (List ℕ) → Type 0) → List ℕ → List ℕ → Type 0
 StopsAt stops sent input = AnswersFirst (AnswersLines header_at) stops (lines_of input) sent
 
 at_write : (taken sent : List ℕ) → WritesFront sent taken → WhatIsOut taken sent WriteFault
-at_write taken sent (written, front, inl first) = cut_short first.done first.rest (lines_of taken) written sent first.split front first.answered
+at_write taken sent (written, front, inl first) =
+    cut_short first.done first.rest (lines_of taken) written sent first.split front first.answered
 at_write taken sent (written, front, inr all) = cut_short_all (lines_of taken) written sent front all
 
 at_end : (left : Option (List ℕ)) (taken sent stop unsent : List ℕ) (answer : Result Report ReplayFault)
-    → IsOut header_at left taken sent answer → stop_line (status_of answer) ≡ stop ++ unsent → WhatIsOut taken (sent ++ stop) (status_of answer)
+    → IsOut header_at left taken sent answer → stop_line (status_of answer) ≡ stop ++ unsent
+    → WhatIsOut taken (sent ++ stop) (status_of answer)
 at_end left taken sent stop unsent (Ok report) tells parts =
     subst (λ s. WhatIsOut taken s Done) (sym (unsent_after sent stop unsent parts)) (finished (lines_of taken) sent tells)
 at_end left taken sent stop unsent (Err fault.WriteFault) tells parts =
-    subst (λ s. WhatIsOut taken s WriteFault) (sym (unsent_after sent stop unsent parts)) (at_write taken sent (for_taken left taken (WritesFront sent) tells))
+    subst (λ s. WhatIsOut taken s WriteFault) (sym (unsent_after sent stop unsent parts))
+    (at_write taken sent (for_taken left taken (WritesFront sent) tells))
 at_end left taken sent stop unsent (Err fault.ReadFault) tells parts =
     stopped_behind (lines_of taken) [] (lines_of taken) sent stop unsent _ (sym (append-nil (lines_of taken))) tells.1 parts (λ h. cc)
 at_end left taken sent stop unsent (Err fault.Memory) tells parts =
     let front = tells.1 in
     let more = front_lines tells.0 front.0 in
-    stopped_behind (lines_of tells.0) more.0 (lines_of taken) sent stop unsent _ (ap lines_of (sym front.1) ∙ more.1) tells.2 parts (λ h. cc)
+    stopped_behind (lines_of tells.0) more.0 (lines_of taken) sent stop unsent _ (ap lines_of (sym front.1) ∙ more.1) tells.2 parts
+    (λ h. cc)
 at_end left taken sent stop unsent (Err (fault.BadLine line)) tells parts =
-    at_first {stops = before_line line} taken sent stop unsent _ (for_taken left taken (StopsAt (before_line line) sent) tells) parts (λ h. cc)
+    at_first {stops = before_line line} taken sent stop unsent _ (for_taken left taken (StopsAt (before_line line) sent) tells) parts
+    (λ h. cc)
 at_end left taken sent stop unsent (Err (fault.LineLong line)) tells parts =
-    at_first {stops = before_line line} taken sent stop unsent _ (for_taken left taken (StopsAt (before_line line) sent) tells) parts (λ h. cc)
+    at_first {stops = before_line line} taken sent stop unsent _ (for_taken left taken (StopsAt (before_line line) sent) tells) parts
+    (λ h. cc)
 at_end left taken sent stop unsent (Err fault.TooMuch) tells parts =
-    at_first {stops = IsTooMuch header_at} taken sent stop unsent _ (for_taken left taken (StopsAt (IsTooMuch header_at) sent) tells) parts (λ h. cc)
+    at_first {stops = IsTooMuch header_at} taken sent stop unsent _ (for_taken left taken (StopsAt (IsTooMuch header_at) sent) tells) parts
+    (λ h. cc)
 
 -- The headline of a replay and its stop line.
-pub is_one_run : (left left' received middle received' : Option (List ℕ)) (answer : Result Report ReplayFault) (result : Result (Unit {0}) write.WriteFault) (status : Status)
+pub is_one_run : (left left' received middle received' : Option (List ℕ)) (answer : Result Report ReplayFault)
+    (result : Result (Unit {0}) write.WriteFault) (status : Status)
     → Replays left left' received middle answer → status ≡ status_of answer → Sends middle received' (stop_line status) result
     → ReplaysOneRun left left' received received' status
 is_one_run left left' received middle received' answer result status replays ends sends = record {
@@ -157,9 +172,11 @@ lacks_one_run left received received' result status sends = record {
 }
 
 -- The headline, by what the command did.
-pub headline_of : (old new : Outside) (status : Status) → DoesOrLacks Replay old new status → ReplaysOneRun old.left new.left old.received new.received status
+pub headline_of : (old new : Outside) (status : Status) → DoesOrLacks Replay old new status
+    → ReplaysOneRun old.left new.left old.received new.received status
 headline_of old new status (inl does) =
-    is_one_run old.left new.left old.received does.middle new.received does.replayed.answer does.stops.result status does.replayed.replays does.replayed.ends does.stops.sends
+    is_one_run old.left new.left old.received does.middle new.received does.replayed.answer does.stops.result status does.replayed.replays
+    does.replayed.ends does.stops.sends
 headline_of old new status (inr lacks) =
     let stopped = lacks.stops.stops in
     subst (λ l. ReplaysOneRun old.left l old.received new.received status) (sym lacks.still.left)

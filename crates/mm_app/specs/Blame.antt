@@ -20,14 +20,15 @@ abbrev pub tells_read_fault : Status → Bool
 tells_read_fault ReadFault = true
 tells_read_fault _ = false
 
--- Of the source that the command takes from, the count rose exactly where ReadFault is told: of the entropy for `init`,
--- and of the input for any other.
+-- Of the source that the command takes from, the count rose exactly where ReadFault is told: of the
+-- entropy for `init`, and of the input for any other.
 abbrev pub BlamesSource : Command → (old new : Outside) → Status → Type 0
 BlamesSource (Init header) old new status = IsBlamed (tells_read_fault status) old.takes new.takes
 BlamesSource _ old new status = IsBlamed (tells_read_fault status) old.reads new.reads
 
--- The output's count rose where WriteFault is told, and is as before where all was done. Beside another status it may
--- have risen, where the output failed within the stop line. It never rises more than once: no call follows one that failed.
+-- The output's count rose where WriteFault is told, and is as before where all was done. Beside
+-- another status it may have risen, where the output failed within the stop line. It never rises
+-- more than once: no call follows one that failed.
 pub record BlamesOutput (status : Status) (writes writes' : ℕ) : Type 0 where
   pub failed : status ≡ WriteFault → Rose writes writes'
   pub done : status ≡ Done → writes' ≡ writes

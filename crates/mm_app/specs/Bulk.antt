@@ -20,17 +20,20 @@ bulk_told count (Ok summary) = Ok (bulk_text count summary)
 bulk_told count (Err fault.Memory) = Err Memory
 bulk_told count (Err fault.TooMuch) = Err TooMuch
 
--- The schedule was run, and what came of it was told: TooMuch exactly where the limits of a replay are passed. The
--- digest is that of all that a replay of the same schedule writes.
-pub record RunsInBulk (it : Generated) (received received' : Option (List ℕ)) (writes writes' : ℕ) (status : Status) : Type 0 where
+-- The schedule was run, and what came of it was told: TooMuch exactly where the limits of a replay
+-- are passed. The digest is that of all that a replay of the same schedule writes.
+pub record RunsInBulk (it : Generated) (received received' : Option (List ℕ)) (writes writes' : ℕ)
+    (status : Status) : Type 0 where
   pub answer : Result Summary BulkFault
   pub sums : IfOk answer (SumsUp it.header (schedule_lines it.number it.count it.header))
-  pub limit : IsLimited (is_over (begun it.header) (schedule_lines it.number it.count it.header)) answer
+  pub limit : IsLimited (is_over (begun it.header) (schedule_lines it.number it.count it.header))
+      answer
   pub replayed : IsReplayed (replay_of it.number it.count it.header) answer
   pub tells : Tells (bulk_told it.count answer) received received' writes writes' status
 
 -- The five lines were told, or memory was wanting for them.
-abbrev pub TellsSummary : ℕ → Summary → (received received' : Option (List ℕ)) (writes writes' : ℕ) → Status → Type 0
+abbrev pub TellsSummary : ℕ → Summary → (received received' : Option (List ℕ)) (writes writes' : ℕ)
+    → Status → Type 0
 TellsSummary count summary received received' writes writes' status =
     Tells (Ok (bulk_text count summary)) received received' writes writes' status
     ⊎ Tells (Err Memory) received received' writes writes' status

@@ -8,17 +8,20 @@ use Rattle.mm_app.specs.Status.{status_of}
 use Rattle.mm_app.specs.Telling.{TellsStop}
 use Rattle.mm_app.specs.declared.status.Status.{Status}
 
--- A check of a recorded run, which ended with an answer of this status. The input's count rose exactly where the input is
--- to blame for it, and the output's exactly where the output is.
-pub record RunChecked (left left' received received' : Option (List ℕ)) (reads reads' writes writes' : ℕ) (status : Status) : Type 0 where
+-- A check of a recorded run, which ended with an answer of this status. The input's count rose
+-- exactly where the input is to blame for it, and the output's exactly where the output is.
+pub record RunChecked (left left' received received' : Option (List ℕ))
+    (reads reads' writes writes' : ℕ) (status : Status) : Type 0 where
   pub answer : Result Verdicts ReplayFault
   pub checks : ChecksRun left left' received received' answer
   pub read : IsBlamed (is_read_fault answer) reads reads'
   pub wrote : IsBlamed (is_write_fault answer) writes writes'
   pub ends : status ≡ status_of answer
 
--- Such a check, and then its stop line. `middle` is what the output had received between the two, and `count` its count.
-pub record ChecksRunAndStops (left left' received received' : Option (List ℕ)) (reads reads' writes writes' : ℕ)
+-- Such a check, and then its stop line. `middle` is what the output had received between the two,
+-- and `count` its count.
+pub record ChecksRunAndStops (left left' received received' : Option (List ℕ))
+    (reads reads' writes writes' : ℕ)
     (status : Status) : Type 0 where
   pub middle : Option (List ℕ)
   pub count : ℕ

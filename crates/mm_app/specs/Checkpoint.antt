@@ -23,9 +23,10 @@ checkpoint_told (Err refusal.Cell) = Err Cell
 checkpoint_told (Err refusal.Kind) = Err Kind
 checkpoint_told (Err refusal.Lost) = Err Lost
 
--- A checkpoint: how it went over the platform, from any history; what it left where it was refused; its steps; and what
--- was told. The platform's count rose exactly where a device's fault ended it.
-pub record Checkpoints (before after : Standing) (received received' : Option (List ℕ)) (writes writes' : ℕ)
+-- A checkpoint: how it went over the platform, from any history; what it left where it was refused;
+-- its steps; and what was told. The platform's count rose exactly where a device's fault ended it.
+pub record Checkpoints (before after : Standing) (received received' : Option (List ℕ))
+    (writes writes' : ℕ)
     (status : Status) : Type 0 where
   pub answer : Result Checkpointed CheckpointRefusal
   pub closes : ClosesSegment before after answer

@@ -23,27 +23,35 @@ use Rattle.mm_app.specs.declared.status.Status.TheVariants.{Memory}
 -- What a command does, by what the objects that it is handed tell before and after.
 abbrev pub Does : Command → (old new : Outside) → Status → Type 0
 Does (Init header) old new status =
-    StartsInstance header (devices old.standing old.kept old.entropy old.takes) (devices new.standing new.kept new.entropy new.takes)
+    StartsInstance header (devices old.standing old.kept old.entropy old.takes)
+    (devices new.standing new.kept new.entropy new.takes)
     old.received new.received old.writes new.writes status
 Does Run old new status =
-    RunsInstance old.standing new.standing old.kept new.kept old.left new.left old.received new.received old.reads new.reads old.writes
+    RunsInstance old.standing new.standing old.kept new.kept old.left new.left old.received
+    new.received old.reads new.reads old.writes
     new.writes status
 Does Checkpoint old new status =
     Checkpoints old.standing new.standing old.received new.received old.writes new.writes status
 Does Power old new status =
     LosesPower old.standing new.standing old.received new.received old.writes new.writes status
 Does Replay old new status =
-    ReplaysAndStops old.left new.left old.received new.received old.reads new.reads old.writes new.writes status
+    ReplaysAndStops old.left new.left old.received new.received old.reads new.reads old.writes
+    new.writes status
 Does Check old new status =
-    ChecksRunAndStops old.left new.left old.received new.received old.reads new.reads old.writes new.writes status
+    ChecksRunAndStops old.left new.left old.received new.received old.reads new.reads old.writes
+    new.writes status
 Does (Gen it) old new status = GivesText (schedule_text it.number it.count it.header) old new status
-Does (Bulk it) old new status = IsStill old new × RunsInBulk it old.received new.received old.writes new.writes status
+Does (Bulk it) old new status =
+    IsStill old new × RunsInBulk it old.received new.received old.writes new.writes status
 Does Slots old new status =
-    PlaysSlotsAndStops old.left new.left old.received new.received old.reads new.reads old.writes new.writes status
+    PlaysSlotsAndStops old.left new.left old.received new.received old.reads new.reads old.writes
+    new.writes status
 Does (Receipts key) old new status =
-    ChecksReceiptsAndStops key old.left new.left old.received new.received old.reads new.reads old.writes new.writes status
+    ChecksReceiptsAndStops key old.left new.left old.received new.received old.reads new.reads
+    old.writes new.writes status
 Does Transfer old new status =
-    PlaysTransferAndStops old.left new.left old.received new.received old.reads new.reads old.writes new.writes status
+    PlaysTransferAndStops old.left new.left old.received new.received old.reads new.reads old.writes
+    new.writes status
 Does Help old new status = GivesText help_text old new status
 
 -- The command was done, or memory was wanting before it.

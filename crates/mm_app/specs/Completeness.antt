@@ -7,7 +7,7 @@ use Rattle.mm_host.specs.Continuing.{CanServe}
 use Rattle.mm_host.specs.SessionLines.{AreWithin}
 use Rattle.mm_module.specs.Batch.{Batch}
 use Rattle.mm_model.specs.History.{History}
-use Rattle.mm_model.specs.Instance.{basic}
+use Rattle.mm_model.specs.InstanceWords.{basic}
 use Rattle.mm_modules.specs.Modules.{meaning_of}
 use Rattle.mm_modules.specs.declared.any.AnyModule.{AnyModule}
 use Rattle.mm_platform.specs.Standing.{Item, Standing, item_values, register_after}
@@ -43,8 +43,8 @@ pub record ShowsPower (standing : Standing) : Type 0 where
   pub shown : standing.items ≡ Some items
   pub powered : register_after (item_values items) ≢ zero_bytes
 
--- For a checkpoint: the cell is one of Opt; and where its segment is open, the register isn't zero afterwards, so that power
--- wasn't lost inside it.
+-- For a checkpoint: the cell is one of Opt; and where its segment is open, the register isn't zero
+-- afterwards, so that power wasn't lost inside it.
 pub record CanClose (old new : Outside) : Type 0 where
   pub held : Cell
   pub formed : IsCell held
@@ -52,8 +52,8 @@ pub record CanClose (old new : Outside) : Type 0 where
   pub variant : held.variant ≡ Opt
   pub powered : held.flag ≡ true → ShowsPower new.standing
 
--- For a session of Basic: the platform stands for a history of a module, the slots fit it, and the lines of the input may follow it
--- and are within their limits.
+-- For a session of Basic: the platform stands for a history of a module, the slots fit it, and the
+-- lines of the input may follow it and are within their limits.
 pub record CanRun (old : Outside) : Type 0 where
   pub it : AnyModule
   pub key : List ℕ
@@ -65,7 +65,8 @@ pub record CanRun (old : Outside) : Type 0 where
   pub input : List ℕ
   pub left : old.left ≡ Some input
   pub lines : AreWithin input
-  pub serves : CanServe all others asked (basic (meaning_of it) key) y slots old.standing old.kept (lines_of input)
+  pub serves : CanServe all others asked (basic (meaning_of it) key) y slots old.standing old.kept
+      (lines_of input)
 
 -- What is asked, by the command. Those that play lines, and `bulk`, have clauses of their own.
 abbrev pub CanBeDone : Command → (old new : Outside) → Type 0

@@ -27,8 +27,8 @@ pub record BeginWith (lines : List (List ℕ)) (header : Header) (events : List 
   pub headed : header_at first ≡ Some header
   pub read : map event_at others ≡ map Some events
 
--- The text is that of replies to the events, and these are one run of the module on one list of requests, from the
--- empty one.
+-- The text is that of replies to the events, and these are one run of the module on one list of
+-- requests, from the empty one.
 pub record IsOneRunsText (header : Header) (events : List Event) (text : List ℕ) : Type 0 where
   pub replies : List Reply
   pub requests : List (List ℕ)
@@ -37,11 +37,13 @@ pub record IsOneRunsText (header : Header) (events : List Event) (text : List �
 
 -- what comes behind the replies: the line of the counts, or the stop line
 abbrev pub IsLast : Status → List ℕ → Type 0
-IsLast status last = ((committed issued : ℕ) × (last ≡ end_line committed issued)) ⊎ (last ≡ stop_line status)
+IsLast status last =
+    ((committed issued : ℕ) × (last ≡ end_line committed issued)) ⊎ (last ≡ stop_line status)
 
--- What went out is the text of the replies to events that these lines begin with, and what comes behind it, or a front
--- of both. Where no two different messages of the run share a digest, none is zero and no value of others is a secured
--- request, and where no tag is forged, the replies are one run.
+-- What went out is the text of the replies to events that these lines begin with, and what comes
+-- behind it, or a front of both. Where no two different messages of the run share a digest, none is
+-- zero and no value of others is a secured request, and where no tag is forged, the replies are one
+-- run.
 pub record TellsOneRun (lines : List (List ℕ)) (sent : List ℕ) (status : Status) : Type 0 where
   pub header : Header
   pub events : List Event
@@ -51,14 +53,16 @@ pub record TellsOneRun (lines : List (List ℕ)) (sent : List ℕ) (status : Sta
   pub closes : IsLast status last
   pub written : IsFrontOf sent (text ++ last)
   pub whole : status ≡ Done → sent ≡ text ++ last
-  pub one_run : IsClearRun (world_of header) events → IsGenuineRun (world_of header) events → IsOneRunsText header events text
+  pub one_run : IsClearRun (world_of header) events → IsGenuineRun (world_of header) events
+      → IsOneRunsText header events text
 
 -- no header was answered: at most the stop line went out
 abbrev pub IsUnbegun : List ℕ → Status → Type 0
 IsUnbegun sent status = IsFrontOf sent (stop_line status)
 
 -- The headline of a replay, by what is left of the input and what the output received.
-pub record ReplaysOneRun (left left' received received' : Option (List ℕ)) (status : Status) : Type 0 where
+pub record ReplaysOneRun (left left' received received' : Option (List ℕ)) (status : Status)
+    : Type 0 where
   pub taken : List ℕ
   pub sent : List ℕ
   pub consumed : Consumes left left' taken

@@ -1,10 +1,11 @@
--- What the objects that the program is handed tell: the platform, the store, the input, the entropy and the output.
+-- What the objects that the program is handed tell: the platform, the store, the input, the entropy
+-- and the output.
 use Rattle.std.specs.Prelude.{◌≡◌, ℕ, List, Option}
 use Rattle.mm_platform.specs.Standing.{Standing}
 use Rattle.mm_store.specs.Kept.{StoreStanding}
 
--- what stands on the platform, what the store keeps, what is left of the input and of the entropy, what the output
--- received; and the counts of faults of the last three (the first two have theirs)
+-- what stands on the platform, what the store keeps, what is left of the input and of the entropy,
+-- what the output received; and the counts of faults of the last three (the first two have theirs)
 pub record Outside : Type 0 where
   pub standing : Standing
   pub kept : StoreStanding
@@ -16,7 +17,8 @@ pub record Outside : Type 0 where
   pub writes : ℕ
 
 abbrev pub outside : Standing → StoreStanding
-    → (left : Option (List ℕ)) (reads : ℕ) (entropy : Option (List ℕ)) (takes : ℕ) (received : Option (List ℕ)) (writes : ℕ) → Outside
+    → (left : Option (List ℕ)) (reads : ℕ) (entropy : Option (List ℕ)) (takes : ℕ)
+    (received : Option (List ℕ)) (writes : ℕ) → Outside
 outside standing kept left reads entropy takes received writes = record {
   standing = standing;
   kept = kept;

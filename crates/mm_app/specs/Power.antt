@@ -14,7 +14,8 @@ power_told None = Ok (line_of (codes "power"))
 power_told (Some fault) = Err PlatformFault
 
 -- The platform lost its power and has it back, or failed at that; and it was told.
-pub record LosesPower (before after : Standing) (received received' : Option (List ℕ)) (writes writes' : ℕ) (status : Status) : Type 0 where
+pub record LosesPower (before after : Standing) (received received' : Option (List ℕ))
+    (writes writes' : ℕ) (status : Status) : Type 0 where
   pub fault : Option StepFault
   pub cycles : Cycles before after fault
   pub tells : Tells (power_told fault) received received' writes writes' status

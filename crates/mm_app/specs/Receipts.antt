@@ -8,9 +8,11 @@ use Rattle.mm_app.specs.Status.{status_of}
 use Rattle.mm_app.specs.Telling.{TellsStop}
 use Rattle.mm_app.specs.declared.status.Status.{Status}
 
--- A check of receipts under a key, which ended with an answer of this status; and what it tells where no receipt is
--- forged. The input's count rose exactly where the input is to blame for it, and the output's exactly where the output is.
-pub record ReceiptsChecked (key : List ℕ) (left left' received received' : Option (List ℕ)) (reads reads' writes writes' : ℕ)
+-- A check of receipts under a key, which ended with an answer of this status; and what it tells
+-- where no receipt is forged. The input's count rose exactly where the input is to blame for it,
+-- and the output's exactly where the output is.
+pub record ReceiptsChecked (key : List ℕ) (left left' received received' : Option (List ℕ))
+    (reads reads' writes writes' : ℕ)
     (status : Status) : Type 0 where
   pub answer : Result ReceiptReport ReplayFault
   pub checks : ChecksReceipts key left left' received received' answer
@@ -19,8 +21,10 @@ pub record ReceiptsChecked (key : List ℕ) (left left' received received' : Opt
   pub wrote : IsBlamed (is_write_fault answer) writes writes'
   pub ends : status ≡ status_of answer
 
--- Such a check, and then its stop line. `middle` is what the output had received between the two, and `count` its count.
-pub record ChecksReceiptsAndStops (key : List ℕ) (left left' received received' : Option (List ℕ)) (reads reads' writes writes' : ℕ)
+-- Such a check, and then its stop line. `middle` is what the output had received between the two,
+-- and `count` its count.
+pub record ChecksReceiptsAndStops (key : List ℕ) (left left' received received' : Option (List ℕ))
+    (reads reads' writes writes' : ℕ)
     (status : Status) : Type 0 where
   pub middle : Option (List ℕ)
   pub count : ℕ

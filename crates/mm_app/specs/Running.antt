@@ -26,7 +26,8 @@ use Rattle.mm_app.specs.Telling.{TellsStop, StopsAs}
 use Rattle.mm_app.specs.declared.status.Status.{Status}
 use Rattle.mm_app.specs.declared.status.Status.TheVariants.{Done, ReadFault, WriteFault, Memory, PlatformFault, StoreFault, Blank, Cell, Lost, Refused, BadLine, LineLong, TooMuch}
 
--- how the program ends where a call was refused so: of a device, the cell or lost power each has its own status
+-- how the program ends where a call was refused so: of a device, the cell or lost power each has
+-- its own status
 abbrev pub refused_at : Refusal → Status
 refused_at refusal.Memory = Memory
 refused_at (refusal.Device fault) = PlatformFault
@@ -69,7 +70,9 @@ pub record SeesInstance (bytes : List ℕ) (found : Result Header Status) : Type
 -- What is found on a platform whose cell was read: it is the platform's, where that tells its cell.
 abbrev pub FindsInstance : Option StepFault → Standing → Result Header Status → Type 0
 FindsInstance (Some fault) before found = found ≡ Err PlatformFault
-FindsInstance None before found = (bytes : List ℕ) × ((cell : List ℕ) → before.cell ≡ Some cell → bytes ≡ cell) × SeesInstance bytes found
+FindsInstance None before found =
+    (bytes : List ℕ) × ((cell : List ℕ) → before.cell ≡ Some cell → bytes ≡ cell)
+    × SeesInstance bytes found
 
 -- The platform's cell is read.
 pub record LooksAtInstance (before after : Standing) (found : Result Header Status) : Type 0 where
@@ -77,17 +80,21 @@ pub record LooksAtInstance (before after : Standing) (found : Result Header Stat
   pub goes : Goes ReadCell before after fault
   pub finds : FindsInstance fault before found
 
--- A session over the instance, which ended with an answer of this status: its steps; that lines within the limits aren't to
--- blame; and from which history to which it went, by one run of the module, with slots to go on from; and how
--- often the cell was to be written. Each count of faults rose exactly where its object is to blame.
+-- A session over the instance, which ended with an answer of this status: its steps; that lines
+-- within the limits aren't to blame; and from which history to which it went, by one run of the
+-- module, with slots to go on from; and how often the cell was to be written. Each count of faults
+-- rose exactly where its object is to blame.
 pub record ServedInstance (header : Header) (before after : Standing) (old new : StoreStanding)
     (left left' received received' : Option (List ℕ))
     (reads reads' writes writes' : ℕ) (status : Status) : Type 0 where
   pub answer : Result (Unit {0}) SessionFault
-  pub sessions : Sessions header.variant (meaning_of header.module) before after old new left left' received received' answer
+  pub sessions : Sessions header.variant (meaning_of header.module) before after old new left left'
+      received received' answer
   pub lines : SparesLines left answer
-  pub continues : SessionContinues header.variant (meaning_of header.module) before after old new left left' received received' answer
-  pub cell : SessionWrites header.variant (meaning_of header.module) before after old new left left' received received' answer
+  pub continues : SessionContinues header.variant (meaning_of header.module) before after old new
+      left left' received received' answer
+  pub cell : SessionWrites header.variant (meaning_of header.module) before after old new left left'
+      received received' answer
   pub platform : IsBlamed (is_platform_fault answer) before.faults after.faults
   pub store : IsBlamed (is_store_fault answer) old.faults new.faults
   pub read : IsBlamed (is_read_fault answer) reads reads'
@@ -95,17 +102,20 @@ pub record ServedInstance (header : Header) (before after : Standing) (old new :
   pub named : IsRefusalNamed answer
   pub ends : status ≡ session_status answer
 
--- Such a session, and then its stop line. `between` is what the output had received between the two, and `count` its count.
+-- Such a session, and then its stop line. `between` is what the output had received between the
+-- two, and `count` its count.
 pub record ServesAndStops (header : Header) (before after : Standing) (old new : StoreStanding)
     (left left' received received' : Option (List ℕ))
     (reads reads' writes writes' : ℕ) (status : Status) : Type 0 where
   pub between : Option (List ℕ)
   pub count : ℕ
-  pub served : ServedInstance header before after old new left left' received between reads reads' writes count status
+  pub served : ServedInstance header before after old new left left' received between reads reads'
+      writes count status
   pub stops : TellsStop between received' count writes' status
 
 -- No instance was found, and nothing more was done.
-pub record FindsNone (end : Status) (before after : Standing) (old new : StoreStanding) (left left' received received' : Option (List ℕ))
+pub record FindsNone (end : Status) (before after : Standing) (old new : StoreStanding)
+    (left left' received received' : Option (List ℕ))
     (reads reads' writes writes' : ℕ) (status : Status) : Type 0 where
   pub standing : after ≡ before
   pub kept : new ≡ old
@@ -114,18 +124,25 @@ pub record FindsNone (end : Status) (before after : Standing) (old new : StoreSt
   pub stops : StopsAs end received received' writes writes' status
 
 abbrev pub ServesIfFound : Result Header Status
-    → (before after : Standing) (old new : StoreStanding) (left left' received received' : Option (List ℕ))
+    → (before after : Standing) (old new : StoreStanding)
+    (left left' received received' : Option (List ℕ))
     (reads reads' writes writes' : ℕ)
     → Status → Type 0
-ServesIfFound (Err end) before after old new left left' received received' reads reads' writes writes' status =
-    FindsNone end before after old new left left' received received' reads reads' writes writes' status
-ServesIfFound (Ok header) before after old new left left' received received' reads reads' writes writes' status =
-    ServesAndStops header before after old new left left' received received' reads reads' writes writes' status
+ServesIfFound (Err end) before after old new left left' received received' reads reads' writes
+    writes' status =
+    FindsNone end before after old new left left' received received' reads reads' writes writes'
+    status
+ServesIfFound (Ok header) before after old new left left' received received' reads reads' writes
+    writes' status =
+    ServesAndStops header before after old new left left' received received' reads reads' writes
+    writes' status
 
 -- The platform's cell was read, and a session served over the instance that it holds.
-pub record RunsInstance (before after : Standing) (old new : StoreStanding) (left left' received received' : Option (List ℕ))
+pub record RunsInstance (before after : Standing) (old new : StoreStanding)
+    (left left' received received' : Option (List ℕ))
     (reads reads' writes writes' : ℕ) (status : Status) : Type 0 where
   pub middle : Standing
   pub found : Result Header Status
   pub looks : LooksAtInstance before middle found
-  pub goes : ServesIfFound found middle after old new left left' received received' reads reads' writes writes' status
+  pub goes : ServesIfFound found middle after old new left left' received received' reads reads'
+      writes writes' status

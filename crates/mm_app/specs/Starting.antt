@@ -21,9 +21,11 @@ init_told (Err init.ReadFault) = Err ReadFault
 init_told (Err (init.Short got)) = Err (Short got)
 init_told (Err init.Store) = Err StoreFault
 
--- An instance of this variant and module was started, or wasn't: its steps; what they left, from which a session goes
--- on; when a cell is told to be in use; whose count of faults rose; and what was told.
-pub record StartsInstance (header : Header) (before after : Devices) (received received' : Option (List ℕ)) (writes writes' : ℕ)
+-- An instance of this variant and module was started, or wasn't: its steps; what they left, from
+-- which a session goes on; when a cell is told to be in use; whose count of faults rose; and what
+-- was told.
+pub record StartsInstance (header : Header) (before after : Devices)
+    (received received' : Option (List ℕ)) (writes writes' : ℕ)
     (status : Status) : Type 0 where
   pub answer : Result (Unit {0}) InitFault
   pub steps : Inits header.variant (meaning_of header.module) before after answer

@@ -64,7 +64,8 @@ stop_line TooMuch = line_of (codes "stop much")
 stop_line (Short got) = line_of (codes "stop short")
 stop_line Kind = line_of (codes "stop kind")
 
--- it ended with no line refused: all was done, or memory was wanting, or the input or the output failed
+-- it ended with no line refused: all was done, or memory was wanting, or the input or the output
+-- failed
 abbrev pub EndsUnrefused : Status → Type 0
 EndsUnrefused Done = Unit {0}
 EndsUnrefused ReadFault = Unit {0}

@@ -10,9 +10,10 @@ use Rattle.mm_app.specs.Status.{status_of}
 use Rattle.mm_app.specs.Telling.{TellsStop}
 use Rattle.mm_app.specs.declared.status.Status.{Status}
 
--- A transfer, which ended with an answer of this status. The input's count rose exactly where the input is to blame for it,
--- and the output's exactly where the output is.
-pub record TransferPlayed (left left' received received' : Option (List ℕ)) (reads reads' writes writes' : ℕ)
+-- A transfer, which ended with an answer of this status. The input's count rose exactly where the
+-- input is to blame for it, and the output's exactly where the output is.
+pub record TransferPlayed (left left' received received' : Option (List ℕ))
+    (reads reads' writes writes' : ℕ)
     (status : Status) : Type 0 where
   pub answer : Result TransferReport ReplayFault
   pub plays : PlaysTransfer left left' received received' answer
@@ -20,16 +21,20 @@ pub record TransferPlayed (left left' received received' : Option (List ℕ)) (r
   pub wrote : IsBlamed (is_write_fault answer) writes writes'
   pub ends : status ≡ status_of answer
 
--- A transfer, and then its stop line. `middle` is what the output had received between the two, and `count` its count.
-pub record PlaysTransferAndStops (left left' received received' : Option (List ℕ)) (reads reads' writes writes' : ℕ)
+-- A transfer, and then its stop line. `middle` is what the output had received between the two, and
+-- `count` its count.
+pub record PlaysTransferAndStops (left left' received received' : Option (List ℕ))
+    (reads reads' writes writes' : ℕ)
     (status : Status) : Type 0 where
   pub middle : Option (List ℕ)
   pub count : ℕ
   pub played : TransferPlayed left left' received middle reads reads' writes count status
   pub stops : TellsStop middle received' count writes' status
 
--- The theorem of a transfer. Of the lines that were taken the first ones were answered: the events with which they begin, one
--- a line behind the first. Under the premises on these events, or on first ones of them, the calls of both sides are one run
--- of the module on one list of requests, and at most one side was live at each moment.
+-- The theorem of a transfer. Of the lines that were taken the first ones were answered: the events
+-- with which they begin, one a line behind the first. Under the premises on these events, or on
+-- first ones of them, the calls of both sides are one run of the module on one list of requests,
+-- and at most one side was live at each moment.
 abbrev pub MovesOneRun : (left left' received received' : Option (List ℕ)) → Status → Type 0
-MovesOneRun left left' received received' status = AnswersInput AnswersLines AnswersAll left left' received received' status
+MovesOneRun left left' received received' status =
+    AnswersInput AnswersLines AnswersAll left left' received received' status

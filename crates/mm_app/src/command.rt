@@ -26,6 +26,7 @@ ghost use Rattle.mm_app.specs.declared.status.Status.TheVariants.{Usage};
 use crate::bulk::run_in_bulk;
 use crate::check::check_run;
 use crate::checkpoint::close_segment;
+use crate::help::write_help;
 use crate::power::lose_power;
 use crate::receipts::check_receipts;
 use crate::replay::replay_and_stop;
@@ -39,7 +40,7 @@ use crate::transfer::play_transfer;
 use mm_base::{Sink, Source};
 use mm_platform::Platform;
 use mm_store::Store;
-use mm_words::{Command, WordsFault, help_text, read_words};
+use mm_words::{Command, WordsFault, read_words};
 use std::alloc::Global;
 
 // Does what a command says.
@@ -96,7 +97,7 @@ fn done<P: Platform, T: Store, S: Source, E: Source, K: Sink>(
         Command::Transfer => play_transfer(alloc, input, out),
         Command::Checkpoint => close_segment(platform, out),
         Command::Power => lose_power(platform, out),
-        Command::Help => written(help_text(), out),
+        Command::Help => write_help(alloc, out),
         Command::Init(header) => start_instance(alloc, header, platform, store, entropy, out),
         Command::Run => run_instance(alloc, platform, store, input, out),
         Command::Check => check_run(alloc, input, out),

@@ -5,6 +5,7 @@ mod bulk;
 mod check;
 mod checkpoint;
 mod command;
+mod help;
 mod power;
 mod receipts;
 mod replay;

@@ -17,10 +17,11 @@ use Rattle.hex.proofs.HexLemmas.{decode_of-ok, decode_sized-ok, decode_sized-twi
 use Rattle.clap.specs.Lexer.{long_of, short_of}
 use Rattle.mm_digest.specs.declared.variant.Variant.{Variant}
 use Rattle.mm_digest.specs.declared.variant.Variant.TheVariants.{Basic, Opt}
+use Rattle.mm_listing.specs.Listing.{IsName, is_letter}
 use Rattle.mm_module.specs.Values.{value_at}
 use Rattle.mm_modules.specs.declared.any.AnyModule.{AnyModule}
-use Rattle.mm_modules.specs.declared.any.AnyModule.TheVariants.{Counter, Limiter, Quota, Ledger, Dispenser, ReceiptCounter, ReceiptLimiter, ReceiptQuota}
 use Rattle.mm_modules.specs.Modules.{name_of}
+use Rattle.mm_modules.specs.Modules.{any_is_listed}
 use Rattle.mm_schedule.specs.Headers.{variant_text}
 use Rattle.mm_schedule.specs.declared.header.Header.{Header}
 use Rattle.mm_words.specs.Commands.{IsGenerated, SpellsCommand, generated_words, header_words}
@@ -58,15 +59,15 @@ pub variant_kept : (variant : Variant) → is_refused (variant_text variant) ≡
 variant_kept Basic = refl
 variant_kept Opt = refl
 
+kept_by_name : (name : List ℕ) → IsName name → is_refused name ≡ false
+kept_by_name [] is = let none : false ≡ true = is.begins in cc
+kept_by_name (byte ∷ rest) is =
+    let letter : is_letter byte ≡ true = is.begins in
+    let no_dash : (byte == 45) ≡ false = grind (arith, nat_tests) in
+    rw (no_dash, is.other) refl
+
 pub name_kept : (it : AnyModule) → is_refused (name_of it) ≡ false
-name_kept Counter = refl
-name_kept Limiter = refl
-name_kept Quota = refl
-name_kept Ledger = refl
-name_kept Dispenser = refl
-name_kept ReceiptCounter = refl
-name_kept ReceiptLimiter = refl
-name_kept ReceiptQuota = refl
+name_kept it = kept_by_name (name_of it) (any_is_listed it).named
 
 digit_kept : (digits : List ℕ) → 0 < length digits → AllPass is_hex_digit digits → is_refused digits ≡ false
 digit_kept [] some are = absurd (omega arith)

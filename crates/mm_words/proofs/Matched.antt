@@ -15,9 +15,10 @@ use Rattle.mm_digest.specs.declared.variant.Variant.{Variant}
 use Rattle.mm_digest.specs.declared.variant.Variant.TheVariants.{Basic, Opt}
 use Rattle.mm_module.specs.Values.{value_at}
 use Rattle.mm_modules.specs.declared.any.AnyModule.{AnyModule}
-use Rattle.mm_modules.specs.declared.any.AnyModule.TheVariants.{Counter, Limiter, Quota, Ledger, Dispenser, ReceiptCounter, ReceiptLimiter, ReceiptQuota}
 use Rattle.mm_modules.specs.Modules.{module_named, name_of}
-use Rattle.mm_schedule.specs.Headers.{variant_at, variant_text}
+use Rattle.mm_modules.specs.Modules.{any_is_found}
+use Rattle.mm_schedule.specs.Headers.{variant_text}
+use Rattle.mm_schedule.specs.HeadersWords.{variant_at}
 use Rattle.mm_schedule.specs.declared.header.Header.{Header}
 use Rattle.mm_words.specs.App.{the_app}
 use Rattle.mm_words.specs.Commands.{IsGenerated, SpellsCommand, generated_words, header_words}
@@ -33,14 +34,7 @@ variant-read Basic = refl
 variant-read Opt = refl
 
 pub name-read : (it : AnyModule) → module_named (name_of it) ≡ Some it
-name-read Counter = refl
-name-read Limiter = refl
-name-read Quota = refl
-name-read Ledger = refl
-name-read Dispenser = refl
-name-read ReceiptCounter = refl
-name-read ReceiptLimiter = refl
-name-read ReceiptQuota = refl
+name-read it = (any_is_found it).by_name
 
 -- what was given, as the rows of what was found have it
 abbrev given_by : Text → Found → Given
@@ -89,7 +83,8 @@ given_header name header it found is = (
 )
 
 given_generated : (name : List ℕ) (it : Generated) (given_name : Text) (found : Found) → IsGenerated it
-    → given_by given_name found ≡ generating name (decimal it.number) (decimal it.count) (variant_text it.header.variant) (name_of it.header.module)
+    → given_by given_name found ≡ generating name (decimal it.number) (decimal it.count) (variant_text it.header.variant)
+    (name_of it.header.module)
     → (given_name ≡ name) × (generated_in found ≡ Some it)
 given_generated name it given_name found allowed is = (
   ap (λ (g : Given). g.name) is,
@@ -245,11 +240,3 @@ pub is_matched : (command : Command) (words : List (List ℕ)) (name : Text) (fo
 is_matched command words name found spells matched is =
     let it = brings command words spells matched in
     it.matched name found (same_given (given_by name found) it.given (sym (ap (option_map given_in) is) ∙ it.is.met))
-
-no_given : {g : Given} → None ≡ Some g → ⊥
-no_given none = cc
-
--- a subcommand is met
-pub some_met : (command : Command) (words : List (List ℕ)) → SpellsCommand command words → IsMatched command → subcommand_of the_app words ≡ None → ⊥
-some_met command words spells matched none =
-    no_given (sym (ap (option_map given_in) none) ∙ (brings command words spells matched).is.met)

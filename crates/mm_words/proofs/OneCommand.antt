@@ -9,7 +9,8 @@ use Rattle.mm_base.proofs.DecimalLemmas.{read_by_spelling}
 use Rattle.mm_base.specs.Limits.{most_events}
 use Rattle.mm_module.specs.Values.{value_at}
 use Rattle.mm_modules.specs.Modules.{module_named, name_of}
-use Rattle.mm_schedule.specs.Headers.{variant_at, variant_text}
+use Rattle.mm_schedule.specs.Headers.{variant_text}
+use Rattle.mm_schedule.specs.HeadersWords.{variant_at}
 use Rattle.mm_schedule.specs.Words.{◌>>=◌}
 use Rattle.mm_schedule.specs.declared.header.Header.{Header}
 use Rattle.mm_words.specs.Commands.{IsGenerated, SpellsCommand}
@@ -74,7 +75,8 @@ command-again (Receipts key) words spells = let given = spells.spelled in ap com
 command-again Transfer words spells = ap command_by spells.spelled
 command-again Help words spells = ap command_by spells.spelled
 
-pub one_command : (words : List (List ℕ)) (command other : Command) → SpellsCommand command words → SpellsCommand other words → command ≡ other
+pub one_command : (words : List (List ℕ)) (command other : Command) → SpellsCommand command words → SpellsCommand other words
+    → command ≡ other
 one_command words command other one two =
     ap (λ (o : Option Command). option_map_or (λ (it : Command). it) o command)
     (sym (command-again command words one) ∙ command-again other words two)

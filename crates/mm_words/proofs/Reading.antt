@@ -20,14 +20,16 @@ pub same_words : (words others : List (List ℕ)) → pointwise bytes_eq words o
 same_words words others is = (pointwise_decides bytes_eq-Decides words others).0 is
 
 -- a comparison of words decides whether they are the same
-pub tells_words : (result : Bool) (words others : List (List ℕ)) → result ≡ pointwise bytes_eq words others → IsTrue result ↔ (words ≡ others)
+pub tells_words : (result : Bool) (words others : List (List ℕ)) → result ≡ pointwise bytes_eq words others
+    → IsTrue result ↔ (words ≡ others)
 tells_words result words others is = (
   λ yes. same_words words others (sym is ∙ yes),
   λ same. is ∙ (pointwise_decides bytes_eq-Decides words others).1 same,
 )
 
 -- the same, of a command that is another's equal
-pub tells_command : {P : Type 0} (command other : Command) (words : List (List ℕ)) → command ≡ other → P ↔ AreWordsOf other words → P ↔ AreWordsOf command words
+pub tells_command : {P : Type 0} (command other : Command) (words : List (List ℕ)) → command ≡ other → P ↔ AreWordsOf other words
+    → P ↔ AreWordsOf command words
 tells_command {P} command other words same is = let Q : Command → Type 0 = λ it. P ↔ AreWordsOf it words in subst Q (sym same) is
 
 digits_in : List (List ℕ) → List ℕ
@@ -91,7 +93,8 @@ one_refused words command spells matched is =
     let clash : true ≡ false = sym is ∙ (are_kept command words spells matched).kept in cc
 
 -- a test of texts, made of the references to them
-pub any_text : (words : List (Bor (List ℕ))) → list_any (λ (word : Bor (List ℕ)). is_refused word.now) words ≡ list_any is_refused (map (λ (word : Bor (List ℕ)). word.now) words)
+pub any_text : (words : List (Bor (List ℕ)))
+    → list_any (λ (word : Bor (List ℕ)). is_refused word.now) words ≡ list_any is_refused (map (λ (word : Bor (List ℕ)). word.now) words)
 any_text [] = refl
 any_text (word ∷ words) = ap (λ (b : Bool). is_refused word.now || b) (any_text words)
 

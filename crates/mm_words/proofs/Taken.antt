@@ -79,16 +79,72 @@ pub gen_taken : (n c v m : Text) → IsPlainWord n → IsPlainWord c → IsPlain
     → IsTaken (codes "gen" ∷ n ∷ c ∷ v ∷ m ∷ []) (generating (codes "gen") n c v m)
 unfolding clap_on_literals
 gen_taken n c v m one two three four = record {
-  taken = rw (one.dashes, one.long, one.short, two.dashes, two.long, two.short, three.dashes, three.long, three.short, four.dashes, four.long, four.short) refl;
-  met = rw (one.dashes, one.long, one.short, two.dashes, two.long, two.short, three.dashes, three.long, three.short, four.dashes, four.long, four.short) refl;
+  taken =
+      rw (
+        one.dashes,
+        one.long,
+        one.short,
+        two.dashes,
+        two.long,
+        two.short,
+        three.dashes,
+        three.long,
+        three.short,
+        four.dashes,
+        four.long,
+        four.short,
+      ) refl;
+  met =
+      rw (
+        one.dashes,
+        one.long,
+        one.short,
+        two.dashes,
+        two.long,
+        two.short,
+        three.dashes,
+        three.long,
+        three.short,
+        four.dashes,
+        four.long,
+        four.short,
+      ) refl;
 }
 
 pub bulk_taken : (n c v m : Text) → IsPlainWord n → IsPlainWord c → IsPlainWord v → IsPlainWord m
     → IsTaken (codes "bulk" ∷ n ∷ c ∷ v ∷ m ∷ []) (generating (codes "bulk") n c v m)
 unfolding clap_on_literals
 bulk_taken n c v m one two three four = record {
-  taken = rw (one.dashes, one.long, one.short, two.dashes, two.long, two.short, three.dashes, three.long, three.short, four.dashes, four.long, four.short) refl;
-  met = rw (one.dashes, one.long, one.short, two.dashes, two.long, two.short, three.dashes, three.long, three.short, four.dashes, four.long, four.short) refl;
+  taken =
+      rw (
+        one.dashes,
+        one.long,
+        one.short,
+        two.dashes,
+        two.long,
+        two.short,
+        three.dashes,
+        three.long,
+        three.short,
+        four.dashes,
+        four.long,
+        four.short,
+      ) refl;
+  met =
+      rw (
+        one.dashes,
+        one.long,
+        one.short,
+        two.dashes,
+        two.long,
+        two.short,
+        three.dashes,
+        three.long,
+        three.short,
+        four.dashes,
+        four.long,
+        four.short,
+      ) refl;
 }
 
 pub slots_taken : IsTaken (codes "slots" ∷ []) (alone (codes "slots"))

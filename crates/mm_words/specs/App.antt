@@ -16,12 +16,16 @@ wanted_rule id = record (new_rule id) { required = true; action = Some Set }
 
 -- a subcommand with a variant and a module
 abbrev pub header_app : List ℕ → App
-header_app name = with_rule (with_rule (new_app name) (wanted_rule (codes "VARIANT"))) (wanted_rule (codes "MODULE"))
+header_app name =
+    with_rule (with_rule (new_app name) (wanted_rule (codes "VARIANT")))
+    (wanted_rule (codes "MODULE"))
 
 -- a subcommand with the four words of a generated schedule
 abbrev pub generating_app : List ℕ → App
 generating_app name =
-    with_rule (with_rule (with_rule (with_rule (new_app name) (wanted_rule (codes "NUMBER"))) (wanted_rule (codes "COUNT")))
+    with_rule (with_rule
+    (with_rule (with_rule (new_app name) (wanted_rule (codes "NUMBER")))
+    (wanted_rule (codes "COUNT")))
     (wanted_rule (codes "VARIANT"))) (wanted_rule (codes "MODULE"))
 
 -- a subcommand with a key
@@ -47,7 +51,8 @@ with_host_forms app =
 
 abbrev pub the_app : App
 the_app =
-    with_subcommand (with_subcommand (with_subcommand (with_subcommand (with_subcommand (with_subcommand (with_subcommand
+    with_subcommand (with_subcommand
+    (with_subcommand (with_subcommand (with_subcommand (with_subcommand (with_subcommand
     (with_host_forms top_app)
     (new_app (codes "replay")).top) (new_app (codes "check")).top)
     (generating_app (codes "gen")).top) (generating_app (codes "bulk")).top)

@@ -1,10 +1,10 @@
 -- The commands and the words that spell them.
-use Rattle.std.specs.Prelude.{◌≡◌, ◌<◌, ◌≤◌, ◌^◌, ℕ, List, [], ◌∷◌, Some, codes}
+use Rattle.std.specs.Prelude.{◌≡◌, ◌<◌, ◌≤◌, ◌^◌, ℕ, List, [], ◌∷◌, ◌++◌, Some, codes}
 use Rattle.std.specs.Fmt.{decimal}
 use Rattle.mm_base.specs.Input.{lines_joined}
 use Rattle.mm_base.specs.Limits.{most_events}
 use Rattle.mm_module.specs.Values.{value_at}
-use Rattle.mm_modules.specs.Modules.{name_of}
+use Rattle.mm_modules.specs.Modules.{name_of, names_text}
 use Rattle.mm_schedule.specs.Headers.{variant_text}
 use Rattle.mm_schedule.specs.declared.header.Header.{Header}
 use Rattle.mm_words.specs.declared.command.Command.{Command}
@@ -21,7 +21,8 @@ generated_words it = decimal it.number ∷ decimal it.count ∷ header_words it.
 
 -- `receipts`, and 64 hexadecimal digits of either case that give the key
 abbrev pub AreReceiptsWords : List ℕ → List (List ℕ) → Type 0
-AreReceiptsWords key words = (digits : List ℕ) × (value_at digits ≡ Some key) × (words ≡ codes "receipts" ∷ digits ∷ [])
+AreReceiptsWords key words =
+    (digits : List ℕ) × (value_at digits ≡ Some key) × (words ≡ codes "receipts" ∷ digits ∷ [])
 
 -- the words are the command's
 abbrev pub AreWordsOf : Command → List (List ℕ) → Type 0
@@ -78,4 +79,4 @@ help_text =
     ∷ codes "memoir receipts KEY"
     ∷ codes "memoir transfer"
     ∷ codes "VARIANT is basic or opt"
-    ∷ codes "MODULE is counter, limiter, quota, ledger, dispenser, receipt-counter, receipt-limiter or receipt-quota" ∷ [])
+    ∷ (codes "MODULE is " ++ names_text) ∷ [])

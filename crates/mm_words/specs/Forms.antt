@@ -7,7 +7,7 @@ use Rattle.mm_base.specs.Decimals.{decimal_number}
 use Rattle.mm_base.specs.Limits.{most_events}
 use Rattle.mm_module.specs.Values.{value_at}
 use Rattle.mm_modules.specs.Modules.{module_named}
-use Rattle.mm_schedule.specs.Headers.{variant_at}
+use Rattle.mm_schedule.specs.HeadersWords.{variant_at}
 use Rattle.mm_schedule.specs.Words.{◌>>=◌}
 use Rattle.mm_schedule.specs.declared.header.Header.{Header}
 use Rattle.mm_words.specs.declared.command.Command.{Command}
@@ -23,7 +23,8 @@ is_refused (byte ∷ rest) = byte == 45 || bytes_eq (byte ∷ rest) (codes "help
 
 -- a count of events
 abbrev pub count_at : List ℕ → Option ℕ
-count_at word = decimal_number word >>= λ count. if nat_lt most_events count then None else Some count
+count_at word =
+    decimal_number word >>= λ count. if nat_lt most_events count then None else Some count
 
 -- the words of a variant and a module, each read as what it has to be
 unfoldable pub header_in : Found → Option Header
@@ -57,8 +58,10 @@ command_in name found =
     else if bytes_eq name (codes "power") then Some Power
     else if bytes_eq name (codes "replay") then Some Replay
     else if bytes_eq name (codes "check") then Some Check
-    else if bytes_eq name (codes "gen") then (generated_in found >>= λ generated. Some (Gen generated))
-    else if bytes_eq name (codes "bulk") then (generated_in found >>= λ generated. Some (Bulk generated))
+    else if bytes_eq name (codes "gen")
+    then (generated_in found >>= λ generated. Some (Gen generated))
+    else if bytes_eq name (codes "bulk")
+    then (generated_in found >>= λ generated. Some (Bulk generated))
     else if bytes_eq name (codes "slots") then Some Slots
     else if bytes_eq name (codes "receipts") then (key_found found >>= λ key. Some (Receipts key))
     else if bytes_eq name (codes "transfer") then Some Transfer

@@ -8,6 +8,7 @@ ghost use Rattle.mm_module.specs.Values.{value_at};
 ghost use Rattle.mm_words.specs.Commands.{AreReceiptsWords, AreWordsOf, generated_words, header_words};
 
 use itoa::Buffer;
+use mm_listing::Listed;
 use mm_module::value_in;
 use mm_schedule::{Header, variant_word};
 
@@ -91,7 +92,7 @@ fn are_header_words(words: &[&str], form: &str, header: &Header) -> bool
     };
     *word == form
         && variant.as_bytes() == variant_word(header.variant)
-        && module.as_bytes() == header.module.name()
+        && header.module.is_named(module.as_bytes())
 }
 
 /// Whether the words are this one, and those of a generated schedule.
@@ -106,7 +107,7 @@ fn are_generated_words(words: &[&str], form: &str, it: &Generated) -> bool
         && is_decimal_of(number, it.number)
         && is_decimal_of(count, u64::from(it.count))
         && variant.as_bytes() == variant_word(it.header.variant)
-        && module.as_bytes() == it.header.module.name()
+        && it.header.module.is_named(module.as_bytes())
 }
 
 /// Whether the words are `receipts` and the digits of a key.

@@ -110,6 +110,8 @@ fn a_key_is_read_in_digits_of_both_cases(rt: HostRuntime) {
 }
 
 #[test]
-fn the_help_has_a_line_for_each_form(rt: HostRuntime) {
-    assert!(rt; help_text().starts_with(b"memoir init VARIANT MODULE\n"));
+fn the_help_has_a_line_for_each_form(rt: HostRuntime) -> Result<(), Fail> {
+    let text = help_text(rt.alloc())?;
+    assert!(rt; text.as_slice().starts_with(b"memoir init VARIANT MODULE\n"));
+    Ok(())
 }

@@ -14,13 +14,18 @@ pub returns-in_err-write_all-2-clause-sent : goal.returns-in_err-write_all-2-cla
 returns-in_err-write_all-2-clause-sent g c =
     let p = err_from_is_err_and c.from_residual-in_err-write_all-2.result c.from_residual-in_err-write_all-2.ensures.1 in
     let digits = c.as_bytes.ensures.value ∙ c.format-digits.ensures.text in
-    let second = subst (λ bytes. Sends (g.K.Sink.received c.write_all.new.sink) (g.K.Sink.received c.write_all-2.new.sink) bytes c.write_all-2.result) digits c.write_all-2.ensures.sent in
-    rw p.1 (Sends-append _ _ _ c.args.words.now (decimal c.args.number ++ 10 ∷ []) c.write_all.result _ _ c.write_all.ensures.sent c.in_ok-write_all.was
+    let second = subst (λ bytes. Sends (g.K.Sink.received c.write_all.new.sink) (g.K.Sink.received c.write_all-2.new.sink) bytes
+    c.write_all-2.result) digits c.write_all-2.ensures.sent in
+    rw p.1 (Sends-append _ _ _ c.args.words.now (decimal c.args.number ++ 10 ∷ []) c.write_all.result _ _ c.write_all.ensures.sent
+    c.in_ok-write_all.was
     (Sends-stopped _ _ (decimal c.args.number) (10 ∷ []) c.write_all-2.result _ second))
 
 pub returns-clause-sent : goal.returns-clause-sent
 returns-clause-sent g c =
     let digits = c.as_bytes.ensures.value ∙ c.format-digits.ensures.text in
-    let second = subst (λ bytes. Sends (g.K.Sink.received c.write_all.new.sink) (g.K.Sink.received c.write_all-2.new.sink) bytes c.write_all-2.result) digits c.write_all-2.ensures.sent in
-    Sends-append _ _ _ c.args.words.now (decimal c.args.number ++ 10 ∷ []) c.write_all.result c.write_all-3.result _ c.write_all.ensures.sent c.in_ok-write_all.was
-    (Sends-append _ _ _ (decimal c.args.number) (10 ∷ []) c.write_all-2.result c.write_all-3.result _ second c.in_ok-write_all-2.was c.write_all-3.ensures.sent)
+    let second = subst (λ bytes. Sends (g.K.Sink.received c.write_all.new.sink) (g.K.Sink.received c.write_all-2.new.sink) bytes
+    c.write_all-2.result) digits c.write_all-2.ensures.sent in
+    Sends-append _ _ _ c.args.words.now (decimal c.args.number ++ 10 ∷ []) c.write_all.result c.write_all-3.result _
+    c.write_all.ensures.sent c.in_ok-write_all.was
+    (Sends-append _ _ _ (decimal c.args.number) (10 ∷ []) c.write_all-2.result c.write_all-3.result _ second c.in_ok-write_all-2.was
+    c.write_all-3.ensures.sent)

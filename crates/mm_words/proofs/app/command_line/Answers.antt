@@ -21,4 +21,5 @@ returns c =
     let four = c.in_ok-subcommand-4.ensures.shape c.in_ok-generating-2.ensures.local ∙ ap₂ with_subcommand three (ap top bulk) in
     let five = c.in_ok-subcommand-5.ensures.shape c.bare-3.ensures.local ∙ ap₂ with_subcommand four (ap top slots) in
     let six = c.in_ok-subcommand-6.ensures.shape c.in_ok-with_key.ensures.local ∙ ap₂ with_subcommand five (ap top receipts) in
-    IfOk-weaker c.subcommand-7.result _ _ (λ line adds. adds.shape c.bare-4.ensures.local ∙ ap₂ with_subcommand six (ap top transfer)) c.subcommand-7.ensures
+    IfOk-weaker c.subcommand-7.result _ _ (λ line adds. adds.shape c.bare-4.ensures.local ∙ ap₂ with_subcommand six (ap top transfer))
+    c.subcommand-7.ensures

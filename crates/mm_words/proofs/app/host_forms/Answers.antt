@@ -15,4 +15,5 @@ returns c =
     let one = c.in_ok-subcommand.ensures.shape c.in_ok-with_header.ensures.local ∙ ap (with_subcommand line) (ap top init) in
     let two = c.in_ok-subcommand-2.ensures.shape c.bare.ensures.local ∙ ap₂ with_subcommand one (ap top run) in
     let three = c.in_ok-subcommand-3.ensures.shape c.bare-2.ensures.local ∙ ap₂ with_subcommand two (ap top checkpoint) in
-    IfOk-weaker c.subcommand-4.result _ _ (λ whole adds. adds.shape c.bare-3.ensures.local ∙ ap₂ with_subcommand three (ap top power)) c.subcommand-4.ensures
+    IfOk-weaker c.subcommand-4.result _ _ (λ whole adds. adds.shape c.bare-3.ensures.local ∙ ap₂ with_subcommand three (ap top power))
+    c.subcommand-4.ensures
